@@ -1,0 +1,7 @@
+pub mod Certificate
+pub mod Lists
+pub mod Memory
+pub mod Outside
+pub mod Person
+pub mod Placement
+pub mod StepChoice

@@ -1,0 +1,21 @@
+-- What the objects of the outside tell, and what a call of them does to it.
+use Rattle.std.specs.Prelude.{◌≡◌, ◌<◌, ◌≤◌, ◌+◌, ◌-◌, ◌^◌, ℕ, min, List, [], ◌++◌, Option, Some, None, take, drop, length}
+
+-- A count of faults rose. It ends at 2^64 - 1 and stays there.
+abbrev pub Rose : ℕ → ℕ → Type 0
+Rose before now = min (before + 1) (2 ^ 64 - 1) ≤ now
+
+-- the first n of the bytes left are taken and stand at the front of the buffer; where they are not told, they stay untold
+abbrev pub TakesFront : ℕ → Option (List ℕ) → Option (List ℕ) → List ℕ → Type 0
+TakesFront n None after buffer = after ≡ None
+TakesFront n (Some bytes) after buffer = (n ≤ length bytes) × (take n buffer ≡ take n bytes) × (after ≡ Some (drop n bytes))
+
+-- a read of 0 bytes into room comes only where none is left
+abbrev pub ComesAtTheEnd : ℕ → ℕ → Option (List ℕ) → Type 0
+ComesAtTheEnd n room None = Unit {0}
+ComesAtTheEnd n room (Some bytes) = n ≡ 0 → 0 < room → bytes ≡ []
+
+-- the first n bytes of the piece stand behind what was written; where that is not told, it stays untold
+abbrev pub AppendsFront : ℕ → List ℕ → Option (List ℕ) → Option (List ℕ) → Type 0
+AppendsFront n piece None after = after ≡ None
+AppendsFront n piece (Some bytes) after = after ≡ Some (bytes ++ take n piece)

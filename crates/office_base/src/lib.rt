@@ -1,0 +1,26 @@
+// The base of the office: who a person is, what a step is, and the outside as the office sees it.
+//
+// Every layer stands on it. `specs/` has the definitions that the whole office is proved against: better, step,
+// placement, honoured, step choice, certificate. They speak of all placements and all sublists. No function here
+// decides who is admitted, and none knows of files, of rounds or of programmes.
+#![tactic(auto)]
+
+pub mod errors;
+pub mod listed;
+pub mod mem_sink;
+pub mod mem_source;
+pub mod outside;
+pub mod person;
+pub mod step;
+pub mod sure;
+pub mod words;
+
+pub use errors::{Failed, OutOfMemory};
+pub use listed::{Listed, Pairs, People, Text};
+pub use mem_sink::MemSink;
+pub use mem_source::MemSource;
+pub use outside::{Sink, Source};
+pub use person::{CandId, Category, ListId, Person, Place, TraitSet, better};
+pub use step::{Pair, Protections, Step};
+pub use sure::{SureSink, SureSource};
+pub use words::Words;

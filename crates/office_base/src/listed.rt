@@ -1,0 +1,76 @@
+// A list of values that contracts see as a list, and not as a vector with its room.
+ghost use Rattle.std.specs.Prelude.{◌≡◌, ◌<◌, ◌∷◌, [], ◌++◌, ℕ, length, OnOk, OnErr, IfOk, List, IsTrue, ◌↔◌};
+
+use crate::{OutOfMemory, Pair, Person};
+use std::alloc::Global;
+use std::marker::Model;
+
+/// A growing list on the heap.
+#[derive(Debug, Drop)]
+pub struct Listed<T> {
+    items: Vec<T>,
+}
+
+/// Persons, in the order in which they are listed.
+pub type People = Listed<Person>;
+
+/// The pairs of a certificate.
+pub type Pairs = Listed<Pair>;
+
+/// Bytes of a text.
+pub type Text = Listed<u8>;
+
+impl<T> Model for Listed<T> {
+    ghost Value = { List T };
+
+    ghost view = { λ a. a.items.items };
+}
+
+impl<T> Listed<T> {
+    /// The empty list. It takes no memory; `push` takes it from `alloc`.
+    pub fn new(alloc: Global) -> Listed<T>
+        ensures { result ≡ [] }
+    {
+        Listed {
+            items: Vec::new(alloc),
+        }
+    }
+
+    /// The empty list, with room for this many values.
+    pub fn with_capacity(alloc: Global, room: usize) -> Result<Listed<T>, OutOfMemory>
+        ensures { IfOk result (λ list. list ≡ []) }
+    {
+        Ok(Listed {
+            items: Vec::with_capacity(alloc, room)?,
+        })
+    }
+
+    pub fn len(&self) -> usize
+        ensures { result ≡ length self.now }
+    {
+        self.items.len()
+    }
+
+    pub fn is_empty(&self) -> bool
+        ensures { IsTrue result ↔ (self.now ≡ []) }
+    {
+        self.items.is_empty()
+    }
+
+    pub fn as_slice(&self) -> &[T]
+        ensures { result.now ≡ self.now }
+    {
+        self.items.as_slice()
+    }
+}
+
+impl<T: Drop> Listed<T> {
+    /// Puts a value at the end. Where there is no memory for it, the list is as before and the value is dropped.
+    pub fn push(&mut self, value: T) -> Result<(), OutOfMemory>
+        ensures ok { OnOk result (self.new ≡ self.old ++ value ∷ []) }
+        ensures err { OnErr result (self.new ≡ self.old) }
+    {
+        self.items.push(value)?;
+        Ok(())
+    }
+}

@@ -1,0 +1,90 @@
+// A source in memory, which tells its bytes and fails where it is told to.
+ghost use Rattle.std.specs.Prelude.{◌≡◌, ◌<◌, ◌≤◌, ◌↔◌, [], ℕ, List, Option, length, take, drop, min, IfOk, OnErr, IsErr, IsTrue, Some, Contains};
+ghost use Rattle.office_base.specs.Outside.{Rose, TakesFront, ComesAtTheEnd};
+ghost use Rattle.office_base.specs.Memory.{counted};
+
+use crate::{Failed, OutOfMemory, Source};
+use std::alloc::Global;
+use std::marker::Model;
+
+/// Bytes in memory, in pieces of at most `piece` bytes.
+#[derive(Debug, Drop)]
+pub struct MemSource {
+    bytes: Vec<u8>,
+    read: usize,
+    piece: usize,
+    calls: u64,
+    fail_at: Vec<u32>,
+    faults: u64,
+}
+
+impl Model for MemSource {
+    ghost use Rattle.std.specs.Prelude.{◌<◌, ◌≤◌, drop, length};
+    ghost use Rattle.office_base.specs.Memory.{SourceMemory};
+
+    ghost Value = { SourceMemory };
+
+    ghost view = { λ a. record { left = drop a.read a.bytes.items; piece = a.piece; calls = a.calls; fail_at = a.fail_at.items; faults = a.faults } };
+
+    ghost invariant = { λ a. (a.read ≤ length a.bytes.items) × (0 < a.piece) };
+}
+
+impl MemSource {
+    /// A source of these bytes. One read gives at most `piece` bytes; the calls with the numbers in `fail_at`,
+    /// from 1, fail.
+    pub fn new(
+        alloc: Global,
+        bytes: &[u8],
+        piece: usize,
+        fail_at: &[u32],
+    ) -> Result<MemSource, OutOfMemory>
+        requires { 0 < piece }
+        ensures { IfOk result (λ source. source ≡ record { left = bytes.now; piece = piece; calls = 0; fail_at = fail_at.now; faults = 0 }) }
+    {
+        Ok(MemSource {
+            bytes: Vec::from_slice(alloc, bytes)?,
+            read: 0,
+            piece,
+            calls: 0,
+            fail_at: Vec::from_slice(alloc, fail_at)?,
+            faults: 0,
+        })
+    }
+}
+
+impl Source for MemSource {
+    ghost left = { λ source. Some source.left };
+
+    ghost faults = { λ source. source.faults };
+
+    fn read(&mut self, buf: &mut [u8]) -> Result<usize, Failed>
+        ensures within { IfOk result (λ n. n ≤ length buf.old) }
+        ensures taken { IfOk result (λ n. TakesFront n (Some self.old.left) (Some self.new.left) buf.new) }
+        ensures ended { IfOk result (λ n. ComesAtTheEnd n (length buf.old) (Some self.old.left)) }
+        ensures kept { OnErr result (Some self.new.left ≡ Some self.old.left) }
+        ensures count { self.old.faults ≤ self.new.faults }
+        ensures cause { OnErr result (Rose self.old.faults self.new.faults) }
+        // it gives as much as the piece and the buffer allow, and fails exactly where its number says so
+        ensures piece { IfOk result (λ n. n ≡ min self.old.piece (min (length buf.old) (length self.old.left))) }
+        ensures fails { IsErr result ↔ Contains self.old.fail_at (counted self.old.calls) }
+        ensures rest { self.new ≡ record { left = self.new.left; piece = self.old.piece; calls = counted self.old.calls; fail_at = self.old.fail_at; faults = self.new.faults } }
+    {
+        self.calls = self.calls.saturating_add(1);
+        if fails_at(&self.fail_at, self.calls) {
+            self.faults = self.faults.saturating_add(1);
+            return Err(Failed);
+        }
+        let left = self.bytes.len() - self.read;
+        let count = self.piece.min(buf.len().min(left));
+        buf[..count].copy_from_slice(&self.bytes[self.read..self.read + count]);
+        self.read += count;
+        Ok(count)
+    }
+}
+
+/// Whether the call of this number is among those that fail.
+pub(crate) fn fails_at(fail_at: &[u32], call: u64) -> bool
+    ensures { IsTrue result ↔ Contains fail_at.now call }
+{
+    fail_at.iter().any(|at| u64::from(*at) == call)
+}

@@ -1,0 +1,24 @@
+// A step: seats of one merit list, of which some are protected for traits, and the people who stand for them.
+use crate::{CandId, ListId, People};
+
+/// How many seats of a step are protected for each trait, by the trait's number. The other seats are free.
+#[derive(Clone, Copy, Debug, PartialEq, Eq)]
+pub struct Protections {
+    pub counts: [u16; 6],
+}
+
+/// A candidate on a protected position. `slot` is the number of the position's trait, from 0 to 5.
+#[derive(Clone, Copy, Debug, PartialEq, Eq)]
+pub struct Pair {
+    pub cand: CandId,
+    pub slot: u8,
+}
+
+/// One step of a programme. The people stand in merit order, the best first.
+#[derive(Debug, Drop)]
+pub struct Step {
+    pub list: ListId,
+    pub seats: u16,
+    pub protections: Protections,
+    pub people: People,
+}
