@@ -1,7 +1,7 @@
 -- What several reads or writes, one after another, do to what is told.
 use Rattle.std.proofs.Common.{◌≡◌, ◌<◌, ◌+◌, ℕ, List, [], ◌++◌, Option, Some, None, take, drop, length, refl, sym, ap, ◌∙◌, subst, arith, append_assoc, length-append}
-use Rattle.std.proofs.lemmas.List.{append-nil, take-append-drop, take_at}
-use Rattle.office_base.specs.Outside.{TakesFront, ComesAtTheEnd, AppendsFront, Took, IsAtEnd, IsLonger, Appends}
+use Rattle.std.proofs.lemmas.List.{length-take, append-nil, take-append-drop, take_at}
+use Rattle.office_base.specs.Outside.{TakesFront, ComesAtTheEnd, AppendsFront, Took, IsAtEnd, TookMore, Appends}
 
 -- nothing is written yet
 pub Appends-none : (before : Option (List ℕ)) → Appends [] before before
@@ -36,12 +36,17 @@ at_end buffer n room (Some left) after f c z r =
     let gone : drop n left ≡ [] = ap (λ (x : List ℕ). drop n x) none ∙ ap (λ (k : ℕ). drop k []) z in
     subst IsAtEnd (sym f.2) gone
 
+-- a read gives as many bytes as it says
+length-front : (n : ℕ) (buffer : List ℕ) → n ≤ length buffer → length (take n buffer) ≡ n
+length-front n buffer fits = omega (arith, length-take n buffer)
+
 -- what was taken and what was read next are together longer than the limit
-pub is_longer : (bytes buffer : List ℕ) (n limit : ℕ) (before mid after : Option (List ℕ)) → Took bytes before mid → TakesFront n mid after buffer → limit < length bytes + n → IsLonger limit before
-is_longer bytes buffer n limit None mid after t f l = tt
-is_longer bytes buffer n limit (Some left) mid after t f l =
-    let g : TakesFront n (Some t.0) after buffer = subst (λ (m : Option (List ℕ)). TakesFront n m after buffer) t.1 f in
-    omega (arith, g.0, ap length t.2, length-append bytes t.0)
+pub took_more : (bytes buffer : List ℕ) (n limit : ℕ) (before mid after : Option (List ℕ)) → Took bytes before mid → TakesFront n mid after buffer → n ≤ length buffer → limit < length bytes + n → TookMore limit before after
+took_more bytes buffer n limit before mid after t f fits l = (
+  bytes ++ take n buffer,
+  omega (arith, length-append bytes (take n buffer), length-front n buffer fits),
+  Took-more bytes buffer n before mid after t f,
+)
 
 -- a read of nothing adds nothing
 pub Took-end : (bytes buffer : List ℕ) (n : ℕ) (before mid after : Option (List ℕ)) → Took bytes before mid → TakesFront n mid after buffer → n ≡ 0 → Took bytes before after

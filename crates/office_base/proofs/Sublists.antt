@@ -24,8 +24,8 @@ pub IsSublist-tail : {X : Type 0} (x : X) (xs ys : List X) → IsSublist (x ∷ 
 IsSublist-tail x xs [] s = absurd (omega (arith, ap length s))
 IsSublist-tail x xs (y ∷ ys) s =
     elim s [
-      inl later ↦ inl (IsSublist-tail x xs ys later)
-    | inr now ↦ let same : xs ≡ now.0 = cc in inl (subst (λ (zs : List _). IsSublist zs ys) (sym same) now.2)
+      | inl later ↦ inl (IsSublist-tail x xs ys later)
+      | inr now ↦ let same : xs ≡ now.0 = cc in inl (subst (λ (zs : List _). IsSublist zs ys) (sym same) now.2)
     ]
 
 -- it is no longer than the list
@@ -33,8 +33,8 @@ pub length-sublist : {X : Type 0} (xs ys : List X) → IsSublist xs ys → lengt
 length-sublist xs [] s = omega (arith, ap length s)
 length-sublist xs (y ∷ ys) s =
     elim s [
-      inl later ↦ omega (arith, length-sublist xs ys later)
-    | inr now ↦ omega (arith, ap length now.1, length-sublist now.0 ys now.2)
+      | inl later ↦ omega (arith, length-sublist xs ys later)
+      | inr now ↦ omega (arith, ap length now.1, length-sublist now.0 ys now.2)
     ]
 
 -- what holds of each element holds of each element of a sublist
@@ -42,6 +42,6 @@ pub AllByRecursion-sublist : {X : Type 0} (P : X → Type 0) (xs ys : List X) �
 AllByRecursion-sublist P xs [] s all = subst (λ (zs : List _). AllByRecursion P zs) (sym s) tt
 AllByRecursion-sublist P xs (y ∷ ys) s all =
     elim s [
-      inl later ↦ AllByRecursion-sublist P xs ys later all.1
-    | inr now ↦ subst (λ (zs : List _). AllByRecursion P zs) (sym now.1) (all.0, AllByRecursion-sublist P now.0 ys now.2 all.1)
+      | inl later ↦ AllByRecursion-sublist P xs ys later all.1
+      | inr now ↦ subst (λ (zs : List _). AllByRecursion P zs) (sym now.1) (all.0, AllByRecursion-sublist P now.0 ys now.2 all.1)
     ]

@@ -30,10 +30,9 @@ abbrev pub IsAtEnd : Option (List ℕ) → Type 0
 IsAtEnd None = Unit {0}
 IsAtEnd (Some left) = left ≡ []
 
--- more bytes than the limit were left, where it is told
-abbrev pub IsLonger : ℕ → Option (List ℕ) → Type 0
-IsLonger limit None = Unit {0}
-IsLonger limit (Some left) = limit < length left
+-- more bytes than the limit were taken
+abbrev pub TookMore : ℕ → Option (List ℕ) → Option (List ℕ) → Type 0
+TookMore limit before after = (bytes : List ℕ) × (limit < length bytes) × Took bytes before after
 
 -- these bytes were written behind what was there
 abbrev pub Appends : List ℕ → Option (List ℕ) → Option (List ℕ) → Type 0

@@ -1,6 +1,6 @@
 // A source read to its end, and a piece written whole.
 ghost use Rattle.std.specs.Prelude.{◌≡◌, ◌≤◌, ℕ, length, take, IfOk, OnOk, OnErr, IsErrOf, Option, List, [], ◌<◌, vec_len};
-ghost use Rattle.office_base.specs.Outside.{Rose, Took, IsAtEnd, IsLonger, Appends};
+ghost use Rattle.office_base.specs.Outside.{Rose, Took, IsAtEnd, TookMore, Appends};
 ghost use Rattle.office_base.specs.declared.whole.ReadFault.TheVariants.{Failed as SourceFailed, TooLong, OutOfMemory as NoMemory};
 
 use crate::{Failed, OutOfMemory, Sink, Source, Text};
@@ -66,7 +66,7 @@ fn read_through<S: Source>(
     ensures taken { IfOk result (λ all. Took all (S.left source.old) (S.left source.new)) }
     ensures ended { IfOk result (λ all. IsAtEnd (S.left source.new)) }
     ensures short { IfOk result (λ all. length all ≤ limit) }
-    ensures too_long { IsErrOf result ReadFault.TooLong → IsLonger limit (S.left source.old) }
+    ensures too_long { IsErrOf result ReadFault.TooLong → TookMore limit (S.left source.old) (S.left source.new) }
     ensures cause { IsErrOf result ReadFault.Failed → Rose (S.faults source.old) (S.faults source.new) }
     ensures count { S.faults source.old ≤ S.faults source.new }
 {
@@ -87,7 +87,7 @@ pub fn read_whole<S: Source>(alloc: Global, source: &mut S, limit: usize) -> Res
     ensures taken { IfOk result (λ bytes. Took bytes (S.left source.old) (S.left source.new)) }
     ensures ended { IfOk result (λ bytes. IsAtEnd (S.left source.new)) }
     ensures short { IfOk result (λ bytes. length bytes ≤ limit) }
-    ensures too_long { IsErrOf result ReadFault.TooLong → IsLonger limit (S.left source.old) }
+    ensures too_long { IsErrOf result ReadFault.TooLong → TookMore limit (S.left source.old) (S.left source.new) }
     ensures cause { IsErrOf result ReadFault.Failed → Rose (S.faults source.old) (S.faults source.new) }
     ensures count { S.faults source.old ≤ S.faults source.new }
 {

@@ -1,7 +1,7 @@
 use Rattle.std.proofs.Common.{◌≡◌, ℕ, ◌+◌, ◌≤◌, length, take, List, [], ◌++◌, sym, ap, ◌∙◌, subst, arith, length-append}
 use Rattle.std.proofs.lemmas.List.{length-take}
 use Rattle.office_base.specs.Outside.{Took}
-use Rattle.office_base.proofs.Streams.{Took-none, Took-more, Took-end, at_end, is_longer}
+use Rattle.office_base.proofs.Streams.{Took-none, Took-more, Took-end, at_end, took_more}
 use Rattle.office_base.proofs.whole.read_through.Goals as goal
 
 -- a front of n elements has at most n
@@ -24,7 +24,7 @@ returns-then-count-eq0-clause-ended g c =
 
 pub returns-then-count-limit-clause-too_long : goal.returns-then-count-limit-clause-too_long
 returns-then-count-limit-clause-too_long g c _ =
-    is_longer c.loop-bytes.bytes c.read.new.buf c.in_ok-count.count c.args.limit _ _ _ c.loop-bytes.invariant.0 c.in_ok-count.ensures.taken (omega (arith, c.if-count-limit.true, c.len.ensures))
+    took_more c.loop-bytes.bytes c.read.new.buf c.in_ok-count.count c.args.limit _ _ _ c.loop-bytes.invariant.0 c.in_ok-count.ensures.taken (omega (arith, c.in_ok-count.ensures.within)) (omega (arith, c.if-count-limit.true, c.len.ensures))
 
 pub loop-bytes-preserved : goal.loop-bytes-preserved
 loop-bytes-preserved g c =
