@@ -9,6 +9,8 @@
 pub mod laws;
 pub mod lines;
 pub mod number;
+#[cfg(test)]
+mod tests;
 pub mod traits;
 
 pub use lines::{next_field, next_line};
