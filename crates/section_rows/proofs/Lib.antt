@@ -1,0 +1,3 @@
+mod RecordLemmas
+mod RowsLemmas
+pub mod TableLemmas
