@@ -3,7 +3,7 @@ use Rattle.std.proofs.Common.{◌≡◌, ◌≤◌, ◌<◌, ◌-◌, ◌+◌, �
 use Rattle.std.specs.Bool.{MatchBool}
 use Rattle.std.proofs.lemmas.Option.{cond_some}
 use Rattle.csv.specs.Machine.{Read, ends_at_end, field_after, fields_after, is_end, next_record, step}
-use Rattle.csv.specs.Reading.{ReadRecord, ExplainsRead, Reached, default_config, has_failed, is_flexible, reader_state, records_from, records_next, source_of, stops_reader, strip_bom}
+use Rattle.csv.specs.Reading.{ReadRecord, ExplainsRead, Reached, default_config, has_failed, reader_state, records_from, records_next, source_of, stops_reader, strip_bom}
 use Rattle.csv.specs.declared.error.ErrorKind.{ErrorKind}
 use Rattle.csv.specs.declared.error.ErrorKind.TheVariants as kind
 use Rattle.csv.specs.declared.parser.Config.{Config}
@@ -60,6 +60,7 @@ steps (suc n) (suc m) s xs h k = by (next_record default_config s [] [] xs) refl
         let less = shorter default_config s [] [] xs p e in
         let size = ap (λ (l : List ℕ). length l) same in
         more p.1 p.2 (omega arith) (omega arith)
+
     by : (o : Option Read) → next_record default_config s [] [] xs ≡ o → AreSame n m → records_next (records_from default_config n) o ≡ records_next (records_from default_config m) o
     by None e more = refl
     by (Some p) e more = ap (λ (l : List Row). p.0 ∷ l) (rest more p e xs refl)

@@ -1,5 +1,5 @@
 -- A table read row by row has its first fault, or its entries.
-use Rattle.std.proofs.Common.{◌≡◌, ◌<◌, ◌≤◌, ◌⊎◌, inl, inr, ℕ, true, false, List, [], ◌∷◌, ◌++◌, Some, None, Option, Result, Ok, Err, length, take, refl, sym, ap, ◌∙◌, append_assoc, arith, length-append}
+use Rattle.std.proofs.Common.{◌≡◌, ◌<◌, inl, inr, ℕ, true, false, List, [], ◌∷◌, ◌++◌, Some, None, Option, Ok, Err, length, refl, sym, ap, ◌∙◌, append_assoc, arith, length-append}
 use Rattle.std.specs.Prelude.{slice_get}
 use Rattle.std.proofs.lemmas.Bool.{cases_order}
 use Rattle.std.proofs.lemmas.List.{append-nil}
@@ -7,7 +7,7 @@ use Rattle.std.proofs.lemmas.Option.{slice_get_past}
 use Rattle.std.proofs.Math.Seq.{take-append_seam, take-length}
 use Rattle.office_text.specs.FirstFault.{Judge, fault_at, IsFirstFault, IsFaultless}
 use Rattle.section_rows.specs.Rows.{Row, same_fields}
-use Rattle.section_rows.specs.Table.{Reading, entries_after, entries_of, fault_of, row_fault, table_judge, with_entry}
+use Rattle.section_rows.specs.Table.{Reading, entries_after, entries_of, fault_of, table_judge, with_entry}
 
 -- the row behind others
 slice_get-seam : (rows : List Row) (row : Row) (more : List Row) → slice_get (rows ++ row ∷ more) (length rows) ≡ Some row

@@ -1,5 +1,5 @@
 -- The rows of a section: its records as `csv` reads them, without the empty fields at their ends.
-use Rattle.std.specs.Prelude.{ℕ, Bool, true, false, ◌+◌, ◌&&◌, List, [], ◌∷◌, length, slice_index_or, bytes_eq, if◌then◌else◌}
+use Rattle.std.specs.Prelude.{ℕ, Bool, true, false, ◌&&◌, List, [], ◌∷◌, slice_index_or, bytes_eq}
 use Rattle.csv.specs.Reading.{records, default_config, strip_bom}
 
 -- a row is the list of its fields, and a field the list of its bytes

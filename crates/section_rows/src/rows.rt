@@ -10,10 +10,7 @@ use std::alloc::Global;
 use std::marker::Model;
 
 /// The next record. An error is want of memory, and leaves none.
-fn read_record(
-    reader: &mut Reader<&[u8]>,
-    raw: &mut ByteRecord,
-) -> Result<bool, OutOfMemory>
+fn read_record(reader: &mut Reader<&[u8]>, raw: &mut ByteRecord) -> Result<bool, OutOfMemory>
     requires { IsReading reader.old }
     ensures reading { IsReading reader.new }
     ensures more { IfOk result (λ more. MatchBool more (records_left reader.old ≡ fields_of raw.new ∷ records_left reader.new) (records_left reader.old ≡ [])) }
@@ -31,10 +28,7 @@ fn want_of_memory(_: Error) -> OutOfMemory {
 }
 
 /// The next record with fields, and how many it has without the empty ones at its end. An error leaves none.
-fn read_row(
-    reader: &mut Reader<&[u8]>,
-    raw: &mut ByteRecord,
-) -> Result<Option<usize>, OutOfMemory>
+fn read_row(reader: &mut Reader<&[u8]>, raw: &mut ByteRecord) -> Result<Option<usize>, OutOfMemory>
     requires { IsReading reader.old }
     ensures reading { IsReading reader.new }
     ensures some { IfOk result (λ found. IfSome found (λ count. (count ≤ length (fields_of raw.new)) × (rows_among (records_left reader.old) ≡ take count (fields_of raw.new) ∷ rows_among (records_left reader.new)))) }

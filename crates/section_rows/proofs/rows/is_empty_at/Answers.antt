@@ -1,4 +1,4 @@
-use Rattle.std.proofs.Common.{◌≡◌, refl, sym, ◌∙◌}
+use Rattle.std.proofs.Common.{refl, sym, ◌∙◌}
 use Rattle.csv.specs.Records.{fields_of}
 use Rattle.section_rows.proofs.RowsLemmas.{field_at-field, field_at-none, empty_test}
 use Rattle.section_rows.proofs.rows.is_empty_at.Goals as goal

@@ -1,4 +1,4 @@
-use Rattle.std.proofs.Common.{◌≡◌, ◌∙◌, inl, inr}
+use Rattle.std.proofs.Common.{◌∙◌, inl, inr}
 use Rattle.csv.specs.Records.{fields_of}
 use Rattle.section_rows.proofs.RecordLemmas.{read-tells, failed-tells}
 use Rattle.section_rows.proofs.rows.read_record.Goals as goal

@@ -1,4 +1,4 @@
-use Rattle.std.proofs.Common.{◌≡◌, ◌≤◌, length, drop, map}
+use Rattle.std.proofs.Common.{◌≡◌, drop, map}
 use Rattle.section_rows.specs.Rows.{same_fields}
 use Rattle.section_rows.proofs.rows.Rows.is.Given as goal
 

@@ -1,4 +1,4 @@
-use Rattle.std.proofs.Common.{[], ◌∙◌}
+use Rattle.std.proofs.Common.{[]}
 use Rattle.section_rows.proofs.RecordLemmas.{at-start}
 use Rattle.section_rows.proofs.rows.Rows.new.Goals as goal
 

@@ -1,0 +1,3 @@
+mod EntriesLemmas
+mod MadeLemmas
+mod RankingLemmas

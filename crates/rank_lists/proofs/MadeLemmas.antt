@@ -1,0 +1,150 @@
+-- The register that is made of a ranking, and what is found in it.
+use Rattle.std.proofs.Common.{◌≡◌, ◌<◌, ◌≤◌, ℕ, zero, suc, Bool, true, false, cond, List, [], ◌∷◌, Option, Some, None, Result, Ok, Err, length, get_or, refl, sym, ap, inl, inr, ◌∙◌, arith}
+use Rattle.std.specs.Prelude.{◌==◌, is_some, IsSome, MatchResult}
+use Rattle.std.specs.Bool.{one_answer}
+use Rattle.std.specs.BTreeMap as tree
+use Rattle.std.specs.Cmp.Lexicographic.{slice_cmp}
+use Rattle.std.specs.List.{AllByRecursion}
+use Rattle.std.specs.List.Sorted.{IsBinarySearchResult, IsNonDecreasingBy, IsSearchInRange, IsStrictlySortedBy}
+use Rattle.std.specs.Map.{keys_of, lookup, values_of}
+use Rattle.std.specs.Ordering.{is_eq, nat_cmp, ordering_index}
+use Rattle.std.specs.declared.cmp.Ordering.TheVariants.{Less}
+use Rattle.std.proofs.lemmas.Bool.{cases_order, cond-true, cond-false, eq-eqb, ne_eqb}
+use Rattle.std.proofs.lemmas.Bool.Decides.{nat_tests}
+use Rattle.std.proofs.lemmas.Cmp.{ranked}
+use Rattle.std.proofs.lemmas.Map.Text.{is_eq-slice_cmp}
+use Rattle.office_base.specs.Lists.{Pairwise}
+use Rattle.office_base.specs.declared.person.CandId.{CandId}
+use Rattle.office_base.specs.declared.person.Person.{Person}
+use Rattle.rank_lists.specs.Ranking.{Keeps}
+use Rattle.rank_lists.specs.Register.{AreRanks, IsRegister, find_holder, find_person}
+use Rattle.rank_lists.specs.declared.entry.Entry.{Entry}
+use Rattle.rank_lists.specs.declared.ranking.Ranking.{Ranking}
+use Rattle.rank_lists.proofs.RankingLemmas.{nat_at, number_decides}
+
+-- people rise by id
+abbrev Rising : List Person → Type 0
+Rising people = Pairwise (λ a b. a.id.0 < b.id.0) people
+
+-- each person is kept under the own id
+abbrev Keyed : List (ℕ × Person) → Type 0
+Keyed es = AllByRecursion (λ held. held.0 ≡ held.1.id.0) es
+
+-- a person is found among the values as under the keys
+find-value : (q : ℕ) (es : List (ℕ × Person)) → Keyed es → find_person q (values_of es) ≡ lookup (λ k. is_eq (nat_cmp q k)) es
+find-value q [] keyed = refl
+find-value q (e ∷ es) keyed =
+    let test : (q == e.1.id.0) ≡ is_eq (nat_cmp q e.0) = ap (λ (k : ℕ). q == k) (sym keyed.0) ∙ one_answer _ _ (number_decides q e.0) (nat_at q e.0) in
+    ap (λ (b : Bool). cond b (Some e.1) (find_person q (values_of es))) test
+    ∙ ap (λ (o : Option Person). cond (is_eq (nat_cmp q e.0)) (Some e.1) o) (find-value q es keyed.1)
+
+-- a holder is found by bytes as by the order of tokens
+pub find-holder : (token : List ℕ) (es : List (List ℕ × CandId)) → find_holder token es ≡ lookup (λ k. is_eq (slice_cmp nat_cmp token k)) es
+find-holder token [] = refl
+find-holder token (e ∷ es) =
+    ap (λ (b : Bool). cond b (Some e.1) (find_holder token es)) (sym (is_eq-slice_cmp token e.0))
+    ∙ ap (λ (o : Option CandId). cond (is_eq (slice_cmp nat_cmp token e.0)) (Some e.1) o) (find-holder token es)
+
+less_from : (a b : ℕ) → nat_cmp a b ≡ Less → a < b
+less_from a b e = ranked a b Less (sym e)
+
+all_above : (k : ℕ) (es : List (ℕ × Person)) → Keyed es → AllByRecursion (λ y. nat_cmp k y ≡ Less) (keys_of es) → AllByRecursion (λ (p : Person). k < p.id.0) (values_of es)
+all_above k [] keyed all = tt
+all_above k (e ∷ es) keyed all = (omega (arith, less_from k e.0 all.0, keyed.0), all_above k es keyed.1 all.1)
+
+above_same : (k m : ℕ) (people : List Person) → k ≡ m → AllByRecursion (λ (p : Person). k < p.id.0) people → AllByRecursion (λ (p : Person). m < p.id.0) people
+above_same k m [] e all = tt
+above_same k m (p ∷ people) e all = (omega (arith, e, all.0), above_same k m people e all.1)
+
+-- keys that rise are ids that rise
+rising_values : (es : List (ℕ × Person)) → Keyed es → IsStrictlySortedBy nat_cmp (keys_of es) → Rising (values_of es)
+unfolding IsStrictlySortedBy
+rising_values [] keyed sorted = tt
+rising_values (e ∷ es) keyed sorted = (above_same e.0 e.1.id.0 (values_of es) keyed.0 (all_above e.0 es keyed.1 sorted.0), rising_values es keyed.1 sorted.1)
+
+-- The values of a ranking are the register of its entries.
+pub made : (entries : List Entry) (ranking : Ranking) (people : List Person) → Keeps entries ranking → people ≡ tree.values ranking.people → tree.IsOrdered nat_cmp ranking.people
+    → IsRegister entries (record { people = people; holders = ranking.holders.entries })
+made entries ranking people keeps e ordered = record {
+  rising = rw e (rising_values ranking.people.entries keeps.keyed ordered);
+  people = λ id. ap (find_person id) e ∙ find-value id ranking.people.entries keeps.keyed ∙ keeps.people id;
+  holders = λ token. find-holder token ranking.holders.entries ∙ keeps.holders token;
+}
+
+-- What is the register of sound entries is sound.
+pub made_sound : (entries : List Entry) (ranking : Ranking) (people : List Person) → Keeps entries ranking → people ≡ tree.values ranking.people → tree.IsOrdered nat_cmp ranking.people
+    → AreRanks (record { people = people; holders = ranking.holders.entries })
+made_sound entries ranking people keeps e ordered =
+    let register = made entries ranking people keeps e ordered in
+    record {
+      rising = register.rising;
+      apart = λ i j list n a b ha hb na nb. keeps.sound.apart i j list n a b (sym (register.people i) ∙ ha) (sym (register.people j) ∙ hb) na nb;
+      registered = λ id person h. keeps.sound.registered id person (sym (register.people id) ∙ h);
+      tokens = λ token h. keeps.sound.tokens token (ap is_some (sym (register.holders token)) ∙ h);
+    }
+
+all_at : (P : Person → Type 0) (people : List Person) (i : ℕ) (d : Person) → AllByRecursion P people → i < length people → P (get_or people i d)
+all_at P [] i d all within = absurd (omega arith)
+all_at P (p ∷ people) zero d all within = all.0
+all_at P (p ∷ people) (suc i) d all within = all_at P people i d all.1 (omega arith)
+
+rising_at : (people : List Person) (i j : ℕ) (d : Person) → Rising people → i < j → j < length people → (get_or people i d).id.0 < (get_or people j d).id.0
+rising_at [] i j d rising less within = absurd (omega arith)
+rising_at (p ∷ people) i zero d rising less within = absurd (omega arith)
+rising_at (p ∷ people) zero (suc j) d rising less within = all_at (λ b. p.id.0 < b.id.0) people j d rising.0 (omega arith)
+rising_at (p ∷ people) (suc i) (suc j) d rising less within = rising_at people i j d rising.1 (omega arith) (omega arith)
+
+-- the person at a place is found by the own id
+found_here : (people : List Person) (q i : ℕ) (d : Person) → Rising people → i < length people → (get_or people i d).id.0 ≡ q → find_person q people ≡ Some (get_or people i d)
+found_here [] q i d rising within e = absurd (omega arith)
+found_here (p ∷ people) q zero d rising within e = cond-true (q == p.id.0) _ _ (eq-eqb q p.id.0 (sym e))
+found_here (p ∷ people) q (suc i) d rising within e =
+    let less : p.id.0 < (get_or people i d).id.0 = all_at (λ b. p.id.0 < b.id.0) people i d rising.0 (omega arith) in
+    cond-false (q == p.id.0) _ _ (ne_eqb q p.id.0 (λ same. absurd (omega arith))) ∙ found_here people q i d rising.1 (omega arith) e
+
+-- an id that nobody has is not found
+found_nowhere : (people : List Person) (q : ℕ) → ((i : ℕ) (d : Person) → i < length people → (get_or people i d).id.0 ≡ q → ⊥) → find_person q people ≡ None
+found_nowhere [] q none = refl
+found_nowhere (p ∷ people) q none =
+    cond-false (q == p.id.0) _ _ (ne_eqb q p.id.0 (λ same. none 0 p (omega arith) (sym same))) ∙ found_nowhere people q (λ i d within e. none (suc i) d (omega arith) e)
+
+-- the comparisons with an id rise along the people, as a binary search asks
+comparisons_rise : (people : List Person) (q : ℕ) → Rising people → IsNonDecreasingBy (λ p. ordering_index (nat_cmp p.id.0 q)) people
+comparisons_rise people q rising i j d le within =
+    let a : ℕ = (get_or people i d).id.0 in
+    let b : ℕ = (get_or people j d).id.0 in
+    let ids : a ≤ b = elim (cases_order i j) [
+      | inl same ↦ omega (arith, ap (λ (k : ℕ). (get_or people k d).id.0) same)
+      | inr other ↦ elim other [
+        | inl less ↦ omega (arith, rising_at people i j d rising less within)
+        | inr more ↦ absurd (omega arith)
+      ]
+    ] in
+    grind (arith, nat_tests)
+
+-- A binary search by id finds the person, or nobody has the id.
+pub searched : (people : List Person) (q : ℕ) (r : Result ℕ ℕ) → Rising people → IsSearchInRange r (length people) → IsBinarySearchResult (λ p. nat_cmp p.id.0 q) people r
+    → MatchResult r (λ at. (d : Person) → Some (get_or people at d) ≡ find_person q people) (λ at. None ≡ find_person q people)
+searched people q (Ok at) rising within equal = λ d. sym (found_here people q at d rising within (ranked _ q _ (sym (equal d))))
+searched people q (Err at) rising within parted =
+    sym (found_nowhere people q (λ j d inside same. elim (cases_order j at) [
+      | inl e ↦ (let above : q < (get_or people j d).id.0 = ranked _ q _ (sym ((parted (comparisons_rise people q rising)).1 j d (omega arith) inside)) in omega arith)
+      | inr other ↦ elim other [
+        | inl less ↦ (let below : (get_or people j d).id.0 < q = ranked _ q _ (sym ((parted (comparisons_rise people q rising)).0 j d (omega arith) less)) in omega arith)
+        | inr more ↦ (let above : q < (get_or people j d).id.0 = ranked _ q _ (sym ((parted (comparisons_rise people q rising)).1 j d (omega arith) inside)) in omega arith)
+      ]
+    ]))
+
+-- where a text is no token, nobody holds it
+pub not_held : (o : Option CandId) (b : Bool) → (IsSome o → b ≡ true) → b ≡ false → None ≡ o
+not_held None b h e = refl
+not_held (Some x) b h e = cc (h refl, e)
+
+-- what was read as nothing is no token, and what was read is itself
+pub no_token : (b : Bool) (x : List ℕ) → None ≡ cond b (Some x) None → b ≡ false
+no_token true x e = cc e
+no_token false x e = refl
+
+pub same_token : (b : Bool) (x y : List ℕ) → Some y ≡ cond b (Some x) None → y ≡ x
+same_token true x y e = cc e
+same_token false x y e = cc e

@@ -1,0 +1,49 @@
+// What can be wrong with a register.
+ghost use Rattle.std.specs.Prelude.{◌≡◌};
+ghost use Rattle.rank_lists.specs.declared.fault.RankFault.TheVariants.{OutOfMemory as NoMemory};
+
+use office_base::OutOfMemory;
+
+/// What is wrong with a row of the register. On one row `TooMany` comes first and the others by rising number.
+#[derive(Clone, Copy, Debug, PartialEq, Eq)]
+pub enum RankKind {
+    /// Row 1 is missing or is not the header.
+    BadHeader = 1,
+    /// The id is no number from 1 to 999,999,999.
+    BadId = 2,
+    /// The id stands in an earlier row.
+    RepeatedId = 3,
+    /// The category is none of GEN, EWS or GEN-EWS, OBC or OBC-NCL, SC, ST.
+    BadCategory = 4,
+    /// The traits are no set of traits.
+    BadTrait = 5,
+    /// A place is no place, or there are more than eight fields.
+    BadPlace = 6,
+    /// The number of a place stands in the same list of an earlier row.
+    RepeatedPlace = 7,
+    /// A candidate of the general category has a relaxed place.
+    RelaxedGeneral = 8,
+    /// The token is none, or the token of an earlier row.
+    BadToken = 9,
+    /// There are more than 250,000 candidates.
+    TooMany = 10,
+}
+
+/// Why a register was not read. Nothing is left behind.
+#[derive(Clone, Copy, Debug, PartialEq, Eq, thiserror::Error)]
+pub enum RankFault {
+    /// The first fault by rows. Rows are counted from 1, the header included.
+    #[error("row {row}: {kind:?}")]
+    Bad { row: u32, kind: RankKind },
+    /// There was no memory for the register.
+    #[error("out of memory")]
+    OutOfMemory,
+}
+
+impl From<OutOfMemory> for RankFault {
+    ghost from_gives = { λ _ fault. fault ≡ NoMemory };
+
+    fn from(_: OutOfMemory) -> Self {
+        RankFault::OutOfMemory
+    }
+}

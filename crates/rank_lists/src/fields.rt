@@ -1,0 +1,43 @@
+// The fields of a row of the register.
+ghost use Rattle.std.specs.Prelude.{◌≡◌};
+ghost use Rattle.rank_lists.specs.Fields.{category_of, place_of};
+
+use office_base::{Category, Place};
+use office_text::read_number;
+
+/// The greatest number of a place.
+const LAST_PLACE: u32 = 9_999_999;
+
+/// The category that a text spells.
+pub(crate) fn read_category(text: &[u8]) -> Option<Category>
+    ensures { result ≡ category_of text.now }
+{
+    if text == b"GEN".as_slice() {
+        Some(Category::Gen)
+    } else if text == b"EWS".as_slice() || text == b"GEN-EWS".as_slice() {
+        Some(Category::Ews)
+    } else if text == b"OBC".as_slice() || text == b"OBC-NCL".as_slice() {
+        Some(Category::Obc)
+    } else if text == b"SC".as_slice() {
+        Some(Category::Sc)
+    } else if text == b"ST".as_slice() {
+        Some(Category::St)
+    } else {
+        None
+    }
+}
+
+/// The place that a text spells: nothing for none, a number for a common place, a number with `R` for a relaxed one.
+pub(crate) fn read_place(text: &[u8]) -> Option<Place>
+    ensures { result ≡ place_of text.now }
+{
+    if text.is_empty() {
+        return Some(Place::Absent);
+    }
+    let end = text.len() - 1;
+    if text[end] == b'R' {
+        Some(Place::Relaxed(read_number(&text[..end], 1, LAST_PLACE)?))
+    } else {
+        Some(Place::Common(read_number(text, 1, LAST_PLACE)?))
+    }
+}

@@ -1,0 +1,126 @@
+// The merit register, as the layers above see it.
+ghost use Rattle.std.specs.Prelude.{◌≡◌, List, IfOk, IfErr, IsTrue, ◌↔◌, option_copied};
+ghost use Rattle.office_base.specs.Person.{IsList};
+ghost use Rattle.section_rows.specs.Rows.{rows_of, same_fields};
+ghost use Rattle.rank_lists.specs.Register.{header, find_person, find_holder, place_of_person, IsBefore, IsRead, IsFault};
+
+use crate::fault::{RankFault, RankKind};
+use crate::ranking::Ranking;
+use office_base::{CandId, ListId, Person, Place, Token, better};
+use section_rows::Rows;
+use std::alloc::Global;
+use std::collections::BTreeMap;
+use std::marker::Model;
+
+/// The candidates with their places on the merit lists, and who holds which token.
+#[derive(Drop)]
+pub struct Register {
+    pub(crate) people: Vec<Person>,
+    pub(crate) holders: BTreeMap<Token, CandId>,
+}
+
+impl Model for Register {
+    ghost use Rattle.rank_lists.specs.Register.{Ranks, AreRanks};
+
+    ghost Value = { Ranks };
+
+    ghost view = { λ a. record { people = a.people.items; holders = a.holders.entries } };
+
+    ghost invariant = { λ a. AreRanks (record { people = a.people.items; holders = a.holders.entries }) };
+}
+
+/// Whether the row is the header.
+fn is_header(row: &Rows<'_>) -> bool
+    ensures { result ≡ same_fields row.now.row header }
+{
+    row.is(&[
+        b"id".as_slice(),
+        b"category".as_slice(),
+        b"traits".as_slice(),
+        b"token".as_slice(),
+        b"m1".as_slice(),
+        b"m2".as_slice(),
+        b"m3".as_slice(),
+        b"m4".as_slice(),
+    ])
+}
+
+impl Register {
+    ghost use Rattle.rank_lists.specs.Register.{AreRanks};
+
+    /// The register that the body of a section spells, or its first fault by rows.
+    pub fn read(alloc: Global, body: &[u8]) -> Result<Register, RankFault>
+        ensures value { IfOk result (λ register. IsRead (rows_of body.now) register) }
+        ensures fault { IfErr result (λ fault. IsFault (rows_of body.now) fault) }
+    {
+        let mut rows = Rows::new(alloc, body);
+        if !rows.advance()? || !is_header(&rows) {
+            return Err(RankFault::Bad {
+                row: 1,
+                kind: RankKind::BadHeader,
+            });
+        }
+        let mut ranking = Ranking::new(alloc);
+        let mut number = 1;
+        'rows: while rows.advance()? {
+            number += 1;
+            match ranking.read(&rows) {
+                Ok(entry) => ranking.add(entry)?,
+                Err(kind) => return Err(RankFault::Bad { row: number, kind }),
+            }
+        }
+        Ok(ranking.finish(alloc)?)
+    }
+
+    /// The person of this id. None exactly where no row has the id.
+    pub fn person(&self, id: CandId) -> Option<&Person>
+        ensures { option_copied result ≡ find_person id.0 self.now.people }
+    {
+        match self
+            .people
+            .binary_search_by_key(&id.0, |person| person.id.0)
+        {
+            Ok(at) => Some(&self.people[at]),
+            Err(_) => None,
+        }
+    }
+
+    /// The candidate of this token. None exactly where no row has the token.
+    pub fn who(&self, token: &[u8]) -> Option<CandId>
+        ensures { result ≡ find_holder token.now self.now.holders }
+    {
+        let holders = &self.holders;
+        let token = Token::read(token)?;
+        holders.get(&token).copied()
+    }
+
+    /// All candidates, in rising order of id.
+    pub fn people(&self) -> &[Person]
+        ensures same { result.now ≡ self.now.people }
+        ensures ranks { AreRanks self.now }
+    {
+        self.people.as_slice()
+    }
+
+    /// Whether both candidates are known and the first one is better in the list.
+    pub fn before(&self, list: ListId, a: CandId, b: CandId) -> bool
+        requires { IsList list }
+        ensures { IsTrue result ↔ IsBefore list (find_person a.0 self.now.people) (find_person b.0 self.now.people) }
+    {
+        match (self.person(a), self.person(b)) {
+            (Some(first), Some(second)) => better(first, second, list),
+            _ => false,
+        }
+    }
+
+    /// The candidate's place in the list. An unknown candidate has none.
+    pub fn place(&self, list: ListId, id: CandId) -> Place
+        requires { IsList list }
+        ensures { result ≡ place_of_person list (find_person id.0 self.now.people) }
+    {
+        match self.person(id) {
+            Some(person) => person.place(list),
+            None => Place::Absent,
+        }
+    }
+}
