@@ -7,19 +7,10 @@ use Rattle.office_base.specs.Codes.{is_token}
 use Rattle.office_base.specs.Person.{number_of}
 use Rattle.office_base.specs.declared.person.Person.{Person}
 use Rattle.office_base.specs.declared.person.Place.{Place}
-use Rattle.rank_lists.specs.Register.{AreEntries, IsRegistered, any_repeats, first_of, holder_at, is_number, is_taken, person_at, place_at, repeats}
+use Rattle.rank_lists.specs.Register.{AreEntries, IsRegistered, any_repeats, holder_at, is_number, is_taken, person_at, place_at, repeats}
 use Rattle.rank_lists.specs.declared.entry.Entry.{Entry}
-use Rattle.rank_lists.proofs.RankingLemmas.{IsAccepted, first_of-push, or_else}
-
--- what is found with one more element was found before, or is that element's
-found_cases : {X V : Type 0} (test : X → Bool) (value : X → V) (xs : List X) (x : X) (v : V) → first_of test value (xs ++ x ∷ []) ≡ Some v
-    → (first_of test value xs ≡ Some v) ⊎ ((test x ≡ true) × (value x ≡ v))
-found_cases {X} {V} test value xs x v e = by (first_of test value xs) refl (test x) refl (sym (first_of-push test value xs x) ∙ e)
-  where
-    by : (o : Option V) → first_of test value xs ≡ o → (b : Bool) → test x ≡ b → or_else o (cond b (Some (value x)) None) ≡ Some v → (o ≡ Some v) ⊎ ((b ≡ true) × (value x ≡ v))
-    by None f true g h = inr (refl, cc h)
-    by None f false g h = cc h
-    by (Some w) f b g h = inl h
+use Rattle.section_rows.proofs.StepsLemmas.{found_cases}
+use Rattle.rank_lists.proofs.RankingLemmas.{IsAccepted}
 
 or_first : (b c : Bool) → b ≡ true → (b || c) ≡ true
 or_first b c h = rw h refl

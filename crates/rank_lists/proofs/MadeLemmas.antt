@@ -20,7 +20,7 @@ use Rattle.rank_lists.specs.Ranking.{Keeps}
 use Rattle.rank_lists.specs.Register.{AreRanks, IsRegister, find_holder, find_person}
 use Rattle.rank_lists.specs.declared.entry.Entry.{Entry}
 use Rattle.rank_lists.specs.declared.ranking.Ranking.{Ranking}
-use Rattle.rank_lists.proofs.RankingLemmas.{nat_at, number_decides}
+use Rattle.section_rows.proofs.StepsLemmas.{nat_at, number_decides}
 
 -- people rise by id
 abbrev Rising : List Person → Type 0

@@ -1,14 +1,14 @@
 -- What one more entry adds.
-use Rattle.std.proofs.Common.{◌≡◌, ℕ, zero, suc, Bool, true, false, cond, List, [], ◌∷◌, ◌++◌, Option, Some, None, Result, Ok, Err, get_or, refl, sym, ap, subst, ◌∙◌, length-append, arith}
-use Rattle.std.specs.Prelude.{◌==◌, ◌&&◌, ◌||◌, ◌<◌, ◌≤◌, ◌+◌, length, option_map, nat_le, bytes_eq, is_some, nat_lt, if◌then◌else◌}
+use Rattle.std.proofs.Common.{◌≡◌, ℕ, zero, suc, Bool, true, false, cond, List, [], ◌∷◌, ◌++◌, Option, Some, None, Result, Ok, get_or, refl, sym, ap, subst, ◌∙◌, length-append, arith}
+use Rattle.std.specs.Prelude.{◌==◌, ◌&&◌, ◌||◌, ◌<◌, ◌≤◌, ◌+◌, length, option_map, nat_le, bytes_eq, is_some, if◌then◌else◌}
 use Rattle.std.specs.BTreeMap.{insert_entry}
-use Rattle.std.specs.Bool.{Decides, one_answer}
+use Rattle.std.specs.Bool.{one_answer}
 use Rattle.std.specs.Cmp.Lexicographic.{slice_cmp}
 use Rattle.std.specs.List.{AllByRecursion}
-use Rattle.std.specs.Ordering.{is_eq, match_ordering, nat_cmp, ordering_then}
+use Rattle.std.specs.Ordering.{is_eq, match_ordering, nat_cmp}
 use Rattle.std.specs.declared.cmp.Ordering.{Ordering}
 use Rattle.std.specs.declared.cmp.Ordering.TheVariants.{Less, Equal, Greater}
-use Rattle.std.proofs.lemmas.Bool.{and_parts, eqb-true, eq-eqb, leb-false, leb-true, ltb-true, ne_eqb}
+use Rattle.std.proofs.lemmas.Bool.{and_parts, leb-false, leb-true, ne_eqb}
 use Rattle.std.proofs.lemmas.Map.Text.{is_eq-slice_cmp}
 use Rattle.std.proofs.lemmas.Option.{cond_some}
 use Rattle.std.proofs.lemmas.Slice.Eq.{bytes_eq-Decides}
@@ -18,64 +18,16 @@ use Rattle.office_base.specs.Codes.{is_token}
 use Rattle.office_text.specs.Number.{number_within, value_of, is_number as is_number_text}
 use Rattle.office_text.specs.Traits.{traits_of, read_from, weighted_letters, is_dash}
 use Rattle.section_rows.specs.Rows.{Row, field}
+use Rattle.section_rows.specs.Steps.{after, needs, unless}
+use Rattle.section_rows.proofs.StepsLemmas.{after_ok, flip, nat_at, needs_ok, none_from, number_decides, number_found, step, then_found, unless_ok}
 use Rattle.rank_lists.specs.Places.{place_cmp}
 use Rattle.office_base.specs.Person.{number_of}
-use Rattle.rank_lists.specs.Register.{first_of, after, needs, unless, any_relaxed, any_repeats, is_general, is_number, is_taken, place_at, reading, new_id, places_of, new_token, person_at, holder_at, token_of, IsRegistered}
+use Rattle.rank_lists.specs.Register.{any_relaxed, any_repeats, is_general, is_number, is_taken, place_at, reading, new_id, places_of, new_token, person_at, holder_at, token_of, IsRegistered}
 use Rattle.rank_lists.specs.declared.entry.Entry.{Entry}
 use Rattle.rank_lists.specs.Fields.{category_of, place_of}
 use Rattle.rank_lists.specs.declared.fault.RankKind.{RankKind}
 use Rattle.rank_lists.specs.declared.fault.RankKind.TheVariants.{BadId, RepeatedId, BadCategory, BadTrait, BadPlace, RepeatedPlace, RelaxedGeneral, BadToken, TooMany}
 use Rattle.office_base.specs.declared.person.Category.{Category}
-
--- the first, or else the second
-abbrev pub or_else : {X : Type 0} → Option X → Option X → Option X
-or_else None o = o
-or_else (Some x) o = Some x
-
--- what is found with one more element at the end
-pub first_of-push : {X V : Type 0} (test : X → Bool) (value : X → V) (xs : List X) (x : X) → first_of test value (xs ++ x ∷ []) ≡ or_else (first_of test value xs) (cond (test x) (Some (value x)) None)
-first_of-push test value [] x = refl
-first_of-push {X} {V} test value (y ∷ xs) x = by (test y) (first_of-push test value xs x)
-  where
-    by : (b : Bool) → first_of test value (xs ++ x ∷ []) ≡ or_else (first_of test value xs) (cond (test x) (Some (value x)) None)
-        → cond b (Some (value y)) (first_of test value (xs ++ x ∷ [])) ≡ or_else (cond b (Some (value y)) (first_of test value xs)) (cond (test x) (Some (value x)) None)
-    by true e = refl
-    by false e = e
-
--- a new element is found by its own test, and by no other one
-or_else-none : {X : Type 0} (o : Option X) → or_else o None ≡ o
-or_else-none None = refl
-or_else-none (Some x) = refl
-
-pub first_of-same : {X V : Type 0} (test : X → Bool) (value : X → V) (xs : List X) (x : X) → first_of test value xs ≡ None → test x ≡ true → first_of test value (xs ++ x ∷ []) ≡ Some (value x)
-first_of-same test value xs x none same = first_of-push test value xs x ∙ (rw (none, same) refl)
-
-pub first_of-other : {X V : Type 0} (test : X → Bool) (value : X → V) (xs : List X) (x : X) → test x ≡ false → first_of test value (xs ++ x ∷ []) ≡ first_of test value xs
-first_of-other test value xs x other = first_of-push test value xs x ∙ (rw other (or_else-none (first_of test value xs)))
-
--- what a map with one more key finds is what one more element makes
-step : {X V : Type 0} (test : X → Bool) (value : X → V) (xs : List X) (x : X) (b : Bool) → b ≡ test x → (b ≡ true → first_of test value xs ≡ None)
-    → cond b (Some (value x)) (first_of test value xs) ≡ first_of test value (xs ++ x ∷ [])
-step test value xs x true e none = sym (first_of-same test value xs x (none refl) (sym e))
-step test value xs x false e none = sym (first_of-other test value xs x (sym e))
-
-flip : {X : Type 0} {x y : X} (b : Bool) → Decides b (x ≡ y) → Decides b (y ≡ x)
-flip b h = (λ e. sym (h.0 e), λ e. h.1 (sym e))
-
--- the comparison of numbers finds equal ones
-pub nat_at : (k q : ℕ) → Decides (is_eq (nat_cmp k q)) (k ≡ q)
-nat_at k q = by (nat_lt k q) refl (k == q) refl
-  where
-    by : (lt : Bool) → nat_lt k q ≡ lt → (same : Bool) → (k == q) ≡ same → Decides (is_eq (cond lt Less (cond same Equal Greater))) (k ≡ q)
-    by true e same f = (λ h. cc h, λ h. absurd (let less : k < q = ltb-true k q e in omega arith))
-    by false e true f = (λ h. eqb-true k q f, λ h. refl)
-    by false e false f = (λ h. cc h, λ h. cc (f, eq-eqb k q h))
-
-pub number_decides : (k q : ℕ) → Decides (k == q) (k ≡ q)
-number_decides k q = (eqb-true k q, eq-eqb k q)
-
-number_found : (k q : ℕ) → is_eq (nat_cmp k q) ≡ (q == k)
-number_found k q = one_answer _ _ (nat_at k q) (flip _ (number_decides q k))
 
 -- the persons by id, with one more
 pub person-step : (entries : List Entry) (entry : Entry) → person_at entry.person.id.0 entries ≡ None → (q : ℕ)
@@ -93,22 +45,11 @@ holder-step entries entry none q =
     (same ∙ one_answer _ _ (bytes_eq-Decides entry.token q) (flip _ (bytes_eq-Decides q entry.token)))
     (λ h. subst (λ (k : List ℕ). holder_at k entries ≡ None) ((bytes_eq-Decides entry.token q).0 (sym same ∙ h)) none)
 
--- numbers in lists compare by both
-then_found : (r s : Ordering) → is_eq (ordering_then r s) ≡ (is_eq r && is_eq s)
-then_found Less s = refl
-then_found Equal s = refl
-then_found Greater s = refl
-
 pub place_found : (list number l n : ℕ) → is_eq (place_cmp (list, number) (l, n)) ≡ (list == l && n == number)
 place_found list number l n =
     then_found (nat_cmp list l) (nat_cmp number n)
     ∙ ap (λ (b : Bool). b && is_eq (nat_cmp number n)) (one_answer _ _ (nat_at list l) (number_decides list l))
     ∙ ap (λ (b : Bool). list == l && b) (number_found number n)
-
--- a key put in, or those before it
-pub cond-or : (b c : Bool) → cond b true c ≡ (b || c)
-cond-or true c = refl
-cond-or false c = refl
 
 or_comm : (a b : Bool) → (a || b) ≡ (b || a)
 or_comm true true = refl
@@ -159,23 +100,6 @@ keyed-insert k v (held ∷ es) e all = by (nat_cmp k held.0) refl (keyed-insert 
     by Less f more = (e, all)
     by Equal f more = (sym ((nat_at k held.0).0 (ap is_eq f)) ∙ e, all.1)
     by Greater f more = (all.0, more)
-
--- what a value that was needed gives
-needs_ok : {A X : Type 0} (o : Option A) (kind : RankKind) (rest : A → Result X RankKind) (x : X) → needs o kind rest ≡ Ok x → (a : A) × (o ≡ Some a) × (rest a ≡ Ok x)
-needs_ok None kind rest x e = cc e
-needs_ok (Some a) kind rest x e = (a, refl, e)
-
-unless_ok : {X : Type 0} (wrong : Bool) (kind : RankKind) (rest : Result X RankKind) (x : X) → unless wrong kind rest ≡ Ok x → (wrong ≡ false) × (rest ≡ Ok x)
-unless_ok true kind rest x e = cc e
-unless_ok false kind rest x e = (refl, e)
-
-after_ok : {A X : Type 0} (r : Result A RankKind) (rest : A → Result X RankKind) (x : X) → after r rest ≡ Ok x → (a : A) × (r ≡ Ok a) × (rest a ≡ Ok x)
-after_ok (Ok a) rest x e = (a, refl, e)
-after_ok (Err kind) rest x e = cc e
-
-none_from : {X : Type 0} (o : Option X) → is_some o ≡ false → o ≡ None
-none_from None e = refl
-none_from (Some x) e = cc e
 
 -- What a row gave is new to the entries, and within its ranges.
 pub record IsAccepted (entries : List Entry) (entry : Entry) : Type 0 where

@@ -1,5 +1,5 @@
 -- The grammar of the register: what a row gives behind the entries of the rows before it, or what is wrong with it.
-use Rattle.std.specs.Prelude.{◌≡◌, ◌<◌, ◌≤◌, ◌+◌, ℕ, Bool, true, false, ◌==◌, ◌&&◌, ◌||◌, nat_le, List, [], ◌∷◌, is_some, IsSome, IsTrue, Option, Some, None, Result, Ok, Err, length, slice_index_or, bytes_eq, codes, if◌then◌else◌}
+use Rattle.std.specs.Prelude.{◌≡◌, ◌<◌, ◌≤◌, ◌+◌, ℕ, Bool, true, false, ◌==◌, ◌&&◌, ◌||◌, nat_le, List, [], ◌∷◌, is_some, IsSome, IsTrue, Option, Some, None, Result, Ok, length, slice_index_or, bytes_eq, codes, if◌then◌else◌}
 use Rattle.office_base.specs.Codes.{is_token}
 use Rattle.office_base.specs.Lists.{Pairwise}
 use Rattle.office_base.specs.Person.{number_of, place_in, IsBetter, IsTraitSet}
@@ -14,6 +14,7 @@ use Rattle.office_text.specs.FirstFault.{Judge, IsFirstFault, IsFaultless}
 use Rattle.office_text.specs.Number.{number_within}
 use Rattle.office_text.specs.Traits.{traits_of}
 use Rattle.section_rows.specs.Rows.{Row, field}
+use Rattle.section_rows.specs.Steps.{after, first_of, needs, unless}
 use Rattle.section_rows.specs.Table.{Reading, entries_of, table_judge}
 use Rattle.rank_lists.specs.Fields.{category_of, place_of}
 use Rattle.rank_lists.specs.declared.entry.Entry.{Entry}
@@ -25,20 +26,6 @@ use Rattle.rank_lists.specs.declared.fault.RankKind.TheVariants.{BadHeader, BadI
 -- the fields of the header
 abbrev pub header : Row
 header = codes "id" ∷ codes "category" ∷ codes "traits" ∷ codes "token" ∷ codes "m1" ∷ codes "m2" ∷ codes "m3" ∷ codes "m4" ∷ []
-
--- a fault where something is wrong, and else what follows
-abbrev pub unless : {X : Type 0} → Bool → RankKind → Result X RankKind → Result X RankKind
-unless wrong kind rest = if wrong then Err kind else rest
-
--- a fault where nothing is spelled, and else what follows for the value
-abbrev pub needs : {A X : Type 0} → Option A → RankKind → (A → Result X RankKind) → Result X RankKind
-needs None kind rest = Err kind
-needs (Some value) kind rest = rest value
-
--- the value of the first element that passes the test
-abbrev pub first_of : {X V : Type 0} → (X → Bool) → (X → V) → List X → Option V
-first_of test value [] = None
-first_of test value (x ∷ xs) = if test x then Some (value x) else first_of test value xs
 
 -- the person of this id
 abbrev pub person_at : ℕ → List Entry → Option Person
@@ -80,11 +67,6 @@ is_general Ews = false
 is_general Obc = false
 is_general Sc = false
 is_general St = false
-
--- a fault that came before, or else what follows for the value
-abbrev pub after : {A X : Type 0} → Result A RankKind → (A → Result X RankKind) → Result X RankKind
-after (Ok value) rest = rest value
-after (Err kind) rest = Err kind
 
 -- a new id: the number of candidates, the spelling of the id, and the ids of the entries
 abbrev pub new_id : List Entry → Row → Result ℕ RankKind

@@ -1,3 +1,4 @@
 mod RecordLemmas
 mod RowsLemmas
+pub mod StepsLemmas
 pub mod TableLemmas

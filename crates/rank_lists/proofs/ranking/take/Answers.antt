@@ -4,7 +4,8 @@ use Rattle.std.specs.BTreeSet as sorted
 use Rattle.office_base.specs.Person.{number_of}
 use Rattle.rank_lists.specs.Places.{place_cmp}
 use Rattle.rank_lists.specs.Register.{is_number}
-use Rattle.rank_lists.proofs.RankingLemmas.{place_found, cond-or}
+use Rattle.section_rows.proofs.StepsLemmas.{cond-or}
+use Rattle.rank_lists.proofs.RankingLemmas.{place_found}
 use Rattle.rank_lists.proofs.ranking.take.Goals as goal
 
 pub returns-in_ok-insert : goal.returns-in_ok-insert
