@@ -8,18 +8,18 @@ use Rattle.std.specs.List.{AllByRecursion}
 use Rattle.std.specs.Ordering.{is_eq, match_ordering, nat_cmp}
 use Rattle.std.specs.declared.cmp.Ordering.{Ordering}
 use Rattle.std.specs.declared.cmp.Ordering.TheVariants.{Less, Equal, Greater}
-use Rattle.std.proofs.lemmas.Bool.{and_parts, leb-false, leb-true, ne_eqb}
+use Rattle.std.proofs.lemmas.Bool.{leb-false, ne_eqb}
 use Rattle.std.proofs.lemmas.Map.Text.{is_eq-slice_cmp}
 use Rattle.std.proofs.lemmas.Option.{cond_some}
 use Rattle.std.proofs.lemmas.Slice.Eq.{bytes_eq-Decides}
 use Rattle.office_base.specs.declared.person.Person.{Person}
 use Rattle.office_base.specs.declared.person.Place.{Place}
 use Rattle.office_base.specs.Codes.{is_token}
-use Rattle.office_text.specs.Number.{number_within, value_of, is_number as is_number_text}
+use Rattle.office_text.specs.Number.{number_within}
 use Rattle.office_text.specs.Traits.{traits_of, read_from, weighted_letters, is_dash}
 use Rattle.section_rows.specs.Rows.{Row, field}
 use Rattle.section_rows.specs.Steps.{after, needs, unless}
-use Rattle.section_rows.proofs.StepsLemmas.{after_ok, flip, nat_at, needs_ok, none_from, number_decides, number_found, step, then_found, unless_ok}
+use Rattle.section_rows.proofs.StepsLemmas.{after_ok, flip, nat_at, needs_ok, none_from, number_decides, number_found, step, then_found, unless_ok, within_range}
 use Rattle.rank_lists.specs.Places.{place_cmp}
 use Rattle.office_base.specs.Person.{number_of}
 use Rattle.rank_lists.specs.Register.{any_relaxed, any_repeats, is_general, is_number, is_taken, place_at, reading, new_id, places_of, new_token, person_at, holder_at, token_of, IsRegistered}
@@ -110,16 +110,6 @@ pub record IsAccepted (entries : List Entry) (entry : Entry) : Type 0 where
   pub apart : any_repeats entry.person.places entries ≡ false
   pub registered : IsRegistered entry.person
   pub token : is_token entry.token ≡ true
-
--- the numbers of a spelled number's range
-within_range : (low high n : ℕ) (text : List ℕ) → number_within low high text ≡ Some n → (low ≤ n) × (n ≤ high)
-within_range low high n text e =
-    let (test, same) = cond_some (is_number_text text && nat_le low (value_of text) && nat_le (value_of text) high) (value_of text) n e in
-    let (first, below) = and_parts (is_number_text text && nat_le low (value_of text)) (nat_le (value_of text) high) test in
-    let (spelled, above) = and_parts (is_number_text text) (nat_le low (value_of text)) first in
-    let l : low ≤ value_of text = leb-true low (value_of text) above in
-    let h : value_of text ≤ high = leb-true (value_of text) high below in
-    (omega (arith, same), omega (arith, same))
 
 -- all the bits of letters
 abbrev bits : List (ℕ × ℕ) → ℕ

@@ -1,11 +1,13 @@
 -- What one more entry changes of what is found, and what a row that is read has passed.
-use Rattle.std.proofs.Common.{◌≡◌, ◌⊎◌, inl, inr, ℕ, Bool, true, false, cond, List, [], ◌∷◌, ◌++◌, Option, Some, None, Result, Ok, Err, refl, sym, ap, ◌∙◌, arith}
-use Rattle.std.specs.Prelude.{◌==◌, ◌&&◌, ◌||◌, ◌<◌, is_some, nat_lt}
+use Rattle.std.proofs.Common.{◌≡◌, ◌⊎◌, inl, inr, ℕ, Bool, true, false, cond, List, [], ◌∷◌, ◌++◌, Option, Some, None, Result, Ok, Err, refl, sym, ◌∙◌, arith}
+use Rattle.std.specs.Prelude.{◌==◌, ◌&&◌, ◌||◌, ◌<◌, ◌≤◌, is_some, nat_le, nat_lt}
 use Rattle.std.specs.Bool.{Decides, one_answer}
 use Rattle.std.specs.Ordering.{is_eq, nat_cmp, ordering_then}
 use Rattle.std.specs.declared.cmp.Ordering.{Ordering}
 use Rattle.std.specs.declared.cmp.Ordering.TheVariants.{Less, Equal, Greater}
-use Rattle.std.proofs.lemmas.Bool.{eqb-true, eq-eqb, ltb-true}
+use Rattle.std.proofs.lemmas.Bool.{and_parts, eqb-true, eq-eqb, leb-true, ltb-true}
+use Rattle.std.proofs.lemmas.Option.{cond_some}
+use Rattle.office_text.specs.Number.{number_within, value_of, is_number as is_number_text}
 use Rattle.section_rows.specs.Steps.{after, first_of, needs, unless}
 
 -- the first, or else the second
@@ -95,3 +97,13 @@ found_cases {X} {V} test value xs x v e = by (first_of test value xs) refl (test
     by None f true g h = inr (refl, cc h)
     by None f false g h = cc h
     by (Some w) f b g h = inl h
+
+-- the numbers of a spelled number's range
+pub within_range : (low high n : ℕ) (text : List ℕ) → number_within low high text ≡ Some n → (low ≤ n) × (n ≤ high)
+within_range low high n text e =
+    let (test, same) = cond_some (is_number_text text && nat_le low (value_of text) && nat_le (value_of text) high) (value_of text) n e in
+    let (first, below) = and_parts (is_number_text text && nat_le low (value_of text)) (nat_le (value_of text) high) test in
+    let (spelled, above) = and_parts (is_number_text text) (nat_le low (value_of text)) first in
+    let l : low ≤ value_of text = leb-true low (value_of text) above in
+    let h : value_of text ≤ high = leb-true (value_of text) high below in
+    (omega (arith, same), omega (arith, same))

@@ -1,0 +1,51 @@
+-- How the fields of a row are spelled.
+use Rattle.std.specs.Prelude.{ℕ, ◌==◌, ◌||◌, nat_le, List, [], ◌∷◌, Option, Some, None, length, bytes_eq, codes, if◌then◌else◌}
+use Rattle.std.specs.Option.{option_and_then}
+use Rattle.office_base.specs.Codes.{is_code}
+use Rattle.office_base.specs.declared.step.StepKind.{StepKind}
+use Rattle.office_base.specs.declared.step.StepKind.TheVariants.{Open, Ews, Obc, Sc, St, Dereserved}
+use Rattle.office_text.specs.Number.{number_within}
+use Rattle.section_rows.specs.Rows.{Row, field}
+use Rattle.seat_matrix.specs.declared.entry.Seating.{Seating}
+
+-- the step that a text spells
+abbrev pub step_of : List ℕ → Option StepKind
+step_of text =
+    if bytes_eq text (codes "OPEN") then Some Open
+    else if bytes_eq text (codes "EWS") || bytes_eq text (codes "GEN-EWS") then Some Ews
+    else if bytes_eq text (codes "OBC") || bytes_eq text (codes "OBC-NCL") then Some Obc
+    else if bytes_eq text (codes "SC") then Some Sc
+    else if bytes_eq text (codes "ST") then Some St
+    else None
+
+-- the number of a step; seats that a category left unfilled are no step of the matrix
+abbrev pub step_number : StepKind → ℕ
+step_number Open = 0
+step_number Ews = 1
+step_number Obc = 2
+step_number Sc = 3
+step_number St = 4
+step_number Dereserved = 5
+
+-- the code that a text spells
+abbrev pub code_of : List ℕ → Option (List ℕ)
+code_of text = if is_code text then Some text else None
+
+-- how many seats a text spells
+abbrev pub count_of : List ℕ → Option ℕ
+count_of text = number_within 0 4000 text
+
+-- how many protections a text spells; nothing is 0
+abbrev pub protection_of : List ℕ → Option ℕ
+protection_of text = if length text == 0 then Some 0 else count_of text
+
+-- the protections of a row
+abbrev pub protections_of : Row → Option (List ℕ)
+protections_of row =
+    option_and_then (λ w. option_and_then (λ d. option_and_then (λ x. option_and_then (λ s. option_and_then (λ f. option_and_then
+    (λ l. if nat_le 12 (length row) then None else Some (w ∷ d ∷ x ∷ s ∷ f ∷ l ∷ []))
+    (protection_of (field row 10))) (protection_of (field row 9))) (protection_of (field row 8))) (protection_of (field row 7))) (protection_of (field row 6))) (protection_of (field row 5))
+
+-- the seats of a row with their protections; no field follows
+abbrev pub seating_of : Row → Option Seating
+seating_of row = option_and_then (λ seats. option_and_then (λ counts. Some (record { seats = seats; protections = record { counts = counts } })) (protections_of row)) (count_of (field row 4))

@@ -1,0 +1,139 @@
+-- The grammar of the matrix: what a row gives behind the entries of the rows before it, or what is wrong with it.
+use Rattle.std.specs.Prelude.{◌≡◌, ◌≤◌, ◌+◌, ℕ, Bool, not, ◌==◌, ◌&&◌, nat_le, nat_lt, sum, List, [], ◌∷◌, ◌++◌, is_some, Option, Some, None, Result, Ok, length, map, slice_get, bytes_eq, codes, if◌then◌else◌}
+use Rattle.std.specs.List.{list_any}
+use Rattle.std.specs.Option.{option_and_then}
+use Rattle.office_base.specs.Person.{IsList}
+use Rattle.office_base.specs.declared.step.Protections.{Protections}
+use Rattle.office_base.specs.declared.step.StepKind.{StepKind}
+use Rattle.office_text.specs.FirstFault.{Judge, IsFirstFault, IsFaultless}
+use Rattle.office_text.specs.Number.{number_within}
+use Rattle.section_rows.specs.Rows.{Row, field}
+use Rattle.section_rows.specs.Steps.{after, first_of, needs, unless}
+use Rattle.section_rows.specs.Table.{Reading, entries_of, table_judge}
+use Rattle.seat_matrix.specs.Fields.{code_of, seating_of, step_number, step_of}
+use Rattle.seat_matrix.specs.declared.entry.Entry.{Entry}
+use Rattle.seat_matrix.specs.declared.entry.Home.{Home}
+use Rattle.seat_matrix.specs.declared.entry.Seating.{Seating}
+use Rattle.seat_matrix.specs.declared.fault.MatrixFault.{MatrixFault}
+use Rattle.seat_matrix.specs.declared.fault.MatrixFault.TheVariants.{Bad, OutOfMemory}
+use Rattle.seat_matrix.specs.declared.fault.MatrixKind.{MatrixKind}
+use Rattle.seat_matrix.specs.declared.fault.MatrixKind.TheVariants.{BadHeader, BadCode, RepeatedRow, BadNumber, ProtectionsExceedSeats, UnknownList, TwoInstitutes, TwoLists, TooMany}
+
+-- the fields of the header
+abbrev pub header : Row
+header = codes "programme" ∷ codes "institute" ∷ codes "list" ∷ codes "step" ∷ codes "seats" ∷ codes "W" ∷ codes "D" ∷ codes "X" ∷ codes "S" ∷ codes "F" ∷ codes "L" ∷ []
+
+-- the seats of a programme in the step of this number
+abbrev pub seating_at : List ℕ → ℕ → List Entry → Option Seating
+seating_at code step entries = first_of (λ entry. bytes_eq code entry.programme && step == step_number entry.step) (λ entry. entry.seating) entries
+
+-- where a programme stands, and its list
+abbrev pub home_at : List ℕ → List Entry → Option Home
+home_at code entries = first_of (λ entry. bytes_eq code entry.programme) (λ entry. entry.home) entries
+
+-- the codes with one more, unless it is among them
+abbrev pub with_code : List (List ℕ) → List ℕ → List (List ℕ)
+with_code codes code = if list_any (bytes_eq code) codes then codes else codes ++ code ∷ []
+
+-- the programmes, in the order in which they first appear
+abbrev pub codes_after : List (List ℕ) → List Entry → List (List ℕ)
+codes_after codes [] = codes
+codes_after codes (entry ∷ entries) = codes_after (with_code codes entry.programme) entries
+
+abbrev pub codes_of : List Entry → List (List ℕ)
+codes_of entries = codes_after [] entries
+
+-- the seats of all rows
+abbrev pub seats_after : ℕ → List Entry → ℕ
+seats_after seats [] = seats
+seats_after seats (entry ∷ entries) = seats_after (seats + entry.seating.seats) entries
+
+abbrev pub all_seats : List Entry → ℕ
+all_seats entries = seats_after 0 entries
+
+-- a programme may be a new one, or stands where it stood and has the list that it had
+abbrev pub settles : Option Home → ℕ → Home → Result Home MatrixKind
+settles None count home = unless (nat_le 2000 count) TooMany (Ok home)
+settles (Some known) count home = unless (not (bytes_eq known.institute home.institute)) TwoInstitutes (unless (not (known.list.0 == home.list.0)) TwoLists (Ok home))
+
+-- a programme and a step that no earlier row has
+abbrev pub new_row : List Entry → Row → Result (List ℕ × List ℕ × StepKind) MatrixKind
+new_row entries row =
+    needs (code_of (field row 0)) BadCode (λ programme. needs (code_of (field row 1)) BadCode (λ institute. needs (step_of (field row 3)) BadCode
+    (λ step. unless (is_some (seating_at programme (step_number step) entries)) RepeatedRow (Ok (programme, institute, step)))))
+
+-- What a row gives behind these entries, or the first of its faults.
+unfoldable pub reading : Reading Entry MatrixKind
+reading entries row =
+    after (new_row entries row) (λ p. needs (seating_of row) BadNumber (λ seating.
+    unless (nat_lt seating.seats (sum seating.protections.counts)) ProtectionsExceedSeats (needs (number_within 1 4 (field row 2)) UnknownList (λ list.
+    after (settles (home_at p.0 entries) (length (codes_of entries)) (record { institute = p.1; list = record { 0 = list } })) (λ home.
+    unless (nat_lt 1000000 (all_seats entries + seating.seats)) TooMany (Ok (record { programme = p.0; home = home; step = p.2; seating = seating })))))))
+
+-- what is wrong with a row of a matrix
+abbrev pub judge : Judge Row MatrixKind
+judge = table_judge BadHeader header reading
+
+-- what a matrix knows: the programmes by their numbers, and the seats of their steps
+pub record Seats : Type 0 where
+  pub programmes : List (List ℕ × Home)
+  pub steps : List ((List ℕ × ℕ) × Seating)
+
+-- where a programme stands, and its list
+abbrev pub find_home : List ℕ → List (List ℕ × Home) → Option Home
+find_home code programmes = first_of (λ held. bytes_eq code held.0) (λ held. held.1) programmes
+
+-- the seats of a programme in the step of this number
+abbrev pub find_seating : List ℕ → ℕ → List ((List ℕ × ℕ) × Seating) → Option Seating
+find_seating code step steps = first_of (λ held. bytes_eq code held.0.0 && step == held.0.1) (λ held. held.1) steps
+
+-- The matrix of these entries: their programmes in the order in which they first appear, and the seats of their steps.
+pub record IsMatrix (entries : List Entry) (seats : Seats) : Type 0 where
+  pub programmes : map (λ held. held.0) seats.programmes ≡ codes_of entries
+  pub homes : (code : List ℕ) → find_home code seats.programmes ≡ home_at code entries
+  pub seatings : (code : List ℕ) (step : ℕ) → find_seating code step seats.steps ≡ seating_at code step entries
+
+-- the protections are among the seats, and these are at most 4,000
+pub record IsSeated (seating : Seating) : Type 0 where
+  pub protections : sum seating.protections.counts ≤ seating.seats
+  pub seats : seating.seats ≤ 4000
+
+-- What holds of the entries of every matrix.
+pub record AreEntries (entries : List Entry) : Type 0 where
+  pub seated : (code : List ℕ) (step : ℕ) (seating : Seating) → seating_at code step entries ≡ Some seating → IsSeated seating
+  pub lists : (code : List ℕ) (home : Home) → home_at code entries ≡ Some home → IsList home.list
+  pub few : length (codes_of entries) ≤ 2000
+  pub total : all_seats entries ≤ 1000000
+
+-- What holds of every matrix.
+pub record AreSeats (seats : Seats) : Type 0 where
+  pub seated : (code : List ℕ) (step : ℕ) (seating : Seating) → find_seating code step seats.steps ≡ Some seating → IsSeated seating
+  pub lists : (code : List ℕ) (home : Home) → find_home code seats.programmes ≡ Some home → IsList home.list
+  pub few : length seats.programmes ≤ 2000
+
+-- seats that a category left unfilled have no row
+abbrev pub is_dereserved : StepKind → Bool
+is_dereserved step = step_number step == 5
+
+-- what a row gave for the programme of this number in a step
+abbrev pub seating_in : Seats → ℕ → StepKind → Option Seating
+seating_in seats n step = if is_dereserved step then None else option_and_then (λ held. find_seating held.0 (step_number step) seats.steps) (slice_get seats.programmes n)
+
+-- the seats where a row was given, and none elsewhere
+abbrev pub seats_given : Option Seating → ℕ
+seats_given None = 0
+seats_given (Some seating) = seating.seats
+
+-- the protections where a row was given, and none elsewhere
+abbrev pub protections_given : Option Seating → Protections
+protections_given None = record { counts = 0 ∷ 0 ∷ 0 ∷ 0 ∷ 0 ∷ 0 ∷ [] }
+protections_given (Some seating) = seating.protections
+
+-- a body's rows have no fault, and these are the seats of their entries
+abbrev pub IsRead : List Row → Seats → Type 0
+IsRead rows seats = IsFaultless judge rows × IsMatrix (entries_of reading rows) seats
+
+-- the first fault of a body's rows; want of memory tells nothing of them
+abbrev pub IsFault : List Row → MatrixFault → Type 0
+IsFault rows (Bad row kind) = (n : ℕ) × (row ≡ n + 1) × IsFirstFault judge rows n kind
+IsFault rows OutOfMemory = Unit {0}

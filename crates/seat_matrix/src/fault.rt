@@ -1,0 +1,47 @@
+// What can be wrong with a matrix.
+ghost use Rattle.std.specs.Prelude.{◌≡◌};
+ghost use Rattle.seat_matrix.specs.declared.fault.MatrixFault.TheVariants.{OutOfMemory as NoMemory};
+
+use office_base::OutOfMemory;
+
+/// What is wrong with a row of the matrix. On one row they come by rising number.
+#[derive(Clone, Copy, Debug, PartialEq, Eq)]
+pub enum MatrixKind {
+    /// Row 1 is missing or is not the header.
+    BadHeader = 1,
+    /// The programme or the institute is no code, or the step is no step.
+    BadCode = 2,
+    /// The programme and the step stand in an earlier row.
+    RepeatedRow = 3,
+    /// The seats or a protection are no number from 0 to 4,000, or there are more than eleven fields.
+    BadNumber = 4,
+    /// The protections sum to more than the seats.
+    ProtectionsExceedSeats = 5,
+    /// The list is no number from 1 to 4.
+    UnknownList = 6,
+    /// An earlier row of the programme has another institute.
+    TwoInstitutes = 7,
+    /// An earlier row of the programme has another list.
+    TwoLists = 8,
+    /// There are more than 2,000 programmes, or more than 1,000,000 seats in all rows.
+    TooMany = 9,
+}
+
+/// Why a matrix was not read. Nothing is left behind.
+#[derive(Clone, Copy, Debug, PartialEq, Eq, thiserror::Error)]
+pub enum MatrixFault {
+    /// The first fault by rows. Rows are counted from 1, the header included.
+    #[error("row {row}: {kind:?}")]
+    Bad { row: u32, kind: MatrixKind },
+    /// There was no memory for the matrix.
+    #[error("out of memory")]
+    OutOfMemory,
+}
+
+impl From<OutOfMemory> for MatrixFault {
+    ghost from_gives = { λ _ fault. fault ≡ NoMemory };
+
+    fn from(_: OutOfMemory) -> Self {
+        MatrixFault::OutOfMemory
+    }
+}

@@ -1,0 +1,100 @@
+// The fields of a row of the matrix.
+ghost use Rattle.std.specs.Prelude.{◌≡◌, ◌<◌, sum};
+ghost use Rattle.seat_matrix.specs.Fields.{step_of, step_number, count_of, protection_of, protections_of, seating_of};
+
+use crate::entry::Seating;
+use office_base::{Protections, StepKind};
+use office_text::read_number;
+use section_rows::Rows;
+
+/// The most seats of a step.
+const MOST_SEATS: u32 = 4_000;
+
+/// The step that a text spells.
+pub(crate) fn read_step(text: &[u8]) -> Option<StepKind>
+    ensures { result ≡ step_of text.now }
+{
+    if text == b"OPEN".as_slice() {
+        Some(StepKind::Open)
+    } else if text == b"EWS".as_slice() || text == b"GEN-EWS".as_slice() {
+        Some(StepKind::Ews)
+    } else if text == b"OBC".as_slice() || text == b"OBC-NCL".as_slice() {
+        Some(StepKind::Obc)
+    } else if text == b"SC".as_slice() {
+        Some(StepKind::Sc)
+    } else if text == b"ST".as_slice() {
+        Some(StepKind::St)
+    } else {
+        None
+    }
+}
+
+/// The number of a step.
+pub(crate) fn step_number(step: StepKind) -> u8
+    ensures { result ≡ step_number step }
+{
+    match step {
+        StepKind::Open => 0,
+        StepKind::Ews => 1,
+        StepKind::Obc => 2,
+        StepKind::Sc => 3,
+        StepKind::St => 4,
+        StepKind::Dereserved => 5,
+    }
+}
+
+/// How many seats a text spells.
+fn read_count(text: &[u8]) -> Option<u16>
+    ensures { result ≡ count_of text.now }
+{
+    let count = read_number(text, 0, MOST_SEATS)?;
+    Some(count as u16)
+}
+
+/// How many protections a text spells; nothing is 0.
+fn read_protection(text: &[u8]) -> Option<u16>
+    ensures { result ≡ protection_of text.now }
+{
+    if text.is_empty() {
+        Some(0)
+    } else {
+        read_count(text)
+    }
+}
+
+/// The protections of a row. No field follows them.
+fn read_protections(row: &Rows<'_>) -> Option<[u16; 6]>
+    ensures { result ≡ protections_of row.now.row }
+{
+    let women = read_protection(row.field(5))?;
+    let disabled = read_protection(row.field(6))?;
+    let servicemen = read_protection(row.field(7))?;
+    let sports = read_protection(row.field(8))?;
+    let fighters = read_protection(row.field(9))?;
+    let local = read_protection(row.field(10))?;
+    if row.len() > 11 {
+        return None;
+    }
+    Some([women, disabled, servicemen, sports, fighters, local])
+}
+
+/// The seats of a row with their protections.
+pub(crate) fn read_seating(row: &Rows<'_>) -> Option<Seating>
+    ensures { result ≡ seating_of row.now.row }
+{
+    let seats = read_count(row.field(4))?;
+    let counts = read_protections(row)?;
+    Some(Seating {
+        seats,
+        protections: Protections { counts },
+    })
+}
+
+/// How many seats are protected.
+pub(crate) fn protected(protections: &Protections) -> u32
+    ensures { result ≡ sum protections.now.counts }
+{
+    let [women, disabled, servicemen, sports, fighters, local] = protections.counts;
+    let first = u32::from(women) + u32::from(disabled) + u32::from(servicemen);
+    first + u32::from(sports) + u32::from(fighters) + u32::from(local)
+}

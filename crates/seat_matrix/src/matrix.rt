@@ -1,0 +1,187 @@
+// The seat matrix, as the layers above see it.
+ghost use Rattle.std.specs.Prelude.{◌≡◌, ◌<◌, ◌≤◌, Some, IfOk, IfErr, IfSome, length, map, option_map, position, slice_get, sum, bytes_eq};
+ghost use Rattle.office_base.specs.Person.{IsList};
+ghost use Rattle.section_rows.specs.Rows.{rows_of, same_fields};
+ghost use Rattle.seat_matrix.specs.Fields.{step_number};
+ghost use Rattle.seat_matrix.specs.Matrix.{header, is_dereserved, IsRead, IsFault, IsSeated, seating_in, seats_given, protections_given};
+
+use crate::entry::{Home, Seating};
+use crate::fault::{MatrixFault, MatrixKind};
+use crate::fields::step_number;
+use crate::table::Table;
+use indexmap::IndexMap;
+use office_base::{Code, ListId, ProgId, Protections, StepKind};
+use section_rows::Rows;
+use std::alloc::Global;
+use std::collections::BTreeMap;
+use std::marker::Model;
+
+/// The programmes by their numbers, and the seats of their steps.
+#[derive(Drop)]
+pub struct Matrix {
+    pub(crate) programmes: IndexMap<Code, Home>,
+    pub(crate) steps: BTreeMap<(Code, u8), Seating>,
+}
+
+impl Model for Matrix {
+    ghost use Rattle.seat_matrix.specs.Matrix.{Seats, AreSeats};
+
+    ghost Value = { Seats };
+
+    ghost view = { λ a. record { programmes = a.programmes.entries; steps = a.steps.entries } };
+
+    ghost invariant = { λ a. AreSeats (record { programmes = a.programmes.entries; steps = a.steps.entries }) };
+}
+
+/// Whether the row is the header.
+fn is_header(row: &Rows<'_>) -> bool
+    ensures { result ≡ same_fields row.now.row header }
+{
+    row.is(&[
+        b"programme".as_slice(),
+        b"institute".as_slice(),
+        b"list".as_slice(),
+        b"step".as_slice(),
+        b"seats".as_slice(),
+        b"W".as_slice(),
+        b"D".as_slice(),
+        b"X".as_slice(),
+        b"S".as_slice(),
+        b"F".as_slice(),
+        b"L".as_slice(),
+    ])
+}
+
+/// Whether the step is of seats that a category left unfilled.
+fn is_dereserved(step: StepKind) -> bool
+    ensures { result ≡ is_dereserved step }
+{
+    matches!(step, StepKind::Dereserved)
+}
+
+impl Matrix {
+    ghost use Rattle.seat_matrix.specs.Matrix.{AreSeats};
+
+    /// The matrix that the body of a section spells, or its first fault by rows.
+    pub fn read(alloc: Global, body: &[u8]) -> Result<Matrix, MatrixFault>
+        ensures value { IfOk result (λ matrix. IsRead (rows_of body.now) matrix) }
+        ensures fault { IfErr result (λ fault. IsFault (rows_of body.now) fault) }
+    {
+        let mut rows = Rows::new(alloc, body);
+        if !rows.advance()? || !is_header(&rows) {
+            return Err(MatrixFault::Bad {
+                row: 1,
+                kind: MatrixKind::BadHeader,
+            });
+        }
+        let mut table = Table::new(alloc);
+        let mut number: u32 = 1;
+        'rows: while rows.advance()? {
+            // no memory holds so many rows: without a fault there are at most five for each programme
+            let Some(next) = number.checked_add(1) else {
+                return Err(MatrixFault::OutOfMemory);
+            };
+            number = next;
+            match table.read(&rows) {
+                Ok(entry) => table.add(entry)?,
+                Err(kind) => return Err(MatrixFault::Bad { row: number, kind }),
+            }
+        }
+        Ok(table.finish())
+    }
+
+    /// How many programmes there are: at most 2,000.
+    pub fn count(&self) -> u16
+        ensures count { result ≡ length self.now.programmes }
+        ensures seats { AreSeats self.now }
+    {
+        self.programmes.len() as u16
+    }
+
+    /// The number of the programme of this code. None exactly where no row has the code.
+    pub fn find(&self, code: Code) -> Option<ProgId>
+        ensures { option_map (λ prog. prog.0) result ≡ position (bytes_eq code) (map (λ held. held.0) self.now.programmes) }
+    {
+        match self.programmes.get_index_of(&code) {
+            Some(number) => Some(ProgId(number as u16)),
+            None => None,
+        }
+    }
+
+    /// The code of a programme.
+    pub fn code(&self, prog: ProgId) -> Code
+        requires { prog.0 < length self.now.programmes }
+        ensures { option_map (λ held. held.0) (slice_get self.now.programmes prog.0) ≡ Some result }
+    {
+        let Some((code, _)) = self.programmes.get_index(usize::from(prog.0)) else {
+            unreachable!("the number is below the count")
+        };
+        *code
+    }
+
+    /// The institute at which a programme stands.
+    pub fn institute(&self, prog: ProgId) -> Code
+        requires { prog.0 < length self.now.programmes }
+        ensures { option_map (λ held. held.1.institute) (slice_get self.now.programmes prog.0) ≡ Some result }
+    {
+        self.home(prog).institute
+    }
+
+    /// The merit list that a programme uses.
+    pub fn list(&self, prog: ProgId) -> ListId
+        requires { prog.0 < length self.now.programmes }
+        ensures list { option_map (λ held. held.1.list) (slice_get self.now.programmes prog.0) ≡ Some result }
+        ensures number { IsList result }
+    {
+        self.home(prog).list
+    }
+
+    /// The seats of a programme in a step: 0 where no row was given, and for seats that a category left unfilled.
+    pub fn seats(&self, prog: ProgId, step: StepKind) -> u16
+        requires { prog.0 < length self.now.programmes }
+        ensures seats { result ≡ seats_given (seating_in self.now prog.0 step) }
+        ensures most { result ≤ 4000 }
+    {
+        match self.seating(prog, step) {
+            Some(seating) => seating.seats,
+            None => 0,
+        }
+    }
+
+    /// The protections of a programme in a step: 0 where no row was given, and for seats that a category left unfilled.
+    pub fn protections(&self, prog: ProgId, step: StepKind) -> Protections
+        requires { prog.0 < length self.now.programmes }
+        ensures protections { result ≡ protections_given (seating_in self.now prog.0 step) }
+        ensures within { sum result.counts ≤ seats_given (seating_in self.now prog.0 step) }
+    {
+        match self.seating(prog, step) {
+            Some(seating) => seating.protections,
+            None => Protections { counts: [0; 6] },
+        }
+    }
+
+    /// Where a programme stands, and its list.
+    fn home(&self, prog: ProgId) -> Home
+        requires { prog.0 < length self.now.programmes }
+        ensures home { option_map (λ held. held.1) (slice_get self.now.programmes prog.0) ≡ Some result }
+        ensures list { IsList result.list }
+    {
+        let Some((_, home)) = self.programmes.get_index(usize::from(prog.0)) else {
+            unreachable!("the number is below the count")
+        };
+        *home
+    }
+
+    /// What a row gave for a programme in a step.
+    fn seating(&self, prog: ProgId, step: StepKind) -> Option<Seating>
+        requires { prog.0 < length self.now.programmes }
+        ensures given { result ≡ seating_in self.now prog.0 step }
+        ensures within { IfSome result IsSeated }
+    {
+        if is_dereserved(step) {
+            return None;
+        }
+        let code = self.code(prog);
+        self.steps.get(&(code, step_number(step))).copied()
+    }
+}

@@ -1,0 +1,161 @@
+// A matrix in the making: what each further row is held against.
+ghost use Rattle.std.specs.Prelude.{◌≡◌, ◌≤◌, ◌∷◌, ◌++◌, [], List, OnOk, ℕ, nat_eq, bytes_eq, Some, None, if◌then◌else◌};
+ghost use Rattle.std.specs.Cmp.Lexicographic.{pointwise};
+ghost use Rattle.indexmap.specs.IndexMap as index;
+ghost use Rattle.section_rows.specs.Rows.{Row};
+ghost use Rattle.section_rows.proofs.StepsLemmas.{or_else};
+ghost use Rattle.seat_matrix.specs.Matrix.{with_code};
+
+use crate::entry::{Entry, Home, Seating};
+use crate::fault::MatrixKind;
+use crate::fields::{protected, read_seating, read_step, step_number};
+use crate::matrix::Matrix;
+use indexmap::IndexMap;
+use office_base::{Code, ListId, OutOfMemory, StepKind};
+use office_text::read_number;
+use section_rows::Rows;
+use std::alloc::Global;
+use std::collections::BTreeMap;
+
+/// The most programmes that a matrix has.
+const MOST_PROGRAMMES: usize = 2_000;
+
+/// The most seats of all rows.
+const MOST_SEATS: u32 = 1_000_000;
+
+/// The programmes so far in the order in which they first appeared, the seats of their steps, and all seats.
+#[derive(Drop)]
+pub(crate) struct Table {
+    pub(crate) programmes: IndexMap<Code, Home>,
+    pub(crate) steps: BTreeMap<(Code, u8), Seating>,
+    pub(crate) total: u32,
+}
+
+impl Table {
+    ghost use Rattle.seat_matrix.specs.Matrix.{IsMatrix, codes_of, home_at, new_row, reading, settles};
+    ghost use Rattle.seat_matrix.specs.Table.{Keeps};
+    ghost use Rattle.seat_matrix.specs.declared.entry.Entry.{Entry};
+    ghost use Rattle.std.specs.Prelude.{length};
+
+    /// No programmes.
+    pub(crate) fn new(alloc: Global) -> Table
+        ensures { Keeps [] result }
+    {
+        Table {
+            programmes: IndexMap::new(alloc),
+            steps: BTreeMap::new(alloc),
+            total: 0,
+        }
+    }
+
+    /// The programme, the institute and the step of a row, where no earlier row has the programme and the step.
+    fn new_row(&self, row: &Rows<'_>) -> Result<(Code, Code, StepKind), MatrixKind>
+        ensures { (entries : List Entry) → Keeps entries self.now → result ≡ new_row entries row.now.row }
+    {
+        let Some(programme) = Code::read(row.field(0)) else {
+            return Err(MatrixKind::BadCode);
+        };
+        let Some(institute) = Code::read(row.field(1)) else {
+            return Err(MatrixKind::BadCode);
+        };
+        let Some(step) = read_step(row.field(3)) else {
+            return Err(MatrixKind::BadCode);
+        };
+        if self.steps.contains_key(&(programme, step_number(step))) {
+            return Err(MatrixKind::RepeatedRow);
+        }
+        Ok((programme, institute, step))
+    }
+
+    /// The home of a programme, where it is a new programme or has the same home as before.
+    fn settles(&self, programme: Code, home: Home) -> Result<Home, MatrixKind>
+        ensures { (entries : List Entry) → Keeps entries self.now → result ≡ settles (home_at programme entries) (length (codes_of entries)) home }
+    {
+        match self.programmes.get(&programme) {
+            None => {
+                if self.programmes.len() >= MOST_PROGRAMMES {
+                    Err(MatrixKind::TooMany)
+                } else {
+                    Ok(home)
+                }
+            }
+            Some(known) => {
+                if known.institute != home.institute {
+                    Err(MatrixKind::TwoInstitutes)
+                } else if known.list != home.list {
+                    Err(MatrixKind::TwoLists)
+                } else {
+                    Ok(home)
+                }
+            }
+        }
+    }
+
+    /// What a row gives, or the first of its faults.
+    #[tactic(auto, unfolding(crate::specs::Matrix::reading))]
+    pub(crate) fn read(&self, row: &Rows<'_>) -> Result<Entry, MatrixKind>
+        requires { self.now.total ≤ 1000000 }
+        ensures { (entries : List Entry) → Keeps entries self.now → result ≡ reading entries row.now.row }
+    {
+        let (programme, institute, step) = self.new_row(row)?;
+        let Some(seating) = read_seating(row) else {
+            return Err(MatrixKind::BadNumber);
+        };
+        if u32::from(seating.seats) < protected(&seating.protections) {
+            return Err(MatrixKind::ProtectionsExceedSeats);
+        }
+        let Some(list) = read_number(row.field(2), 1, 4) else {
+            return Err(MatrixKind::UnknownList);
+        };
+        let home = self.settles(
+            programme,
+            Home {
+                institute,
+                list: ListId(list as u8),
+            },
+        )?;
+        if self.total + u32::from(seating.seats) > MOST_SEATS {
+            return Err(MatrixKind::TooMany);
+        }
+        Ok(Entry {
+            programme,
+            home,
+            step,
+            seating,
+        })
+    }
+
+    /// Puts in what a row gave. Where there is no memory for it, the table is of no use any more.
+    pub(crate) fn add(&mut self, entry: Entry) -> Result<(), OutOfMemory>
+        requires { self.old.total ≤ 1000000 }
+        ensures { OnOk result ((entries : List Entry) (row : Row) → Keeps entries self.old → reading entries row ≡ Ok entry → Keeps (entries ++ entry ∷ []) self.new) }
+    {
+        self.steps
+            .insert((entry.programme, step_number(entry.step)), entry.seating)?;
+        settle(&mut self.programmes, entry.programme, entry.home)?;
+        self.total += u32::from(entry.seating.seats);
+        Ok(())
+    }
+
+    /// The matrix of all that was put in.
+    pub(crate) fn finish(self) -> Matrix
+        requires { (entries : List Entry) × Keeps entries self }
+        ensures { (entries : List Entry) → Keeps entries self → IsMatrix entries result }
+    {
+        Matrix {
+            programmes: self.programmes,
+            steps: self.steps,
+        }
+    }
+}
+
+/// Gives the programme the next number, unless it has one.
+fn settle(programmes: &mut IndexMap<Code, Home>, code: Code, home: Home) -> Result<(), OutOfMemory>
+    ensures keys { OnOk result (index.keys programmes.new ≡ with_code (index.keys programmes.old) code) }
+    ensures homes { OnOk result ((q : List ℕ) → index.get (pointwise nat_eq) programmes.new q ≡ or_else (index.get (pointwise nat_eq) programmes.old q) (if bytes_eq q code then Some home else None)) }
+{
+    if !programmes.contains_key(&code) {
+        programmes.insert(code, home)?;
+    }
+    Ok(())
+}
