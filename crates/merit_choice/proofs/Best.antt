@@ -1,6 +1,7 @@
 -- The front of a ranked list is the best of its length.
-use Rattle.std.proofs.Common.{◌≡◌, ◌≤◌, ℕ, zero, suc, List, [], ◌∷◌, take, length, min, Bool, true, cond, ◌==◌, eq-eqb, refl, sym, ap, ◌∙◌, subst, inl, inr, arith}
-use Rattle.std.proofs.lemmas.List.{length-take}
+use Rattle.std.proofs.Common.{map, Option, ◌≡◌, ◌≤◌, ℕ, zero, suc, List, [], ◌∷◌, take, length, min, Bool, true, cond, ◌==◌, eq-eqb, refl, sym, ap, ◌∙◌, subst, inl, inr, arith}
+use Rattle.std.proofs.lemmas.List.{length-take, nil_from_length}
+use Rattle.office_base.specs.Certificate.{IsCanonical, AreNoLater, slots_of}
 use Rattle.office_base.specs.Lists.{IsSublist, Pairwise}
 use Rattle.office_base.specs.Person.{IsBetter}
 use Rattle.office_base.specs.Placement.{IsPlacement, IsHonoured, protected}
@@ -10,7 +11,7 @@ use Rattle.office_base.specs.declared.person.Person.{Person}
 use Rattle.office_base.specs.declared.step.Pair.{Pair}
 use Rattle.office_base.specs.declared.step.Protections.{Protections}
 use Rattle.office_base.specs.declared.step.Step.{Step}
-use Rattle.office_base.proofs.Sublists.{IsSublist-tail, IsSublist-take, length-sublist, AllByRecursion-sublist}
+use Rattle.office_base.proofs.Sublists.{IsSublist-tail, IsSublist-take, length-sublist, AllByRecursion-sublist, IsSublist-nil}
 
 -- at every merit place the front is the same as any sublist that is no longer, or better
 pub front_no_worse : (list : ListId) (n : ℕ) (people others : List Person) → Pairwise (IsBetter list) people → IsSublist others people → length others ≤ n → IsNoWorse list (take n people) others
@@ -58,3 +59,19 @@ best_are_choice step n chosen ok none count front =
           front_no_worse step.list n step.people other ok.people.in_order may.people
           (omega (arith, may.seats, length-sublist other step.people may.people));
     })
+
+-- slots are no later than themselves
+pub AreNoLater-same : (slots : List (Option ℕ)) → AreNoLater slots slots
+AreNoLater-same [] = tt
+AreNoLater-same (slot ∷ slots) = inr (refl, AreNoLater-same slots)
+
+-- where nothing is protected, no pairs are the canonical certificate
+pub nothing_is_canonical : (protections : Protections) (people : List Person) → ((t : ℕ) → protected protections t ≡ 0) → IsCanonical protections people []
+nothing_is_canonical protections people none = record {
+  placement = record { held = tt; once = tt; within = λ t. omega arith };
+  in_order = IsSublist-nil (map (λ (person : Person). person.id) people);
+  longest = λ other placed. omega (arith, unprotected_placement protections people other none placed);
+  first = λ other placed same.
+      let nothing : other ≡ [] = nil_from_length other (unprotected_placement protections people other none placed) in
+      subst (λ (pairs : List Pair). AreNoLater (slots_of [] people) (slots_of pairs people)) (sym nothing) (AreNoLater-same (slots_of [] people));
+}

@@ -1,5 +1,6 @@
 // The choice from all people of a step at once.
-ghost use Rattle.std.specs.Prelude.{◌≡◌, ℕ, IfOk};
+ghost use Rattle.std.specs.Prelude.{◌≡◌, ℕ, [], IfOk};
+ghost use Rattle.office_base.specs.Certificate.{IsCanonical};
 ghost use Rattle.office_base.specs.Placement.{protected};
 ghost use Rattle.office_base.specs.StepChoice.{IsStep, IsStepChoice};
 
@@ -19,7 +20,9 @@ pub struct Chosen {
 pub fn choose(alloc: Global, step: &Step) -> Result<Chosen, OutOfMemory>
     requires step { IsStep step.now }
     requires unprotected { (t : ℕ) → protected step.now.protections t ≡ 0 }
-    ensures { IfOk result (λ chosen. IsStepChoice step.now chosen.admitted) }
+    ensures choice { IfOk result (λ chosen. IsStepChoice step.now chosen.admitted) }
+    // nobody stands on a protected position, since there is none
+    ensures certificate { IfOk result (λ chosen. IsCanonical step.now.protections chosen.admitted []) }
 {
     let people = step.people.as_slice();
     let count = usize::from(step.seats).min(people.len());
