@@ -9,8 +9,6 @@ mod answer;
 mod command;
 mod status;
 mod streams;
-#[cfg(test)]
-mod tests;
 
 use crate::command::allocate;
 use crate::streams::{StandardInput, StandardOutput};
