@@ -13,6 +13,7 @@ pub mod outside;
 pub mod person;
 pub mod step;
 pub mod sure;
+pub mod whole;
 pub mod words;
 
 pub use errors::{Failed, OutOfMemory};
@@ -23,4 +24,5 @@ pub use outside::{Sink, Source};
 pub use person::{CandId, Category, ListId, Person, Place, TraitSet, better};
 pub use step::{Pair, Protections, Step};
 pub use sure::{SureSink, SureSource};
+pub use whole::{ReadFault, read_whole, write_whole};
 pub use words::Words;

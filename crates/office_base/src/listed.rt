@@ -76,7 +76,7 @@ impl<T: Drop> Listed<T> {
 }
 
 impl<T: Copy> Listed<T> {
-    /// Puts copies of the values at the end. Where there is no memory for them, the list is as before.
+    /// Puts copies of these values at the end, all or none: where there is no memory, the list is as before.
     pub fn extend_from_slice(&mut self, more: &[T]) -> Result<(), OutOfMemory>
         ensures ok { OnOk result (self.new ≡ self.old ++ more.now) }
         ensures err { OnErr result (self.new ≡ self.old) }

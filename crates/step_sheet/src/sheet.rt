@@ -1,5 +1,5 @@
 // A whole sheet.
-ghost use Rattle.std.specs.Prelude.{◌≡◌, ◌<◌, ◌≤◌, ◌+◌, ◌∷◌, IfOk, IfErr};
+ghost use Rattle.std.specs.Prelude.{length, ◌≡◌, ◌<◌, ◌≤◌, ◌+◌, ◌∷◌, IfOk, IfErr};
 ghost use Rattle.office_base.specs.StepChoice.{AreRanked, IsStep};
 ghost use Rattle.office_text.specs.FirstFault.{IsFaultless};
 ghost use Rattle.office_text.specs.Lines.{lines_of};
@@ -7,7 +7,7 @@ ghost use Rattle.step_sheet.specs.Reading.{HasHead, IsCandError};
 ghost use Rattle.step_sheet.specs.Sheet.{SheetGives, IsErrorOf, IsFaultOfLines, cand_judge, people_from, person_of};
 
 use crate::line::{first_fault, next_candidate, seats_line};
-use crate::{MAX_BYTES, SheetError, SheetFault, SheetKind};
+use crate::{MAX_BYTES, MAX_CANDIDATES, SheetError, SheetFault, SheetKind};
 use office_base::{CandId, Category, ListId, People, Person, Place, Protections, Step, TraitSet};
 use office_text::next_line;
 use std::alloc::Global;
@@ -19,6 +19,7 @@ pub fn read_sheet(alloc: Global, bytes: &[u8]) -> Result<Step, SheetError>
     ensures value { IfOk result (SheetGives bytes.now) }
     ensures fault { IfErr result (IsErrorOf bytes.now) }
     ensures step { IfOk result IsStep }
+    ensures few { IfOk result (λ step. length step.people ≤ MAX_CANDIDATES) }
 {
     if bytes.len() > MAX_BYTES {
         return Err(SheetError::Bad(SheetFault {
@@ -68,6 +69,7 @@ fn candidates(alloc: Global, bytes: &[u8]) -> Result<People, SheetError>
     ensures faultless { IfOk result (λ _. IsFaultless cand_judge (lines_of bytes.now)) }
     ensures people { IfOk result (λ people. people ≡ people_from 1 (lines_of bytes.now)) }
     ensures ranked { IfOk result (AreRanked (record { 0 = 1 })) }
+    ensures few { IfOk result (λ people. length people ≤ MAX_CANDIDATES) }
     ensures fault { IfErr result (IsCandError (lines_of bytes.now)) }
 {
     let mut people = People::new(alloc);

@@ -1,0 +1,2 @@
+mod Streams
+pub mod Sublists
