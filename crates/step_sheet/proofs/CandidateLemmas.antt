@@ -1,11 +1,11 @@
 -- Candidate lines, read one after another.
-use Rattle.std.proofs.Common.{◌≡◌, ◌≢◌, ◌<◌, ◌≤◌, ◌+◌, ◌-◌, ◌⊎◌, inl, inr, ℕ, zero, suc, Bool, true, false, ◌||◌, eqb, leb, cond, List, [], ◌∷◌, ◌++◌, length, take, drop, get_or, Option, Some, None, refl, sym, ap, ◌∙◌, subst, arith, add-one}
-use Rattle.std.specs.List.{list_any, slice_get, flat_map, AllByRecursion}
+use Rattle.std.proofs.Common.{◌≡◌, ◌≢◌, ◌<◌, ◌≤◌, ◌+◌, inl, inr, ℕ, zero, suc, Bool, true, false, ◌||◌, eqb, cond, List, [], ◌∷◌, ◌++◌, length, take, drop, Option, Some, None, refl, sym, ap, ◌∙◌, subst, arith, add-one}
+use Rattle.std.specs.List.{list_any, slice_get, AllByRecursion}
 use Rattle.std.specs.Ordering.{nat_cmp, is_eq}
 use Rattle.std.proofs.lemmas.Bool.{cases_lt, cases_order, or_parts, eqb-false}
 use Rattle.std.proofs.lemmas.Option.{slice_get_past}
 use Rattle.std.proofs.lemmas.Bool.Decides.{nat_tests}
-use Rattle.std.proofs.lemmas.List.{length-append, append-nil, append_assoc, length-take-le, take_all, length_push}
+use Rattle.std.proofs.lemmas.List.{append_assoc, length-take-le, take_all, length_push}
 use Rattle.std.proofs.lemmas.List.Recursion.{or_push}
 use Rattle.std.proofs.lemmas.Grind.{flat_map-append}
 use Rattle.office_base.specs.Lists.{Pairwise}
@@ -16,7 +16,7 @@ use Rattle.office_base.specs.declared.person.Person.{Person}
 use Rattle.office_text.specs.FirstFault.{fault_at, IsFirstFault, IsFaultless}
 use Rattle.step_sheet.specs.declared.TheConstants.{MAX_CANDIDATES}
 use Rattle.step_sheet.specs.declared.fault.SheetKind.{SheetKind}
-use Rattle.step_sheet.specs.declared.fault.SheetKind.TheVariants.{BadLine, NotBuilt}
+use Rattle.step_sheet.specs.declared.fault.SheetKind.TheVariants.{NotBuilt}
 use Rattle.step_sheet.specs.Reading.{AreRead}
 use Rattle.step_sheet.specs.Sheet.{is_protect, cand_of, id_of, ids_of, cand_fault, line_fault, cand_judge, person_of, persons_at, people_from}
 

@@ -1,5 +1,5 @@
 -- The fields of a line.
-use Rattle.std.proofs.Common.{◌≡◌, ℕ, Bool, true, false, cond, eqb, List, [], ◌∷◌, Option, None, refl}
+use Rattle.std.proofs.Common.{◌≡◌, ℕ, Bool, true, false, cond, eqb, List, [], ◌∷◌, None, refl}
 use Rattle.office_text.specs.Lines.{fields_of, onto_first}
 use Rattle.step_sheet.specs.Sheet.{seats_in, traits_in}
 

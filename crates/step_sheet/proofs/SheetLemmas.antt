@@ -1,14 +1,14 @@
 -- The first two lines of a sheet, and the sheet as a whole.
-use Rattle.std.proofs.Common.{◌≡◌, ◌<◌, ◌≤◌, ◌+◌, ◌⊎◌, inl, inr, ℕ, zero, suc, Bool, true, false, List, [], ◌∷◌, length, Option, Some, None, refl, sym, ap, ◌∙◌, subst, arith}
+use Rattle.std.proofs.Common.{◌≡◌, ◌<◌, ◌≤◌, ◌+◌, ◌⊎◌, inl, inr, ℕ, zero, suc, false, List, ◌∷◌, length, Some, None, refl, sym, ◌∙◌, subst, arith}
 use Rattle.std.proofs.lemmas.Bool.{cases_lt}
 use Rattle.office_base.specs.declared.step.Step.{Step}
-use Rattle.office_text.specs.FirstFault.{fault_at, IsFirstFault, IsFaultless}
+use Rattle.office_text.specs.FirstFault.{fault_at, IsFaultless}
 use Rattle.office_text.specs.Lines.{lines_of}
 use Rattle.office_text.proofs.FirstFaultLemmas.{one_answer}
 use Rattle.step_sheet.specs.declared.TheConstants.{MAX_BYTES}
 use Rattle.step_sheet.specs.declared.fault.SheetFault.{SheetFault}
 use Rattle.step_sheet.specs.declared.fault.SheetKind.{SheetKind}
-use Rattle.step_sheet.specs.declared.fault.SheetKind.TheVariants.{BadFirstLine, BadLine, NotBuilt, TooLong}
+use Rattle.step_sheet.specs.declared.fault.SheetKind.TheVariants.{TooLong}
 use Rattle.step_sheet.specs.Reading.{HasHead, IsCandFault, IsCandError}
 use Rattle.step_sheet.specs.declared.fault.SheetError.{SheetError}
 use Rattle.step_sheet.specs.declared.fault.SheetError.TheVariants.{Bad, OutOfMemory}

@@ -9,6 +9,8 @@ pub mod fault;
 pub mod laws;
 mod line;
 pub mod sheet;
+#[cfg(test)]
+mod tests;
 pub mod text;
 
 pub use fault::{SheetError, SheetFault, SheetKind};
