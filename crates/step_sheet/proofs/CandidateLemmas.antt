@@ -15,10 +15,10 @@ use Rattle.office_base.specs.declared.person.CandId.{CandId}
 use Rattle.office_base.specs.declared.person.Person.{Person}
 use Rattle.office_text.specs.FirstFault.{fault_at, IsFirstFault, IsFaultless}
 use Rattle.step_sheet.specs.declared.TheConstants.{MAX_CANDIDATES}
+use Rattle.step_sheet.specs.declared.fault.SheetFault.{SheetFault}
 use Rattle.step_sheet.specs.declared.fault.SheetKind.{SheetKind}
-use Rattle.step_sheet.specs.declared.fault.SheetKind.TheVariants.{NotBuilt}
 use Rattle.step_sheet.specs.Reading.{AreRead}
-use Rattle.step_sheet.specs.Sheet.{is_protect, cand_of, id_of, ids_of, cand_fault, line_fault, cand_judge, person_of, persons_at, people_from}
+use Rattle.step_sheet.specs.Sheet.{cand_of, id_of, ids_of, cand_fault, cand_judge, person_of, persons_at, people_from, IsFaultOfRows}
 
 -- A row that stands at n, behind the first n and before the others.
 pub take-at : {X : Type 0} (xs : List X) (n : ℕ) (x : X) (rest : List X) → drop n xs ≡ x ∷ rest → take (suc n) xs ≡ take n xs ++ x ∷ []
@@ -59,24 +59,29 @@ cand_fault-same : (m n : ℕ) (known other : ℕ → Bool) (cand : Option (ℕ �
 cand_fault-same m n known other None e same = refl
 cand_fault-same m n known other (Some cand) e same = rw (e, same cand.0) refl
 
-pub line_fault-same : (m n : ℕ) (known other : ℕ → Bool) (line : List ℕ) → m ≡ n → ((id : ℕ) → known id ≡ other id) → line_fault m known line ≡ line_fault n other line
-line_fault-same m n known other line e same = ap (λ (o : Option SheetKind). cond (is_protect line) (Some NotBuilt) o) (cand_fault-same m n known other (cand_of line) e same)
-
 -- What is wrong at the row behind those read is what is wrong with its line.
-fault_at-read : (lines : List (List ℕ)) (people : List Person) (known : ℕ → Bool) (line : List ℕ) (rest : List (List ℕ)) → AreRead lines people known → drop (length people) lines ≡ line ∷ rest → fault_at cand_judge lines (length people) ≡ line_fault (length people) known line
+fault_at-read : (lines : List (List ℕ)) (people : List Person) (known : ℕ → Bool) (line : List ℕ) (rest : List (List ℕ)) → AreRead lines people known → drop (length people) lines ≡ line ∷ rest → fault_at cand_judge lines (length people) ≡ cand_fault (length people) known (cand_of line)
 fault_at-read lines people known line rest read left =
     let n = length people in
     let row : slice_get lines n ≡ Some line = slice_get-at lines n line rest left in
     let count : length (take n lines) ≡ n = length-take-le n lines read.within in
     ap (λ (o : Option (List ℕ)). cand_judge (take n lines) o) row
-    ∙ line_fault-same (length (take n lines)) n (λ id. list_any (λ other. eqb other id) (ids_of (take n lines))) known line count (λ id. sym (read.told id))
+    ∙ cand_fault-same (length (take n lines)) n (λ id. list_any (λ other. eqb other id) (ids_of (take n lines))) known (cand_of line) count (λ id. sym (read.told id))
 
 -- A fault at the row behind those read is the first one.
-pub first_at-read : (lines : List (List ℕ)) (people : List Person) (known : ℕ → Bool) (line : List ℕ) (rest : List (List ℕ)) (kind : SheetKind) → AreRead lines people known → drop (length people) lines ≡ line ∷ rest → line_fault (length people) known line ≡ Some kind → IsFirstFault cand_judge lines (length people) kind
+first_at-read : (lines : List (List ℕ)) (people : List Person) (known : ℕ → Bool) (line : List ℕ) (rest : List (List ℕ)) (kind : SheetKind) → AreRead lines people known → drop (length people) lines ≡ line ∷ rest → cand_fault (length people) known (cand_of line) ≡ Some kind → IsFirstFault cand_judge lines (length people) kind
 first_at-read lines people known line rest kind read left fault = record {
   here = fault_at-read lines people known line rest read left ∙ fault;
   within = read.within;
   before = read.faultless;
+}
+
+-- It is told with the number of its row.
+pub fault-read : (rows : List (List ℕ)) (numbers : List ℕ) (people : List Person) (known : ℕ → Bool) (line : List ℕ) (rest : List (List ℕ)) (fault : SheetFault) (behind : List ℕ) → AreRead rows people known → drop (length people) rows ≡ line ∷ rest → drop (length people) numbers ≡ fault.line ∷ behind → cand_fault (length people) known (cand_of line) ≡ Some fault.kind → IsFaultOfRows cand_judge rows numbers fault
+fault-read rows numbers people known line rest fault behind read left told wrong = record {
+  row = length people;
+  line = slice_get-at numbers (length people) fault.line behind told;
+  first = first_at-read rows people known line rest fault.kind read left wrong;
 }
 
 -- The people of one line more.
@@ -149,7 +154,7 @@ ranked_push people place cand ranked below set apart = record {
 }
 
 -- Lines read stay right with one more.
-read_below : (lines : List (List ℕ)) (people : List Person) (known : ℕ → Bool) (line : List ℕ) (rest : List (List ℕ)) → AreRead lines people known → drop (length people) lines ≡ line ∷ rest → line_fault (length people) known line ≡ None → (row : ℕ) → row < suc (length people) → fault_at cand_judge lines row ≡ None
+read_below : (lines : List (List ℕ)) (people : List Person) (known : ℕ → Bool) (line : List ℕ) (rest : List (List ℕ)) → AreRead lines people known → drop (length people) lines ≡ line ∷ rest → cand_fault (length people) known (cand_of line) ≡ None → (row : ℕ) → row < suc (length people) → fault_at cand_judge lines row ≡ None
 read_below lines people known line rest read left right row below =
     elim (cases_order row (length people)) [
       | inl same ↦ subst (λ (n : ℕ). fault_at cand_judge lines n ≡ None) (sym same) (fault_at-read lines people known line rest read left ∙ right)
@@ -157,7 +162,7 @@ read_below lines people known line rest read left right row below =
     ]
 
 -- One line more is read.
-pub read_more : (lines : List (List ℕ)) (people : List Person) (known next : ℕ → Bool) (line : List ℕ) (rest : List (List ℕ)) (cand : ℕ × ℕ) → AreRead lines people known → drop (length people) lines ≡ line ∷ rest → cand_of line ≡ Some cand → line_fault (length people) known line ≡ None → length people < MAX_CANDIDATES → cand.1 < 64 → known cand.0 ≡ false → ((q : ℕ) → next q ≡ cond (is_eq (nat_cmp cand.0 q)) true (known q)) → AreRead lines (people ++ person_of (length people + 1) cand ∷ []) next
+pub read_more : (lines : List (List ℕ)) (people : List Person) (known next : ℕ → Bool) (line : List ℕ) (rest : List (List ℕ)) (cand : ℕ × ℕ) → AreRead lines people known → drop (length people) lines ≡ line ∷ rest → cand_of line ≡ Some cand → cand_fault (length people) known (cand_of line) ≡ None → length people < MAX_CANDIDATES → cand.1 < 64 → known cand.0 ≡ false → ((q : ℕ) → next q ≡ cond (is_eq (nat_cmp cand.0 q)) true (known q)) → AreRead lines (people ++ person_of (length people + 1) cand ∷ []) next
 read_more lines people known next line rest cand read left given right few set new put =
     let n = length people in
     let person = person_of (n + 1) cand in
@@ -188,11 +193,11 @@ read_more lines people known next line rest cand read left given right few set n
           (omega arith));
     }
 
--- The lines behind it are left.
-pub left_more : (lines : List (List ℕ)) (people : List Person) (person : Person) (line : List ℕ) (rest : List (List ℕ)) → drop (length people) lines ≡ line ∷ rest → drop (length (people ++ person ∷ [])) lines ≡ rest
-left_more lines people person line rest left =
+-- What stands behind it is left.
+pub left_more : {X : Type 0} (rows : List X) (people : List Person) (person : Person) (row : X) (rest : List X) → drop (length people) rows ≡ row ∷ rest → drop (length (people ++ person ∷ [])) rows ≡ rest
+left_more rows people person row rest left =
     let size : length (people ++ person ∷ []) ≡ suc (length people) = length_push people person ∙ add-one (length people) in
-    rw size (drop-at lines (length people) line rest left)
+    rw size (drop-at rows (length people) row rest left)
 
 -- All lines are read: they have no fault.
 pub all_read : (lines : List (List ℕ)) (people : List Person) (known : ℕ → Bool) → AreRead lines people known → drop (length people) lines ≡ [] → IsFaultless cand_judge lines

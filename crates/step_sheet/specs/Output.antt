@@ -8,7 +8,7 @@ use Rattle.office_base.specs.declared.step.Pair.{Pair}
 use Rattle.office_text.specs.Traits.{letter}
 use Rattle.step_sheet.specs.declared.fault.SheetFault.{SheetFault}
 use Rattle.step_sheet.specs.declared.fault.SheetKind.{SheetKind}
-use Rattle.step_sheet.specs.declared.fault.SheetKind.TheVariants.{BadFirstLine, BadLine, NotBuilt, TooLong}
+use Rattle.step_sheet.specs.declared.fault.SheetKind.TheVariants.{BadFirstLine, BadLine, ProtectionsExceedSeats, RepeatedCandidate, RepeatedProtect, TooLong, TooMany}
 
 -- the letter of a slot's trait, or a dash where there is none
 abbrev pub slot_letter : Option ℕ → ℕ
@@ -31,7 +31,10 @@ step_output seats candidates admitted pairs = head_lines seats candidates (lengt
 abbrev pub kind_name : SheetKind → List ℕ
 kind_name BadFirstLine = codes "BadFirstLine"
 kind_name BadLine = codes "BadLine"
-kind_name NotBuilt = codes "NotBuilt"
+kind_name RepeatedProtect = codes "RepeatedProtect"
+kind_name RepeatedCandidate = codes "RepeatedCandidate"
+kind_name ProtectionsExceedSeats = codes "ProtectionsExceedSeats"
+kind_name TooMany = codes "TooMany"
 kind_name TooLong = codes "TooLong"
 
 -- the line that tells a fault

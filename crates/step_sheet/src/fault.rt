@@ -11,10 +11,16 @@ use std::fmt;
 pub enum SheetKind {
     /// Line 1 is not `step sheet 1`.
     BadFirstLine,
-    /// A line that may not stand there, or the end of the input where the line of the seats is due.
+    /// A line that may not stand there or has a bad field, or the end of the input where the line of the seats is due.
     BadLine,
-    /// A line that protects seats, which this version does not read.
-    NotBuilt,
+    /// A line that protects seats for a trait named before.
+    RepeatedProtect,
+    /// A line of a candidate given before.
+    RepeatedCandidate,
+    /// A line with which more seats are protected than there are.
+    ProtectionsExceedSeats,
+    /// A candidate line behind 250,000 others.
+    TooMany,
     /// More than 16,777,216 bytes.
     TooLong,
 }
@@ -43,7 +49,10 @@ impl SheetKind {
         match self {
             SheetKind::BadFirstLine => "BadFirstLine",
             SheetKind::BadLine => "BadLine",
-            SheetKind::NotBuilt => "NotBuilt",
+            SheetKind::RepeatedProtect => "RepeatedProtect",
+            SheetKind::RepeatedCandidate => "RepeatedCandidate",
+            SheetKind::ProtectionsExceedSeats => "ProtectionsExceedSeats",
+            SheetKind::TooMany => "TooMany",
             SheetKind::TooLong => "TooLong",
         }
     }
