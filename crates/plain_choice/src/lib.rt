@@ -5,6 +5,8 @@
 // stands on it, and it knows of no fast way: no matching, no order in which people are taken.
 #![tactic(auto)]
 
+pub mod choosing;
 pub mod placing;
+pub mod sublists;
 
 pub use placing::honoured;
