@@ -3,7 +3,7 @@ ghost use Rattle.std.specs.Prelude.{◌≡◌, ◌∷◌, ◌↔◌, IsTrue, IfO
 ghost use Rattle.office_base.specs.Lists.{IsSublist};
 ghost use Rattle.plain_choice.specs.Sublists.{sublists_of};
 
-use office_base::{Category, OutOfMemory, People, Person, Place};
+use office_base::{OutOfMemory, People, Person, Place};
 use std::alloc::Global;
 
 /// Whether the set has some of the people, in their order.
@@ -26,22 +26,10 @@ pub(crate) fn is_sublist(set: &[Person], people: &[Person]) -> bool
 pub(crate) fn is_same(first: &Person, second: &Person) -> bool
     ensures { IsTrue result ↔ (first.now ≡ second.now) }
 {
-    first.id.0 == second.id.0
-        && is_same_category(first.category, second.category)
-        && first.traits.0 == second.traits.0
+    first.id == second.id
+        && first.category == second.category
+        && first.traits == second.traits
         && are_same_places(&first.places, &second.places)
-}
-
-fn is_same_category(first: Category, second: Category) -> bool
-    ensures { IsTrue result ↔ (first ≡ second) }
-{
-    first == second
-}
-
-fn is_same_place(first: Place, second: Place) -> bool
-    ensures { IsTrue result ↔ (first ≡ second) }
-{
-    first == second
 }
 
 fn are_same_places(first: &[Place], second: &[Place]) -> bool
@@ -49,7 +37,7 @@ fn are_same_places(first: &[Place], second: &[Place]) -> bool
 {
     match (first, second) {
         ([], []) => true,
-        ([place, rest @ ..], [other, others @ ..]) => is_same_place(*place, *other) && are_same_places(rest, others),
+        ([place, rest @ ..], [other, others @ ..]) => place == other && are_same_places(rest, others),
         _ => false,
     }
 }

@@ -1,5 +1,4 @@
 use Rattle.std.proofs.Common.{◌≡◌, ◌∷◌, ◌++◌, take, map, length}
-use Rattle.plain_choice.specs.Sublists.{sublists_of}
 use Rattle.plain_choice.proofs.sublists.+sublists.Given as goal
 
 abbrev pub decreases-sublists : goal.decreases-sublists
