@@ -1,0 +1,1 @@
+// The choice of a step, by trying all sets of its people.
