@@ -1,2 +1,3 @@
 pub mod Exchange
+pub mod Hall
 pub mod Ranks

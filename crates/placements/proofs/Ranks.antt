@@ -129,6 +129,18 @@ narrowed protections some all pairs distinct among theirs p = record {
       let same : full.0 ≡ person = one_person all distinct full.0 person full.2 wide (sym full.1.0 ∙ own.1) in
       (any_at (Fills pair) person some own.2 (subst (Fills pair) same full.1), both ps their.1 held.1)
 
+-- a person with a number of their own stands in no placement of the others
+pub nowhere : (protections : Protections) (person : Person) (people : List Person) (pairs : List Pair)
+  → AllByRecursion (λ other. person.id ≢ other.id) people → IsPlacement protections people pairs → AllByRecursion (λ (pair : Pair). person.id ≢ pair.cand) pairs
+nowhere protections person people pairs new p =
+  all_weaker (λ pair. AnyByRecursion (Fills pair) people) (λ (pair : Pair). person.id ≢ pair.cand) (λ pair held. away pair held) pairs p.held
+  where
+    away : (pair : Pair) → AnyByRecursion (Fills pair) people → person.id ≢ pair.cand
+    away pair held e =
+      let full = filler pair people held in
+      let far = any_all (λ (one : Person). full.0 ≡ one) (λ one. person.id ≢ one.id) people full.2 new in
+      far.2 (e ∙ full.1.0 ∙ ap (λ (q : Person). q.id) far.1)
+
 -- a person in none of the pairs is not needed for them
 pub left_out : (protections : Protections) (person : Person) (people : List Person) (pairs : List Pair)
   → AllByRecursion (λ pair. person.id ≢ pair.cand) pairs → IsPlacement protections (person ∷ people) pairs → IsPlacement protections people pairs
