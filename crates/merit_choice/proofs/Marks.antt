@@ -1,5 +1,5 @@
 -- Marks alone: how many are set, which cover which, and which are ahead of which.
-use Rattle.std.proofs.Common.{◌≡◌, ◌≤◌, ◌+◌, ℕ, zero, suc, min, Bool, true, false, List, [], ◌∷◌, ◌++◌, length, refl, sym, ap, ◌∙◌, subst, inl, inr, arith}
+use Rattle.std.proofs.Common.{◌≡◌, ◌≤◌, ◌+◌, ℕ, zero, suc, min, Bool, true, false, List, [], ◌∷◌, length, refl, ap, ◌∙◌, inl, inr, arith}
 use Rattle.office_base.specs.Lists.{IsSublist}
 use Rattle.office_base.proofs.Sublists.{IsSublist-nil}
 use Rattle.merit_choice.specs.Marks.{marked, kept, filled_up}
@@ -17,10 +17,11 @@ kept-sublist (x ∷ xs) (false ∷ marks) = inl (kept-sublist xs marks)
 pub sublist-kept : {X : Type 0} (xs ys : List X) → IsSublist xs ys → (marks : List Bool) × (length marks ≡ length ys) × (xs ≡ kept ys marks)
 sublist-kept xs [] sub = ([], refl, sub)
 sublist-kept xs (y ∷ ys) sub = elim sub [
-    inl later ↦ let rest = sublist-kept xs ys later in (false ∷ rest.0, ap suc rest.1, rest.2)
+  | inl later ↦ let rest = sublist-kept xs ys later in (false ∷ rest.0, ap suc rest.1, rest.2)
   | inr now ↦
       let rest = sublist-kept now.0 ys now.2 in
-      (true ∷ rest.0, ap suc rest.1, now.1 ∙ ap (λ (zs : List _). y ∷ zs) rest.2) ]
+      (true ∷ rest.0, ap suc rest.1, now.1 ∙ ap (λ (zs : List _). y ∷ zs) rest.2)
+]
 
 -- as many as there are marks set
 pub length-kept : {X : Type 0} (xs : List X) (marks : List Bool) → length marks ≡ length xs → length (kept xs marks) ≡ marked marks

@@ -1,5 +1,5 @@
 -- The laws of the choice of a step, as statements over the definitions of the base.
-use Rattle.std.specs.Prelude.{◌≡◌, ◌≤◌, ℕ, min, List, length}
+use Rattle.std.specs.Prelude.{◌≡◌, ◌≤◌, min, List, length}
 use Rattle.office_base.specs.Lists.{AnyByRecursion, IsSublist}
 use Rattle.office_base.specs.StepChoice.{IsStep, IsStepChoice}
 use Rattle.office_base.specs.declared.person.Person.{Person}
@@ -33,7 +33,7 @@ pub record HasMorePeople (step more : Step) : Type 0 where
 -- who is not chosen from some people is not chosen from more
 abbrev pub RefusedStaysRefused : Type 0
 RefusedStaysRefused = (step more : Step) (chosen others : List Person) (person : Person) → HasMorePeople step more → IsStepChoice step chosen → IsStepChoice more others
-  → IsAmong person step.people → (IsAmong person chosen → ⊥) → IsAmong person others → ⊥
+    → IsAmong person step.people → (IsAmong person chosen → ⊥) → IsAmong person others → ⊥
 
 -- from more people no fewer are chosen
 abbrev pub NoFewer : Type 0
@@ -42,7 +42,7 @@ NoFewer = (step more : Step) (chosen others : List Person) → HasMorePeople ste
 -- without some people who were not chosen the choice is the same
 abbrev pub LeavingOutRefused : Type 0
 LeavingOutRefused = (step more : Step) (chosen others : List Person) → HasMorePeople step more → IsStepChoice step chosen → IsStepChoice more others
-  → ((person : Person) → IsAmong person more.people → (IsAmong person step.people → ⊥) → IsAmong person others → ⊥) → chosen ≡ others
+    → ((person : Person) → IsAmong person more.people → (IsAmong person step.people → ⊥) → IsAmong person others → ⊥) → chosen ≡ others
 
 -- the two steps differ in their seats alone, and the second has no fewer
 pub record HasMoreSeats (step more : Step) : Type 0 where
@@ -56,4 +56,4 @@ pub record HasMoreSeats (step more : Step) : Type 0 where
 -- who is chosen stays chosen where there are more seats for the same protections
 abbrev pub MoreSeats : Type 0
 MoreSeats = (step more : Step) (chosen others : List Person) (person : Person) → HasMoreSeats step more → IsStepChoice step chosen → IsStepChoice more others
-  → IsAmong person chosen → IsAmong person others
+    → IsAmong person chosen → IsAmong person others

@@ -5,6 +5,7 @@
 #![tactic(auto)]
 
 pub mod choice;
+pub mod laws;
 
 pub use choice::{Chosen, choose};
 pub use office_base::Step;
