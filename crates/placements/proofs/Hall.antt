@@ -1,8 +1,9 @@
 -- People can all be placed exactly where no set of traits is asked for, and nothing else, by more of them than it has positions.
-use Rattle.std.proofs.Common.{◌≡◌, ◌∙◌, ◌≢◌, ◌<◌, ◌≤◌, ◌+◌, ◌-◌, ◌*◌, ◌^◌, ◌⊎◌, ◌&&◌, ℕ, zero, suc, min, max, List, [], ◌∷◌, ◌++◌, length, eqb, leb, cond, not, Bool, true, false, refl, ap, sym, subst, inl, inr, arith, rules, set, get_or, get_or-set_same, get_or-set_other, lit<, bit_and, bit_or}
+use Rattle.std.proofs.Common.{◌≡◌, ◌∙◌, ◌≢◌, ◌<◌, ◌≤◌, ◌+◌, ◌-◌, ◌*◌, ◌^◌, ◌⊎◌, ◌&&◌, ℕ, zero, suc, min, max, List, [], ◌∷◌, ◌++◌, length, eqb, leb, cond, not, Bool, true, false, refl, ap, sym, subst, inl, inr, arith, rules, set, get_or, get_or-set_same, get_or-set_other, take, sum, add-one, lit<, bit_and, bit_or}
 use Rattle.std.proofs.lemmas.Bool.{eqb-true, eqb-false, cases_Bool, cases_lt, cases_eq, leb-true, leb-false, eq-eqb, ne_eqb, and_parts, and_cases, not-true, not-false, both_ways}
 use Rattle.std.proofs.lemmas.Nat.{pow_pos, or_lt, and_le_l}
-use Rattle.std.proofs.lemmas.List.{get_or_past}
+use Rattle.std.proofs.lemmas.List.{get_or_past, take_all}
+use Rattle.std.proofs.lemmas.List.Sums.{sum_by-take-le, sum_by_more}
 use Rattle.std.proofs.Math.Nat.{pow-le-pow_right}
 use Rattle.std.proofs.lemmas.Nat.Bits.{bit_at_and, bit_at_or, bit_at-lt, and_pow, same_from_bits, bit_at_above, bit_at-pow_same, bit_at-pow_other}
 use Rattle.std.specs.Int.{bit_at}
@@ -464,3 +465,33 @@ none_short_where_placed protections (person ∷ people) set distinct small can =
         inl fills ↦ fills.1
       | inr later ↦ absurd (
         let far = any_all (Fills pair) (λ (one : Person). person.id ≢ one.id) people later distinct.0 in far.2 (sym same ∙ far.1.0)) ]
+
+-- no set has more positions than are protected in all
+pub positions_below_few : (n : ℕ) (protections : Protections) (set : TraitSet) → positions_below n protections set ≤ sum protections.counts
+positions_below_few n protections set =
+  let first = below_taken n in let part = sum_by-take-le (λ x. x) protections.counts n in omega arith
+  where
+    below_taken : (k : ℕ) → positions_below k protections set ≤ sum (take k protections.counts)
+    below_taken zero = omega arith
+    below_taken (suc k) =
+      let deeper = below_taken k in
+      let here : cond (has_trait set k) (protected protections k) 0 ≤ protected protections k = (elim (cases_Bool (has_trait set k)) [
+          inl has ↦ (let e = counted set k (protected protections k) in let f = ap (λ b. b * protected protections k) (bit_one set k has) in omega arith)
+        | inr has ↦ (let e = counted set k (protected protections k) in let f = ap (λ b. b * protected protections k) (bit_zero set k has) in omega arith) ]) in
+      elim (cases_lt k (length protections.counts)) [
+          inl less ↦ (let more : sum (take (k + 1) protections.counts) ≡ sum (take k protections.counts) + protected protections k =
+              sum_by_more (λ x. x) protections.counts k 0 less in
+            let same : sum (take (suc k) protections.counts) ≡ sum (take (k + 1) protections.counts) =
+              ap (λ i. sum (take i protections.counts)) (sym (add-one k)) in omega arith)
+        | inr past ↦ (let none : protected protections k ≡ 0 = get_or_past protections.counts k 0 past in
+            let same : sum (take (suc k) protections.counts) ≡ sum (take k protections.counts) =
+              ap sum (take_all (suc k) protections.counts (omega arith) ∙ sym (take_all k protections.counts past)) in omega arith) ]
+
+-- and one trait more of the set stays within them
+pub position_added : (n k : ℕ) (protections : Protections) (set : TraitSet) → has_trait set n ≡ true → k ≡ n
+  → positions_below n protections set + get_or protections.counts k 0 ≤ sum protections.counts
+position_added n k protections set has same =
+  let few = positions_below_few (suc n) protections set in
+  let e = counted set n (protected protections n) in
+  let f = ap (λ b. b * protected protections n) (bit_one set n has) in
+  let g = ap (λ i. get_or protections.counts i 0) same in omega arith

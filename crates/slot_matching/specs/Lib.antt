@@ -1,0 +1,2 @@
+pub mod Augmented
+pub mod Kept
