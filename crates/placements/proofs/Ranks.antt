@@ -528,3 +528,39 @@ extension protections some all n distinct among can h =
     all_both (λ (person : Person). Stands person.id xs) (λ person. AnyByRecursion (λ other. person ≡ other) all) (λ person. AnyByRecursion (λ other. person ≡ other) more)
       (λ person s in_all. those.3 person (at_standing (λ cand. Stands cand zs) person.id xs s first.3) in_all) some all_stand among in
   (more, those.1, still, (zs, placed, omega arith), omega arith)
+
+-- ---- one person more at the end of a list
+
+-- the same persons, whether one stands first or last
+pub front_among_end : (person : Person) (people : List Person) → AreAmong (person ∷ people) (people ++ person ∷ [])
+front_among_end person people = ((among_back people (person ∷ [])).0, among_front people (person ∷ []))
+
+pub end_among_front : (person : Person) (people : List Person) → AreAmong (people ++ person ∷ []) (person ∷ people)
+end_among_front person people =
+  among_joined people (person ∷ []) (person ∷ people) (among_longer person people people (among_itself people)) (inl refl, tt)
+
+-- distinct with one at the end is distinct with this one in front
+pub distinct_front : (person : Person) (people : List Person) → Pairwise (λ a b. a.id ≢ b.id) (people ++ person ∷ []) → Pairwise (λ a b. a.id ≢ b.id) (person ∷ people)
+distinct_front person [] distinct = (tt, tt)
+distinct_front person (other ∷ people) distinct =
+  let deeper = distinct_front person people distinct.1 in
+  let last = any_all (λ (one : Person). person ≡ one) (λ one. other.id ≢ one.id) (people ++ person ∷ []) (among_back people (person ∷ [])).0 distinct.0 in
+  (((λ e. last.2 (sym e ∙ ap (λ (p : Person). p.id) last.1)), deeper.0), (all_front (λ (one : Person). other.id ≢ one.id) people (person ∷ []) distinct.0, deeper.1))
+
+-- a number honoured, whether one person stands first or last
+pub honoured_front : (protections : Protections) (person : Person) (people : List Person) (n : ℕ) → IsHonoured protections (people ++ person ∷ []) n
+  → IsHonoured protections (person ∷ people) n
+honoured_front protections person people n h = same_people protections (people ++ person ∷ []) (person ∷ people) n (end_among_front person people) (front_among_end person people) h
+
+pub honoured_end : (protections : Protections) (person : Person) (people : List Person) (n : ℕ) → IsHonoured protections (person ∷ people) n
+  → IsHonoured protections (people ++ person ∷ []) n
+honoured_end protections person people n h = same_people protections (person ∷ people) (people ++ person ∷ []) n (front_among_end person people) (end_among_front person people) h
+
+-- all placed, whether one person stands first or last
+pub placed_end : (protections : Protections) (person : Person) (people : List Person) → CanBePlaced protections (person ∷ people) → CanBePlaced protections (people ++ person ∷ [])
+placed_end protections person people can = placed_again protections (person ∷ people) (people ++ person ∷ []) (front_among_end person people)
+  (length-append people (person ∷ []) ∙ omega arith) can
+
+pub placed_front : (protections : Protections) (person : Person) (people : List Person) → CanBePlaced protections (people ++ person ∷ []) → CanBePlaced protections (person ∷ people)
+placed_front protections person people can = placed_again protections (people ++ person ∷ []) (person ∷ people) (end_among_front person people)
+  (let e = length-append people (person ∷ []) in omega arith) can

@@ -8,6 +8,7 @@
 
 mod spare;
 
+pub mod laws;
 pub mod matching;
 
 pub use matching::{Augment, Matching};
