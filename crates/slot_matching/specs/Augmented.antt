@@ -9,6 +9,6 @@ use Rattle.slot_matching.specs.declared.matching.Augment.TheVariants.{Raised, He
 -- The person joins the members exactly where the members can all be placed with the person; else they stay as they were.
 abbrev pub IsAugmented : Kept → Person → Augment → Kept → Type 0
 IsAugmented before person Raised after =
-  CanBePlaced before.protections (with_member before person).members × (after ≡ with_member before person)
+    CanBePlaced before.protections (with_member before person).members × (after ≡ with_member before person)
 IsAugmented before person Held after =
-  (¬ CanBePlaced before.protections (with_member before person).members) × (after ≡ before)
+    (¬ CanBePlaced before.protections (with_member before person).members) × (after ≡ before)

@@ -6,9 +6,11 @@
 // when it is made.
 #![tactic(auto)]
 
-mod spare;
-
 pub mod laws;
 pub mod matching;
+mod spare;
 
 pub use matching::{Augment, Matching};
+
+#[cfg(test)]
+mod tests;
