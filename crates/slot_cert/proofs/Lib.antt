@@ -1,3 +1,7 @@
-mod Walks
-mod Traits
+mod First
+mod Least
+mod Outside
 mod Pairs
+mod Positions
+mod Traits
+mod Walks
