@@ -1,8 +1,8 @@
 -- The first slots are slots of a placement, as many as can be, and no later than any others as many.
-use Rattle.std.proofs.Common.{◌≡◌, ◌≢◌, ◌<◌, ◌≤◌, ◌+◌, ◌-◌, ◌⊎◌, ℕ, zero, suc, Bool, true, false, cond, List, [], ◌∷◌, length, Option, Some, None, refl, sym, ◌∙◌, ap, subst, inl, inr, ⊎_elim, arith}
+use Rattle.std.proofs.Common.{◌≡◌, ◌≢◌, ◌<◌, ◌-◌, ℕ, suc, List, [], ◌∷◌, length, Option, Some, None, refl, sym, ◌∙◌, ap, subst, inl, inr, ⊎_elim, arith}
 use Rattle.std.proofs.lemmas.Bool.{cases_order, both_ways}
 use Rattle.std.proofs.lemmas.List.{length-set}
-use Rattle.office_base.specs.Certificate.{slots_of, AreNoLater, IsEarlierSlot, IsCanonical}
+use Rattle.office_base.specs.Certificate.{slots_of, AreNoLater, IsCanonical}
 use Rattle.office_base.specs.Lists.{Pairwise}
 use Rattle.office_base.specs.Person.{has_trait}
 use Rattle.office_base.specs.Placement.{protected}
@@ -13,12 +13,13 @@ use Rattle.placements.specs.Greatest.{one_less}
 use Rattle.placements.specs.Slots.{filled, AreSlots, pairs_of}
 use Rattle.placements.proofs.Convert.{slots-from_placement, placement-from_slots, length-pairs_of, slots_of-pairs_of, pairs_of-in_order}
 use Rattle.placements.proofs.Greatest.{AreSlots-nowhere, AreSlots-from_nowhere, AreSlots-somewhere, AreSlots-from_somewhere}
-use Rattle.slot_cert.specs.Bounds.{bound, IsLeastBound}
-use Rattle.slot_cert.specs.First.{MayTake, MustPass, IsFirstChoice, AreFirstSlots}
+use Rattle.slot_cert.specs.Bounds.{IsLeastBound}
+use Rattle.slot_cert.specs.First.{MayTake, MustPass, AreFirstSlots}
+use Rattle.slot_cert.proofs.Outside.{counts_one}
 use Rattle.slot_cert.proofs.Least.{trait-left, bound-one_less, filled-le_bound, IsLeastBound-passed, IsLeastBound-taken, IsLeastBound-nobody}
 
 -- the six counts stay six
-six-one_less : (protections : Protections) (t : ℕ) → length protections.counts ≡ 6 → length (one_less protections t).counts ≡ 6
+pub six-one_less : (protections : Protections) (t : ℕ) → length protections.counts ≡ 6 → length (one_less protections t).counts ≡ 6
 six-one_less protections t six = length-set protections.counts t (protected protections t - 1) ∙ six
 
 -- the first slots are slots of a placement that fills as many as the least bound
@@ -39,14 +40,15 @@ AreSlots-first (person ∷ people) protections most (Some t ∷ slots) six least
 -- a slot of a placement that fills as many is one that the person may take
 MayTake-from_slots : (person : Person) (people : List Person) (protections : Protections) (most t : ℕ) (slots : List (Option ℕ)) → length protections.counts ≡ 6
     → AreSlots protections (person ∷ people) (Some t ∷ slots) → suc (filled slots) ≡ most → MayTake protections people most person.traits t
-MayTake-from_slots person people protections most t slots six h e =
+MayTake-from_slots person people protections most t slots six h all =
     let parts = AreSlots-from_somewhere protections person people t slots h in
     record {
       held = parts.0;
       left = parts.1;
-      keeps = λ set.
+      keeps = λ set e.
           let le = filled-le_bound set people (one_less protections t) slots (six-one_less protections t six) parts.2 in
           let b = bound-one_less set protections people t six parts.1 in
+          let one = counts_one (set t) e in
           omega arith;
     }
 
@@ -55,7 +57,7 @@ not-both : (protections : Protections) (people : List Person) (most : ℕ) (trai
     → MustPass protections people most traits t → MayTake protections people most traits t → ⊥
 not-both protections people most traits t pass take = ⊎_elim
     (λ e. both_ways (has_trait traits t) e take.held)
-    (λ rest. ⊎_elim (λ (none : protected protections t ≡ 0). let left = take.left in omega arith) (λ loses. let kept = take.keeps loses.0 in omega (arith, loses.1)) rest)
+    (λ rest. ⊎_elim (λ (none : protected protections t ≡ 0). let left = take.left in omega arith) (λ loses. let kept = take.keeps loses.0 loses.1 in omega (arith, loses.2)) rest)
     pass
 
 -- the first slots are no later than those of any placement that fills as many
@@ -75,13 +77,13 @@ AreNoLater-first (person ∷ people) protections most (Some t ∷ slots) (Some s
     let take = MayTake-from_slots person people protections most s others six h e in
     ⊎_elim
     (λ (same : t ≡ s).
-      let parts = AreSlots-from_somewhere protections person people s others h in
-      let there = subst (λ (k : ℕ). AreSlots (one_less protections k) people others) (sym same) parts.2 in
-      inr (ap (λ (k : ℕ). let o : Option ℕ = Some k in o) same, AreNoLater-first people (one_less protections t) (most - 1) slots others (six-one_less protections t six) first.1 there (omega arith)))
+    let parts = AreSlots-from_somewhere protections person people s others h in
+    let there = subst (λ (k : ℕ). AreSlots (one_less protections k) people others) (sym same) parts.2 in
+    inr (ap (λ (k : ℕ). let o : Option ℕ = Some k in o) same, AreNoLater-first people (one_less protections t) (most - 1) slots others (six-one_less protections t six) first.1 there (omega arith)))
     (λ apart. ⊎_elim
-      (λ (earlier : t < s). inl earlier)
-      (λ (later : s < t). absurd (not-both protections people most person.traits s (first.0.2 s later) take))
-      apart)
+    (λ (earlier : t < s). inl earlier)
+    (λ (later : s < t). absurd (not-both protections people most person.traits s (first.0.2 s later) take))
+    apart)
     (cases_order t s)
 
 -- the pairs of the first slots are the certificate

@@ -1,6 +1,6 @@
 -- The least bound is the greatest number of people who can be placed, and how it moves down the people.
-use Rattle.std.proofs.Common.{◌≡◌, ◌≢◌, ◌<◌, ◌≤◌, ◌+◌, ◌-◌, ◌⊎◌, ℕ, zero, suc, Bool, true, false, ◌&&◌, ◌||◌, cond, eqb, List, [], ◌∷◌, length, Option, Some, None, refl, sym, ◌∙◌, subst, inl, inr, ⊎_elim, arith}
-use Rattle.std.proofs.lemmas.Bool.{cases_lt, cases_eq, cases_Bool, false≢true, both_ways, eq-eqb, or_left, or_right}
+use Rattle.std.proofs.Common.{◌≡◌, ◌≢◌, ◌<◌, ◌≤◌, ◌+◌, ◌-◌, ℕ, zero, suc, Bool, true, false, ◌&&◌, ◌||◌, cond, eqb, List, [], ◌∷◌, length, Option, Some, None, refl, sym, ◌∙◌, subst, ⊎_elim, arith}
+use Rattle.std.proofs.lemmas.Bool.{cases_lt, cases_eq, cases_Bool, both_ways, eq-eqb, or_left, or_right}
 use Rattle.std.proofs.lemmas.List.{get_or_past, length-set}
 use Rattle.office_base.specs.Person.{has_trait}
 use Rattle.office_base.specs.Placement.{protected}
@@ -10,8 +10,8 @@ use Rattle.office_base.specs.declared.step.Protections.{Protections}
 use Rattle.placements.specs.Greatest.{one_less}
 use Rattle.placements.specs.Slots.{filled, AreSlots}
 use Rattle.placements.proofs.Greatest.{AreSlots-from_nowhere, AreSlots-from_somewhere}
-use Rattle.slot_cert.specs.Bounds.{positions, holds_outside, count_outside, bound, IsLeastBound}
-use Rattle.slot_cert.specs.First.{Keeps, Loses, MayTake, MustPass, IsFirstChoice, AreFirstSlots}
+use Rattle.slot_cert.specs.Bounds.{holds_outside, bound, IsLeastBound}
+use Rattle.slot_cert.specs.First.{MayTake, MustPass, IsFirstChoice}
 use Rattle.slot_cert.proofs.Positions.{positions-one_less, positions-modular, positions-single, positions-empty}
 use Rattle.slot_cert.proofs.Outside.{holds_outside-from, holds_outside-trait, count_outside-smaller, count_outside-modular, counts_one, counts_none, counts-le}
 
@@ -83,21 +83,14 @@ critical-trait : (protections : Protections) (person : Person) (people : List Pe
 critical-trait protections person people most a t bounds ca held pass = ⊎_elim
     (λ not_held. absurd (both_ways (has_trait person.traits t) not_held held))
     (λ rest. ⊎_elim
-      (λ (none : protected protections t ≡ 0).
-        let more = λ (s : ℕ). a s || eqb t s in
-        let m = positions-modular 6 a (eqb t) protections in
-        let own = positions-single 6 t protections in
-        let fewer = count_outside-smaller a more people (λ s e. or_left (a s) (eqb t s) e) in
-        (more, omega arith, or_right (a t) (eqb t t) (eq-eqb t t refl)))
-      (λ loses.
-        let b = loses.0 in
-        let low = bounds b in
-        let one = counts-le (holds_outside 6 b person.traits) in
-        ⊎_elim
-        (λ e. let c = counts_one (b t) e in (b, omega (arith, loses.1), e))
-        (λ e. let c = counts_none (b t) e in absurd (omega (arith, loses.1)))
-        (cases_Bool (b t)))
-      rest)
+    (λ (none : protected protections t ≡ 0).
+    let more = λ (s : ℕ). a s || eqb t s in
+    let m = positions-modular 6 a (eqb t) protections in
+    let own = positions-single 6 t protections in
+    let fewer = count_outside-smaller a more people (λ s e. or_left (a s) (eqb t s) e) in
+    (more, omega arith, or_right (a t) (eqb t t) (eq-eqb t t refl)))
+    (λ loses. (loses.0, loses.2, loses.1))
+    rest)
     pass
 
 -- where the person must pass every trait, some critical set has each of the first n traits that the person holds
@@ -109,16 +102,23 @@ critical-traits protections person people most a (suc n) l bounds ca pass =
     let before = critical-traits protections person people most a n (omega arith) bounds ca pass in
     ⊎_elim
     (λ (held : has_trait person.traits n ≡ true).
-      let here = critical-trait protections person people most a n bounds ca held (pass n (omega arith)) in
-      let both = λ (s : ℕ). before.0 s || here.0 s in
-      (both, critical-union protections person people most before.0 here.0 bounds before.1 here.1, λ t m h. ⊎_elim
-        (λ (e : t ≡ n). or_right (before.0 t) (here.0 t) (subst (λ (k : ℕ). here.0 k ≡ true) (sym e) here.2))
-        (λ (e : t ≢ n). or_left (before.0 t) (here.0 t) (before.2 t (omega arith) h))
-        (cases_eq t n)))
-    (λ (not_held : has_trait person.traits n ≡ false). (before.0, before.1, λ t m h. ⊎_elim
-      (λ (e : t ≡ n). absurd (both_ways (has_trait person.traits n) not_held (subst (λ (k : ℕ). has_trait person.traits k ≡ true) e h)))
-      (λ (e : t ≢ n). before.2 t (omega arith) h)
-      (cases_eq t n)))
+    let here = critical-trait protections person people most a n bounds ca held (pass n (omega arith)) in
+    let both = λ (s : ℕ). before.0 s || here.0 s in (
+      both,
+      critical-union protections person people most before.0 here.0 bounds before.1 here.1,
+      λ t m h. ⊎_elim
+          (λ (e : t ≡ n). or_right (before.0 t) (here.0 t) (subst (λ (k : ℕ). here.0 k ≡ true) (sym e) here.2))
+          (λ (e : t ≢ n). or_left (before.0 t) (here.0 t) (before.2 t (omega arith) h))
+          (cases_eq t n),
+    ))
+    (λ (not_held : has_trait person.traits n ≡ false). (
+      before.0,
+      before.1,
+      λ t m h. ⊎_elim
+          (λ (e : t ≡ n). absurd (both_ways (has_trait person.traits n) not_held (subst (λ (k : ℕ). has_trait person.traits k ≡ true) e h)))
+          (λ (e : t ≢ n). before.2 t (omega arith) h)
+          (cases_eq t n),
+    ))
     (cases_Bool (has_trait person.traits n))
 
 -- where a person must pass every trait, no bound is too low without the person
@@ -126,14 +126,14 @@ pub below-without : (protections : Protections) (person : Person) (people : List
     → ((t : ℕ) → t < 6 → MustPass protections people most person.traits t) → (set : ℕ → Bool) → most ≤ bound set protections people
 below-without protections person people most bounds pass set = ⊎_elim
     (λ (ca : bound set protections people < most).
-      let b = critical-traits protections person people most set 6 (omega arith) bounds ca pass in
-      let low = bounds b.0 in
-      ⊎_elim
-      (λ out.
-        let t = holds_outside-trait 6 b.0 person.traits out in
-        absurd (both_ways (b.0 t.0) t.3 (b.2 t.0 t.1 t.2)))
-      (λ inside. let none = counts_none (holds_outside 6 b.0 person.traits) inside in absurd (omega (arith, b.1)))
-      (cases_Bool (holds_outside 6 b.0 person.traits)))
+    let b = critical-traits protections person people most set 6 (omega arith) bounds ca pass in
+    let low = bounds b.0 in
+    ⊎_elim
+    (λ out.
+    let t = holds_outside-trait 6 b.0 person.traits out in
+    absurd (both_ways (b.0 t.0) t.3 (b.2 t.0 t.1 t.2)))
+    (λ inside. let none = counts_none (holds_outside 6 b.0 person.traits) inside in absurd (omega (arith, b.1)))
+    (cases_Bool (holds_outside 6 b.0 person.traits)))
     (λ enough. enough)
     (cases_lt (bound set protections people) most)
 
@@ -152,11 +152,20 @@ IsLeastBound-taken protections person people most t six take least =
     let set = least.met.0 in
     let e = bound-one_less set protections people t six take.left in
     let once = counts_once set person.traits t (trait-left protections t six take.left) take.held in
-    let met : suc (bound set (one_less protections t) people) ≤ most = omega (arith, least.met.1) in
-    (omega arith, record {
-      below = λ b. let kept = take.keeps b in let f = bound-one_less b protections people t six take.left in omega arith;
-      met = (set, omega arith);
-    })
+    let met : suc (bound set (one_less protections t) people) ≤ most = omega (arith, least.met.1) in (
+      omega arith,
+      record {
+        below = λ b.
+            let f = bound-one_less b protections people t six take.left in
+            let low = least.below b in
+            let one = counts-le (holds_outside 6 b person.traits) in
+            ⊎_elim
+            (λ e. let c = counts_one (b t) e in omega (arith, take.keeps b e))
+            (λ e. let c = counts_none (b t) e in omega arith)
+            (cases_Bool (b t));
+        met = (set, omega arith);
+      },
+    )
 
 -- nobody is placed of nobody
 pub IsLeastBound-nobody : (protections : Protections) (most : ℕ) → IsLeastBound protections [] most → most ≡ 0

@@ -1,6 +1,6 @@
 -- Who holds a trait outside a set.
-use Rattle.std.proofs.Common.{◌≡◌, ◌<◌, ◌≤◌, ◌+◌, ◌⊎◌, ℕ, zero, suc, Bool, true, false, not, ◌&&◌, ◌||◌, cond, List, [], ◌∷◌, refl, sym, ◌∙◌, ap, subst, inl, inr, ⊎_elim, arith}
-use Rattle.std.proofs.lemmas.Bool.{cases_eq, cases_Bool, false≢true, both_ways, and_parts, and_from, and_left, and_right, or_cases, or_left, or_right, or_parts, or_from, not_from_false, not-true, cond-true, cond-false}
+use Rattle.std.proofs.Common.{◌≡◌, ◌<◌, ◌≤◌, ◌+◌, ◌⊎◌, ℕ, zero, suc, Bool, true, false, not, ◌&&◌, ◌||◌, cond, List, [], ◌∷◌, refl, subst, inl, inr, ⊎_elim, add-one, arith}
+use Rattle.std.proofs.lemmas.Bool.{cases_eq, cases_Bool, false≢true, both_ways, and_parts, and_from, or_cases, or_left, or_right, not_from_false, not-true, cond-true, cond-false}
 use Rattle.office_base.specs.Person.{has_trait}
 use Rattle.office_base.specs.declared.person.Person.{Person}
 use Rattle.office_base.specs.declared.person.TraitSet.{TraitSet}
@@ -12,9 +12,9 @@ unfolding holds_outside
 holds_outside-from zero set traits t l held out = absurd (omega arith)
 holds_outside-from (suc n) set traits t l held out = ⊎_elim
     (λ (e : t ≡ n).
-      let held' = subst (λ (k : ℕ). has_trait traits k ≡ true) e held in
-      let out' = subst (λ (k : ℕ). set k ≡ false) e out in
-      or_left _ _ (and_from _ _ held' (not_from_false (set n) out')))
+    let held' = subst (λ (k : ℕ). has_trait traits k ≡ true) e held in
+    let out' = subst (λ (k : ℕ). set k ≡ false) e out in
+    or_left _ _ (and_from _ _ held' (not_from_false (set n) out')))
     (λ e. or_right _ _ (holds_outside-from n set traits t (omega arith) held out))
     (cases_eq t n)
 
@@ -98,9 +98,9 @@ count_outside-modular a b (person ∷ people) =
     let u = λ (t : ℕ). a t || b t in
     let i = λ (t : ℕ). a t && b t in
     let here = count-pair (holds_outside 6 u person.traits) (holds_outside 6 i person.traits) (holds_outside 6 a person.traits) (holds_outside 6 b person.traits)
-          (holds_outside-smaller 6 a u person.traits (λ t e. or_left (a t) (b t) e))
-          (holds_outside-smaller 6 b u person.traits (λ t e. or_right (a t) (b t) e))
-          (holds_outside-common 6 a b person.traits) in
+    (holds_outside-smaller 6 a u person.traits (λ t e. or_left (a t) (b t) e))
+    (holds_outside-smaller 6 b u person.traits (λ t e. or_right (a t) (b t) e))
+    (holds_outside-common 6 a b person.traits) in
     let rest = count_outside-modular a b people in
     omega arith
 
@@ -111,3 +111,13 @@ count_outside-agree a b (person ∷ people) h =
     let here = holds_outside-agree 6 a b person.traits h in
     let rest = count_outside-agree a b people h in
     cc
+
+-- of no traits none is outside
+pub holds_outside-none : (set : ℕ → Bool) (traits : TraitSet) → holds_outside 0 set traits ≡ false
+unfolding holds_outside
+holds_outside-none set traits = refl
+
+-- one trait more
+pub holds_outside-more : (n : ℕ) (set : ℕ → Bool) (traits : TraitSet) → holds_outside (n + 1) set traits ≡ ((has_trait traits n && not (set n)) || holds_outside n set traits)
+unfolding holds_outside
+holds_outside-more n set traits = rw add-one refl

@@ -1,7 +1,7 @@
 -- How many positions the traits of a set have.
-use Rattle.std.proofs.Common.{◌≡◌, ◌≢◌, ◌<◌, ◌≤◌, ◌+◌, ◌-◌, ℕ, zero, suc, Bool, true, false, ◌&&◌, ◌||◌, cond, eqb, length, refl, sym, ◌∙◌, ap, subst, ⊎_elim, arith}
+use Rattle.std.proofs.Common.{◌≡◌, ◌≢◌, ◌<◌, ◌≤◌, ◌+◌, ◌-◌, ℕ, zero, suc, Bool, true, false, ◌&&◌, ◌||◌, cond, eqb, length, refl, sym, ap, subst, ⊎_elim, add-one, arith}
 use Rattle.std.proofs.lemmas.Bool.{cases_eq, eq-eqb, ne_eqb, cond-true, cond-false}
-use Rattle.std.proofs.lemmas.List.{get_or_past, get_or-set_same, get_or-set_other}
+use Rattle.std.proofs.lemmas.List.{get_or-set_same, get_or-set_other}
 use Rattle.office_base.specs.Placement.{protected}
 use Rattle.office_base.specs.declared.step.Protections.{Protections}
 use Rattle.placements.specs.Greatest.{one_less}
@@ -39,17 +39,17 @@ unfolding positions
 positions-one_less zero set protections t within l room = absurd (omega arith)
 positions-one_less (suc n) set protections t within l room = ⊎_elim
     (λ (e : t ≡ n).
-      let same = protected-one_less_same protections t (omega arith) room in
-      let share : cond (set n) 1 0 + cond (set n) (protected (one_less protections t) n) 0 ≡ cond (set n) (protected protections n) 0
-            = one_of_share (set n) _ _ (subst (λ (k : ℕ). suc (protected (one_less protections t) k) ≡ protected protections k) e same) in
-      let rest = positions-one_less_above n set protections t (omega arith) in
-      let here : ◌≡◌ {A = ℕ} (cond (set t) 1 0) (cond (set n) 1 0) = ap (λ (k : ℕ). cond {A = ℕ} (set k) 1 0) e in
-      omega arith)
+    let same = protected-one_less_same protections t (omega arith) room in
+    let share : cond (set n) 1 0 + cond (set n) (protected (one_less protections t) n) 0 ≡ cond (set n) (protected protections n) 0
+    = one_of_share (set n) _ _ (subst (λ (k : ℕ). suc (protected (one_less protections t) k) ≡ protected protections k) e same) in
+    let rest = positions-one_less_above n set protections t (omega arith) in
+    let here : ◌≡◌ {A = ℕ} (cond (set t) 1 0) (cond (set n) 1 0) = ap (λ (k : ℕ). cond {A = ℕ} (set k) 1 0) e in
+    omega arith)
     (λ (e : t ≢ n).
-      let other : n ≢ t = λ f. e (sym f) in
-      let same = ap (λ (k : ℕ). cond (set n) k 0) (protected-one_less_other protections t n other) in
-      let rest = positions-one_less n set protections t (omega arith) (omega arith) room in
-      omega arith)
+    let other : n ≢ t = λ f. e (sym f) in
+    let same = ap (λ (k : ℕ). cond (set n) k 0) (protected-one_less_other protections t n other) in
+    let rest = positions-one_less n set protections t (omega arith) (omega arith) room in
+    omega arith)
     (cases_eq t n)
 
 -- a trait's positions count once for the union and once for what is common
@@ -86,14 +86,14 @@ unfolding positions
 positions-single zero t protections = omega arith
 positions-single (suc n) t protections = ⊎_elim
     (λ (e : t ≡ n).
-      let none = positions-single_above n t protections (omega arith) in
-      let here = cond-true (eqb t n) (protected protections n) 0 (eq-eqb t n e) in
-      let own = ap (λ (k : ℕ). protected protections k) e in
-      omega arith)
+    let none = positions-single_above n t protections (omega arith) in
+    let here = cond-true (eqb t n) (protected protections n) 0 (eq-eqb t n e) in
+    let own = ap (λ (k : ℕ). protected protections k) e in
+    omega arith)
     (λ (e : t ≢ n).
-      let here = cond-false (eqb t n) (protected protections n) 0 (ne_eqb t n e) in
-      let rest = positions-single n t protections in
-      omega arith)
+    let here = cond-false (eqb t n) (protected protections n) 0 (ne_eqb t n e) in
+    let rest = positions-single n t protections in
+    omega arith)
     (cases_eq t n)
 
 -- only the first n traits of a set count
@@ -104,3 +104,13 @@ positions-agree (suc n) a b protections h =
     let here = ap (λ (x : Bool). cond x (protected protections n) 0) (h n (omega arith)) in
     let rest = positions-agree n a b protections (λ t l. h t (omega arith)) in
     omega arith
+
+-- no traits have none
+pub positions-none : (set : ℕ → Bool) (protections : Protections) → positions 0 set protections ≡ 0
+unfolding positions
+positions-none set protections = refl
+
+-- one trait more
+pub positions-more : (n : ℕ) (set : ℕ → Bool) (protections : Protections) → positions (n + 1) set protections ≡ cond (set n) (protected protections n) 0 + positions n set protections
+unfolding positions
+positions-more n set protections = rw add-one refl

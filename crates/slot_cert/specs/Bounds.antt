@@ -1,11 +1,15 @@
 -- Bounds on how many people can be placed at once, one for each set of traits: the positions of its traits, and the
 -- people who hold a trait outside of it. The smallest of them is the number honoured (König 1931).
-use Rattle.std.specs.Prelude.{◌≤◌, ◌+◌, ℕ, zero, suc, Bool, false, not, ◌&&◌, ◌||◌, List, [], ◌∷◌, if◌then◌else◌}
+use Rattle.std.specs.Prelude.{◌≡◌, ◌<◌, ◌≤◌, ◌+◌, ℕ, zero, suc, Bool, false, not, ◌&&◌, ◌||◌, List, [], ◌∷◌, slice_index, if◌then◌else◌}
 use Rattle.office_base.specs.Person.{has_trait}
 use Rattle.office_base.specs.Placement.{protected}
 use Rattle.office_base.specs.declared.person.Person.{Person}
 use Rattle.office_base.specs.declared.person.TraitSet.{TraitSet}
 use Rattle.office_base.specs.declared.step.Protections.{Protections}
+
+-- the set of traits with this number: trait t is in it where bit t is 1
+abbrev pub set_of : ℕ → ℕ → Bool
+set_of n t = has_trait (record { 0 = n }) t
 
 -- how many positions the traits of a set have, of the first n traits
 unfoldable pub positions : ℕ → (ℕ → Bool) → Protections → ℕ
@@ -30,3 +34,7 @@ bound set protections people = positions 6 set protections + count_outside set p
 pub record IsLeastBound (protections : Protections) (people : List Person) (most : ℕ) : Type 0 where
   pub below : (set : ℕ → Bool) → most ≤ bound set protections people
   pub met : (set : ℕ → Bool) × (bound set protections people ≤ most)
+
+-- the bounds of the sets of traits, by the numbers of the sets
+abbrev pub AreBounds : List ℕ → Protections → List Person → Type 0
+AreBounds bounds protections people = (n : ℕ) → n < 64 → slice_index bounds n ≡ bound (set_of n) protections people

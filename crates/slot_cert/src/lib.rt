@@ -6,6 +6,9 @@
 // never of seats, of how the admitted were chosen, or of programmes.
 #![tactic(auto)]
 
+mod bounds;
+pub mod canonical;
 pub mod cert;
 
+pub use canonical::canonical_pairs;
 pub use cert::Cert;
