@@ -1,5 +1,6 @@
 mod Best
 mod Filled
+mod Marking
 mod Marks
 mod Members
 mod Raises
