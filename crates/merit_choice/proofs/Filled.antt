@@ -1,5 +1,5 @@
 -- The people who raise the number honoured, filled up with the best of the others, are the choice of a step.
-use Rattle.std.proofs.Common.{◌≡◌, ◌≤◌, ◌<◌, ◌+◌, ◌-◌, ℕ, suc, min, sum, Bool, true, false, cond, eqb, List, [], ◌∷◌, ◌++◌, length, get_or, set, append_assoc, refl, sym, ap, ◌∙◌, subst, inl, inr, arith}
+use Rattle.std.proofs.Common.{◌≡◌, ◌≤◌, ◌<◌, ◌+◌, ◌-◌, ℕ, suc, min, sum, Bool, true, false, cond, eqb, List, [], ◌∷◌, ◌++◌, length, get_or, set, append_assoc, refl, sym, ap, ap₂, ◌∙◌, subst, inl, inr, arith}
 use Rattle.std.specs.List.{AllByRecursion}
 use Rattle.std.proofs.lemmas.List.Sums.{sum_by-set}
 use Rattle.std.proofs.lemmas.List.{get_or_past, get_or-set_same, get_or-set_other}
@@ -169,3 +169,11 @@ best_with-is_choice step marks ok raises =
           let e = honoured-one step.protections chosen m (marked marks) mine ours in
           best_with-no_worse step marks other ok raises may (subst (λ (k : ℕ). IsHonoured step.protections other k) e theirs);
     }
+
+-- the same, told by other names
+pub admitted-is_choice : (step : Step) (people admitted : List Person) (marks set : List Bool) (free : ℕ) → IsStep step → AreRaises step.protections [] step.people marks
+    → people ≡ step.people → set ≡ marks → free ≡ step.seats - marked marks → admitted ≡ kept people (filled_up set free) → IsStepChoice step admitted
+admitted-is_choice step people admitted marks set free ok raises all same left told =
+    subst (IsStepChoice step)
+    (sym (told ∙ ap (λ (those : List Person). kept those (filled_up set free)) all ∙ ap₂ (λ (each : List Bool) (n : ℕ). kept step.people (filled_up each n)) same left))
+    (best_with-is_choice step marks ok raises)

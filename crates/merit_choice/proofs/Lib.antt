@@ -1,5 +1,5 @@
-mod Best
 mod Filled
+mod Filling
 mod Marking
 mod Marks
 mod Members
