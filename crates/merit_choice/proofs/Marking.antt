@@ -1,5 +1,5 @@
 -- Down the people a matching tells who raises the number honoured.
-use Rattle.std.proofs.Common.{◌≡◌, ◌≢◌, ◌≤◌, ◌<◌, ◌+◌, ◌⊎◌, ℕ, zero, suc, Bool, true, false, Option, Some, None, List, [], ◌∷◌, ◌++◌, length, get_or, take, drop, add-one, refl, sym, ap, ◌∙◌, subst, inl, inr, arith}
+use Rattle.std.proofs.Common.{◌≡◌, ◌≢◌, ◌<◌, ◌+◌, ℕ, suc, Bool, true, false, Option, Some, None, List, [], ◌∷◌, ◌++◌, length, get_or, take, drop, add-one, refl, sym, ap, ◌∙◌, subst, inl, arith}
 use Rattle.std.proofs.lemmas.List.{length-append, take-append-drop}
 use Rattle.std.proofs.Math.Seq.{take-suc, drop-cons}
 use Rattle.std.specs.List.{AllByRecursion}
@@ -16,7 +16,7 @@ use Rattle.placements.specs.Ranks.{CanBePlaced, AreAmong}
 use Rattle.placements.proofs.Exchange.{all_weaker}
 use Rattle.placements.proofs.Ranks.{any_all, among_longer, among_itself, among_again, among_joined, among_front, among_back, placed_again, taken, refused}
 use Rattle.slot_matching.specs.Augmented.{IsAugmented}
-use Rattle.slot_matching.specs.Kept.{Kept, MayJoin, IsKept, with_member}
+use Rattle.slot_matching.specs.Kept.{Kept, MayJoin}
 use Rattle.slot_matching.specs.declared.matching.Augment.{Augment}
 use Rattle.slot_matching.specs.declared.matching.Augment.TheVariants.{Raised, Held}
 use Rattle.merit_choice.specs.Marks.{marked, IsRaise, AreRaises}

@@ -11,3 +11,6 @@ pub mod laws;
 
 pub use choice::{Chosen, choose};
 pub use office_base::Step;
+
+#[cfg(test)]
+mod tests;

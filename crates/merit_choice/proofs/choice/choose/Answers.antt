@@ -1,4 +1,4 @@
-use Rattle.std.proofs.Common.{◌≡◌, ◌≤◌, ◌-◌, ◌∙◌, ◌≢◌, ℕ, List, [], length, sym, ap, subst, arith}
+use Rattle.std.proofs.Common.{◌-◌, ◌∙◌, ◌≢◌, ℕ, List, [], length, sym, ap, subst, arith}
 use Rattle.office_base.specs.Lists.{Pairwise}
 use Rattle.office_base.specs.Person.{IsTraitSet}
 use Rattle.office_base.specs.StepChoice.{IsStepChoice}
@@ -6,7 +6,6 @@ use Rattle.office_base.specs.declared.person.Person.{Person}
 use Rattle.office_base.proofs.Sublists.{AllByRecursion-sublist}
 use Rattle.placements.proofs.Ranks.{pairwise_sublist}
 use Rattle.std.specs.List.{AllByRecursion}
-use Rattle.merit_choice.specs.Marks.{marked}
 use Rattle.merit_choice.proofs.Raises.{length-raises}
 use Rattle.merit_choice.proofs.Filled.{marked_within, admitted-is_choice}
 use Rattle.merit_choice.proofs.choice.choose.Goals as goal

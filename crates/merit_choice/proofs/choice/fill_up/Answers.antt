@@ -1,4 +1,4 @@
-use Rattle.std.proofs.Common.{◌≡◌, ◌++◌, ◌∷◌, [], ◌+◌, ◌-◌, ◌<◌, ◌∙◌, suc, zero, length, drop, refl, arith}
+use Rattle.std.proofs.Common.{◌+◌, ◌-◌, ◌<◌, ◌∙◌, length, drop, arith}
 use Rattle.merit_choice.specs.Marks.{kept, filled_up}
 use Rattle.merit_choice.proofs.Filling.{needed_at, free_at, full_at, renamed}
 use Rattle.merit_choice.proofs.choice.fill_up.Goals as goal

@@ -1,4 +1,4 @@
-use Rattle.std.proofs.Common.{rules, ◌≡◌, ◌++◌, ◌∷◌, [], take, take_all, sym, ap, ◌∙◌, subst, arith}
+use Rattle.std.proofs.Common.{◌≡◌, ◌++◌, ◌∷◌, [], take, take_all, sym, ap, ◌∙◌, subst}
 use Rattle.std.proofs.Common.{List, Bool, ◌+◌}
 use Rattle.office_base.specs.declared.person.Person.{Person}
 use Rattle.merit_choice.specs.Marks.{AreRaises}
