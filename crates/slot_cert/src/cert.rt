@@ -21,7 +21,13 @@ impl Cert {
         ensures { IsTrue result ↔ IsPlacement protections.now admitted.now self.now.pairs }
     {
         let pairs = self.pairs.as_slice();
-        are_held(pairs, admitted) && stand_once(pairs) && are_within(pairs, protections)
+        if !are_held(pairs, admitted) {
+            return false;
+        }
+        if !stand_once(pairs) {
+            return false;
+        }
+        are_within(pairs, protections)
     }
 }
 
