@@ -1,1 +1,2 @@
+pub mod StepChoice
 pub mod Sublists

@@ -9,4 +9,5 @@ pub mod choosing;
 pub mod placing;
 pub mod sublists;
 
+pub use choosing::{choice, is_choice};
 pub use placing::honoured;
