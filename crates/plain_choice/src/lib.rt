@@ -8,8 +8,10 @@
 pub mod certifying;
 pub mod choosing;
 pub mod placing;
+pub mod ranking;
 pub mod sublists;
 
 pub use certifying::canonical;
 pub use choosing::{choice, is_choice};
 pub use placing::honoured;
+pub use ranking::is_step;
