@@ -1,1 +1,7 @@
-mod Best
+mod Filled
+mod Filling
+mod Marking
+mod Marks
+mod Members
+mod Raises
+pub mod StepLaws
