@@ -50,14 +50,17 @@ pub fn allocate<S: Source, K: Sink>(
 fn spell_step(words: &Words) -> bool
     ensures { IsTrue result ↔ SpellStep words.now }
 {
-    words.len() == 1 && words.word(0) == Some("step")
+    match words.word(0) {
+        Some(word) => words.len() == 1 && word == "step",
+        None => false,
+    }
 }
 
 /// Writes a text whole and gives its status, or gives `WriteFault` where the sink fails.
 fn write_answer<K: Sink>(sink: &mut K, text: &[u8], status: Status) -> Status
     ensures { ((result ≡ status) × Appends text.now (K.written sink.old) (K.written sink.new))
         ⊎ ((result ≡ Status.WriteFault) × Rose (K.faults sink.old) (K.faults sink.new)
-            × ((n : ℕ) × Appends (take n text.now) (K.written sink.old) (K.written sink.new))) }
+        × ((n : ℕ) × Appends (take n text.now) (K.written sink.old) (K.written sink.new))) }
 {
     match write_whole(sink, text) {
         Ok(()) => status,

@@ -14,7 +14,7 @@ mod tests;
 
 use crate::command::allocate;
 use crate::streams::{StandardInput, StandardOutput};
-use office_base::{OutOfMemory, Words};
+use office_base::Words;
 use std::alloc::Global;
 use std::process::ExitCode;
 use std::rt::Env;
