@@ -1,5 +1,5 @@
 -- The objects of the outside that stand in memory, as contracts see them.
-use Rattle.std.specs.Prelude.{◌≡◌, ◌<◌, ◌≤◌, ◌+◌, ◌-◌, ◌^◌, ℕ, min, List, ◌++◌, take, length, Contains}
+use Rattle.std.specs.Prelude.{◌+◌, ◌-◌, ◌^◌, ℕ, min, List}
 
 -- a source in memory: the bytes left, the most that one read gives, the calls so far, those that fail, and the faults
 pub record SourceMemory : Type 0 where

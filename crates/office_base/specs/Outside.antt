@@ -19,3 +19,22 @@ ComesAtTheEnd n room (Some bytes) = n ≡ 0 → 0 < room → bytes ≡ []
 abbrev pub AppendsFront : ℕ → List ℕ → Option (List ℕ) → Option (List ℕ) → Type 0
 AppendsFront n piece None after = after ≡ None
 AppendsFront n piece (Some bytes) after = after ≡ Some (bytes ++ take n piece)
+
+-- these bytes were taken from the front of what was left
+abbrev pub Took : List ℕ → Option (List ℕ) → Option (List ℕ) → Type 0
+Took bytes None after = after ≡ None
+Took bytes (Some left) after = (rest : List ℕ) × (after ≡ Some rest) × (left ≡ bytes ++ rest)
+
+-- nothing is left, where it is told
+abbrev pub IsAtEnd : Option (List ℕ) → Type 0
+IsAtEnd None = Unit {0}
+IsAtEnd (Some left) = left ≡ []
+
+-- more bytes than the limit were taken
+abbrev pub TookMore : ℕ → Option (List ℕ) → Option (List ℕ) → Type 0
+TookMore limit before after = (bytes : List ℕ) × (limit < length bytes) × Took bytes before after
+
+-- these bytes were written behind what was there
+abbrev pub Appends : List ℕ → Option (List ℕ) → Option (List ℕ) → Type 0
+Appends bytes None after = after ≡ None
+Appends bytes (Some before) after = after ≡ Some (before ++ bytes)

@@ -1,6 +1,5 @@
 -- Persons, and which of two is better (Baswana and others 2019: merit lists per programme).
-use Rattle.std.specs.Prelude.{◌≡◌, ◌<◌, ◌≤◌, ◌-◌, ◌^◌, ℕ, List, Option, Some, None, slice_index_or, MatchOption, Bool, not, nat_eq, bit_and}
-use Rattle.office_base.specs.declared.person.CandId.{CandId}
+use Rattle.std.specs.Prelude.{◌<◌, ◌≤◌, ◌-◌, ◌^◌, ℕ, Option, Some, None, slice_index_or, Bool, not, nat_eq, bit_and}
 use Rattle.office_base.specs.declared.person.ListId.{ListId}
 use Rattle.office_base.specs.declared.person.TraitSet.{TraitSet}
 use Rattle.office_base.specs.declared.person.Person.{Person}

@@ -74,3 +74,14 @@ impl<T: Drop> Listed<T> {
         Ok(())
     }
 }
+
+impl<T: Copy> Listed<T> {
+    /// Puts copies of these values at the end, all or none: where there is no memory, the list is as before.
+    pub fn extend_from_slice(&mut self, more: &[T]) -> Result<(), OutOfMemory>
+        ensures ok { OnOk result (self.new ≡ self.old ++ more.now) }
+        ensures err { OnErr result (self.new ≡ self.old) }
+    {
+        self.items.extend_from_slice(more)?;
+        Ok(())
+    }
+}

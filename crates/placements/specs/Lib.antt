@@ -1,2 +1,4 @@
+pub mod Demand
 pub mod Greatest
+pub mod Ranks
 pub mod Slots

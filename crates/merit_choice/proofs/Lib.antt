@@ -1,0 +1,7 @@
+mod Filled
+mod Filling
+mod Marking
+mod Marks
+mod Members
+mod Raises
+pub mod StepLaws

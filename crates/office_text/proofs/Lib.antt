@@ -1,0 +1,4 @@
+pub mod FirstFaultLemmas
+mod LinesLemmas
+mod NumberLemmas
+mod TraitsLemmas

@@ -1,0 +1,14 @@
+// What holds of the spellings themselves, whoever reads and writes them.
+ghost use Rattle.std.specs.Prelude.{ℕ, List};
+ghost use Rattle.office_text.specs.FirstFault.{Judge, HaveOneAnswer};
+ghost use Rattle.office_text.specs.Number.{AreInverse};
+
+/// Rows have no fault, or exactly one first fault, whatever the judge.
+pub fn one_first_fault()
+    ensures { (judge : Judge (List ℕ) ℕ) (rows : List (List ℕ)) → HaveOneAnswer judge rows }
+{}
+
+/// Reading and writing a number undo each other.
+pub fn numbers_are_inverse()
+    ensures { AreInverse }
+{}

@@ -1,0 +1,18 @@
+// How the texts of the office are spelled: numbers, sets of traits, lines of fields, and which fault is the first.
+//
+// Every reader and writer of a sheet or a request stands on it. Reading takes no memory and gives back parts of the
+// bytes that it was given. `specs/` says each spelling as a function of the bytes, by cases on them, so that a
+// reader's contract can name the one value of a text. It knows of no sheet, no command and no file, and it must
+// never decide what a fault is: a judge of rows, given from above, does.
+#![tactic(auto)]
+
+pub mod laws;
+pub mod lines;
+pub mod number;
+#[cfg(test)]
+mod tests;
+pub mod traits;
+
+pub use lines::{next_field, next_line};
+pub use number::{push_number, read_number};
+pub use traits::{letter_of, read_traits, trait_number};
