@@ -1,29 +1,10 @@
--- What holds of a list holds of its sublists, and `sublists_of` has each of them.
+-- `sublists_of` has each sublist, and nothing else.
 use Rattle.std.proofs.Common.{◌≡◌, List, [], ◌∷◌, ◌++◌, map, refl, sym, subst, inl, inr, ⊎_elim, All}
 use Rattle.std.proofs.lemmas.List.Elements.{All-append, All-map, All-nil, All-cons, All-weaker}
 use Rattle.std.specs.List.{AllByRecursion}
-use Rattle.office_base.specs.Lists.{IsSublist, Pairwise}
+use Rattle.office_base.specs.Lists.{IsSublist}
 use Rattle.office_base.specs.declared.person.Person.{Person}
 use Rattle.plain_choice.specs.Sublists.{sublists_of}
-
-module _ {X : Type 0} (P : X → Type 0) where
-  -- what holds of each element holds of those of a sublist
-  pub All-sublist : (xs ys : List X) → IsSublist xs ys → AllByRecursion P ys → AllByRecursion P xs
-  All-sublist xs [] sub all = subst (AllByRecursion P) (sym sub) tt
-  All-sublist xs (y ∷ ys) sub all = ⊎_elim
-      (λ (h : IsSublist xs ys). All-sublist xs ys h all.1)
-      (λ (h : (rest : List X) × (xs ≡ y ∷ rest) × IsSublist rest ys). subst (AllByRecursion P) (sym h.1) (all.0, All-sublist h.0 ys h.2 all.1))
-      sub
-
-module _ {X : Type 0} (R : X → X → Type 0) where
-  -- what holds of each element and every later one holds of those of a sublist
-  pub Pairwise-sublist : (xs ys : List X) → IsSublist xs ys → Pairwise R ys → Pairwise R xs
-  Pairwise-sublist xs [] sub all = subst (Pairwise R) (sym sub) tt
-  Pairwise-sublist xs (y ∷ ys) sub all = ⊎_elim
-      (λ (h : IsSublist xs ys). Pairwise-sublist xs ys h all.1)
-      (λ (h : (rest : List X) × (xs ≡ y ∷ rest) × IsSublist rest ys).
-      subst (Pairwise R) (sym h.1) (All-sublist (R y) h.0 ys h.2 all.0, Pairwise-sublist h.0 ys h.2 all.1))
-      sub
 
 -- with one more in front on both sides it is a sublist still
 sublist-cons : (person : Person) (people set : List Person) → IsSublist set people → IsSublist (person ∷ set) (person ∷ people)

@@ -12,7 +12,8 @@ use crate::placing::{greatest, left_after};
 use office_base::{OutOfMemory, Pair, Pairs, Person, Protections};
 use std::alloc::Global;
 
-/// The pairs of the first of the longest placements of the people, who stand in merit order.
+/// The pairs of the first of the longest placements of the people, who stand in merit order. `OutOfMemory` leaves nothing
+/// behind.
 pub fn canonical(
     alloc: Global,
     people: &[Person],

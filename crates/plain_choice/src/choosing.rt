@@ -11,6 +11,7 @@ use office_base::{ListId, OutOfMemory, People, Person, Step, better};
 use std::alloc::Global;
 
 /// Whether the chosen are what the step admits: a set of its people within the seats that stands against every other.
+/// `OutOfMemory` leaves nothing behind.
 pub fn is_choice(alloc: Global, step: &Step, chosen: &[Person]) -> Result<bool, OutOfMemory>
     requires { IsStep step.now }
     ensures { IfOk result (λ yes. IsTrue yes ↔ IsStepChoice step.now chosen.now) }
@@ -23,6 +24,7 @@ pub fn is_choice(alloc: Global, step: &Step, chosen: &[Person]) -> Result<bool, 
 }
 
 /// What the step admits: the first of all sets of its people that is its choice. `None` says that no set is.
+/// `OutOfMemory` leaves nothing behind.
 pub fn choice(alloc: Global, step: &Step) -> Result<Option<People>, OutOfMemory>
     requires { IsStep step.now }
     ensures { IfOk result (λ found. MatchOption found ((set : _) → ¬ IsStepChoice step.now set) (λ set. IsStepChoice step.now set)) }
