@@ -1,5 +1,5 @@
 // A certificate, and whether it holds of a list of persons.
-ghost use Rattle.std.specs.Prelude.{◌≡◌, ◌≢◌, ◌<◌, ◌≤◌, ◌==◌, ℕ, length, IsTrue, ◌↔◌, MatchOption, count_by};
+ghost use Rattle.std.specs.Prelude.{◌≡◌, ◌≢◌, ◌<◌, ◌≤◌, ℕ, length, IsTrue, ◌↔◌, MatchOption};
 ghost use Rattle.std.specs.List.{AllByRecursion};
 ghost use Rattle.office_base.specs.Lists.{AnyByRecursion, Pairwise};
 ghost use Rattle.office_base.specs.Person.{IsTraitSet, has_trait};

@@ -2,12 +2,16 @@
 ghost use Rattle.std.specs.Prelude.{◌≡◌, ◌<◌};
 
 use super::*;
-use office_base::{CandId, Category, OutOfMemory, Pair, Pairs, Person, Place, Protections, TraitSet};
+use office_base::{
+    CandId, Category, OutOfMemory, Pair, Pairs, Person, Place, Protections, TraitSet,
+};
 use std::alloc::Global;
 use std::test::Fail;
 
 const W: u8 = 1;
+
 const D: u8 = 2;
+
 const X: u8 = 4;
 
 /// A candidate of whom only the number and the traits matter here.
@@ -36,9 +40,7 @@ fn cert(alloc: Global, shown: &[Pair]) -> Result<Cert, OutOfMemory> {
     for pair in shown {
         pairs.push(*pair)?;
     }
-    Ok(Cert {
-        pairs,
-    })
+    Ok(Cert { pairs })
 }
 
 #[test]
@@ -53,8 +55,15 @@ fn shows_the_first_of_the_longest(rt: HostRuntime) -> Result<(), Fail> {
     let three = Protections {
         counts: [1, 1, 1, 0, 0, 0],
     };
-    let shown = canonical_pairs(rt.alloc(), &[person(1, W + D), person(2, D + X), person(3, W)], &three)?;
-    assert_eq!(rt; shown.as_slice(), [pair(1, 1), pair(2, 2), pair(3, 0)].as_slice());
+    let shown = canonical_pairs(
+        rt.alloc(),
+        &[person(1, W + D), person(2, D + X), person(3, W)],
+        &three,
+    )?;
+    assert_eq!(rt;
+        shown.as_slice(),
+        [pair(1, 1), pair(2, 2), pair(3, 0)].as_slice()
+    );
     Ok(())
 }
 
