@@ -4,4 +4,5 @@ mod Marking
 mod Marks
 mod Members
 mod Raises
+mod Slots
 pub mod StepLaws

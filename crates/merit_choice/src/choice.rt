@@ -1,5 +1,6 @@
 // The choice from all people of a step at once.
-ghost use Rattle.std.specs.Prelude.{◌≡◌, ◌≤◌, [], length, IfOk};
+ghost use Rattle.std.specs.Prelude.{◌≡◌, ◌≤◌, ◌<◌, [], length, IfOk};
+ghost use Rattle.std.specs.List.{AllByRecursion};
 ghost use Rattle.office_base.specs.Certificate.{IsCanonical};
 ghost use Rattle.office_base.specs.StepChoice.{IsStep, IsStepChoice};
 ghost use Rattle.merit_choice.specs.Marks.{marked, kept, filled_up, AreRaises};
@@ -34,6 +35,9 @@ pub fn choose(alloc: Global, step: &Step) -> Result<Chosen, OutOfMemory>
     requires { IsStep step.now }
     ensures choice { IfOk result (λ chosen. IsStepChoice step.now chosen.admitted) }
     ensures certificate { IfOk result (λ chosen. IsCanonical step.now.protections chosen.admitted chosen.cert.pairs) }
+    // each slot is the number of a trait, and there are no more pairs than seats
+    ensures slots { IfOk result (λ chosen. AllByRecursion (λ pair. pair.slot < 6) chosen.cert.pairs) }
+    ensures few { IfOk result (λ chosen. length chosen.cert.pairs ≤ step.now.seats) }
 {
     let seats = step.seats;
     let needed = find_needed(alloc, step)?;

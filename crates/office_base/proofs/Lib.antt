@@ -1,2 +1,3 @@
+pub mod CodesLemmas
 mod Streams
 pub mod Sublists

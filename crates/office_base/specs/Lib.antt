@@ -1,4 +1,5 @@
 pub mod Certificate
+pub mod Codes
 pub mod Lists
 pub mod Memory
 pub mod Outside

@@ -6,6 +6,10 @@ ghost use Rattle.office_base.specs.Person.{IsList, IsTraitSet, has_trait, IsBett
 #[derive(Clone, Copy, Debug, PartialEq, Eq, PartialOrd, Ord, Hash)]
 pub struct CandId(pub u32);
 
+/// The number of a programme, from 0 in the order in which programmes first appear.
+#[derive(Clone, Copy, Debug, PartialEq, Eq, PartialOrd, Ord, Hash)]
+pub struct ProgId(pub u16);
+
 /// The number of a merit list, from 1 to 4.
 #[derive(Clone, Copy, Debug, PartialEq, Eq, PartialOrd, Ord, Hash)]
 pub struct ListId(pub u8);

@@ -1,6 +1,17 @@
 // A step: seats of one merit list, of which some are protected for traits, and the people who stand for them.
 use crate::{CandId, ListId, People};
 
+/// Which seats of a programme a step fills: open ones, those of a category, or those that a category left unfilled.
+#[derive(Clone, Copy, Debug, PartialEq, Eq)]
+pub enum StepKind {
+    Open,
+    Ews,
+    Obc,
+    Sc,
+    St,
+    Dereserved,
+}
+
 /// How many seats of a step are protected for each trait, by the trait's number. The other seats are free.
 #[derive(Clone, Copy, Debug, PartialEq, Eq)]
 pub struct Protections {

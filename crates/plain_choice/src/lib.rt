@@ -5,8 +5,16 @@
 // stands on it, and it knows of no fast way: no matching, no order in which people are taken.
 #![tactic(auto)]
 
+pub mod certifying;
 pub mod choosing;
 pub mod placing;
+pub mod ranking;
 pub mod sublists;
 
+pub use certifying::canonical;
+pub use choosing::{choice, is_choice};
 pub use placing::honoured;
+pub use ranking::is_step;
+
+#[cfg(test)]
+mod tests;

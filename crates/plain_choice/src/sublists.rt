@@ -37,7 +37,8 @@ fn are_same_places(first: &[Place], second: &[Place]) -> bool
 {
     match (first, second) {
         ([], []) => true,
-        ([place, rest @ ..], [other, others @ ..]) => place == other && are_same_places(rest, others),
+        ([place, rest @ ..], [other, others @ ..]) => place == other
+            && are_same_places(rest, others),
         _ => false,
     }
 }

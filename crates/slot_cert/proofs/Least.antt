@@ -59,15 +59,16 @@ bound-modular a b protections people =
     omega arith
 
 -- every bound with the person is so high
-abbrev AreBounds : Protections → Person → List Person → ℕ → Type 0
-AreBounds protections person people most = (set : ℕ → Bool) → most ≤ bound set protections (person ∷ people)
+abbrev AreHigh : Protections → Person → List Person → ℕ → Type 0
+AreHigh protections person people most = (set : ℕ → Bool) → most ≤ bound set protections (person ∷ people)
 
--- a set whose bound without the person is too low
+-- A set whose bound without the person is too low. With two such sets their union is one. So where the person must pass
+-- every trait, each for such a set, all traits of the person are in one of them: but then it counts the person nowhere.
 abbrev IsCritical : Protections → List Person → ℕ → (ℕ → Bool) → Type 0
 IsCritical protections people most set = bound set protections people < most
 
 -- with two sets their union is critical
-critical-union : (protections : Protections) (person : Person) (people : List Person) (most : ℕ) (a b : ℕ → Bool) → AreBounds protections person people most
+critical-union : (protections : Protections) (person : Person) (people : List Person) (most : ℕ) (a b : ℕ → Bool) → AreHigh protections person people most
     → IsCritical protections people most a → IsCritical protections people most b → IsCritical protections people most (λ t. a t || b t)
 critical-union protections person people most a b bounds ca cb =
     let i = λ (t : ℕ). a t && b t in
@@ -77,7 +78,7 @@ critical-union protections person people most a b bounds ca cb =
     omega arith
 
 -- where the person must pass a trait held, some critical set has the trait
-critical-trait : (protections : Protections) (person : Person) (people : List Person) (most : ℕ) (a : ℕ → Bool) (t : ℕ) → AreBounds protections person people most
+critical-trait : (protections : Protections) (person : Person) (people : List Person) (most : ℕ) (a : ℕ → Bool) (t : ℕ) → AreHigh protections person people most
     → IsCritical protections people most a → has_trait person.traits t ≡ true → MustPass protections people most person.traits t
     → (b : ℕ → Bool) × IsCritical protections people most b × (b t ≡ true)
 critical-trait protections person people most a t bounds ca held pass = ⊎_elim
@@ -94,7 +95,7 @@ critical-trait protections person people most a t bounds ca held pass = ⊎_elim
     pass
 
 -- where the person must pass every trait, some critical set has each of the first n traits that the person holds
-critical-traits : (protections : Protections) (person : Person) (people : List Person) (most : ℕ) (a : ℕ → Bool) (n : ℕ) → n ≤ 6 → AreBounds protections person people most
+critical-traits : (protections : Protections) (person : Person) (people : List Person) (most : ℕ) (a : ℕ → Bool) (n : ℕ) → n ≤ 6 → AreHigh protections person people most
     → IsCritical protections people most a → ((t : ℕ) → t < 6 → MustPass protections people most person.traits t)
     → (b : ℕ → Bool) × IsCritical protections people most b × ((t : ℕ) → t < n → has_trait person.traits t ≡ true → b t ≡ true)
 critical-traits protections person people most a zero l bounds ca pass = (a, ca, λ t none. absurd (omega arith))
@@ -122,7 +123,7 @@ critical-traits protections person people most a (suc n) l bounds ca pass =
     (cases_Bool (has_trait person.traits n))
 
 -- where a person must pass every trait, no bound is too low without the person
-pub below-without : (protections : Protections) (person : Person) (people : List Person) (most : ℕ) → AreBounds protections person people most
+pub below-without : (protections : Protections) (person : Person) (people : List Person) (most : ℕ) → AreHigh protections person people most
     → ((t : ℕ) → t < 6 → MustPass protections people most person.traits t) → (set : ℕ → Bool) → most ≤ bound set protections people
 below-without protections person people most bounds pass set = ⊎_elim
     (λ (ca : bound set protections people < most).

@@ -34,6 +34,7 @@ is_number_of a b c d e f =
     let n = number_of a b c d e f in
     nat_lt n 64 && (beq (set_of n 0) a && (beq (set_of n 1) b && (beq (set_of n 2) c && (beq (set_of n 3) d && (beq (set_of n 4) e && beq (set_of n 5) f)))))
 
+-- and this is so of all sets
 every_number : of_both (λ a. of_both (λ b. of_both (λ c. of_both (λ d. of_both (λ e. of_both (λ f. is_number_of a b c d e f)))))) ≡ true
 every_number = refl
 
@@ -54,6 +55,7 @@ below_six P a b c d e f (suc (suc (suc (suc zero)))) l = e
 below_six P a b c d e f (suc (suc (suc (suc (suc zero))))) l = f
 below_six P a b c d e f (suc (suc (suc (suc (suc (suc t)))))) l = absurd (omega arith)
 
+-- and of each
 is_number_of-any : (a b c d e f : Bool) → is_number_of a b c d e f ≡ true
 is_number_of-any a b c d e f =
     let ha = of_both-at (λ a. of_both (λ b. of_both (λ c. of_both (λ d. of_both (λ e. of_both (λ f. is_number_of a b c d e f)))))) every_number a in

@@ -75,6 +75,7 @@ unfolding positions
 positions-empty zero protections = refl
 positions-empty (suc n) protections = rw (positions-empty n protections) refl
 
+-- a trait from n on has none among the first n
 positions-single_above : (n : ℕ) (t : ℕ) (protections : Protections) → n ≤ t → positions n (eqb t) protections ≡ 0
 unfolding positions
 positions-single_above zero t protections h = refl

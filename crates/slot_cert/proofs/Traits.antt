@@ -4,6 +4,7 @@ use Rattle.std.proofs.lemmas.Nat.Bits.{and_pow, bit_at_above}
 use Rattle.office_base.specs.Person.{has_trait}
 use Rattle.office_base.specs.declared.person.TraitSet.{TraitSet}
 
+-- a number below 64 has no bit from 6 on
 and-high_bit : (n t : ℕ) → n < 64 → 6 ≤ t → bit_and n (2 ^ t) ≡ 0
 and-high_bit n t small high = and_pow n t ∙ (ap (λ b. b * 2 ^ t) (bit_at_above n 6 t small high) ∙ omega arith)
 

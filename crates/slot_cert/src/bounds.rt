@@ -2,7 +2,6 @@
 ghost use Rattle.std.specs.Prelude.{◌≡◌, ◌<◌, ◌≤◌, ◌+◌, ◌*◌, ℕ, true, length, slice_index, MatchBool, if◌then◌else◌};
 ghost use Rattle.std.specs.List.{AllByRecursion};
 ghost use Rattle.office_base.specs.Person.{IsTraitSet, has_trait};
-ghost use Rattle.office_base.specs.Placement.{protected};
 ghost use Rattle.slot_cert.specs.Bounds.{set_of, positions, holds_outside, count_outside};
 
 use office_base::{Person, Protections, TraitSet};

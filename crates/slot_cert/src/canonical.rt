@@ -1,12 +1,12 @@
 // The certificate of the admitted: the first of the longest placements, down the merit order.
-ghost use Rattle.std.specs.Prelude.{◌≡◌, ◌≢◌, ◌<◌, ◌≤◌, ◌+◌, ℕ, true, [], List, length, slice_index, IsTrue, ◌↔◌, IfOk, MatchBool, MatchOption, if◌then◌else◌, ◌∷◌};
+ghost use Rattle.std.specs.Prelude.{◌≡◌, ◌≢◌, ◌<◌, List, IfOk, MatchBool, ◌∷◌};
 ghost use Rattle.std.specs.List.{AllByRecursion};
 ghost use Rattle.office_base.specs.Certificate.{IsCanonical};
 ghost use Rattle.office_base.specs.Lists.{Pairwise};
-ghost use Rattle.office_base.specs.Person.{IsTraitSet, has_trait};
+ghost use Rattle.office_base.specs.Person.{IsTraitSet};
 ghost use Rattle.office_base.specs.declared.person.Person.{Person};
 
-use crate::bounds::{count_outside, holds_outside, keeps, least, leave, positions, take};
+use crate::bounds::{count_outside, keeps, least, leave, positions, take};
 use office_base::{OutOfMemory, Pair, Pairs, Person, Protections, TraitSet};
 use std::alloc::Global;
 

@@ -1,5 +1,5 @@
 // A certificate, and whether it holds of a list of persons.
-ghost use Rattle.std.specs.Prelude.{◌≡◌, ◌≢◌, ◌<◌, ◌≤◌, ◌==◌, ℕ, length, IsTrue, ◌↔◌, MatchOption, count_by};
+ghost use Rattle.std.specs.Prelude.{◌≡◌, ◌≢◌, ◌<◌, ◌≤◌, ℕ, length, IsTrue, ◌↔◌, MatchOption};
 ghost use Rattle.std.specs.List.{AllByRecursion};
 ghost use Rattle.office_base.specs.Lists.{AnyByRecursion, Pairwise};
 ghost use Rattle.office_base.specs.Person.{IsTraitSet, has_trait};
@@ -21,7 +21,13 @@ impl Cert {
         ensures { IsTrue result ↔ IsPlacement protections.now admitted.now self.now.pairs }
     {
         let pairs = self.pairs.as_slice();
-        are_held(pairs, admitted) && stand_once(pairs) && are_within(pairs, protections)
+        if !are_held(pairs, admitted) {
+            return false;
+        }
+        if !stand_once(pairs) {
+            return false;
+        }
+        are_within(pairs, protections)
     }
 }
 

@@ -12,3 +12,6 @@ pub mod cert;
 
 pub use canonical::canonical_pairs;
 pub use cert::Cert;
+
+#[cfg(test)]
+mod tests;

@@ -16,7 +16,7 @@ pub record Kept : Type 0 where
   pub list : ListId
   pub members : List Person
 
--- Nothing sets the person apart from the matching: a place in its list that no member has, and a number of their own.
+-- The person is none of the members, and has a place in the list that no member has.
 pub record MayJoin (kept : Kept) (person : Person) : Type 0 where
   pub traits : IsTraitSet person.traits
   pub placed : IsSome (number_in kept.list person)
@@ -36,7 +36,7 @@ pub record IsKept (kept : Kept) : Type 0 where
 abbrev pub with_member : Kept → Person → Kept
 with_member kept person = record { protections = kept.protections; list = kept.list; members = kept.members ++ person ∷ [] }
 
--- For each set of traits, so many persons more can ask for it, and nothing else, until its positions are all asked for.
+-- What each set of traits has to spare, with the members who hold no trait outside it, makes up its positions.
 pub record IsSpare (protections : Protections) (members : List Person) (spare : List ℕ) : Type 0 where
   pub sets : length spare ≡ 64
   pub left : (m : ℕ) → m < 64 → slice_index spare m + asking (record { 0 = m }) members ≡ positions protections (record { 0 = m })

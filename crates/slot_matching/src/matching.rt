@@ -85,4 +85,11 @@ impl Matching {
     {
         self.members.len() as u16
     }
+
+    /// The members, in the order in which they came.
+    pub fn members(&self) -> &[Person]
+        ensures { result.now ≡ self.now.members }
+    {
+        self.members.as_slice()
+    }
 }

@@ -32,5 +32,6 @@ fn moves_and_holds(rt: HostRuntime) -> Result<(), Fail> {
     assert_eq!(rt; matching.augment(&person(3, 1)), Augment::Raised);
     assert_eq!(rt; matching.augment(&person(4, 2)), Augment::Held);
     assert_eq!(rt; matching.honoured(), 2);
+    assert_eq!(rt; matching.members().len(), 2);
     Ok(())
 }

@@ -1,0 +1,3 @@
+mod CandidateLemmas
+mod LineLemmas
+mod SheetLemmas
