@@ -1,5 +1,5 @@
 -- The slots of a placement are numbers of traits.
-use Rattle.std.proofs.Common.{◌<◌, ◌⊎◌, inl, inr, List, [], ◌∷◌}
+use Rattle.std.proofs.Common.{◌<◌, inl, inr, List, [], ◌∷◌}
 use Rattle.std.specs.List.{AllByRecursion}
 use Rattle.office_base.specs.Lists.{AnyByRecursion}
 use Rattle.office_base.specs.Person.{IsTraitSet}

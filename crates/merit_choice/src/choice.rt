@@ -39,15 +39,23 @@ pub fn choose(alloc: Global, step: &Step) -> Result<Chosen, OutOfMemory>
     ensures slots { IfOk result (λ chosen. AllByRecursion (λ pair. pair.slot < 6) chosen.cert.pairs) }
     ensures few { IfOk result (λ chosen. length chosen.cert.pairs ≤ step.now.seats) }
 {
-    let seats = step.seats;
-    let needed = find_needed(alloc, step)?;
-    let free = seats - needed.count;
-    let admitted = fill_up(alloc, step.people.as_slice(), needed.marks.as_slice(), free)?;
+    let admitted = admit(alloc, step)?;
     let pairs = canonical_pairs(alloc, admitted.as_slice(), &step.protections)?;
     Ok(Chosen {
         admitted,
         cert: Cert { pairs },
     })
+}
+
+/// Whom a step admits, in merit order.
+fn admit(alloc: Global, step: &Step) -> Result<People, OutOfMemory>
+    requires { IsStep step.now }
+    ensures { IfOk result (λ admitted. IsStepChoice step.now admitted) }
+{
+    let seats = step.seats;
+    let needed = find_needed(alloc, step)?;
+    let free = seats - needed.count;
+    fill_up(alloc, step.people.as_slice(), needed.marks.as_slice(), free)
 }
 
 /// Offers the people of a step to a matching, the best first.
