@@ -1,7 +1,6 @@
 // What a command answers to the bytes of its source, before anything is written.
 ghost use Rattle.std.specs.Prelude.{◌≡◌, ◌≤◌, ◌<◌, ◌^◌, ℕ, List, length, IfOk, IfErr, OnOk};
 ghost use Rattle.office_base.specs.Outside.{Rose, IsAtEnd, TookMore};
-ghost use Rattle.office_base.specs.Placement.{protected};
 ghost use Rattle.office_base.specs.StepChoice.{IsStep};
 ghost use Rattle.step_sheet.specs.Sheet.{SheetGives, HasFault};
 ghost use Rattle.allocation_cli.specs.Answer.{IsOutputLeft, IsFailureOf, IsStepOutput, IsStepText, IsSheetFailure, IsFaultLine};
@@ -61,7 +60,6 @@ fn answer_to(alloc: Global, bytes: &[u8]) -> Result<Text, Failure>
 /// Whom a step admits, as `step` writes it.
 fn list_of(alloc: Global, step: &Step) -> Result<Text, OutOfMemory>
     requires step { IsStep step.now }
-    requires unprotected { (t : ℕ) → protected step.now.protections t ≡ 0 }
     requires few { length step.now.people < 2 ^ 32 }
     ensures { IfOk result (IsStepText step.now) }
 {
@@ -71,7 +69,7 @@ fn list_of(alloc: Global, step: &Step) -> Result<Text, OutOfMemory>
         step.seats,
         step.people.len(),
         chosen.admitted.as_slice(),
-        &[],
+        chosen.cert.pairs.as_slice(),
     )
 }
 

@@ -1,5 +1,6 @@
 // What is wrong with a sheet.
-ghost use Rattle.std.specs.Prelude.{◌≡◌};
+ghost use Rattle.std.specs.Prelude.{◌≡◌, ◌++◌, Some, codes};
+ghost use Rattle.std.specs.Fmt.{decimal};
 ghost use Rattle.step_sheet.specs.Output.{kind_name};
 ghost use Rattle.step_sheet.specs.declared.fault.SheetError.TheVariants.{OutOfMemory};
 
@@ -59,12 +60,16 @@ impl SheetKind {
 }
 
 impl fmt::Display for SheetKind {
+    ghost output = { λ kind. Some (kind_name kind) };
+
     fn fmt<W: fmt::Write>(&self, f: &mut fmt::Formatter<W>) -> fmt::Result {
         f.write_str(self.name())
     }
 }
 
 impl fmt::Display for SheetFault {
+    ghost output = { λ fault. Some (codes "sheet line " ++ decimal fault.line ++ codes " " ++ kind_name fault.kind) };
+
     fn fmt<W: fmt::Write>(&self, f: &mut fmt::Formatter<W>) -> fmt::Result {
         write!(f, "sheet line {} {}", self.line, self.kind)
     }
