@@ -27,6 +27,10 @@ fn the_best_are_admitted(rt: HostRuntime) -> Result<(), Fail> {
     let sheet = "step sheet 1\nseats,3\ncand,11,-\ncand,12,W\ncand,13,-\ncand,14,-\ncand,15,D\n";
     let list = "step seats 3 candidates 5 admitted 3\nhonoured 0\n11 -\n12 -\n13 -\nend\n";
     assert!(rt; step_writes(rt.alloc(), sheet, list, Status::Ok)?);
+    let sheet =
+        "step sheet 1\nseats,2\nprotect,W,1\nprotect,D,1\ncand,1\ncand,2,WD\ncand,3,W\ncand,4,D\n";
+    let list = "step seats 2 candidates 4 admitted 2\nhonoured 2\n2 D\n3 W\nend\n";
+    assert!(rt; step_writes(rt.alloc(), sheet, list, Status::Ok)?);
     let sheet = "step sheet 1\nseats,0\ncand,1,W\n";
     let list = "step seats 0 candidates 1 admitted 0\nhonoured 0\nend\n";
     assert!(rt; step_writes(rt.alloc(), sheet, list, Status::Ok)?);
@@ -35,8 +39,8 @@ fn the_best_are_admitted(rt: HostRuntime) -> Result<(), Fail> {
 
 #[test]
 fn a_fault_is_told(rt: HostRuntime) -> Result<(), Fail> {
-    let sheet = "step sheet 1\nseats,1\nprotect,W,1\ncand,1,W\n";
-    let line = "fault: sheet line 3 NotBuilt\n";
+    let sheet = "step sheet 1\nseats,1\nprotect,W,2\ncand,1,W\n";
+    let line = "fault: sheet line 3 ProtectionsExceedSeats\n";
     assert!(rt; step_writes(rt.alloc(), sheet, line, Status::BadInput)?);
     let line = "fault: sheet line 1 BadFirstLine\n";
     assert!(rt; step_writes(rt.alloc(), "", line, Status::BadInput)?);
