@@ -1,1 +1,8 @@
-mod Best
+mod Filled
+mod Filling
+mod Marking
+mod Marks
+mod Members
+mod Raises
+mod Slots
+pub mod StepLaws

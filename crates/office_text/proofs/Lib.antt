@@ -1,4 +1,4 @@
 pub mod FirstFaultLemmas
-mod LinesLemmas
+pub mod LinesLemmas
 mod NumberLemmas
 mod TraitsLemmas

@@ -1,7 +1,7 @@
 -- Lines and fields, cut at the first separator.
-use Rattle.std.proofs.Common.{◌≡◌, ◌<◌, ℕ, zero, suc, Bool, true, false, cond, eqb, List, [], ◌∷◌, length, take, drop, get_or, refl, ap, ◌∙◌, arith, eq-eqb}
+use Rattle.std.proofs.Common.{◌≡◌, ◌<◌, ◌≤◌, ◌-◌, ℕ, zero, suc, Bool, true, false, cond, eqb, List, [], ◌∷◌, length, take, drop, map, get_or, refl, sym, ap, ◌∙◌, arith, eq-eqb}
 use Rattle.std.proofs.lemmas.Bool.{ne_eqb}
-use Rattle.office_text.specs.Lines.{lines_of, fields_of, onto_first}
+use Rattle.office_text.specs.Lines.{cut_at, onto_first, drop_cr, trimmed, unless_last, without_empty_last, lines_of}
 
 -- at a separator byte the test holds, and elsewhere it does not
 at_true : {X : Type 0} (b : Bool) (x y : X) → b ≡ true → cond b x y ≡ x
@@ -10,31 +10,91 @@ at_true b x y e = rw e refl
 at_false : {X : Type 0} (b : Bool) (x y : X) → b ≡ false → cond b x y ≡ y
 at_false b x y e = rw e refl
 
+-- lists that are not empty
+abbrev pub IsFilled : List (List ℕ) → Type 0
+IsFilled pieces = (first : List ℕ) × (others : List (List ℕ)) × (pieces ≡ first ∷ others)
+
+onto_first-filled : (byte : ℕ) (pieces : List (List ℕ)) → IsFilled (onto_first byte pieces)
+onto_first-filled byte [] = (byte ∷ [], [], refl)
+onto_first-filled byte (piece ∷ pieces) = (byte ∷ piece, pieces, refl)
+
+-- There is one piece at least.
+pub cut_at-filled : (separator : ℕ) (bytes : List ℕ) → IsFilled (cut_at separator bytes)
+cut_at-filled separator [] = ([], [], refl)
+cut_at-filled separator (byte ∷ bytes) = elim (eqb byte separator) as (λ (b : Bool). IsFilled (cond b ([] ∷ cut_at separator bytes) (onto_first byte (cut_at separator bytes)))) [
+  | true ↦ ([], cut_at separator bytes, refl)
+  | false ↦ onto_first-filled byte (cut_at separator bytes)
+]
+
+-- The first separator ends the first piece.
+pub cut_at-first : (separator : ℕ) (bytes : List ℕ) (end : ℕ) → end < length bytes → get_or bytes end 0 ≡ separator → ((k : ℕ) → k < end → get_or bytes k 0 ≡ separator → ⊥) → cut_at separator bytes ≡ take end bytes ∷ cut_at separator (drop (suc end) bytes)
+cut_at-first separator [] end within here before = absurd (omega arith)
+cut_at-first separator (b ∷ bytes) zero within here before = at_true (eqb b separator) _ _ (eq-eqb b separator here)
+cut_at-first separator (b ∷ bytes) (suc n) within here before =
+    let rest : cut_at separator bytes ≡ take n bytes ∷ cut_at separator (drop (suc n) bytes) = cut_at-first separator bytes n (omega arith) here (λ k below. before (suc k) (omega arith)) in
+    at_false (eqb b separator) _ _ (ne_eqb b separator (before zero (omega arith))) ∙ ap (onto_first b) rest
+
+-- Bytes without separators are one piece.
+pub cut_at-whole : (separator : ℕ) (bytes : List ℕ) → ((k : ℕ) → k < length bytes → get_or bytes k 0 ≡ separator → ⊥) → cut_at separator bytes ≡ bytes ∷ []
+cut_at-whole separator [] before = refl
+cut_at-whole separator (b ∷ bytes) before =
+    at_false (eqb b separator) _ _ (ne_eqb b separator (before zero (omega arith))) ∙ ap (onto_first b) (cut_at-whole separator bytes (λ k below. before (suc k) (omega arith)))
+
+-- What stands before other pieces is no last piece.
+kept_before : (piece : List ℕ) (pieces : List (List ℕ)) → IsFilled pieces → without_empty_last (piece ∷ map drop_cr pieces) ≡ piece ∷ without_empty_last (map drop_cr pieces)
+kept_before [] pieces filled = rw filled.2 refl
+kept_before (byte ∷ piece) pieces filled = rw filled.2 refl
+
 -- The first LF ends the first line.
-pub lines_of-cut : (bytes : List ℕ) (end : ℕ) → end < length bytes → get_or bytes end 0 ≡ 10 → ((k : ℕ) → k < end → get_or bytes k 0 ≡ 10 → ⊥) → lines_of bytes ≡ take end bytes ∷ lines_of (drop (suc end) bytes)
-lines_of-cut [] end within here before = absurd (omega arith)
-lines_of-cut (b ∷ bytes) zero within here before = at_true (eqb b 10) _ _ (eq-eqb b 10 here)
-lines_of-cut (b ∷ bytes) (suc n) within here before =
-    let rest : lines_of bytes ≡ take n bytes ∷ lines_of (drop (suc n) bytes) = lines_of-cut bytes n (omega arith) here (λ k below. before (suc k) (omega arith)) in
-    at_false (eqb b 10) _ _ (ne_eqb b 10 (before zero (omega arith))) ∙ ap (onto_first b) rest
+pub lines_of-first : (bytes : List ℕ) (end : ℕ) → end < length bytes → get_or bytes end 0 ≡ 10 → ((k : ℕ) → k < end → get_or bytes k 0 ≡ 10 → ⊥) → lines_of bytes ≡ drop_cr (take end bytes) ∷ lines_of (drop (suc end) bytes)
+lines_of-first bytes end within here before =
+    ap (λ (pieces : List (List ℕ)). without_empty_last (map drop_cr pieces)) (cut_at-first 10 bytes end within here before)
+    ∙ kept_before (drop_cr (take end bytes)) (cut_at 10 (drop (suc end) bytes)) (cut_at-filled 10 (drop (suc end) bytes))
 
--- Bytes without LF are one line, where there are any.
-pub lines_of-whole : (bytes : List ℕ) → 0 < length bytes → ((k : ℕ) → k < length bytes → get_or bytes k 0 ≡ 10 → ⊥) → lines_of bytes ≡ bytes ∷ []
-lines_of-whole [] some before = absurd (omega arith)
-lines_of-whole (b ∷ []) some before = at_false (eqb b 10) _ _ (ne_eqb b 10 (before zero (omega arith)))
-lines_of-whole (b ∷ c ∷ bytes) some before =
-    at_false (eqb b 10) _ _ (ne_eqb b 10 (before zero (omega arith))) ∙ ap (onto_first b) (lines_of-whole (c ∷ bytes) (omega arith) (λ k below. before (suc k) (omega arith)))
+-- Bytes without LF are the last line, or none where that line is empty.
+pub lines_of-last : (bytes : List ℕ) → ((k : ℕ) → k < length bytes → get_or bytes k 0 ≡ 10 → ⊥) → lines_of bytes ≡ without_empty_last (drop_cr bytes ∷ [])
+lines_of-last bytes before = ap (λ (pieces : List (List ℕ)). without_empty_last (map drop_cr pieces)) (cut_at-whole 10 bytes before)
 
--- The first comma ends the first field.
-pub fields_of-cut : (line : List ℕ) (end : ℕ) → end < length line → get_or line end 0 ≡ 44 → ((k : ℕ) → k < end → get_or line k 0 ≡ 44 → ⊥) → fields_of line ≡ take end line ∷ fields_of (drop (suc end) line)
-fields_of-cut [] end within here before = absurd (omega arith)
-fields_of-cut (b ∷ line) zero within here before = at_true (eqb b 44) _ _ (eq-eqb b 44 here)
-fields_of-cut (b ∷ line) (suc n) within here before =
-    let rest : fields_of line ≡ take n line ∷ fields_of (drop (suc n) line) = fields_of-cut line n (omega arith) here (λ k below. before (suc k) (omega arith)) in
-    at_false (eqb b 44) _ _ (ne_eqb b 44 (before zero (omega arith))) ∙ ap (onto_first b) rest
+-- A CR at the end is dropped.
+drop_cr-at : (line : List ℕ) (n : ℕ) → length line ≡ suc n → get_or line n 0 ≡ 13 → drop_cr line ≡ take n line
+drop_cr-at [] n size here = absurd (omega arith)
+drop_cr-at (a ∷ []) zero size here = at_true (eqb a 13) _ _ (eq-eqb a 13 here)
+drop_cr-at (a ∷ []) (suc n) size here = absurd (omega arith)
+drop_cr-at (a ∷ b ∷ line) zero size here = absurd (omega arith)
+drop_cr-at (a ∷ b ∷ line) (suc n) size here = ap (λ (bytes : List ℕ). a ∷ bytes) (drop_cr-at (b ∷ line) n (omega arith) here)
 
--- A line without commas is one field.
-pub fields_of-whole : (line : List ℕ) → ((k : ℕ) → k < length line → get_or line k 0 ≡ 44 → ⊥) → fields_of line ≡ line ∷ []
-fields_of-whole [] before = refl
-fields_of-whole (b ∷ line) before =
-    at_false (eqb b 44) _ _ (ne_eqb b 44 (before zero (omega arith))) ∙ ap (onto_first b) (fields_of-whole line (λ k below. before (suc k) (omega arith)))
+pub drop_cr-end : (line : List ℕ) → 1 ≤ length line → get_or line (length line - 1) 0 ≡ 13 → take (length line - 1) line ≡ drop_cr line
+drop_cr-end line some here = sym (drop_cr-at line (length line - 1) (omega arith) here)
+
+-- Another byte at the end is kept.
+drop_cr-not_at : (line : List ℕ) (n : ℕ) → length line ≡ suc n → (get_or line n 0 ≡ 13 → ⊥) → drop_cr line ≡ line
+drop_cr-not_at [] n size other = refl
+drop_cr-not_at (a ∷ []) zero size other = at_false (eqb a 13) _ _ (ne_eqb a 13 other)
+drop_cr-not_at (a ∷ []) (suc n) size other = absurd (omega arith)
+drop_cr-not_at (a ∷ b ∷ line) zero size other = absurd (omega arith)
+drop_cr-not_at (a ∷ b ∷ line) (suc n) size other = ap (λ (bytes : List ℕ). a ∷ bytes) (drop_cr-not_at (b ∷ line) n (omega arith) other)
+
+pub drop_cr-other : (line : List ℕ) → 1 ≤ length line → (get_or line (length line - 1) 0 ≡ 13 → ⊥) → line ≡ drop_cr line
+drop_cr-other line some other = sym (drop_cr-not_at line (length line - 1) (omega arith) other)
+
+-- A comma at the end is trimmed.
+trimmed-at : (line : List ℕ) (n : ℕ) → length line ≡ suc n → get_or line n 0 ≡ 44 → trimmed (take n line) ≡ trimmed line
+trimmed-at [] n size here = absurd (omega arith)
+trimmed-at (a ∷ []) zero size here = sym (at_true (eqb a 44) _ _ (eq-eqb a 44 here))
+trimmed-at (a ∷ []) (suc n) size here = absurd (omega arith)
+trimmed-at (a ∷ b ∷ line) zero size here = absurd (omega arith)
+trimmed-at (a ∷ b ∷ line) (suc n) size here = ap (unless_last 44 a) (trimmed-at (b ∷ line) n (omega arith) here)
+
+pub trimmed-end : (line : List ℕ) → 1 ≤ length line → get_or line (length line - 1) 0 ≡ 44 → trimmed (take (length line - 1) line) ≡ trimmed line
+trimmed-end line some here = trimmed-at line (length line - 1) (omega arith) here
+
+-- Where there is another byte at the end, nothing is trimmed.
+trimmed-not_at : (line : List ℕ) (n : ℕ) → length line ≡ suc n → (get_or line n 0 ≡ 44 → ⊥) → trimmed line ≡ line
+trimmed-not_at [] n size other = refl
+trimmed-not_at (a ∷ []) zero size other = at_false (eqb a 44) _ _ (ne_eqb a 44 other)
+trimmed-not_at (a ∷ []) (suc n) size other = absurd (omega arith)
+trimmed-not_at (a ∷ b ∷ line) zero size other = absurd (omega arith)
+trimmed-not_at (a ∷ b ∷ line) (suc n) size other = ap (unless_last 44 a) (trimmed-not_at (b ∷ line) n (omega arith) other)
+
+pub trimmed-other : (line : List ℕ) → 1 ≤ length line → (get_or line (length line - 1) 0 ≡ 44 → ⊥) → line ≡ trimmed line
+trimmed-other line some other = sym (trimmed-not_at line (length line - 1) (omega arith) other)

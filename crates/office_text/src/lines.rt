@@ -1,22 +1,68 @@
 // Lines and fields, as parts of the bytes that they stand in.
-ghost use Rattle.std.specs.Prelude.{◌≡◌, ◌<◌, ◌∷◌, [], length, IfSome, IfNone, MatchOption};
-ghost use Rattle.office_text.specs.Lines.{lines_of, fields_of};
+ghost use Rattle.std.specs.Prelude.{◌≡◌, ◌<◌, ◌≤◌, ◌∷◌, [], length, IfSome, IfNone};
+ghost use Rattle.office_text.specs.Lines.{lines_of, fields_of, drop_cr, skip_mark, trimmed, without_empty_last};
 
 use memchr::memchr;
 
-/// The first line, without its LF, and the bytes behind it. None where there are no bytes.
-pub fn next_line(bytes: &[u8]) -> Option<(&[u8], &[u8])>
-    ensures none { IfNone result (bytes.now ≡ []) }
+/// The bytes of a text behind its byte order mark, where it begins with one, and else all of them.
+pub fn skip_mark(bytes: &[u8]) -> &[u8]
+    ensures value { result.now ≡ skip_mark bytes.now }
+    ensures within { length result.now ≤ length bytes.now }
+{
+    match bytes {
+        [0xEF, 0xBB, 0xBF, rest @ ..] => rest,
+        _ => bytes,
+    }
+}
+
+/// The first line of bytes behind the mark, without its LF or CR LF, and the bytes behind it. None where there is no
+/// line.
+pub fn next_text_line(bytes: &[u8]) -> Option<(&[u8], &[u8])>
+    ensures none { IfNone result (lines_of bytes.now ≡ []) }
     ensures some { IfSome result (λ cut. lines_of bytes.now ≡ cut.0.now ∷ lines_of cut.1.now) }
     ensures shorter { IfSome result (λ cut. length cut.1.now < length bytes.now) }
 {
-    if bytes.is_empty() {
-        return None;
-    }
     match memchr(b'\n', bytes) {
-        Some(end) => Some((&bytes[..end], &bytes[end + 1..])),
-        None => Some((bytes, &[])),
+        Some(end) => Some((drop_cr(&bytes[..end]), &bytes[end + 1..])),
+        None => last_line(bytes),
     }
+}
+
+/// The last line, without a CR at its end, and no bytes. None where it is empty.
+fn last_line(bytes: &[u8]) -> Option<(&[u8], &[u8])>
+    ensures none { IfNone result (without_empty_last (drop_cr bytes.now ∷ []) ≡ []) }
+    ensures some { IfSome result (λ cut. without_empty_last (drop_cr bytes.now ∷ []) ≡ cut.0.now ∷ lines_of cut.1.now) }
+    ensures shorter { IfSome result (λ cut. length cut.1.now < length bytes.now) }
+{
+    let line = drop_cr(bytes);
+    if line.is_empty() {
+        None
+    } else {
+        Some((line, &[]))
+    }
+}
+
+/// A line without one CR at its end.
+fn drop_cr(line: &[u8]) -> &[u8]
+    ensures value { result.now ≡ drop_cr line.now }
+    ensures within { length result.now ≤ length line.now }
+{
+    match line {
+        [front @ .., b'\r'] => front,
+        _ => line,
+    }
+}
+
+/// A line without the commas at its end.
+pub fn trim_commas(line: &[u8]) -> &[u8]
+    ensures value { result.now ≡ trimmed line.now }
+    ensures within { length result.now ≤ length line.now }
+{
+    let mut kept = line;
+    while let [front @ .., b','] = kept {
+        kept = front;
+    }
+    kept
 }
 
 /// The first field of a line, and what stands behind its comma, where there is one.

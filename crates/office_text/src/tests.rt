@@ -1,6 +1,7 @@
 // Spellings with their values from outside.
 use crate::{
-    letter_of, next_field, next_line, push_number, read_number, read_traits, trait_number,
+    letter_of, next_field, next_text_line, push_number, read_number, read_traits, skip_mark,
+    trait_number, trim_commas,
 };
 use office_base::{Text, TraitSet};
 use std::test::Fail;
@@ -49,17 +50,26 @@ fn traits_are_read(rt: HostRuntime) {
 
 #[test]
 fn lines_and_fields_are_cut(rt: HostRuntime) {
-    assert!(rt; next_line(b"").is_none());
-    if let Some((line, rest)) = next_line(b"a,b\n\nc") {
+    assert!(rt; next_text_line(b"").is_none());
+    assert!(rt; next_text_line(b"\r").is_none());
+    if let Some((line, rest)) = next_text_line(b"a,b\r\n\nc") {
         assert_eq!(rt; line, b"a,b".as_slice());
         assert_eq!(rt; rest, b"\nc".as_slice());
     }
-    if let Some((line, rest)) = next_line(b"c") {
-        assert_eq!(rt; line, b"c".as_slice());
+    if let Some((line, rest)) = next_text_line(b"c\r\r") {
+        assert_eq!(rt; line, b"c\r".as_slice());
         assert!(rt; rest.is_empty());
     }
     let (field, rest) = next_field(b"a,");
     assert_eq!(rt; field, b"a".as_slice());
     assert_eq!(rt; rest, Some(b"".as_slice()));
     assert!(rt; next_field(b"a").1.is_none());
+}
+
+#[test]
+fn marks_and_commas_are_dropped(rt: HostRuntime) {
+    assert_eq!(rt; skip_mark(b"\xEF\xBB\xBFa"), b"a".as_slice());
+    assert_eq!(rt; skip_mark(b"\xEF\xBBa"), b"\xEF\xBBa".as_slice());
+    assert_eq!(rt; trim_commas(b"a,,b,,"), b"a,,b".as_slice());
+    assert_eq!(rt; trim_commas(b",,"), b"".as_slice());
 }

@@ -26,7 +26,8 @@ pub fn letter_of(t: u8) -> u8
 
 /// The number of the trait of this letter, from 0 to 5.
 pub fn trait_number(letter: u8) -> Option<u8>
-    ensures { result ≡ trait_of letter }
+    ensures value { result ≡ trait_of letter }
+    ensures small { IfSome result (λ t. t < 6) }
 {
     match letter {
         b'W' => Some(0),

@@ -1,1 +1,4 @@
+pub mod Demand
+pub mod Greatest
+pub mod Ranks
 pub mod Slots

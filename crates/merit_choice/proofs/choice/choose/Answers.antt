@@ -1,13 +1,30 @@
-use Rattle.std.proofs.Common.{◌≡◌, ◌∙◌, ap, length, take, arith, ◌++◌, List}
+use Rattle.std.proofs.Common.{◌≢◌, List, length, sym, ap, subst, arith}
+use Rattle.office_base.specs.Lists.{Pairwise}
+use Rattle.office_base.specs.Person.{IsTraitSet}
 use Rattle.office_base.specs.declared.person.Person.{Person}
-use Rattle.merit_choice.proofs.Best.{best_are_choice}
+use Rattle.office_base.proofs.Sublists.{AllByRecursion-sublist}
+use Rattle.placements.proofs.Ranks.{pairwise_sublist, no_more_than_people}
+use Rattle.std.specs.List.{AllByRecursion}
+use Rattle.merit_choice.proofs.Slots.{small_slots}
 use Rattle.merit_choice.proofs.choice.choose.Goals as goal
 
-pub returns : goal.returns
-returns c =
-    let n = c.min-count.result in
-    let people : c.as_slice-people.result.now ≡ c.args.step.now.people = c.as_slice-people.ensures in
-    let ok = c.in_ok-extend_from_slice.ensures.ok in
-    best_are_choice c.args.step.now n _ c.requires.step c.requires.unprotected
-    (omega (arith, ap length people, c.min-count.ensures, c.from.ensures))
-    (ok ∙ (ap (λ (xs : List Person). xs ++ take n c.as_slice-people.result.now) c.in_ok-admitted.ensures ∙ ap (λ (xs : List Person). take n xs) people))
+pub canonical_pairs-requires-clause-distinct : goal.canonical_pairs-requires-clause-distinct
+canonical_pairs-requires-clause-distinct c =
+    subst (λ (people : List Person). Pairwise (λ a b. a.id ≢ b.id) people) (sym c.as_slice.ensures)
+    (pairwise_sublist (λ (a : Person) (b : Person). a.id ≢ b.id) c.in_ok-admitted.admitted c.args.step.now.people c.in_ok-admitted.ensures.may.people c.requires.people.distinct)
+
+pub canonical_pairs-requires-clause-traits : goal.canonical_pairs-requires-clause-traits
+canonical_pairs-requires-clause-traits c =
+    subst (λ (people : List Person). AllByRecursion (λ person. IsTraitSet person.traits) people) (sym c.as_slice.ensures)
+    (AllByRecursion-sublist (λ (person : Person). IsTraitSet person.traits) c.in_ok-admitted.admitted c.args.step.now.people c.in_ok-admitted.ensures.may.people c.requires.people.traits)
+
+pub returns-clause-slots : goal.returns-clause-slots
+returns-clause-slots c =
+    let sets = subst (λ (people : List Person). AllByRecursion (λ person. IsTraitSet person.traits) people) (sym c.as_slice.ensures)
+    (AllByRecursion-sublist (λ (person : Person). IsTraitSet person.traits) c.in_ok-admitted.admitted c.args.step.now.people c.in_ok-admitted.ensures.may.people c.requires.people.traits) in
+    small_slots c.as_slice.result.now c.in_ok-pairs.pairs sets c.in_ok-pairs.ensures.placement.held
+
+pub returns-clause-few : goal.returns-clause-few
+returns-clause-few c =
+    let pairs = no_more_than_people c.args.step.now.protections c.as_slice.result.now c.in_ok-pairs.pairs c.in_ok-pairs.ensures.placement in
+    omega (arith, pairs, ap length c.as_slice.ensures, c.in_ok-admitted.ensures.may.seats)

@@ -1,0 +1,29 @@
+// How a run of the office ends.
+ghost use Rattle.std.specs.Prelude.{◌≡◌};
+ghost use Rattle.allocation_cli.specs.Status.{code_of};
+
+/// How `allocate` ended. The numbers are the exit statuses of the program.
+#[derive(Clone, Copy, Debug, PartialEq, Eq)]
+pub enum Status {
+    /// The source was read to its end by a command that reads it, and all output was taken.
+    Ok = 0,
+    /// The words spell no command.
+    Usage = 2,
+    /// The input has a fault: the line written names the first one.
+    BadInput = 3,
+    /// The source failed: its count of faults rose.
+    ReadFault = 4,
+    /// The sink failed: its count of faults rose. A front of the output or of a fault's line was written.
+    WriteFault = 5,
+    /// There was no memory. It is the one answer that no cause is claimed for.
+    OutOfMemory = 7,
+}
+
+impl Status {
+    /// The exit status.
+    pub fn code(self) -> u8
+        ensures { result ≡ code_of self }
+    {
+        self as u8
+    }
+}

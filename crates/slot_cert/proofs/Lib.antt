@@ -1,0 +1,10 @@
+mod First
+mod Least
+mod Numbers
+mod Outside
+mod Pairs
+mod Positions
+mod Steps
+mod Traits
+mod Walks
+mod Way

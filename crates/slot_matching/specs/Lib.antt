@@ -1,0 +1,3 @@
+pub mod Augmented
+pub mod Kept
+pub mod Laws

@@ -1,0 +1,16 @@
+// A kept placement: people come one after another, and whoever can be placed with those kept so far is kept too.
+//
+// The members are a largest part of the people who came that can be placed at once, so their number is the number of
+// protections that those people honour. The choice of a step stands on it. It knows of no seats, no merit and no
+// programme, and it never says who stands on which position: that is the certificate's part. It takes memory once,
+// when it is made.
+#![tactic(auto)]
+
+pub mod laws;
+pub mod matching;
+mod spare;
+
+pub use matching::{Augment, Matching};
+
+#[cfg(test)]
+mod tests;

@@ -1,0 +1,95 @@
+// The matching and its members.
+ghost use Rattle.std.specs.Prelude.{◌≡◌, ◌≤◌, [], length, sum, IfOk};
+ghost use Rattle.office_base.specs.Person.{IsList};
+ghost use Rattle.office_base.specs.Placement.{IsHonoured};
+ghost use Rattle.slot_matching.specs.Augmented.{IsAugmented};
+ghost use Rattle.slot_matching.specs.Kept.{IsKept, MayJoin};
+
+use crate::spare::{all_spare, has_spare, positions, take_spare};
+use office_base::{ListId, OutOfMemory, Person, Protections, TraitSet};
+use std::alloc::Global;
+use std::marker::Model;
+
+/// What came of one person.
+#[derive(Clone, Copy, Debug, PartialEq, Eq)]
+pub enum Augment {
+    /// The person is a member now: one protection more is honoured.
+    Raised,
+    /// The members stay as they were: the person cannot be placed with all of them.
+    Held,
+}
+
+/// Persons who can all be placed on protected positions at once, kept as they come.
+#[derive(Debug, Drop)]
+pub struct Matching {
+    protections: Protections,
+    list: ListId,
+    members: Vec<Person>,
+    spare: [u16; 64],
+}
+
+impl Model for Matching {
+    ghost use Rattle.std.specs.Prelude.{vec_capacity};
+    ghost use Rattle.slot_matching.specs.Kept.{Kept, IsCounted};
+
+    ghost Value = { Kept };
+
+    ghost view = { λ a. record { protections = a.protections; list = a.list; members = a.members.items } };
+
+    ghost invariant = { λ a. IsCounted (record { protections = a.protections; list = a.list; members = a.members.items }) a.spare (vec_capacity a.members) };
+}
+
+impl Matching {
+    /// A matching without members. It takes the room for every member now, so that no later call takes memory.
+    pub fn new(
+        alloc: Global,
+        protections: Protections,
+        list: ListId,
+    ) -> Result<Matching, OutOfMemory>
+        requires few { sum protections.counts ≤ 65535 }
+        requires list { IsList list }
+        ensures { IfOk result (λ matching. matching ≡ record { protections = protections; list = list; members = [] }) }
+    {
+        let spare = all_spare(&protections);
+        let room = positions(&protections, TraitSet(63));
+        Ok(Matching {
+            protections,
+            list,
+            members: Vec::with_capacity(alloc, usize::from(room))?,
+            spare,
+        })
+    }
+
+    /// Keeps the person too, where all members can then still be placed. Whoever stands on a position may be moved to
+    /// another; nobody leaves. It takes no memory, and looks at no member.
+    pub fn augment(&mut self, person: &Person) -> Augment
+        requires { MayJoin self.old person.now }
+        ensures done { IsAugmented self.old person.now result self.new }
+        ensures kept { IsKept self.new }
+    {
+        if !has_spare(&self.spare, person.traits) {
+            return Augment::Held;
+        }
+        take_spare(&mut self.spare, person.traits);
+        if self.members.push(*person).is_err() {
+            unreachable!("the room was taken when the matching was made")
+        }
+        Augment::Raised
+    }
+
+    /// How many protections the members honour: the number of members.
+    pub fn honoured(&self) -> u16
+        ensures number { result ≡ length self.now.members }
+        ensures honoured { IsHonoured self.now.protections self.now.members result }
+        ensures kept { IsKept self.now }
+    {
+        self.members.len() as u16
+    }
+
+    /// The members, in the order in which they came.
+    pub fn members(&self) -> &[Person]
+        ensures { result.now ≡ self.now.members }
+    {
+        self.members.as_slice()
+    }
+}

@@ -1,0 +1,73 @@
+// For each set of traits, how many persons more can be placed who hold no trait outside it.
+//
+// A person can be placed with the members exactly where each set that holds the person's traits has one to spare.
+ghost use Rattle.std.specs.Prelude.{◌≡◌, ◌≤◌, ◌<◌, ◌+◌, ◌-◌, ℕ, length, sum, slice_index, IsTrue, true, ◌↔◌, if◌then◌else◌};
+ghost use Rattle.office_base.specs.Person.{IsTraitSet};
+ghost use Rattle.placements.specs.Demand.{is_within, positions};
+
+use office_base::{Protections, TraitSet};
+
+/// How many sets of six traits there are.
+pub(crate) const SETS: u8 = 64;
+
+/// Whether each trait of the first set is in the second.
+fn is_within(traits: TraitSet, set: TraitSet) -> bool
+    ensures { result ≡ is_within traits set }
+{
+    traits.0 & set.0 == traits.0
+}
+
+/// How many positions are protected for the traits of a set.
+pub(crate) fn positions(protections: &Protections, set: TraitSet) -> u16
+    requires few { sum protections.now.counts ≤ 65535 }
+    requires set { IsTraitSet set }
+    ensures { result ≡ positions protections.now set }
+{
+    let mut total = 0;
+    for t in 0..6u8 {
+        if set.has(t) {
+            total += protections.counts[usize::from(t)];
+        }
+    }
+    total
+}
+
+/// What each set has to spare before anybody came: its positions.
+pub(crate) fn all_spare(protections: &Protections) -> [u16; 64]
+    requires { sum protections.now.counts ≤ 65535 }
+    ensures sets { length result ≡ 64 }
+    ensures left { (m : ℕ) → m < 64 → slice_index result m ≡ positions protections.now (record { 0 = m }) }
+{
+    let mut spare = [0; 64];
+    for set in 0..SETS {
+        spare[usize::from(set)] = positions(protections, TraitSet(set));
+    }
+    spare
+}
+
+/// Whether each set that holds these traits has one to spare.
+pub(crate) fn has_spare(spare: &[u16], traits: TraitSet) -> bool
+    requires { length spare.now ≡ 64 }
+    ensures { IsTrue result ↔ ((m : ℕ) → m < 64 → IsTrue (is_within traits (record { 0 = m })) → 0 < slice_index spare.now m) }
+{
+    for set in 0..SETS {
+        if is_within(traits, TraitSet(set)) && spare[usize::from(set)] == 0 {
+            return false;
+        }
+    }
+    true
+}
+
+/// Takes one from each set that holds these traits.
+pub(crate) fn take_spare(spare: &mut [u16], traits: TraitSet)
+    requires sets { length spare.old ≡ 64 }
+    requires some { (m : ℕ) → m < 64 → IsTrue (is_within traits (record { 0 = m })) → 0 < slice_index spare.old m }
+    ensures sets { length spare.new ≡ 64 }
+    ensures taken { (m : ℕ) → m < 64 → slice_index spare.new m + (if is_within traits (record { 0 = m }) then 1 else 0) ≡ slice_index spare.old m }
+{
+    for set in 0..SETS {
+        if is_within(traits, TraitSet(set)) {
+            spare[usize::from(set)] -= 1;
+        }
+    }
+}

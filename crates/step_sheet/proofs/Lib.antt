@@ -1,0 +1,4 @@
+mod CandidateLemmas
+mod LineLemmas
+mod RowLemmas
+mod SheetLemmas
