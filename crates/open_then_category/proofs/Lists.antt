@@ -17,7 +17,18 @@ use Rattle.open_then_category.specs.Programme.{is_taken, without}
 abbrev pub AreDistinct : List Person → Type 0
 AreDistinct people = Pairwise (λ a b. a.id ≢ b.id) people
 
--- ---- filters
+-- ---- sublists and filters
+
+-- a sublist of a sublist is one
+pub sublist_again : (xs ys zs : List Person) → IsSublist xs ys → IsSublist ys zs → IsSublist xs zs
+sublist_again xs ys [] first second = subst (λ (people : List Person). IsSublist xs people) second first
+sublist_again xs ys (z ∷ zs) first second = elim second [
+  | inl later ↦ inl (sublist_again xs ys zs first later)
+  | inr now ↦ elim (subst (λ (people : List Person). IsSublist xs people) now.1 first) [
+    | inl later ↦ inl (sublist_again xs now.0 zs later now.2)
+    | inr begins ↦ inr (begins.0, begins.1, sublist_again begins.0 now.0 zs begins.2 now.2)
+  ]
+]
 
 -- one more in front of the second list, or of both, leaves the first a sublist
 sublist_in_front : {X : Type 0} (b c : Bool) (x : X) (xs ys : List X) → (b ≡ true → c ≡ true) → IsSublist xs ys → IsSublist (cond b (x ∷ xs) xs) (cond c (x ∷ ys) ys)
@@ -74,7 +85,7 @@ taken_from x (other ∷ taken) here = elim here [
 ]
 
 -- one of those taken has the number of who is taken
-taken_number : (x : Person) (taken : List Person) → is_taken taken x ≡ true → AnyByRecursion (λ other. x.id ≡ other.id) taken
+pub taken_number : (x : Person) (taken : List Person) → is_taken taken x ≡ true → AnyByRecursion (λ other. x.id ≡ other.id) taken
 taken_number x [] holds = absurd (both_ways false refl holds)
 taken_number x (other ∷ taken) holds = elim (or_cases (eqb other.id.0 x.id.0) (is_taken taken x) holds) [
   | inl here ↦ inl (ap (λ (n : ℕ). let cand : CandId = record { 0 = n } in cand) (sym (eqb-true other.id.0 x.id.0 here)))

@@ -19,7 +19,7 @@ use Rattle.open_then_category.specs.Programme.{AreStepSeats, AreProgrammeSeats, 
 use Rattle.open_then_category.specs.Laws.{IsRefused, OneProgrammeChoice, ProgrammeChoiceExists, ChoosesFromMore, RefusedFromMore, UnfilledFalls, NoFewerAdmitted, LeavingOutTheRefused, EachRefusedAllRefused}
 use Rattle.open_then_category.specs.declared.seats.ProgrammeSeats.{ProgrammeSeats}
 use Rattle.open_then_category.specs.declared.seats.StepSeats.{StepSeats}
-use Rattle.open_then_category.proofs.Lists.{AreDistinct, filter_mono, filter-sublist, among_filter, among_filter_from, among_without, among_without_from, without_mono, among_or_not, among_best, best_of_some, ranked_sublist}
+use Rattle.open_then_category.proofs.Lists.{AreDistinct, filter_mono, filter-sublist, sublist_again, among_filter, among_filter_from, among_without, among_without_from, without_mono, among_or_not, among_best, best_of_some, ranked_sublist}
 
 -- ---- one step
 
@@ -192,17 +192,6 @@ left_mono seats some all before after s =
     let sub2 = left_after seats ObcStep (is_of Obc) less more less1 more1 before after s.obc sub1 in_less1 in_more1 in
     let sub3 = left_after seats ScStep (is_of Sc) less more less2 more2 before after s.sc sub2 in_less2 in_more2 in
     left_after seats StStep (is_of St) less more less3 more3 before after s.st sub3 in_less3 in_more3
-
--- a sublist of a sublist is one
-sublist_again : (xs ys zs : List Person) → IsSublist xs ys → IsSublist ys zs → IsSublist xs zs
-sublist_again xs ys [] first second = subst (λ (people : List Person). IsSublist xs people) second first
-sublist_again xs ys (z ∷ zs) first second = elim second [
-  | inl later ↦ inl (sublist_again xs ys zs first later)
-  | inr now ↦ elim (subst (λ (people : List Person). IsSublist xs people) now.1 first) [
-    | inl later ↦ inl (sublist_again xs now.0 zs later now.2)
-    | inr begins ↦ inr (begins.0, begins.1, sublist_again begins.0 now.0 zs begins.2 now.2)
-  ]
-]
 
 -- what some people are without others is a sublist of all
 without_sublist : (people taken all : List Person) → IsSublist people all → IsSublist (without people taken) all

@@ -5,7 +5,13 @@
 // both. It must never know of choice lists, of rounds, or of what a candidate holds elsewhere.
 #![tactic(auto)]
 
+mod choice;
+pub mod dereserve;
+mod filters;
 pub mod laws;
+pub mod programme;
 pub mod seats;
 
+pub use dereserve::{fill, unfilled};
+pub use programme::{Programme, StepList};
 pub use seats::{ProgrammeSeats, StepSeats};
