@@ -6,13 +6,15 @@ use Rattle.office_base.specs.Lists.{AnyByRecursion, IsSublist, Pairwise}
 use Rattle.office_base.specs.declared.person.CandId.{CandId}
 use Rattle.office_base.specs.declared.person.Category.{Category}
 use Rattle.office_base.specs.declared.person.Category.TheVariants.{Gen, Ews, Obc, Sc, St}
+use Rattle.office_base.specs.StepChoice.{AreRanked}
+use Rattle.office_base.specs.declared.person.ListId.{ListId}
 use Rattle.office_base.specs.declared.person.Person.{Person}
 use Rattle.office_base.proofs.Sublists.{IsSublist-nil}
 use Rattle.placements.specs.Ranks.{AreAmong}
 use Rattle.placements.proofs.Ranks.{any_all, any_among, among_again, among_sublist, among_itself}
 use Rattle.merit_choice.specs.Laws.{IsAmong}
 use Rattle.open_then_category.specs.Programme.{is_taken, is_same, is_of, without}
-use Rattle.open_then_category.proofs.Lists.{AreDistinct, taken_number, taken_among, among_filter, filter-sublist, sublist_again}
+use Rattle.open_then_category.proofs.Lists.{AreDistinct, taken_number, taken_among, among_filter, filter-sublist, sublist_again, ranked_sublist}
 
 -- the people who are left where those taken stand in the order of the people
 abbrev pub minus : List Person → List Person → List Person
@@ -122,3 +124,26 @@ pub members_still_there : (a b : Category) (rest people some taken : List Person
 members_still_there a b rest people some taken distinct differ sub taken_sub here =
     still_there rest people some taken distinct (members_among a some rest sub) (members_among b taken rest taken_sub) here
     (λ x. of_one_category a b some taken rest rest x differ sub taken_sub)
+
+-- whom a step left of ranked people are ranked
+pub ranked_without : (list : ListId) (people taken : List Person) → AreRanked list people → AreRanked list (without people taken)
+ranked_without list people taken ranked = ranked_sublist list (without people taken) people ranked (filter-sublist _ people)
+
+-- the members of OBC are there when those of EWS are taken
+pub obc_there : (rest ews obc : List Person) → AreDistinct rest → IsSublist ews (filter (is_of Ews) rest) → IsSublist obc (filter (is_of Obc) rest) → IsSublist obc (without rest ews)
+obc_there rest ews obc distinct of_ews of_obc = members_still_there Obc Ews rest rest obc ews distinct (λ same. cc) of_obc of_ews (members_sublist Obc obc rest of_obc)
+
+-- the members of SC are there when those of EWS and OBC are taken
+pub sc_there : (rest ews obc sc : List Person) → AreDistinct rest → IsSublist ews (filter (is_of Ews) rest) → IsSublist obc (filter (is_of Obc) rest) → IsSublist sc (filter (is_of Sc) rest)
+    → IsSublist sc (without (without rest ews) obc)
+sc_there rest ews obc sc distinct of_ews of_obc of_sc =
+    members_still_there Sc Obc rest (without rest ews) sc obc distinct (λ same. cc) of_sc of_obc
+    (members_still_there Sc Ews rest rest sc ews distinct (λ same. cc) of_sc of_ews (members_sublist Sc sc rest of_sc))
+
+-- the members of ST are there when those of EWS, OBC and SC are taken
+pub st_there : (rest ews obc sc st : List Person) → AreDistinct rest → IsSublist ews (filter (is_of Ews) rest) → IsSublist obc (filter (is_of Obc) rest) → IsSublist sc (filter (is_of Sc) rest)
+    → IsSublist st (filter (is_of St) rest) → IsSublist st (without (without (without rest ews) obc) sc)
+st_there rest ews obc sc st distinct of_ews of_obc of_sc of_st =
+    members_still_there St Sc rest (without (without rest ews) obc) st sc distinct (λ same. cc) of_st of_sc
+    (members_still_there St Obc rest (without rest ews) st obc distinct (λ same. cc) of_st of_obc
+    (members_still_there St Ews rest rest st ews distinct (λ same. cc) of_st of_ews (members_sublist St st rest of_st)))

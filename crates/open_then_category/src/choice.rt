@@ -1,13 +1,12 @@
 // The choice of a programme, step by step.
 ghost use Rattle.std.specs.Prelude.{◌≡◌, ◌≤◌, List, IfOk, length, take};
 ghost use Rattle.std.specs.List.{filter};
-ghost use Rattle.office_base.specs.Lists.{IsSublist};
 ghost use Rattle.office_base.specs.Person.{IsList};
 ghost use Rattle.office_base.specs.StepChoice.{AreRanked, IsStep, IsStepChoice};
-ghost use Rattle.office_base.specs.declared.person.Category.TheVariants.{Ews as EwsMember, Obc as ObcMember, Sc as ScMember, St as StMember};
+ghost use Rattle.office_base.specs.declared.person.Person.{Person as AnyPerson};
 ghost use Rattle.office_base.specs.declared.step.StepKind.TheVariants.{Open as OpenStep, Dereserved as DereservedStep};
 ghost use Rattle.open_then_category.specs.Listing.{Shows, ShowsChoice};
-ghost use Rattle.open_then_category.specs.Programme.{AreProgrammeSeats, AreStepSeats, no_protections, is_common, is_of, without, step_with};
+ghost use Rattle.open_then_category.specs.Programme.{AreProgrammeSeats, no_protections, seats_of, is_common, is_of, without, step_with};
 
 use crate::dereserve::unfilled;
 use crate::filters::{best, commons, left_over, members, without};
@@ -50,19 +49,18 @@ fn step_list(
 /// The open step: its people are those with a common place.
 fn open_step(
     alloc: Global,
-    list: ListId,
-    seats: &StepSeats,
+    seats: &ProgrammeSeats,
     applicants: &[Person],
 ) -> Result<StepList, OutOfMemory>
-    requires list { IsList list }
-    requires seats { AreStepSeats seats.now }
-    requires ranked { AreRanked list applicants.now }
+    requires seats { AreProgrammeSeats seats.now }
+    requires ranked { AreRanked seats.now.list applicants.now }
     requires few { length applicants.now ≤ 4294967295 }
-    ensures choice { IfOk result (λ shown. IsStepChoice (step_with list seats.now (filter (is_common list) applicants.now)) shown.admitted) }
-    ensures shows { IfOk result (λ shown. Shows OpenStep seats.now.seats seats.now.protections (filter (is_common list) applicants.now) shown.admitted shown) }
+    ensures choice { IfOk result (λ shown. IsStepChoice (step_with seats.now.list (seats_of seats.now OpenStep) (filter (is_common seats.now.list) applicants.now)) shown.admitted) }
+    ensures shows { IfOk result (λ shown. Shows OpenStep (seats_of seats.now OpenStep).seats (seats_of seats.now OpenStep).protections (filter (is_common seats.now.list) applicants.now) shown.admitted shown) }
 {
-    let people = commons(alloc, applicants, list)?;
-    step_list(alloc, StepKind::Open, list, seats, people)
+    let step_seats = seats.of(StepKind::Open);
+    let people = commons(alloc, applicants, seats.list)?;
+    step_list(alloc, StepKind::Open, seats.list, &step_seats, people)
 }
 
 /// The step of a category: its people are the members whom the open step left.
@@ -70,19 +68,18 @@ fn category_step(
     alloc: Global,
     kind: StepKind,
     category: Category,
-    list: ListId,
-    seats: &StepSeats,
+    seats: &ProgrammeSeats,
     rest: &[Person],
 ) -> Result<StepList, OutOfMemory>
-    requires list { IsList list }
-    requires seats { AreStepSeats seats.now }
-    requires ranked { AreRanked list rest.now }
+    requires seats { AreProgrammeSeats seats.now }
+    requires ranked { AreRanked seats.now.list rest.now }
     requires few { length rest.now ≤ 4294967295 }
-    ensures choice { IfOk result (λ shown. IsStepChoice (step_with list seats.now (filter (is_of category) rest.now)) shown.admitted) }
-    ensures shows { IfOk result (λ shown. Shows kind seats.now.seats seats.now.protections (filter (is_of category) rest.now) shown.admitted shown) }
+    ensures choice { IfOk result (λ shown. IsStepChoice (step_with seats.now.list (seats_of seats.now kind) (filter (is_of category) rest.now)) shown.admitted) }
+    ensures shows { IfOk result (λ shown. Shows kind (seats_of seats.now kind).seats (seats_of seats.now kind).protections (filter (is_of category) rest.now) shown.admitted shown) }
 {
+    let step_seats = seats.of(kind);
     let people = members(alloc, rest, category)?;
-    step_list(alloc, kind, list, seats, people)
+    step_list(alloc, kind, seats.list, &step_seats, people)
 }
 
 /// The step of de-reserved seats, from those whom the other steps left.
@@ -110,8 +107,44 @@ fn dereserved_step(
     })
 }
 
+/// The choice of a programme from those whom its open step left, who stand in merit order.
+fn choose_from_rest(
+    alloc: Global,
+    seats: &ProgrammeSeats,
+    version: u8,
+    first: StepList,
+    rest: &[Person],
+) -> Result<Programme, OutOfMemory>
+    requires version { version ≡ 1 }
+    requires seats { AreProgrammeSeats seats.now }
+    requires ranked { AreRanked seats.now.list rest.now }
+    requires few { length rest.now ≤ 4294967295 }
+    ensures { IfOk result (λ programme. (applicants : List AnyPerson) → rest.now ≡ without applicants first.admitted
+        → IsStepChoice (step_with seats.now.list (seats_of seats.now OpenStep) (filter (is_common seats.now.list) applicants)) first.admitted
+        → Shows OpenStep (seats_of seats.now OpenStep).seats (seats_of seats.now OpenStep).protections (filter (is_common seats.now.list) applicants) first.admitted first
+        → ShowsChoice version seats.now applicants programme) }
+{
+    let ews = category_step(alloc, StepKind::Ews, Category::Ews, seats, rest)?;
+    let obc = category_step(alloc, StepKind::Obc, Category::Obc, seats, rest)?;
+    let sc = category_step(alloc, StepKind::Sc, Category::Sc, seats, rest)?;
+    let st = category_step(alloc, StepKind::St, Category::St, seats, rest)?;
+    let left = left_over(
+        alloc,
+        rest,
+        ews.admitted.as_slice(),
+        obc.admitted.as_slice(),
+        sc.admitted.as_slice(),
+        st.admitted.as_slice(),
+    )?;
+    let empty = unfilled(seats.of(StepKind::Obc).seats, obc.admitted.len() as u16);
+    let dereserved = dereserved_step(alloc, seats.list, u32::from(empty), left.as_slice())?;
+    Ok(Programme {
+        steps: [first, ews, obc, sc, st, dereserved],
+    })
+}
+
 /// The choice of a programme from applicants in merit order.
-fn choose_in_order(
+pub(crate) fn choose_in_order(
     alloc: Global,
     seats: &ProgrammeSeats,
     version: u8,
@@ -123,26 +156,7 @@ fn choose_in_order(
     requires few { length applicants.now ≤ 4294967295 }
     ensures { IfOk result (λ programme. ShowsChoice version seats.now applicants.now programme) }
 {
-    let list = seats.list;
-    let [of_open, of_ews, of_obc, of_sc, of_st] = seats.steps;
-    let open = open_step(alloc, list, &of_open, applicants)?;
-    let others = without(alloc, applicants, open.admitted.as_slice())?;
-    let rest = others.as_slice();
-    let ews = category_step(alloc, StepKind::Ews, Category::Ews, list, &of_ews, rest)?;
-    let obc = category_step(alloc, StepKind::Obc, Category::Obc, list, &of_obc, rest)?;
-    let sc = category_step(alloc, StepKind::Sc, Category::Sc, list, &of_sc, rest)?;
-    let st = category_step(alloc, StepKind::St, Category::St, list, &of_st, rest)?;
-    let left = left_over(
-        alloc,
-        rest,
-        ews.admitted.as_slice(),
-        obc.admitted.as_slice(),
-        sc.admitted.as_slice(),
-        st.admitted.as_slice(),
-    )?;
-    let empty = unfilled(of_obc.seats, obc.admitted.len() as u16);
-    let dereserved = dereserved_step(alloc, list, u32::from(empty), left.as_slice())?;
-    Ok(Programme {
-        steps: [open, ews, obc, sc, st, dereserved],
-    })
+    let first = open_step(alloc, seats, applicants)?;
+    let rest = without(alloc, applicants, first.admitted.as_slice())?;
+    choose_from_rest(alloc, seats, version, first, rest.as_slice())
 }

@@ -1,5 +1,8 @@
 // The seats of a programme.
-use office_base::{ListId, Protections};
+ghost use Rattle.std.specs.Prelude.{◌≡◌};
+ghost use Rattle.open_then_category.specs.Programme.{seats_of};
+
+use office_base::{ListId, Protections, StepKind};
 
 /// The seats of one step, at most 4,000, and how many of them are protected. The protected positions are among the seats.
 #[derive(Clone, Copy, Debug, PartialEq, Eq)]
@@ -13,4 +16,23 @@ pub struct StepSeats {
 pub struct ProgrammeSeats {
     pub list: ListId,
     pub steps: [StepSeats; 5],
+}
+
+impl ProgrammeSeats {
+    /// The seats of a step. The de-reserved step has none of its own.
+    pub fn of(&self, kind: StepKind) -> StepSeats
+        ensures { result ≡ seats_of self.now kind }
+    {
+        match kind {
+            StepKind::Open => self.steps[0],
+            StepKind::Ews => self.steps[1],
+            StepKind::Obc => self.steps[2],
+            StepKind::Sc => self.steps[3],
+            StepKind::St => self.steps[4],
+            StepKind::Dereserved => StepSeats {
+                seats: 0,
+                protections: Protections { counts: [0; 6] },
+            },
+        }
+    }
 }
