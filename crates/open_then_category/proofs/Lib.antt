@@ -1,3 +1,4 @@
+mod Assemble
+mod Walk
 pub mod Lists
 pub mod ProgrammeLaws
-mod Walk

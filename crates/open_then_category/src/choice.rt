@@ -143,8 +143,11 @@ fn choose_from_rest(
     })
 }
 
-/// The choice of a programme from applicants in merit order.
-pub(crate) fn choose_in_order(
+/// The choice of a programme from applicants who stand in merit order, the best first: open seats to those with a
+/// common place, then the seats of each category to its members whom the open step left, then as many seats as OBC left
+/// empty to the best with a common place whom no earlier step took. The version is that of the bundle. Each step is
+/// walked through a few times from its people's first to its last, beside its choice and its certificate.
+pub fn choose_in_order(
     alloc: Global,
     seats: &ProgrammeSeats,
     version: u8,
