@@ -1,0 +1,4 @@
+mod Assemble
+mod Walk
+pub mod Lists
+pub mod ProgrammeLaws
