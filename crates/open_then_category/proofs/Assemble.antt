@@ -11,7 +11,8 @@ use Rattle.office_base.specs.declared.step.StepKind.{StepKind}
 use Rattle.office_base.specs.declared.step.StepKind.TheVariants.{Open, Ews as EwsStep, Obc as ObcStep, Sc as ScStep, St as StStep, Dereserved}
 use Rattle.office_base.proofs.Sublists.{length-sublist}
 use Rattle.open_then_category.specs.Listing.{Shows, ShowsChoice}
-use Rattle.open_then_category.specs.Programme.{Admissions, no_protections, seats_of, is_common, is_of, without, left_over, step_with}
+use Rattle.dereserve.specs.Common.{is_common}
+use Rattle.open_then_category.specs.Programme.{Admissions, no_protections, seats_of, is_of, without, left_over, step_with}
 use Rattle.open_then_category.specs.declared.programme.StepList.{StepList}
 use Rattle.open_then_category.specs.declared.seats.ProgrammeSeats.{ProgrammeSeats}
 use Rattle.open_then_category.proofs.Lists.{filter-sublist}

@@ -15,7 +15,8 @@ use Rattle.placements.specs.Ranks.{AreAmong}
 use Rattle.placements.proofs.Ranks.{any_among, among_sublist, among_again, among_itself}
 use Rattle.merit_choice.specs.Laws.{IsAmong, HasMorePeople}
 use Rattle.merit_choice.proofs.StepLaws.{choice_exists, refused_stays_refused, no_fewer, leaving_out_refused}
-use Rattle.open_then_category.specs.Programme.{AreStepSeats, AreProgrammeSeats, Admissions, admitted_by, seats_of, is_common, is_of, without, left_over, people_of, step_with, unfilled, IsProgrammeChoice}
+use Rattle.dereserve.specs.Common.{is_common}
+use Rattle.open_then_category.specs.Programme.{AreStepSeats, AreProgrammeSeats, Admissions, admitted_by, seats_of, is_of, without, left_over, people_of, step_with, unfilled, IsProgrammeChoice}
 use Rattle.open_then_category.specs.Laws.{IsRefused, OneProgrammeChoice, ProgrammeChoiceExists, ChoosesFromMore, RefusedFromMore, UnfilledFalls, NoFewerAdmitted, LeavingOutTheRefused, EachRefusedAllRefused}
 use Rattle.open_then_category.specs.declared.seats.ProgrammeSeats.{ProgrammeSeats}
 use Rattle.open_then_category.specs.declared.seats.StepSeats.{StepSeats}

@@ -2,18 +2,17 @@
 -- did not take, then the seats that a category left empty (Baswana and others 2019).
 use Rattle.std.specs.Prelude.{◌≡◌, ◌≤◌, ◌-◌, ℕ, List, [], ◌∷◌, Bool, true, false, not, ◌||◌, ◌==◌, length, take, sum, slice_index_or}
 use Rattle.std.specs.List.{filter}
-use Rattle.office_base.specs.Person.{IsList, place_in}
+use Rattle.office_base.specs.Person.{IsList}
 use Rattle.office_base.specs.StepChoice.{IsStepChoice}
 use Rattle.office_base.specs.declared.person.Category.{Category}
 use Rattle.office_base.specs.declared.person.Category.TheVariants.{Gen, Ews, Obc, Sc, St}
 use Rattle.office_base.specs.declared.person.ListId.{ListId}
 use Rattle.office_base.specs.declared.person.Person.{Person}
-use Rattle.office_base.specs.declared.person.Place.{Place}
-use Rattle.office_base.specs.declared.person.Place.TheVariants.{Absent, Common, Relaxed}
 use Rattle.office_base.specs.declared.step.Protections.{Protections}
 use Rattle.office_base.specs.declared.step.Step.{Step}
 use Rattle.office_base.specs.declared.step.StepKind.{StepKind}
 use Rattle.office_base.specs.declared.step.StepKind.TheVariants.{Open, Ews as EwsStep, Obc as ObcStep, Sc as ScStep, St as StStep, Dereserved}
+use Rattle.dereserve.specs.Common.{is_common}
 use Rattle.open_then_category.specs.declared.seats.ProgrammeSeats.{ProgrammeSeats}
 use Rattle.open_then_category.specs.declared.seats.StepSeats.{StepSeats}
 
@@ -47,16 +46,6 @@ pub record AreProgrammeSeats (seats : ProgrammeSeats) : Type 0 where
   pub steps : (kind : StepKind) → AreStepSeats (seats_of seats kind)
 
 -- ---- people
-
--- a place that counts for open and de-reserved seats
-abbrev pub is_common_place : Place → Bool
-is_common_place Absent = false
-is_common_place (Common n) = true
-is_common_place (Relaxed n) = false
-
--- the person has a common place in the list
-abbrev pub is_common : ListId → Person → Bool
-is_common list person = is_common_place (place_in list person)
 
 -- the two categories are one
 abbrev pub is_same : Category → Category → Bool

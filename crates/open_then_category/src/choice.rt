@@ -6,7 +6,8 @@ ghost use Rattle.office_base.specs.StepChoice.{AreRanked, IsStep, IsStepChoice};
 ghost use Rattle.office_base.specs.declared.person.Person.{Person as AnyPerson};
 ghost use Rattle.office_base.specs.declared.step.StepKind.TheVariants.{Open as OpenStep, Dereserved as DereservedStep};
 ghost use Rattle.open_then_category.specs.Listing.{Shows, ShowsChoice};
-ghost use Rattle.open_then_category.specs.Programme.{AreProgrammeSeats, no_protections, seats_of, is_common, is_of, without, step_with};
+ghost use Rattle.dereserve.specs.Common.{is_common};
+ghost use Rattle.open_then_category.specs.Programme.{AreProgrammeSeats, no_protections, seats_of, is_of, without, step_with};
 
 use crate::dereserve::unfilled;
 use crate::filters::{best, commons, left_over, members, without};

@@ -2,7 +2,7 @@
 ghost use Rattle.std.specs.Prelude.{◌≡◌, ◌≤◌, ◌-◌, IfOk, take};
 ghost use Rattle.std.specs.List.{filter};
 ghost use Rattle.office_base.specs.Person.{IsList};
-ghost use Rattle.open_then_category.specs.Programme.{is_common};
+ghost use Rattle.dereserve.specs.Common.{is_common};
 
 use crate::filters::{best, commons};
 use office_base::{ListId, OutOfMemory, People, Person};

@@ -6,7 +6,8 @@ ghost use Rattle.office_base.specs.Person.{IsList};
 ghost use Rattle.office_base.specs.StepChoice.{AreRanked};
 ghost use Rattle.office_base.specs.declared.person.Category.TheVariants.{Ews, Obc, Sc, St};
 ghost use Rattle.office_base.specs.declared.person.ListId.{ListId as AnyList};
-ghost use Rattle.open_then_category.specs.Programme.{is_common, is_of, without};
+ghost use Rattle.dereserve.specs.Common.{is_common};
+ghost use Rattle.open_then_category.specs.Programme.{is_of, without};
 
 use office_base::{Category, ListId, OutOfMemory, People, Person, Place};
 use std::alloc::Global;

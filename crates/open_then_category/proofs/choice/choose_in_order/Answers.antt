@@ -3,7 +3,8 @@ use Rattle.std.specs.List.{filter}
 use Rattle.office_base.specs.Lists.{IsSublist}
 use Rattle.office_base.specs.StepChoice.{AreRanked}
 use Rattle.office_base.specs.declared.person.Person.{Person}
-use Rattle.open_then_category.specs.Programme.{is_common, without}
+use Rattle.dereserve.specs.Common.{is_common}
+use Rattle.open_then_category.specs.Programme.{without}
 use Rattle.open_then_category.proofs.Assemble.{length-without}
 use Rattle.open_then_category.proofs.Lists.{filter-sublist, sublist_again}
 use Rattle.open_then_category.proofs.Walk.{ranked_without}

@@ -4,7 +4,8 @@ use Rattle.office_base.specs.StepChoice.{IsStep}
 use Rattle.office_base.specs.declared.person.Person.{Person}
 use Rattle.office_base.specs.declared.step.StepKind.TheVariants.{Open}
 use Rattle.office_base.proofs.Sublists.{length-sublist}
-use Rattle.open_then_category.specs.Programme.{seats_of, is_common, step_with}
+use Rattle.dereserve.specs.Common.{is_common}
+use Rattle.open_then_category.specs.Programme.{seats_of, step_with}
 use Rattle.open_then_category.specs.declared.seats.StepSeats.{StepSeats}
 use Rattle.open_then_category.proofs.Lists.{filter-sublist}
 use Rattle.open_then_category.proofs.ProgrammeLaws.{filtered_step}

@@ -1,6 +1,6 @@
 use Rattle.std.proofs.Common.{◌≡◌, take}
 use Rattle.std.specs.List.{filter}
-use Rattle.open_then_category.specs.Programme.{is_common}
+use Rattle.dereserve.specs.Common.{is_common}
 use Rattle.open_then_category.proofs.filters.commons.Given as goal
 
 abbrev pub invariant-loop-person : goal.invariant-loop-person
