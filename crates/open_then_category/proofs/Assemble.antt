@@ -82,7 +82,8 @@ assembled version seats applicants rest left n first ews obc sc st last e first_
       sc = sc.admitted;
       st = st.admitted;
       dereserved = take empty (filter (is_common seats.list) over);
-    } in
-    (admissions,
-    record { open_step = first_choice; ews = of_ews2.choice; obc = of_obc2.choice; sc = of_sc2.choice; st = of_st2.choice; dereserved = refl },
-    (first_shows, (of_ews2.shows, (of_obc2.shows, (of_sc2.shows, (of_st2.shows, (last3, tt)))))))
+    } in (
+      admissions,
+      record { open_step = first_choice; ews = of_ews2.choice; obc = of_obc2.choice; sc = of_sc2.choice; st = of_st2.choice; dereserved = refl },
+      (first_shows, (of_ews2.shows, (of_obc2.shows, (of_sc2.shows, (of_st2.shows, (last3, tt)))))),
+    )

@@ -1,20 +1,24 @@
 // The choice of a programme, step by step.
-ghost use Rattle.std.specs.Prelude.{◌≡◌, ◌≤◌, List, IfOk, length, take};
+ghost use Rattle.std.specs.Prelude.{◌≡◌, ◌≤◌, ◌<◌, List, IfOk, length, take};
 ghost use Rattle.std.specs.List.{filter};
 ghost use Rattle.office_base.specs.Person.{IsList};
 ghost use Rattle.office_base.specs.StepChoice.{AreRanked, IsStep, IsStepChoice};
 ghost use Rattle.office_base.specs.declared.person.Person.{Person as AnyPerson};
 ghost use Rattle.office_base.specs.declared.step.StepKind.TheVariants.{Open as OpenStep, Dereserved as DereservedStep};
+ghost use Rattle.open_then_category.specs.MatrixSeats.{list_in, seats_in};
 ghost use Rattle.open_then_category.specs.Listing.{Shows, ShowsChoice};
 ghost use Rattle.dereserve.specs.Common.{is_common};
 ghost use Rattle.open_then_category.specs.Programme.{AreProgrammeSeats, no_protections, seats_of, is_of, without, step_with};
 
-use crate::dereserve::unfilled;
-use crate::filters::{best, commons, left_over, members, without};
+use crate::filters::{left_over, members, without};
 use crate::programme::{Programme, StepList};
 use crate::seats::{ProgrammeSeats, StepSeats};
+use dereserve::{commons, fill, unfilled};
 use merit_choice::choose;
-use office_base::{Category, ListId, OutOfMemory, People, Person, Protections, Step, StepKind};
+use office_base::{
+    Category, ListId, OutOfMemory, People, Person, ProgId, Protections, Step, StepKind,
+};
+use seat_matrix::Matrix;
 use slot_cert::{Cert, canonical_pairs};
 use std::alloc::Global;
 
@@ -96,7 +100,7 @@ fn dereserved_step(
     ensures { IfOk result (λ shown. Shows DereservedStep seats no_protections (filter (is_common list) left.now) (take seats (filter (is_common list) left.now)) shown) }
 {
     let people = commons(alloc, left, list)?;
-    let admitted = best(alloc, people.as_slice(), seats)?;
+    let admitted = fill(alloc, left, list, seats)?;
     let none = Protections { counts: [0; 6] };
     let pairs = canonical_pairs(alloc, admitted.as_slice(), &none)?;
     Ok(StepList {
@@ -108,16 +112,29 @@ fn dereserved_step(
     })
 }
 
+/// How many persons a step of a programme admitted.
+fn held_by(list: &StepList) -> u16
+    requires { length list.now.admitted ≤ 4000 }
+    ensures { result ≡ length list.now.admitted }
+{
+    list.admitted.len() as u16
+}
+
 /// The choice of a programme from those whom its open step left, who stand in merit order.
 fn choose_from_rest(
     alloc: Global,
-    seats: &ProgrammeSeats,
+    matrix: &Matrix,
     version: u8,
+    prog: ProgId,
+    seats: &ProgrammeSeats,
     first: StepList,
     rest: &[Person],
 ) -> Result<Programme, OutOfMemory>
+    requires programme { prog.0 < length matrix.now.programmes }
     requires version { version ≡ 1 }
+    requires matrix { seats.now ≡ seats_in matrix.now prog.0 }
     requires seats { AreProgrammeSeats seats.now }
+    requires open_step { length first.admitted ≤ (seats_of seats.now OpenStep).seats }
     requires ranked { AreRanked seats.now.list rest.now }
     requires few { length rest.now ≤ 4294967295 }
     ensures { IfOk result (λ programme. (applicants : List AnyPerson) → rest.now ≡ without applicants first.admitted
@@ -137,8 +154,15 @@ fn choose_from_rest(
         sc.admitted.as_slice(),
         st.admitted.as_slice(),
     )?;
-    let empty = unfilled(seats.of(StepKind::Obc).seats, obc.admitted.len() as u16);
-    let dereserved = dereserved_step(alloc, seats.list, u32::from(empty), left.as_slice())?;
+    let held = [
+        held_by(&first),
+        held_by(&ews),
+        held_by(&obc),
+        held_by(&sc),
+        held_by(&st),
+    ];
+    let empty = unfilled(matrix, prog, version, &held);
+    let dereserved = dereserved_step(alloc, seats.list, empty, left.as_slice())?;
     Ok(Programme {
         steps: [first, ews, obc, sc, st, dereserved],
     })
@@ -148,19 +172,21 @@ fn choose_from_rest(
 /// common place, then the seats of each category to its members whom the open step left, then as many seats as OBC left
 /// empty to the best with a common place whom no earlier step took. The version is that of the bundle. Each step is
 /// walked through a few times from its people's first to its last, beside its choice and its certificate.
-pub fn choose_in_order(
+pub(crate) fn choose_in_order(
     alloc: Global,
-    seats: &ProgrammeSeats,
+    matrix: &Matrix,
     version: u8,
+    prog: ProgId,
     applicants: &[Person],
 ) -> Result<Programme, OutOfMemory>
+    requires programme { prog.0 < length matrix.now.programmes }
     requires version { version ≡ 1 }
-    requires seats { AreProgrammeSeats seats.now }
-    requires ranked { AreRanked seats.now.list applicants.now }
+    requires ranked { AreRanked (list_in matrix.now prog.0) applicants.now }
     requires few { length applicants.now ≤ 4294967295 }
-    ensures { IfOk result (λ programme. ShowsChoice version seats.now applicants.now programme) }
+    ensures { IfOk result (λ programme. ShowsChoice version (seats_in matrix.now prog.0) applicants.now programme) }
 {
-    let first = open_step(alloc, seats, applicants)?;
+    let seats = ProgrammeSeats::read(matrix, prog);
+    let first = open_step(alloc, &seats, applicants)?;
     let rest = without(alloc, applicants, first.admitted.as_slice())?;
-    choose_from_rest(alloc, seats, version, first, rest.as_slice())
+    choose_from_rest(alloc, matrix, version, prog, &seats, first, rest.as_slice())
 }

@@ -1,24 +1,14 @@
-// The people for whom the seats of a step are, and those who are left.
-ghost use Rattle.std.specs.Prelude.{◌≡◌, List, IfOk, take};
+// The members of a category, and those who are left where some are taken.
+ghost use Rattle.std.specs.Prelude.{◌≡◌, List, IfOk};
 ghost use Rattle.std.specs.List.{filter};
 ghost use Rattle.office_base.specs.Lists.{IsSublist};
-ghost use Rattle.office_base.specs.Person.{IsList};
 ghost use Rattle.office_base.specs.StepChoice.{AreRanked};
 ghost use Rattle.office_base.specs.declared.person.Category.TheVariants.{Ews, Obc, Sc, St};
 ghost use Rattle.office_base.specs.declared.person.ListId.{ListId as AnyList};
-ghost use Rattle.dereserve.specs.Common.{is_common};
 ghost use Rattle.open_then_category.specs.Programme.{is_of, without};
 
-use office_base::{Category, ListId, OutOfMemory, People, Person, Place};
+use office_base::{Category, OutOfMemory, People, Person};
 use std::alloc::Global;
-
-/// Whether the person has a common place in the list.
-fn is_common(person: &Person, list: ListId) -> bool
-    requires { IsList list }
-    ensures { result ≡ is_common list person.now }
-{
-    matches!(person.place(list), Place::Common(_))
-}
 
 /// Whether the person is of the category.
 fn is_of(person: &Person, category: Category) -> bool
@@ -31,24 +21,6 @@ fn is_of(person: &Person, category: Category) -> bool
         Category::Sc => matches!(person.category, Category::Sc),
         Category::St => matches!(person.category, Category::St),
     }
-}
-
-/// Those of the people who have a common place in the list, in their order.
-pub(crate) fn commons(
-    alloc: Global,
-    people: &[Person],
-    list: ListId,
-) -> Result<People, OutOfMemory>
-    requires { IsList list }
-    ensures { IfOk result (λ commons. commons ≡ filter (is_common list) people.now) }
-{
-    let mut commons = People::new(alloc);
-    for person in people {
-        if is_common(person, list) {
-            commons.push(*person)?;
-        }
-    }
-    Ok(commons)
 }
 
 /// Those of the people who are of the category, in their order.
@@ -88,16 +60,6 @@ pub(crate) fn without(
         }
     }
     Ok(left)
-}
-
-/// The first of the people, as many as there are seats or people.
-pub(crate) fn best(alloc: Global, people: &[Person], seats: u32) -> Result<People, OutOfMemory>
-    ensures { IfOk result (λ best. best ≡ take seats people.now) }
-{
-    let count = people.len().min(seats as usize);
-    let mut best = People::new(alloc);
-    best.extend_from_slice(&people[..count])?;
-    Ok(best)
 }
 
 /// Those of the rest whom no category took. The persons of each category are members among the rest, in its order.

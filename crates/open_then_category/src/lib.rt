@@ -5,14 +5,11 @@
 // both. It must never know of choice lists, of rounds, or of what a candidate holds elsewhere.
 #![tactic(auto)]
 
-pub mod choice;
-pub mod dereserve;
+mod choice;
 mod filters;
 pub mod laws;
 pub mod programme;
 pub mod seats;
 
-pub use choice::choose_in_order;
-pub use dereserve::{fill, unfilled};
 pub use programme::{Programme, StepList};
 pub use seats::{ProgrammeSeats, StepSeats};

@@ -18,13 +18,13 @@ best_ranked list seats left people admitted ranked same best =
 
 pub canonical_pairs-requires-clause-distinct : goal.canonical_pairs-requires-clause-distinct
 canonical_pairs-requires-clause-distinct c =
-    let best : c.as_slice-2.result.now ≡ take c.args.seats c.in_ok-people.people = cc (c.as_slice-2.ensures, c.in_ok-admitted.ensures, c.as_slice.ensures) in
-    (best_ranked c.args.list c.args.seats c.args.left.now c.in_ok-people.people c.as_slice-2.result.now c.requires.ranked c.in_ok-people.ensures best).distinct
+    let best : c.as_slice.result.now ≡ take c.args.seats c.in_ok-people.people = cc (c.as_slice.ensures, c.in_ok-admitted.ensures, c.in_ok-people.ensures) in
+    (best_ranked c.args.list c.args.seats c.args.left.now c.in_ok-people.people c.as_slice.result.now c.requires.ranked c.in_ok-people.ensures best).distinct
 
 pub canonical_pairs-requires-clause-traits : goal.canonical_pairs-requires-clause-traits
 canonical_pairs-requires-clause-traits c =
-    let best : c.as_slice-2.result.now ≡ take c.args.seats c.in_ok-people.people = cc (c.as_slice-2.ensures, c.in_ok-admitted.ensures, c.as_slice.ensures) in
-    (best_ranked c.args.list c.args.seats c.args.left.now c.in_ok-people.people c.as_slice-2.result.now c.requires.ranked c.in_ok-people.ensures best).traits
+    let best : c.as_slice.result.now ≡ take c.args.seats c.in_ok-people.people = cc (c.as_slice.ensures, c.in_ok-admitted.ensures, c.in_ok-people.ensures) in
+    (best_ranked c.args.list c.args.seats c.args.left.now c.in_ok-people.people c.as_slice.result.now c.requires.ranked c.in_ok-people.ensures best).traits
 
 pub overflow_cast-result : goal.overflow_cast-result
 overflow_cast-result c =

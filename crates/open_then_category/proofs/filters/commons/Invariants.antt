@@ -1,7 +1,0 @@
-use Rattle.std.proofs.Common.{◌≡◌, take}
-use Rattle.std.specs.List.{filter}
-use Rattle.dereserve.specs.Common.{is_common}
-use Rattle.open_then_category.proofs.filters.commons.Given as goal
-
-abbrev pub invariant-loop-person : goal.invariant-loop-person
-invariant-loop-person l = l.commons ≡ filter (is_common l.list) (take l.person-index l.people)
