@@ -1,7 +1,6 @@
 -- The choice of a programme, put together from its steps.
-use Rattle.std.proofs.Common.{◌≡◌, ◌≤◌, ◌-◌, ◌∙◌, ℕ, List, [], ◌∷◌, take, length, refl, sym, ap, subst, arith}
+use Rattle.std.proofs.Common.{◌≡◌, ◌≤◌, ◌-◌, ◌∙◌, ℕ, List, [], ◌∷◌, take, length, refl, ap, subst, arith}
 use Rattle.std.specs.List.{filter}
-use Rattle.office_base.specs.Lists.{IsSublist}
 use Rattle.office_base.specs.StepChoice.{AreRanked, IsStepChoice}
 use Rattle.office_base.specs.declared.person.Category.{Category}
 use Rattle.office_base.specs.declared.person.Category.TheVariants.{Ews, Obc, Sc, St}
@@ -11,7 +10,7 @@ use Rattle.office_base.specs.declared.step.StepKind.{StepKind}
 use Rattle.office_base.specs.declared.step.StepKind.TheVariants.{Open, Ews as EwsStep, Obc as ObcStep, Sc as ScStep, St as StStep, Dereserved}
 use Rattle.office_base.proofs.Sublists.{length-sublist}
 use Rattle.open_then_category.specs.Listing.{Shows, ShowsChoice}
-use Rattle.open_then_category.specs.Programme.{Admissions, no_protections, seats_of, is_common, is_of, without, left_over, step_with}
+use Rattle.open_then_category.specs.Programme.{Admissions, no_protections, seats_of, is_common, is_of, without, step_with}
 use Rattle.open_then_category.specs.declared.programme.StepList.{StepList}
 use Rattle.open_then_category.specs.declared.seats.ProgrammeSeats.{ProgrammeSeats}
 use Rattle.open_then_category.proofs.Lists.{filter-sublist}
@@ -81,7 +80,8 @@ assembled version seats applicants rest left n first ews obc sc st last e first_
       sc = sc.admitted;
       st = st.admitted;
       dereserved = take empty (filter (is_common seats.list) over);
-    } in
-    (admissions,
-    record { open_step = first_choice; ews = of_ews2.choice; obc = of_obc2.choice; sc = of_sc2.choice; st = of_st2.choice; dereserved = refl },
-    (first_shows, (of_ews2.shows, (of_obc2.shows, (of_sc2.shows, (of_st2.shows, (last3, tt)))))))
+    } in (
+      admissions,
+      record { open_step = first_choice; ews = of_ews2.choice; obc = of_obc2.choice; sc = of_sc2.choice; st = of_st2.choice; dereserved = refl },
+      (first_shows, (of_ews2.shows, (of_obc2.shows, (of_sc2.shows, (of_st2.shows, (last3, tt)))))),
+    )

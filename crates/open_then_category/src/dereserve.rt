@@ -18,12 +18,7 @@ pub fn unfilled(obc_seats: u16, obc_admitted: u16) -> u16
 
 /// Who fills de-reserved seats: the best of those with a common place in the list, as many as there are seats or
 /// candidates. The rest stand in merit order, and so do those who fill the seats.
-pub fn fill(
-    alloc: Global,
-    rest: &[Person],
-    list: ListId,
-    seats: u32,
-) -> Result<People, OutOfMemory>
+pub fn fill(alloc: Global, rest: &[Person], list: ListId, seats: u32) -> Result<People, OutOfMemory>
     requires { IsList list }
     ensures { IfOk result (λ filled. filled ≡ take seats (filter (is_common list) rest.now)) }
 {

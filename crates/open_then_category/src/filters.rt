@@ -33,11 +33,7 @@ fn is_of(person: &Person, category: Category) -> bool
 }
 
 /// Those of the people who have a common place in the list, in their order.
-pub(crate) fn commons(
-    alloc: Global,
-    people: &[Person],
-    list: ListId,
-) -> Result<People, OutOfMemory>
+pub(crate) fn commons(alloc: Global, people: &[Person], list: ListId) -> Result<People, OutOfMemory>
     requires { IsList list }
     ensures { IfOk result (λ commons. commons ≡ filter (is_common list) people.now) }
 {

@@ -16,3 +16,6 @@ pub use choice::choose_in_order;
 pub use dereserve::{fill, unfilled};
 pub use programme::{Programme, StepList};
 pub use seats::{ProgrammeSeats, StepSeats};
+
+#[cfg(test)]
+mod tests;
