@@ -1,8 +1,8 @@
 -- One walk over people and over those of them who are taken.
-use Rattle.std.proofs.Common.{◌≡◌, ◌≢◌, ◌≤◌, ◌<◌, ◌+◌, ◌||◌, ℕ, zero, suc, Bool, true, false, not, cond, List, [], ◌∷◌, ◌++◌, length, drop, eqb, refl, sym, ap, ◌∙◌, subst, inl, inr, arith}
+use Rattle.std.proofs.Common.{◌≡◌, ◌≢◌, ◌||◌, ℕ, Bool, true, false, not, cond, List, [], ◌∷◌, eqb, refl, sym, ap, ◌∙◌, subst, inl, inr}
 use Rattle.std.proofs.lemmas.Bool.{cond-true, cond-false, cond_both, eq-eqb, ne_eqb, or_left, or_parts, both_ways, not_from_true, not_from_false, false_from_ne_true}
 use Rattle.std.specs.List.{filter, AllByRecursion}
-use Rattle.office_base.specs.Lists.{AnyByRecursion, IsSublist, Pairwise}
+use Rattle.office_base.specs.Lists.{IsSublist}
 use Rattle.office_base.specs.declared.person.CandId.{CandId}
 use Rattle.office_base.specs.declared.person.Category.{Category}
 use Rattle.office_base.specs.declared.person.Category.TheVariants.{Gen, Ews, Obc, Sc, St}
@@ -11,7 +11,7 @@ use Rattle.office_base.specs.declared.person.ListId.{ListId}
 use Rattle.office_base.specs.declared.person.Person.{Person}
 use Rattle.office_base.proofs.Sublists.{IsSublist-nil}
 use Rattle.placements.specs.Ranks.{AreAmong}
-use Rattle.placements.proofs.Ranks.{any_all, any_among, among_again, among_sublist, among_itself}
+use Rattle.placements.proofs.Ranks.{any_all, any_among, among_again, among_sublist}
 use Rattle.merit_choice.specs.Laws.{IsAmong}
 use Rattle.open_then_category.specs.Programme.{is_taken, is_same, is_of, without}
 use Rattle.open_then_category.proofs.Lists.{AreDistinct, taken_number, taken_among, among_filter, filter-sublist, sublist_again, ranked_sublist}

@@ -13,3 +13,6 @@ pub mod seats;
 
 pub use programme::{Programme, StepList};
 pub use seats::{ProgrammeSeats, StepSeats};
+
+#[cfg(test)]
+mod tests;

@@ -1,4 +1,4 @@
-use Rattle.std.proofs.Common.{◌≡◌, ◌≤◌, ◌-◌, ◌∙◌, List, length, ap, sym, subst, arith}
+use Rattle.std.proofs.Common.{◌≡◌, ◌-◌, ◌∙◌, length, ap, sym, subst, arith}
 use Rattle.office_base.specs.StepChoice.{AreRanked}
 use Rattle.office_base.specs.declared.step.StepKind.TheVariants.{Open as OpenStep, Ews as EwsStep, Obc as ObcStep, Sc as ScStep, St as StStep}
 use Rattle.dereserve.specs.Unfilled.{seats_at}

@@ -1,7 +1,5 @@
-use Rattle.std.proofs.Common.{◌≡◌, ◌≤◌, ℕ, List, take, length, ap, sym, subst, arith}
-use Rattle.std.specs.List.{filter, AllByRecursion}
-use Rattle.office_base.specs.Lists.{Pairwise}
-use Rattle.office_base.specs.Person.{IsTraitSet}
+use Rattle.std.proofs.Common.{◌≡◌, ℕ, List, take, length, ap, sym, subst, arith}
+use Rattle.std.specs.List.{filter}
 use Rattle.office_base.specs.StepChoice.{AreRanked}
 use Rattle.office_base.specs.declared.person.ListId.{ListId}
 use Rattle.office_base.specs.declared.person.Person.{Person}

@@ -1,4 +1,4 @@
-use Rattle.std.proofs.Common.{◌≡◌, ◌∙◌, ◌≤◌, List, length, ap, sym, subst, arith}
+use Rattle.std.proofs.Common.{List, length, ap, sym, subst, arith}
 use Rattle.std.specs.List.{filter}
 use Rattle.office_base.specs.StepChoice.{IsStep}
 use Rattle.office_base.specs.declared.person.Person.{Person}
