@@ -6,11 +6,12 @@ ghost use Rattle.office_base.specs.StepChoice.{AreRanked, IsStep, IsStepChoice};
 ghost use Rattle.office_base.specs.declared.person.Person.{Person as AnyPerson};
 ghost use Rattle.office_base.specs.declared.step.StepKind.TheVariants.{Open as OpenStep, Dereserved as DereservedStep};
 ghost use Rattle.open_then_category.specs.MatrixSeats.{list_in, seats_in};
-ghost use Rattle.open_then_category.specs.Listing.{Shows, ShowsChoice};
+ghost use Rattle.open_then_category.specs.Listing.{AreApplicants, IsMeritOrder, Shows, ShowsChoice};
 ghost use Rattle.dereserve.specs.Common.{is_common};
 ghost use Rattle.open_then_category.specs.Programme.{AreProgrammeSeats, no_protections, seats_of, is_of, without, step_with};
 
 use crate::filters::{left_over, members, without};
+use crate::order::in_merit_order;
 use crate::programme::{Programme, StepList};
 use crate::seats::{ProgrammeSeats, StepSeats};
 use dereserve::{commons, fill, unfilled};
@@ -168,11 +169,9 @@ fn choose_from_rest(
     })
 }
 
-/// The choice of a programme from applicants who stand in merit order, the best first: open seats to those with a
-/// common place, then the seats of each category to its members whom the open step left, then as many seats as OBC left
-/// empty to the best with a common place whom no earlier step took. The version is that of the bundle. Each step is
-/// walked through a few times from its people's first to its last, beside its choice and its certificate.
-pub(crate) fn choose_in_order(
+/// The choice of a programme from applicants who stand in merit order, the best first. Each step is walked through a few
+/// times from its people's first to its last, beside its choice and its certificate.
+fn choose_in_order(
     alloc: Global,
     matrix: &Matrix,
     version: u8,
@@ -189,4 +188,29 @@ pub(crate) fn choose_in_order(
     let first = open_step(alloc, &seats, applicants)?;
     let rest = without(alloc, applicants, first.admitted.as_slice())?;
     choose_from_rest(alloc, matrix, version, prog, &seats, first, rest.as_slice())
+}
+
+/// The choice of a programme from applicants in any order, who are distinct and have distinct places in its list: open
+/// seats to those with a common place, then the seats of each category to its members whom the open step left, then as
+/// many seats as OBC left empty to the best with a common place whom no earlier step took. The version is that of the
+/// bundle. It sorts the applicants by merit once.
+pub fn programme_choice(
+    alloc: Global,
+    matrix: &Matrix,
+    version: u8,
+    prog: ProgId,
+    applicants: &[Person],
+) -> Result<Programme, OutOfMemory>
+    requires programme { prog.0 < length matrix.now.programmes }
+    requires version { version ≡ 1 }
+    requires applicants { AreApplicants (list_in matrix.now prog.0) applicants.now }
+    ensures { IfOk result (λ programme. (ranked : List AnyPerson) × IsMeritOrder (list_in matrix.now prog.0) applicants.now ranked
+        × ShowsChoice version (seats_in matrix.now prog.0) ranked programme) }
+{
+    // no memory holds so many persons
+    if applicants.len() > u32::MAX as usize {
+        return Err(OutOfMemory);
+    }
+    let ranked = in_merit_order(alloc, applicants, matrix.list(prog))?;
+    choose_in_order(alloc, matrix, version, prog, &ranked)
 }

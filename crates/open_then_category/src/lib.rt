@@ -5,14 +5,14 @@
 // both. It must never know of choice lists, of rounds, or of what a candidate holds elsewhere.
 #![tactic(auto)]
 
-mod choice;
+pub mod choice;
 mod filters;
 pub mod laws;
+mod order;
 pub mod programme;
 pub mod seats;
 
+pub use choice::programme_choice;
 pub use programme::{Programme, StepList};
 pub use seats::{ProgrammeSeats, StepSeats};
 
-#[cfg(test)]
-mod tests;
