@@ -16,3 +16,5 @@ pub use choice::programme_choice;
 pub use programme::{Programme, StepList};
 pub use seats::{ProgrammeSeats, StepSeats};
 
+#[cfg(test)]
+mod tests;
