@@ -1,5 +1,6 @@
 -- The lists that a programme shows of its steps, and its applicants in merit order.
 use Rattle.std.specs.Prelude.{◌≡◌, ◌≢◌, ℕ, List, [], ◌∷◌, length, IsSome}
+use Rattle.std.specs.Option.{unwrap_or}
 use Rattle.std.specs.List.{AllByRecursion, AllZip}
 use Rattle.std.specs.List.Sorted.{IsPermutation}
 use Rattle.office_base.specs.Certificate.{IsCanonical}
@@ -47,6 +48,10 @@ ShowsSteps version seats applicants admissions programme =
 abbrev pub ShowsChoice : ℕ → ProgrammeSeats → List Person → Programme → Type 0
 ShowsChoice version seats applicants programme =
     (admissions : Admissions) × IsProgrammeChoice version seats applicants admissions × ShowsSteps version seats applicants admissions programme
+
+-- the number of a person's place in the list, 0 where there is none
+abbrev pub merit_in : ListId → Person → ℕ
+merit_in list person = unwrap_or (number_in list person) 0
 
 -- The people may apply to a programme of the list, in any order: they are distinct persons with distinct places there.
 pub record AreApplicants (list : ListId) (people : List Person) : Type 0 where

@@ -5,11 +5,12 @@ ghost use Rattle.office_base.specs.Person.{IsList};
 ghost use Rattle.office_base.specs.StepChoice.{AreRanked, IsStep, IsStepChoice};
 ghost use Rattle.office_base.specs.declared.person.Person.{Person as AnyPerson};
 ghost use Rattle.office_base.specs.declared.step.StepKind.TheVariants.{Open as OpenStep, Dereserved as DereservedStep};
-ghost use Rattle.open_then_category.specs.Listing.{Shows, ShowsChoice};
+ghost use Rattle.open_then_category.specs.Listing.{AreApplicants, IsMeritOrder, Shows, ShowsChoice};
 ghost use Rattle.open_then_category.specs.Programme.{AreProgrammeSeats, no_protections, seats_of, is_common, is_of, without, step_with};
 
 use crate::dereserve::unfilled;
 use crate::filters::{best, commons, left_over, members, without};
+use crate::order::in_merit_order;
 use crate::programme::{Programme, StepList};
 use crate::seats::{ProgrammeSeats, StepSeats};
 use merit_choice::choose;
@@ -162,4 +163,22 @@ pub fn choose_in_order(
     let first = open_step(alloc, seats, applicants)?;
     let rest = without(alloc, applicants, first.admitted.as_slice())?;
     choose_from_rest(alloc, seats, version, first, rest.as_slice())
+}
+
+/// The choice of a programme from applicants in any order, who are distinct and have distinct places in its list. It
+/// sorts them by merit once.
+pub fn choose_programme(
+    alloc: Global,
+    seats: &ProgrammeSeats,
+    version: u8,
+    applicants: &[Person],
+) -> Result<Programme, OutOfMemory>
+    requires version { version ≡ 1 }
+    requires seats { AreProgrammeSeats seats.now }
+    requires applicants { AreApplicants seats.now.list applicants.now }
+    requires few { length applicants.now ≤ 4294967295 }
+    ensures { IfOk result (λ programme. (ranked : List AnyPerson) × IsMeritOrder seats.now.list applicants.now ranked × ShowsChoice version seats.now ranked programme) }
+{
+    let ranked = in_merit_order(alloc, applicants, seats.list)?;
+    choose_in_order(alloc, seats, version, &ranked)
 }

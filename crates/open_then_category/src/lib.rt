@@ -9,10 +9,11 @@ pub mod choice;
 pub mod dereserve;
 mod filters;
 pub mod laws;
+mod order;
 pub mod programme;
 pub mod seats;
 
-pub use choice::choose_in_order;
+pub use choice::{choose_in_order, choose_programme};
 pub use dereserve::{fill, unfilled};
 pub use programme::{Programme, StepList};
 pub use seats::{ProgrammeSeats, StepSeats};
