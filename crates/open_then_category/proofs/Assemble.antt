@@ -1,7 +1,6 @@
 -- The choice of a programme, put together from its steps.
-use Rattle.std.proofs.Common.{◌≡◌, ◌≤◌, ◌-◌, ◌∙◌, ℕ, List, [], ◌∷◌, take, length, refl, sym, ap, subst, arith}
+use Rattle.std.proofs.Common.{◌≡◌, ◌≤◌, ◌-◌, ◌∙◌, ℕ, List, [], ◌∷◌, take, length, refl, ap, subst, arith}
 use Rattle.std.specs.List.{filter}
-use Rattle.office_base.specs.Lists.{IsSublist}
 use Rattle.office_base.specs.StepChoice.{AreRanked, IsStepChoice}
 use Rattle.office_base.specs.declared.person.Category.{Category}
 use Rattle.office_base.specs.declared.person.Category.TheVariants.{Ews, Obc, Sc, St}
@@ -12,7 +11,7 @@ use Rattle.office_base.specs.declared.step.StepKind.TheVariants.{Open, Ews as Ew
 use Rattle.office_base.proofs.Sublists.{length-sublist}
 use Rattle.open_then_category.specs.Listing.{Shows, ShowsChoice}
 use Rattle.dereserve.specs.Common.{is_common}
-use Rattle.open_then_category.specs.Programme.{Admissions, no_protections, seats_of, is_of, without, left_over, step_with}
+use Rattle.open_then_category.specs.Programme.{Admissions, no_protections, seats_of, is_of, without, step_with}
 use Rattle.open_then_category.specs.declared.programme.StepList.{StepList}
 use Rattle.open_then_category.specs.declared.seats.ProgrammeSeats.{ProgrammeSeats}
 use Rattle.open_then_category.proofs.Lists.{filter-sublist}

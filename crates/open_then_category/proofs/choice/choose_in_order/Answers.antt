@@ -1,4 +1,4 @@
-use Rattle.std.proofs.Common.{◌≡◌, ◌≤◌, ◌∙◌, ℕ, List, length, ap, sym, subst, arith}
+use Rattle.std.proofs.Common.{◌≡◌, ◌∙◌, ℕ, List, length, ap, sym, subst, arith}
 use Rattle.std.specs.List.{filter}
 use Rattle.office_base.specs.Lists.{IsSublist}
 use Rattle.office_base.specs.StepChoice.{AreRanked}
