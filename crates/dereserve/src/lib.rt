@@ -10,3 +10,6 @@ pub mod people;
 
 pub use empty_seats::unfilled;
 pub use people::{commons, fill};
+
+#[cfg(test)]
+mod tests;
