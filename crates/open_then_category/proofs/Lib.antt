@@ -1,0 +1,5 @@
+mod Assemble
+mod Sorting
+mod Walk
+pub mod Lists
+pub mod ProgrammeLaws
