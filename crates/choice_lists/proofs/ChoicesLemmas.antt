@@ -1,18 +1,16 @@
 -- What a row of choices that is read has passed.
-use Rattle.std.proofs.Common.{◌≡◌, ℕ, Bool, true, false, List, [], ◌∷◌, ◌++◌, Option, Some, None, Result, Ok, Err, length, refl, sym, ap, subst, ◌∙◌, cond, arith, length-append}
+use Rattle.std.proofs.Common.{◌≡◌, ℕ, Bool, true, false, List, [], ◌∷◌, ◌++◌, Option, Some, None, Result, Ok, length, refl, sym, ap, subst, ◌∙◌, cond, arith, length-append}
 use Rattle.std.specs.Prelude.{◌==◌, ◌||◌, ◌<◌, ◌≤◌, ◌+◌, ◌-◌, not, nat_lt, is_some, IsTrue, drop, slice_get}
 use Rattle.std.specs.List.{AllByRecursion}
 use Rattle.std.specs.Option.{option_and_then}
 use Rattle.std.proofs.Math.Numerals.{add-one}
 use Rattle.std.proofs.Math.Seq.{drop-cons}
 use Rattle.std.proofs.lemmas.Bool.{eq-eqb, eqb-true, ltb-false}
-use Rattle.std.proofs.lemmas.List.{length-drop}
 use Rattle.std.proofs.lemmas.Option.{slice_get_within}
-use Rattle.office_base.specs.Lists.{Pairwise}
 use Rattle.office_base.specs.declared.person.Person.{Person}
 use Rattle.office_base.specs.declared.person.ProgId.{ProgId}
 use Rattle.section_rows.specs.Rows.{Row, field}
-use Rattle.section_rows.specs.Steps.{after, needs, unless}
+use Rattle.section_rows.specs.Steps.{after, unless}
 use Rattle.section_rows.proofs.StepsLemmas.{after_ok, needs_ok, none_from, unless_ok}
 use Rattle.rank_lists.specs.Register.{Ranks, find_person}
 use Rattle.seat_matrix.specs.Matrix.{Seats}
@@ -50,7 +48,7 @@ pub record IsNew (ranks : Ranks) (entries : List Entry) (row : Row) (person : Pe
 pub new_candidate_ok : (ranks : Ranks) (entries : List Entry) (row : Row) (person : Person) → new_candidate ranks entries row ≡ Ok person → IsNew ranks entries row person
 new_candidate_ok ranks entries row person e =
     let (p, e1, e2) = needs_ok (person_of ranks (field row 0)) UnknownCandidate
-        (λ p. unless (is_some (list_at p.id.0 entries)) RepeatedCandidate (unless (nat_lt 1000 (length row - 1)) TooLong (unless (nat_lt 5000000 (all_choices entries + (length row - 1))) TooMany (Ok p)))) person e in
+    (λ p. unless (is_some (list_at p.id.0 entries)) RepeatedCandidate (unless (nat_lt 1000 (length row - 1)) TooLong (unless (nat_lt 5000000 (all_choices entries + (length row - 1))) TooMany (Ok p)))) person e in
     let (fresh, e3) = unless_ok (is_some (list_at p.id.0 entries)) RepeatedCandidate (unless (nat_lt 1000 (length row - 1)) TooLong (unless (nat_lt 5000000 (all_choices entries + (length row - 1))) TooMany (Ok p))) person e2 in
     let (short, e4) = unless_ok (nat_lt 1000 (length row - 1)) TooLong (unless (nat_lt 5000000 (all_choices entries + (length row - 1))) TooMany (Ok p)) person e3 in
     let (room, e5) = unless_ok (nat_lt 5000000 (all_choices entries + (length row - 1))) TooMany (Ok p) person e4 in

@@ -1,6 +1,6 @@
 -- What one more entry changes of a listing.
-use Rattle.std.proofs.Common.{◌≡◌, ℕ, Bool, true, false, List, [], ◌∷◌, ◌++◌, Option, Some, None, Result, Ok, Err, length, map, refl, sym, ap, subst, ◌∙◌, cond, arith, length-append}
-use Rattle.std.specs.Prelude.{◌==◌, ◌≤◌, ◌+◌, ◌-◌, drop, take, option_map}
+use Rattle.std.proofs.Common.{◌≡◌, ℕ, Bool, true, false, List, [], ◌∷◌, ◌++◌, Option, Some, None, Ok, Err, length, refl, sym, ap, subst, ◌∙◌, cond, arith, length-append}
+use Rattle.std.specs.Prelude.{◌==◌, ◌≤◌, ◌+◌, ◌-◌, drop, take}
 use Rattle.std.specs.Bool.{one_answer}
 use Rattle.std.specs.Map.{lookup}
 use Rattle.std.specs.Ordering.{is_eq, nat_cmp}
@@ -10,15 +10,15 @@ use Rattle.std.proofs.lemmas.List.{drop-append-le, length-drop, take-append-le}
 use Rattle.office_base.specs.declared.person.Person.{Person}
 use Rattle.office_base.specs.declared.person.ProgId.{ProgId}
 use Rattle.section_rows.specs.Rows.{Row}
-use Rattle.section_rows.specs.Steps.{after, first_of}
-use Rattle.section_rows.proofs.StepsLemmas.{first_of-push, flip, nat_at, number_decides, number_found, or_else, step}
+use Rattle.section_rows.specs.Steps.{first_of}
+use Rattle.section_rows.proofs.StepsLemmas.{first_of-push, nat_at, number_decides, number_found, or_else, step}
 use Rattle.rank_lists.specs.Register.{Ranks}
 use Rattle.seat_matrix.specs.Matrix.{Seats}
-use Rattle.choice_lists.specs.Choices.{AreListsOf, AreChoices, Entry, IsChoice, Lists, all_choices, choices, choices_after, list_at, list_of, listed, new_candidate, reading}
+use Rattle.choice_lists.specs.Choices.{AreListsOf, AreChoices, Entry, IsChoice, Lists, choices, choices_after, list_at, list_of, listed, new_candidate, reading}
 use Rattle.choice_lists.specs.Listing.{IsWithin, Keeps, lists_of, part, part_of}
 use Rattle.choice_lists.specs.declared.fault.ChoiceKind.{ChoiceKind}
 use Rattle.choice_lists.specs.declared.listing.Listing.{Listing}
-use Rattle.choice_lists.proofs.ChoicesLemmas.{AreGood, choices_ok, good_choice, new_candidate_ok}
+use Rattle.choice_lists.proofs.ChoicesLemmas.{choices_ok, good_choice, new_candidate_ok}
 
 -- the lists are found by the map's order as by number
 pub find-list : (q : ℕ) (all : List ProgId) (ranges : List (ℕ × (ℕ × ℕ))) → first_of (λ held. q == held.0) (λ held. held.1) (lists_of all ranges) ≡ part_of all (lookup (λ k. is_eq (nat_cmp q k)) ranges)

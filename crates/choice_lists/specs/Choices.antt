@@ -1,5 +1,5 @@
 -- The grammar of the choices: what a row gives behind the entries of the rows before it, or what is wrong with it.
-use Rattle.std.specs.Prelude.{◌≡◌, ◌<◌, ◌≤◌, ◌+◌, ◌-◌, ℕ, Bool, false, not, ◌==◌, ◌||◌, nat_le, nat_lt, List, [], ◌∷◌, ◌++◌, is_some, IsTrue, Option, Some, None, Result, Ok, length, map, drop, take, slice_get, bytes_eq, codes, position}
+use Rattle.std.specs.Prelude.{◌≡◌, ◌<◌, ◌≤◌, ◌+◌, ◌-◌, ℕ, Bool, false, not, ◌==◌, ◌||◌, nat_lt, List, [], ◌∷◌, ◌++◌, is_some, IsTrue, Option, Some, None, Result, Ok, length, map, drop, slice_get, bytes_eq, codes, position}
 use Rattle.std.specs.List.{AllByRecursion}
 use Rattle.std.specs.Option.{option_and_then}
 use Rattle.office_base.specs.Lists.{Pairwise}

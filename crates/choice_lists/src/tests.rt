@@ -5,9 +5,11 @@ use rank_lists::Register;
 use seat_matrix::Matrix;
 use std::test::Fail;
 
-const REGISTER: &str = "id,category,traits,token,m1,m2,m3,m4\n1,GEN,-,tok00001,1\n2,SC,-,tok00002,,1R\n3,OBC,W,tok00003,2R,2\n";
+const REGISTER: &str =
+    "id,category,traits,token,m1,m2,m3,m4\n1,GEN,-,tok00001,1\n2,SC,-,tok00002,,1R\n3,OBC,W,tok00003,2R,2\n";
 
-const MATRIX: &str = "programme,institute,list,step,seats,W,D,X,S,F,L\nA,I1,1,OPEN,1\nB,I1,2,OPEN,1\nC,I2,1,OPEN,1\n";
+const MATRIX: &str =
+    "programme,institute,list,step,seats,W,D,X,S,F,L\nA,I1,1,OPEN,1\nB,I1,2,OPEN,1\nC,I2,1,OPEN,1\n";
 
 /// What the choices of a body are beside the register and the matrix above.
 fn answer(rt: HostRuntime, text: &[u8]) -> Result<Result<Choices, ChoiceFault>, Fail> {

@@ -22,7 +22,7 @@ returns-in_ok-insert-in-None c = λ entries keeps.
       record { candidate = person.id.0; programmes = progs },
       reading-ok ranks seats entries row person progs known read,
       keeps-step ranks seats entries row person progs c.args.self.now (record { programmes = c.add_programmes.new.programmes; ranges = c.insert.new.self }) keeps known read more
-      (λ q.
-      c.in_ok-insert-in-None.ensures.updates.0 q
-      ∙ ap (λ (r : ℕ × ℕ). cond (is_eq (nat_cmp person.id.0 q)) (Some r) (tree.get nat_cmp c.args.self.now.ranges q)) (same_range _ _ _ _ c.len-start.ensures c.len.ensures)),
+          (λ q.
+          c.in_ok-insert-in-None.ensures.updates.0 q
+          ∙ ap (λ (r : ℕ × ℕ). cond (is_eq (nat_cmp person.id.0 q)) (Some r) (tree.get nat_cmp c.args.self.now.ranges q)) (same_range _ _ _ _ c.len-start.ensures c.len.ensures)),
     )
