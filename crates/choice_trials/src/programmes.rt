@@ -1,4 +1,4 @@
-// Small programmes with open, OBC and SC seats: their choice held against a plain program that goes by the rule.
+// Small programmes with seats of every kind: their choice held against a plain program that goes by the rule.
 ghost use Rattle.std.specs.Prelude.{IsTrue};
 ghost use Rattle.open_then_category.specs.Listing.{AreApplicants};
 
@@ -111,29 +111,51 @@ fn admits(
     }
 }
 
-// The persons of the steps OPEN, OBC, SC and D, by the rule.
+// Whom the step of a category admits of those whom OPEN left.
+fn category_admits(
+    alloc: Global,
+    matrix: &Matrix,
+    kind: StepKind,
+    category: Category,
+    rest: &[Person],
+) -> Result<Option<People>, OutOfMemory> {
+    let people = members(alloc, rest, category)?;
+    admits(alloc, matrix, kind, people)
+}
+
+// The persons of the six steps, by the rule; None where a step has no choice.
 fn plain_choice_of(
     alloc: Global,
     matrix: &Matrix,
     applicants: &[Person],
-) -> Result<Option<[People; 4]>, OutOfMemory> {
+) -> Result<Option<Vec<People>>, OutOfMemory> {
     let Some(open) = admits(alloc, matrix, StepKind::Open, commons(alloc, applicants)?)? else {
         return Ok(None);
     };
     let rest = left(alloc, applicants, open.as_slice())?;
-    let of_obc = members(alloc, rest.as_slice(), Category::Obc)?;
-    let Some(obc) = admits(alloc, matrix, StepKind::Obc, of_obc)? else {
-        return Ok(None);
-    };
-    let of_sc = members(alloc, rest.as_slice(), Category::Sc)?;
-    let Some(sc) = admits(alloc, matrix, StepKind::Sc, of_sc)? else {
-        return Ok(None);
-    };
-    let rest = left(alloc, rest.as_slice(), obc.as_slice())?;
-    let rest = left(alloc, rest.as_slice(), sc.as_slice())?;
-    let seats = usize::from(obc_seats(matrix)).saturating_sub(obc.len());
-    let dereserved = first(alloc, commons(alloc, rest.as_slice())?.as_slice(), seats)?;
-    Ok(Some([open, obc, sc, dereserved]))
+    let mut last = left(alloc, applicants, open.as_slice())?;
+    let mut steps = vec![in alloc; open]?;
+    let mut obc_admitted = 0;
+    for (kind, category) in [
+        (StepKind::Ews, Category::Ews),
+        (StepKind::Obc, Category::Obc),
+        (StepKind::Sc, Category::Sc),
+        (StepKind::St, Category::St),
+    ] {
+        match category_admits(alloc, matrix, kind, category, rest.as_slice())? {
+            Some(persons) => {
+                if category == Category::Obc {
+                    obc_admitted = persons.len();
+                }
+                last = left(alloc, last.as_slice(), persons.as_slice())?;
+                steps.push(persons)?;
+            }
+            None => return Ok(None),
+        }
+    }
+    let seats = usize::from(obc_seats(matrix)).saturating_sub(obc_admitted);
+    steps.push(first(alloc, commons(alloc, last.as_slice())?.as_slice(), seats)?)?;
+    Ok(Some(steps))
 }
 
 fn obc_seats(matrix: &Matrix) -> u16 {
@@ -177,20 +199,20 @@ fn agree(alloc: Global, matrix: &Matrix, kinds: &[Kind]) -> Result<bool, OutOfMe
     }
     let people = step.people.as_slice();
     let programme = programme_choice(alloc, matrix, 1, prog, people)?;
-    let [open, _, obc, sc, _, dereserved] = &programme.steps;
     match plain_choice_of(alloc, matrix, people)? {
         Some(plain) => Ok(
-            open.admitted.as_slice() == plain[0].as_slice()
-                && obc.admitted.as_slice() == plain[1].as_slice()
-                && sc.admitted.as_slice() == plain[2].as_slice()
-                && dereserved.admitted.as_slice() == plain[3].as_slice(),
+            plain.len() == 6
+                && programme.steps.iter().zip(plain.iter()).all(|(list, persons)| list
+                    .admitted
+                    .as_slice()
+                    == persons.as_slice()),
         ),
         None => Ok(false),
     }
 }
 
 // Whether they agree on all lists of four applicants of these kinds.
-fn all_agree(alloc: Global, matrix: &Matrix, kinds: &[Kind; 6]) -> Result<bool, OutOfMemory> {
+fn all_agree(alloc: Global, matrix: &Matrix, kinds: &[Kind]) -> Result<bool, OutOfMemory> {
     let mut same = true;
     for first in kinds {
         for second in kinds {
@@ -217,12 +239,13 @@ fn matrix_of(alloc: Global, counts: [u16; 5]) -> Result<Option<Matrix>, AllocErr
 fn the_programme_chooses_by_the_rule(rt: HostRuntime) -> Result<(), Fail> {
     let alloc = rt.alloc();
     let kinds = [
-        applicant(Category::Gen, 0, true),
         applicant(Category::Gen, 1, true),
+        applicant(Category::Ews, 1, true),
         applicant(Category::Obc, 0, true),
         applicant(Category::Obc, 3, true),
         applicant(Category::Obc, 1, false),
         applicant(Category::Sc, 2, true),
+        applicant(Category::St, 0, false),
     ];
     let mut programmes = 0u32;
     for open in 0..3u16 {
