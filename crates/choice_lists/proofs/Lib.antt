@@ -1,0 +1,2 @@
+mod ChoicesLemmas
+mod ListingLemmas

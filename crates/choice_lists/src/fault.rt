@@ -1,0 +1,46 @@
+// What can be wrong with the choices.
+ghost use Rattle.std.specs.Prelude.{◌≡◌};
+ghost use Rattle.choice_lists.specs.declared.fault.ChoiceFault.TheVariants.{OutOfMemory as NoMemory};
+
+use office_base::OutOfMemory;
+
+/// What is wrong with a row of the choices. On one row `UnknownCandidate`, `RepeatedCandidate`, `TooLong` and `TooMany` come in
+/// this order, and then the other three programme by programme.
+#[derive(Clone, Copy, Debug, PartialEq, Eq)]
+pub enum ChoiceKind {
+    /// Row 1 is missing or is not the header.
+    BadHeader = 0,
+    /// The first field is no id of the register.
+    UnknownCandidate = 1,
+    /// The candidate has an earlier row.
+    RepeatedCandidate = 2,
+    /// A field is not the code of a programme of the matrix.
+    UnknownProgramme = 3,
+    /// A programme stands earlier in the row.
+    RepeatedProgramme = 4,
+    /// The candidate has no place in the merit list of the programme.
+    NotRankedThere = 5,
+    /// The row has more than 1,000 programmes.
+    TooLong = 6,
+    /// There are more than 5,000,000 programmes in all rows up to this one.
+    TooMany = 7,
+}
+
+/// Why choices were not read. Nothing is left behind.
+#[derive(Clone, Copy, Debug, PartialEq, Eq, thiserror::Error)]
+pub enum ChoiceFault {
+    /// The first fault by rows. Rows are counted from 1, the header included.
+    #[error("row {row}: {kind:?}")]
+    Bad { row: u32, kind: ChoiceKind },
+    /// There was no memory for the choices.
+    #[error("out of memory")]
+    OutOfMemory,
+}
+
+impl From<OutOfMemory> for ChoiceFault {
+    ghost from_gives = { λ _ fault. fault ≡ NoMemory };
+
+    fn from(_: OutOfMemory) -> Self {
+        ChoiceFault::OutOfMemory
+    }
+}

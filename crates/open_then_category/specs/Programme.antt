@@ -1,0 +1,127 @@
+-- The choice of a programme, by the choice of a step alone: open seats first, then those of each category from its members whom the open ones
+-- did not take, then the seats that a category left empty (Baswana and others 2019).
+use Rattle.std.specs.Prelude.{◌≡◌, ◌≤◌, ◌-◌, ℕ, List, [], ◌∷◌, Bool, true, false, not, ◌||◌, ◌==◌, length, take, sum, slice_index_or}
+use Rattle.std.specs.List.{filter}
+use Rattle.office_base.specs.Person.{IsList}
+use Rattle.office_base.specs.StepChoice.{IsStepChoice}
+use Rattle.office_base.specs.declared.person.Category.{Category}
+use Rattle.office_base.specs.declared.person.Category.TheVariants.{Gen, Ews, Obc, Sc, St}
+use Rattle.office_base.specs.declared.person.ListId.{ListId}
+use Rattle.office_base.specs.declared.person.Person.{Person}
+use Rattle.office_base.specs.declared.step.Protections.{Protections}
+use Rattle.office_base.specs.declared.step.Step.{Step}
+use Rattle.office_base.specs.declared.step.StepKind.{StepKind}
+use Rattle.office_base.specs.declared.step.StepKind.TheVariants.{Open, Ews as EwsStep, Obc as ObcStep, Sc as ScStep, St as StStep, Dereserved}
+use Rattle.dereserve.specs.Common.{is_common}
+use Rattle.open_then_category.specs.declared.seats.ProgrammeSeats.{ProgrammeSeats}
+use Rattle.open_then_category.specs.declared.seats.StepSeats.{StepSeats}
+
+-- ---- seats
+
+-- nothing is protected
+abbrev pub no_protections : Protections
+no_protections = record { counts = 0 ∷ 0 ∷ 0 ∷ 0 ∷ 0 ∷ 0 ∷ [] }
+
+-- a step without seats of its own
+abbrev pub no_seats : StepSeats
+no_seats = record { seats = 0; protections = no_protections }
+
+-- the seats of a step; the de-reserved step has none of its own
+abbrev pub seats_of : ProgrammeSeats → StepKind → StepSeats
+seats_of seats Open = slice_index_or seats.steps 0 no_seats
+seats_of seats EwsStep = slice_index_or seats.steps 1 no_seats
+seats_of seats ObcStep = slice_index_or seats.steps 2 no_seats
+seats_of seats ScStep = slice_index_or seats.steps 3 no_seats
+seats_of seats StStep = slice_index_or seats.steps 4 no_seats
+seats_of seats Dereserved = no_seats
+
+-- the protected positions are among the seats, of which there are at most 4,000
+pub record AreStepSeats (seats : StepSeats) : Type 0 where
+  pub protections : sum seats.protections.counts ≤ seats.seats
+  pub few : seats.seats ≤ 4000
+
+-- what the seats of a programme have to be
+pub record AreProgrammeSeats (seats : ProgrammeSeats) : Type 0 where
+  pub list : IsList seats.list
+  pub steps : (kind : StepKind) → AreStepSeats (seats_of seats kind)
+
+-- ---- people
+
+-- the two categories are one
+abbrev pub is_same : Category → Category → Bool
+is_same Gen Gen = true
+is_same Ews Ews = true
+is_same Obc Obc = true
+is_same Sc Sc = true
+is_same St St = true
+is_same _ _ = false
+
+-- the person is of the category
+abbrev pub is_of : Category → Person → Bool
+is_of category person = is_same category person.category
+
+-- the person is one of those taken
+abbrev pub is_taken : List Person → Person → Bool
+is_taken [] person = false
+is_taken (other ∷ taken) person = other.id.0 == person.id.0 || is_taken taken person
+
+-- the people who are not taken, in their order
+abbrev pub without : List Person → List Person → List Person
+without people taken = filter (λ person. not (is_taken taken person)) people
+
+-- ---- the steps
+
+-- whom each step of a programme admits
+pub record Admissions : Type 0 where
+  pub open_step : List Person
+  pub ews : List Person
+  pub obc : List Person
+  pub sc : List Person
+  pub st : List Person
+  pub dereserved : List Person
+
+-- whom one step admits
+abbrev pub admitted_by : Admissions → StepKind → List Person
+admitted_by admissions Open = admissions.open_step
+admitted_by admissions EwsStep = admissions.ews
+admitted_by admissions ObcStep = admissions.obc
+admitted_by admissions ScStep = admissions.sc
+admitted_by admissions StStep = admissions.st
+admitted_by admissions Dereserved = admissions.dereserved
+
+-- those whom the five steps before the de-reserved one left
+abbrev pub left_over : List Person → Admissions → List Person
+left_over applicants admissions =
+    without (without (without (without (without applicants admissions.open_step) admissions.ews) admissions.obc) admissions.sc) admissions.st
+
+-- The people of a step: open and de-reserved seats are for those with a common place, and a category's for its members, whatever their places.
+-- No step sees a person whom the open one took, and the de-reserved one sees nobody whom an earlier step took.
+abbrev pub people_of : ListId → List Person → Admissions → StepKind → List Person
+people_of list applicants admissions Open = filter (is_common list) applicants
+people_of list applicants admissions EwsStep = filter (is_of Ews) (without applicants admissions.open_step)
+people_of list applicants admissions ObcStep = filter (is_of Obc) (without applicants admissions.open_step)
+people_of list applicants admissions ScStep = filter (is_of Sc) (without applicants admissions.open_step)
+people_of list applicants admissions StStep = filter (is_of St) (without applicants admissions.open_step)
+people_of list applicants admissions Dereserved = filter (is_common list) (left_over applicants admissions)
+
+-- The seats of the de-reserved step. In version 1, the only one, they are those that step OBC left empty.
+abbrev pub unfilled : ℕ → ProgrammeSeats → Admissions → ℕ
+unfilled version seats admissions = (seats_of seats ObcStep).seats - length admissions.obc
+
+-- one list of a programme, with the people who stand for the seats
+abbrev pub step_with : ListId → StepSeats → List Person → Step
+step_with list seats people = record { list = list; seats = seats.seats; protections = seats.protections; people = people }
+
+-- a step that has seats of its own
+abbrev pub step_of : ProgrammeSeats → List Person → Admissions → StepKind → Step
+step_of seats applicants admissions kind = step_with seats.list (seats_of seats kind) (people_of seats.list applicants admissions kind)
+
+-- The admissions are the choice of the programme from its applicants, who stand in merit order.
+pub record IsProgrammeChoice (version : ℕ) (seats : ProgrammeSeats) (applicants : List Person) (admissions : Admissions) : Type 0 where
+  pub open_step : IsStepChoice (step_of seats applicants admissions Open) admissions.open_step
+  pub ews : IsStepChoice (step_of seats applicants admissions EwsStep) admissions.ews
+  pub obc : IsStepChoice (step_of seats applicants admissions ObcStep) admissions.obc
+  pub sc : IsStepChoice (step_of seats applicants admissions ScStep) admissions.sc
+  pub st : IsStepChoice (step_of seats applicants admissions StStep) admissions.st
+  -- the best of its people, without protections
+  pub dereserved : admissions.dereserved ≡ take (unfilled version seats admissions) (people_of seats.list applicants admissions Dereserved)

@@ -1,0 +1,216 @@
+// The choice of a programme, step by step.
+ghost use Rattle.std.specs.Prelude.{◌≡◌, ◌≤◌, ◌<◌, List, IfOk, length, take};
+ghost use Rattle.std.specs.List.{filter};
+ghost use Rattle.office_base.specs.Person.{IsList};
+ghost use Rattle.office_base.specs.StepChoice.{AreRanked, IsStep, IsStepChoice};
+ghost use Rattle.office_base.specs.declared.person.Person.{Person as AnyPerson};
+ghost use Rattle.office_base.specs.declared.step.StepKind.TheVariants.{Open as OpenStep, Dereserved as DereservedStep};
+ghost use Rattle.open_then_category.specs.MatrixSeats.{list_in, seats_in};
+ghost use Rattle.open_then_category.specs.Listing.{AreApplicants, IsMeritOrder, Shows, ShowsChoice};
+ghost use Rattle.dereserve.specs.Common.{is_common};
+ghost use Rattle.open_then_category.specs.Programme.{AreProgrammeSeats, no_protections, seats_of, is_of, without, step_with};
+
+use crate::filters::{left_over, members, without};
+use crate::order::in_merit_order;
+use crate::programme::{Programme, StepList};
+use crate::seats::{ProgrammeSeats, StepSeats};
+use dereserve::{commons, fill, unfilled};
+use merit_choice::choose;
+use office_base::{
+    Category, ListId, OutOfMemory, People, Person, ProgId, Protections, Step, StepKind,
+};
+use seat_matrix::Matrix;
+use slot_cert::{Cert, canonical_pairs};
+use std::alloc::Global;
+
+/// The list of a step with these people.
+fn step_list(
+    alloc: Global,
+    kind: StepKind,
+    list: ListId,
+    seats: &StepSeats,
+    people: People,
+) -> Result<StepList, OutOfMemory>
+    requires step { IsStep (step_with list seats.now people) }
+    requires few { length people ≤ 4294967295 }
+    ensures choice { IfOk result (λ shown. IsStepChoice (step_with list seats.now people) shown.admitted) }
+    ensures shows { IfOk result (λ shown. Shows kind seats.now.seats seats.now.protections people shown.admitted shown) }
+{
+    let step = Step {
+        list,
+        seats: seats.seats,
+        protections: seats.protections,
+        people,
+    };
+    let chosen = choose(alloc, &step)?;
+    Ok(StepList {
+        kind,
+        seats: u32::from(step.seats),
+        candidates: step.people.len() as u32,
+        admitted: chosen.admitted,
+        cert: chosen.cert,
+    })
+}
+
+/// The open step: its people are those with a common place.
+fn open_step(
+    alloc: Global,
+    seats: &ProgrammeSeats,
+    applicants: &[Person],
+) -> Result<StepList, OutOfMemory>
+    requires seats { AreProgrammeSeats seats.now }
+    requires ranked { AreRanked seats.now.list applicants.now }
+    requires few { length applicants.now ≤ 4294967295 }
+    ensures choice { IfOk result (λ shown. IsStepChoice (step_with seats.now.list (seats_of seats.now OpenStep) (filter (is_common seats.now.list) applicants.now)) shown.admitted) }
+    ensures shows { IfOk result (λ shown. Shows OpenStep (seats_of seats.now OpenStep).seats (seats_of seats.now OpenStep).protections (filter (is_common seats.now.list) applicants.now) shown.admitted shown) }
+{
+    let step_seats = seats.of(StepKind::Open);
+    let people = commons(alloc, applicants, seats.list)?;
+    step_list(alloc, StepKind::Open, seats.list, &step_seats, people)
+}
+
+/// The step of a category: its people are the members whom the open step left.
+fn category_step(
+    alloc: Global,
+    kind: StepKind,
+    category: Category,
+    seats: &ProgrammeSeats,
+    rest: &[Person],
+) -> Result<StepList, OutOfMemory>
+    requires seats { AreProgrammeSeats seats.now }
+    requires ranked { AreRanked seats.now.list rest.now }
+    requires few { length rest.now ≤ 4294967295 }
+    ensures choice { IfOk result (λ shown. IsStepChoice (step_with seats.now.list (seats_of seats.now kind) (filter (is_of category) rest.now)) shown.admitted) }
+    ensures shows { IfOk result (λ shown. Shows kind (seats_of seats.now kind).seats (seats_of seats.now kind).protections (filter (is_of category) rest.now) shown.admitted shown) }
+{
+    let step_seats = seats.of(kind);
+    let people = members(alloc, rest, category)?;
+    step_list(alloc, kind, seats.list, &step_seats, people)
+}
+
+/// The step of de-reserved seats, from those whom the other steps left.
+fn dereserved_step(
+    alloc: Global,
+    list: ListId,
+    seats: u32,
+    left: &[Person],
+) -> Result<StepList, OutOfMemory>
+    requires list { IsList list }
+    requires ranked { AreRanked list left.now }
+    requires few { length left.now ≤ 4294967295 }
+    ensures { IfOk result (λ shown. Shows DereservedStep seats no_protections (filter (is_common list) left.now) (take seats (filter (is_common list) left.now)) shown) }
+{
+    let people = commons(alloc, left, list)?;
+    let admitted = fill(alloc, left, list, seats)?;
+    let none = Protections { counts: [0; 6] };
+    let pairs = canonical_pairs(alloc, admitted.as_slice(), &none)?;
+    Ok(StepList {
+        kind: StepKind::Dereserved,
+        seats,
+        candidates: people.len() as u32,
+        admitted,
+        cert: Cert { pairs },
+    })
+}
+
+/// How many persons a step of a programme admitted.
+fn held_by(list: &StepList) -> u16
+    requires { length list.now.admitted ≤ 4000 }
+    ensures { result ≡ length list.now.admitted }
+{
+    list.admitted.len() as u16
+}
+
+/// The choice of a programme from those whom its open step left, who stand in merit order.
+fn choose_from_rest(
+    alloc: Global,
+    matrix: &Matrix,
+    version: u8,
+    prog: ProgId,
+    seats: &ProgrammeSeats,
+    first: StepList,
+    rest: &[Person],
+) -> Result<Programme, OutOfMemory>
+    requires programme { prog.0 < length matrix.now.programmes }
+    requires version { version ≡ 1 }
+    requires matrix { seats.now ≡ seats_in matrix.now prog.0 }
+    requires seats { AreProgrammeSeats seats.now }
+    requires open_step { length first.admitted ≤ (seats_of seats.now OpenStep).seats }
+    requires ranked { AreRanked seats.now.list rest.now }
+    requires few { length rest.now ≤ 4294967295 }
+    ensures { IfOk result (λ programme. (applicants : List AnyPerson) → rest.now ≡ without applicants first.admitted
+        → IsStepChoice (step_with seats.now.list (seats_of seats.now OpenStep) (filter (is_common seats.now.list) applicants)) first.admitted
+        → Shows OpenStep (seats_of seats.now OpenStep).seats (seats_of seats.now OpenStep).protections (filter (is_common seats.now.list) applicants) first.admitted first
+        → ShowsChoice version seats.now applicants programme) }
+{
+    let ews = category_step(alloc, StepKind::Ews, Category::Ews, seats, rest)?;
+    let obc = category_step(alloc, StepKind::Obc, Category::Obc, seats, rest)?;
+    let sc = category_step(alloc, StepKind::Sc, Category::Sc, seats, rest)?;
+    let st = category_step(alloc, StepKind::St, Category::St, seats, rest)?;
+    let left = left_over(
+        alloc,
+        rest,
+        ews.admitted.as_slice(),
+        obc.admitted.as_slice(),
+        sc.admitted.as_slice(),
+        st.admitted.as_slice(),
+    )?;
+    let held = [
+        held_by(&first),
+        held_by(&ews),
+        held_by(&obc),
+        held_by(&sc),
+        held_by(&st),
+    ];
+    let empty = unfilled(matrix, prog, version, &held);
+    let dereserved = dereserved_step(alloc, seats.list, empty, left.as_slice())?;
+    Ok(Programme {
+        steps: [first, ews, obc, sc, st, dereserved],
+    })
+}
+
+/// The choice of a programme from applicants who stand in merit order, the best first. Each step is walked through a few
+/// times from its people's first to its last, beside its choice and its certificate.
+fn choose_in_order(
+    alloc: Global,
+    matrix: &Matrix,
+    version: u8,
+    prog: ProgId,
+    applicants: &[Person],
+) -> Result<Programme, OutOfMemory>
+    requires programme { prog.0 < length matrix.now.programmes }
+    requires version { version ≡ 1 }
+    requires ranked { AreRanked (list_in matrix.now prog.0) applicants.now }
+    requires few { length applicants.now ≤ 4294967295 }
+    ensures { IfOk result (λ programme. ShowsChoice version (seats_in matrix.now prog.0) applicants.now programme) }
+{
+    let seats = ProgrammeSeats::read(matrix, prog);
+    let first = open_step(alloc, &seats, applicants)?;
+    let rest = without(alloc, applicants, first.admitted.as_slice())?;
+    choose_from_rest(alloc, matrix, version, prog, &seats, first, rest.as_slice())
+}
+
+/// The choice of a programme from applicants in any order, who are distinct and have distinct places in its list: open
+/// seats to those with a common place, then the seats of each category to its members whom the open step left, then as
+/// many seats as OBC left empty to the best with a common place whom no earlier step took. The version is that of the
+/// bundle. It sorts the applicants by merit once.
+pub fn programme_choice(
+    alloc: Global,
+    matrix: &Matrix,
+    version: u8,
+    prog: ProgId,
+    applicants: &[Person],
+) -> Result<Programme, OutOfMemory>
+    requires programme { prog.0 < length matrix.now.programmes }
+    requires version { version ≡ 1 }
+    requires applicants { AreApplicants (list_in matrix.now prog.0) applicants.now }
+    ensures { IfOk result (λ programme. (ranked : List AnyPerson) × IsMeritOrder (list_in matrix.now prog.0) applicants.now ranked
+        × ShowsChoice version (seats_in matrix.now prog.0) ranked programme) }
+{
+    // no memory holds so many persons
+    if applicants.len() > u32::MAX as usize {
+        return Err(OutOfMemory);
+    }
+    let ranked = in_merit_order(alloc, applicants, matrix.list(prog))?;
+    choose_in_order(alloc, matrix, version, prog, &ranked)
+}
