@@ -1,5 +1,5 @@
 -- What the rows of the season's section give.
-use Rattle.std.specs.Prelude.{◌+◌, ℕ, nat_le, List, [], ◌∷◌, Option, Some, None, Result, Ok, Err, is_some, length, bytes_eq, codes, if◌then◌else◌}
+use Rattle.std.specs.Prelude.{◌+◌, ℕ, nat_le, List, [], ◌∷◌, Option, Some, None, Result, Ok, is_some, length, bytes_eq, codes, if◌then◌else◌}
 use Rattle.std.specs.Option.{option_map}
 use Rattle.office_text.specs.Number.{number_within}
 use Rattle.section_rows.specs.Rows.{Row, field}

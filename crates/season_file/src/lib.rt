@@ -10,6 +10,8 @@ pub mod cutting;
 pub mod fault;
 pub mod head;
 pub mod season;
+#[cfg(test)]
+mod tests;
 
 pub use fault::SeasonFault;
 pub use season::Season;
