@@ -89,6 +89,7 @@ impl Choices {
     pub fn list(&self, cand: CandId) -> &[ProgId]
         ensures list { result.now ≡ list_of self.now cand.0 }
         ensures distinct { AreDistinct result.now }
+        ensures short { length result.now ≤ 1000 }
     {
         match self.ranges.get(&cand.0) {
             Some((start, end)) => part(self.programmes.as_slice(), *start, *end),

@@ -1,5 +1,6 @@
 // What can be wrong with the choices.
 ghost use Rattle.std.specs.Prelude.{◌≡◌};
+ghost use Rattle.choice_lists.specs.Kinds.{kind_name};
 ghost use Rattle.choice_lists.specs.declared.fault.ChoiceFault.TheVariants.{OutOfMemory as NoMemory};
 
 use office_base::OutOfMemory;
@@ -24,6 +25,24 @@ pub enum ChoiceKind {
     TooLong = 6,
     /// There are more than 5,000,000 programmes in all rows up to this one.
     TooMany = 7,
+}
+
+impl ChoiceKind {
+    /// The name, as the line of a fault spells it.
+    pub fn name(self) -> &'static str
+        ensures { result.now ≡ kind_name self }
+    {
+        match self {
+            ChoiceKind::BadHeader => "BadHeader",
+            ChoiceKind::UnknownCandidate => "UnknownCandidate",
+            ChoiceKind::RepeatedCandidate => "RepeatedCandidate",
+            ChoiceKind::UnknownProgramme => "UnknownProgramme",
+            ChoiceKind::RepeatedProgramme => "RepeatedProgramme",
+            ChoiceKind::NotRankedThere => "NotRankedThere",
+            ChoiceKind::TooLong => "TooLong",
+            ChoiceKind::TooMany => "TooMany",
+        }
+    }
 }
 
 /// Why choices were not read. Nothing is left behind.

@@ -12,6 +12,7 @@ use Rattle.std.specs.declared.cmp.Ordering.TheVariants.{Less}
 use Rattle.std.proofs.lemmas.Bool.{cases_order, cond-true, cond-false, eq-eqb, ne_eqb}
 use Rattle.std.proofs.lemmas.Bool.Decides.{nat_tests}
 use Rattle.std.proofs.lemmas.Cmp.{ranked}
+use Rattle.std.proofs.lemmas.Map.Entries.{length-values_of}
 use Rattle.std.proofs.lemmas.Map.Text.{is_eq-slice_cmp}
 use Rattle.office_base.specs.Lists.{Pairwise}
 use Rattle.office_base.specs.declared.person.CandId.{CandId}
@@ -77,6 +78,7 @@ pub made_sound : (entries : List Entry) (ranking : Ranking) (people : List Perso
 made_sound entries ranking people keeps e ordered =
     let register = made entries ranking people keeps e ordered in
     record {
+      few = omega (arith, ap (λ (l : List Person). length l) e, length-values_of ranking.people.entries, keeps.count, keeps.sound.few);
       rising = register.rising;
       apart = λ i j list n a b ha hb na nb. keeps.sound.apart i j list n a b (sym (register.people i) ∙ ha) (sym (register.people j) ∙ hb) na nb;
       registered = λ id person h. keeps.sound.registered id person (sym (register.people id) ∙ h);

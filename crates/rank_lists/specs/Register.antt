@@ -150,6 +150,7 @@ pub record AreEntries (entries : List Entry) : Type 0 where
 
 -- What holds of every register.
 pub record AreRanks (ranks : Ranks) : Type 0 where
+  pub few : length ranks.people ≤ 250000
   pub rising : Pairwise (λ a b. a.id.0 < b.id.0) ranks.people
   pub apart : AreApart (λ id. find_person id ranks.people)
   pub registered : (id : ℕ) (person : Person) → find_person id ranks.people ≡ Some person → IsRegistered person

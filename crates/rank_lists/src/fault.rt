@@ -1,5 +1,6 @@
 // What can be wrong with a register.
 ghost use Rattle.std.specs.Prelude.{◌≡◌};
+ghost use Rattle.rank_lists.specs.Kinds.{kind_name};
 ghost use Rattle.rank_lists.specs.declared.fault.RankFault.TheVariants.{OutOfMemory as NoMemory};
 
 use office_base::OutOfMemory;
@@ -27,6 +28,26 @@ pub enum RankKind {
     BadToken = 9,
     /// There are more than 250,000 candidates.
     TooMany = 10,
+}
+
+impl RankKind {
+    /// The name, as the line of a fault spells it.
+    pub fn name(self) -> &'static str
+        ensures { result.now ≡ kind_name self }
+    {
+        match self {
+            RankKind::BadHeader => "BadHeader",
+            RankKind::BadId => "BadId",
+            RankKind::RepeatedId => "RepeatedId",
+            RankKind::BadCategory => "BadCategory",
+            RankKind::BadTrait => "BadTrait",
+            RankKind::BadPlace => "BadPlace",
+            RankKind::RepeatedPlace => "RepeatedPlace",
+            RankKind::RelaxedGeneral => "RelaxedGeneral",
+            RankKind::BadToken => "BadToken",
+            RankKind::TooMany => "TooMany",
+        }
+    }
 }
 
 /// Why a register was not read. Nothing is left behind.

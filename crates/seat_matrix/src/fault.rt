@@ -1,5 +1,6 @@
 // What can be wrong with a matrix.
 ghost use Rattle.std.specs.Prelude.{◌≡◌};
+ghost use Rattle.seat_matrix.specs.Kinds.{kind_name};
 ghost use Rattle.seat_matrix.specs.declared.fault.MatrixFault.TheVariants.{OutOfMemory as NoMemory};
 
 use office_base::OutOfMemory;
@@ -25,6 +26,25 @@ pub enum MatrixKind {
     TwoLists = 8,
     /// There are more than 2,000 programmes, or more than 1,000,000 seats in all rows.
     TooMany = 9,
+}
+
+impl MatrixKind {
+    /// The name, as the line of a fault spells it.
+    pub fn name(self) -> &'static str
+        ensures { result.now ≡ kind_name self }
+    {
+        match self {
+            MatrixKind::BadHeader => "BadHeader",
+            MatrixKind::BadCode => "BadCode",
+            MatrixKind::RepeatedRow => "RepeatedRow",
+            MatrixKind::BadNumber => "BadNumber",
+            MatrixKind::ProtectionsExceedSeats => "ProtectionsExceedSeats",
+            MatrixKind::UnknownList => "UnknownList",
+            MatrixKind::TwoInstitutes => "TwoInstitutes",
+            MatrixKind::TwoLists => "TwoLists",
+            MatrixKind::TooMany => "TooMany",
+        }
+    }
 }
 
 /// Why a matrix was not read. Nothing is left behind.

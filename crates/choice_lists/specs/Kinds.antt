@@ -1,0 +1,15 @@
+-- How the kinds of faults are spelled.
+use Rattle.std.specs.Prelude.{ℕ, List, codes}
+use Rattle.choice_lists.specs.declared.fault.ChoiceKind.{ChoiceKind}
+use Rattle.choice_lists.specs.declared.fault.ChoiceKind.TheVariants.{BadHeader, UnknownCandidate, RepeatedCandidate, UnknownProgramme, RepeatedProgramme, NotRankedThere, TooLong, TooMany}
+
+-- the name of a kind of fault
+abbrev pub kind_name : ChoiceKind → List ℕ
+kind_name BadHeader = codes "BadHeader"
+kind_name UnknownCandidate = codes "UnknownCandidate"
+kind_name RepeatedCandidate = codes "RepeatedCandidate"
+kind_name UnknownProgramme = codes "UnknownProgramme"
+kind_name RepeatedProgramme = codes "RepeatedProgramme"
+kind_name NotRankedThere = codes "NotRankedThere"
+kind_name TooLong = codes "TooLong"
+kind_name TooMany = codes "TooMany"
