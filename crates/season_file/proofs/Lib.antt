@@ -1,2 +1,3 @@
 mod CuttingLemmas
+mod HeadLemmas
 mod SeasonLemmas

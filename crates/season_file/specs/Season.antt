@@ -17,7 +17,7 @@ use Rattle.season_file.specs.Head.{head_of}
 use Rattle.season_file.specs.declared.fault.SeasonFault.{SeasonFault}
 use Rattle.season_file.specs.declared.fault.SeasonFault.TheVariants.{ReadFault, TooLong, BadFirstLine, Section, BadSeason, Register, Matrix, Choices, NotUtf8, OutOfMemory}
 use Rattle.season_file.specs.declared.head.Head.{Head}
-use Rattle.season_file.specs.declared.season.Content.{Content}
+use Rattle.season_file.specs.declared.content.Content.{Content}
 use Rattle.season_file.specs.declared.season.Season.{Season}
 
 -- UTF-8 of at most 134,217,728 bytes

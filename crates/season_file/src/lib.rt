@@ -6,6 +6,7 @@
 // depends on how the source cuts its bytes. It must never know of requests, of answers or of what a season is read for.
 #![tactic(auto)]
 
+pub mod content;
 pub mod cutting;
 pub mod fault;
 pub mod head;

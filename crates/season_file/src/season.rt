@@ -1,16 +1,14 @@
 // A season, read from a source or from bytes.
-ghost use Rattle.std.specs.Prelude.{◌≡◌, ◌≤◌, false, is_some, IfOk, IfErr, IsErrOf};
-ghost use Rattle.office_base.specs.Outside.{IsAtEnd, Rose, Took};
+ghost use Rattle.std.specs.Prelude.{◌≡◌, ◌≤◌, false, is_some};
 ghost use Rattle.rank_lists.specs.Register.{find_holder};
-ghost use Rattle.season_file.specs.Season.{ArePartsWith, Give, Gives, IsSeason, IsSeasonFault, IsSourceFault, IsText, choice_error, matrix_error, register_error};
+ghost use Rattle.choice_lists.specs.Choices.{AreChoices};
 
-use crate::cutting::{Bodies, MOST_BYTES, cut};
+use crate::content::{Content, read_bytes, read_content};
 use crate::fault::SeasonFault;
-use crate::head::{Head, read_head};
-use choice_lists::{ChoiceFault, Choices};
-use office_base::{ReadFault, Source, Text, Token, read_whole};
-use rank_lists::{RankFault, Register};
-use seat_matrix::{Matrix, MatrixFault};
+use choice_lists::Choices;
+use office_base::{Source, Text, Token};
+use rank_lists::Register;
+use seat_matrix::Matrix;
 use std::alloc::Global;
 
 /// A season: what its four sections give, and the whole bundle as `text`.
@@ -24,143 +22,21 @@ pub struct Season {
     pub clerk: Token,
     pub register: Register,
     pub matrix: Matrix,
+    /// Each list names distinct programmes of the matrix, in whose merit lists the candidate has a place.
     pub choices: Choices,
     pub text: Text,
-}
-
-/// What the four sections give.
-#[derive(Drop)]
-pub struct Content {
-    pub head: Head,
-    pub register: Register,
-    pub matrix: Matrix,
-    pub choices: Choices,
-}
-
-/// The register's fault as the season's.
-fn register_error(fault: RankFault) -> SeasonFault
-    ensures { result ≡ register_error fault }
-{
-    match fault {
-        RankFault::Bad { .. } => SeasonFault::Register(fault),
-        RankFault::OutOfMemory => SeasonFault::OutOfMemory,
-    }
-}
-
-/// The matrix's fault as the season's.
-fn matrix_error(fault: MatrixFault) -> SeasonFault
-    ensures { result ≡ matrix_error fault }
-{
-    match fault {
-        MatrixFault::Bad { .. } => SeasonFault::Matrix(fault),
-        MatrixFault::OutOfMemory => SeasonFault::OutOfMemory,
-    }
-}
-
-/// The choices' fault as the season's.
-fn choice_error(fault: ChoiceFault) -> SeasonFault
-    ensures { result ≡ choice_error fault }
-{
-    match fault {
-        ChoiceFault::Bad { .. } => SeasonFault::Choices(fault),
-        ChoiceFault::OutOfMemory => SeasonFault::OutOfMemory,
-    }
-}
-
-/// What the bodies of the sections give, or the first fault of a section.
-fn read_sections(alloc: Global, bodies: Bodies<'_>) -> Result<Content, SeasonFault>
-    ensures value { IfOk result (λ content. Give (record { season = bodies.entry.season.now; register = bodies.entry.register.now; matrix = bodies.entry.matrix.now; choices = bodies.entry.choices.now }) content) }
-    ensures fault { IfErr result (λ fault. ArePartsWith (record { season = bodies.entry.season.now; register = bodies.entry.register.now; matrix = bodies.entry.matrix.now; choices = bodies.entry.choices.now }) fault) }
-{
-    let head = match read_head(alloc, bodies.season)? {
-        Ok(head) => head,
-        Err(row) => return Err(SeasonFault::BadSeason { row }),
-    };
-    let register = match Register::read(alloc, bodies.register) {
-        Ok(register) => register,
-        Err(fault) => return Err(register_error(fault)),
-    };
-    let matrix = match Matrix::read(alloc, bodies.matrix) {
-        Ok(matrix) => matrix,
-        Err(fault) => return Err(matrix_error(fault)),
-    };
-    match Choices::read(alloc, bodies.choices, &register, &matrix) {
-        Ok(choices) => Ok(Content {
-            head,
-            register,
-            matrix,
-            choices,
-        }),
-        Err(fault) => Err(choice_error(fault)),
-    }
-}
-
-/// Whether the clerk's token is a candidate's.
-fn is_candidate(content: &Content) -> bool
-    ensures { result ≡ is_some (find_holder content.now.head.clerk content.now.register.holders) }
-{
-    content.register.who(content.head.clerk.bytes()).is_some()
-}
-
-/// What a bundle of UTF-8 gives, or its first fault.
-fn read_bundle(alloc: Global, bytes: &[u8]) -> Result<Content, SeasonFault>
-    requires { IsText bytes.now }
-    ensures value { IfOk result (λ content. Gives bytes.now content) }
-    ensures fault { IfErr result (λ fault. IsSeasonFault bytes.now fault) }
-{
-    let bodies = match cut(bytes) {
-        Ok(bodies) => bodies,
-        Err(fault) => return Err(fault),
-    };
-    let content = match read_sections(alloc, bodies) {
-        Ok(content) => content,
-        Err(fault) => return Err(fault),
-    };
-    if is_candidate(&content) {
-        return Err(SeasonFault::BadSeason {
-            row: content.head.row,
-        });
-    }
-    Ok(content)
-}
-
-/// What bytes give, or their first fault.
-fn read_content(alloc: Global, bytes: &[u8]) -> Result<Content, SeasonFault>
-    ensures value { IfOk result (λ content. Gives bytes.now content) }
-    ensures fault { IfErr result (λ fault. IsSeasonFault bytes.now fault) }
-{
-    if bytes.len() > MOST_BYTES {
-        return Err(SeasonFault::TooLong);
-    }
-    match std::str::from_utf8(bytes) {
-        Ok(_) => read_bundle(alloc, bytes),
-        Err(_) => Err(SeasonFault::NotUtf8),
-    }
-}
-
-/// The season of this content and text.
-fn with_text(content: Content, text: Text) -> Season
-    requires { Gives text content }
-    ensures { IsSeason text result }
-{
-    let Content {
-        head,
-        register,
-        matrix,
-        choices,
-    } = content;
-    Season {
-        version: 1,
-        rounds: head.rounds,
-        clerk: head.clerk,
-        register,
-        matrix,
-        choices,
-        text,
-    }
+    pub ghost first_version: { version ≡ 1 },
+    pub ghost some_rounds: { 1 ≤ rounds },
+    pub ghost few_rounds: { rounds ≤ 10 },
+    pub ghost clerk_apart: { is_some (find_holder clerk register.holders) ≡ false },
+    pub ghost sound: { ∥ AreChoices register matrix choices ∥₁ },
 }
 
 impl Season {
+    ghost use Rattle.std.specs.Prelude.{IfOk, IfErr, IsErrOf};
+    ghost use Rattle.office_base.specs.Outside.{IsAtEnd, Rose, Took};
+    ghost use Rattle.season_file.specs.Season.{Gives, IsSeason, IsSeasonFault, IsSourceFault};
+
     /// The season of a bundle, or its first fault. It never answers `ReadFault`.
     pub fn from_text(alloc: Global, bytes: &[u8]) -> Result<Season, SeasonFault>
         ensures value { IfOk result (λ season. IsSeason bytes.now season) }
@@ -169,7 +45,7 @@ impl Season {
         let content = read_content(alloc, bytes)?;
         let mut text = Text::new(alloc);
         text.extend_from_slice(bytes)?;
-        Ok(with_text(content, text))
+        Ok(Season::with_text(content, text))
     }
 
     /// The season of the bytes that a source gives up to its end, or their first fault. A section of requests is a fault of the
@@ -189,24 +65,30 @@ impl Season {
     {
         let text = read_bytes(alloc, source)?;
         match read_content(alloc, text.as_slice()) {
-            Ok(content) => Ok(with_text(content, text)),
+            Ok(content) => Ok(Season::with_text(content, text)),
             Err(fault) => Err(fault),
         }
     }
-}
 
-/// The bytes that a source gives up to its end.
-fn read_bytes<S: Source>(alloc: Global, source: &mut S) -> Result<Text, SeasonFault>
-    ensures taken { IfOk result (λ bytes. Took bytes (S.left source.old) (S.left source.new)) }
-    ensures ended { IfOk result (λ bytes. IsAtEnd (S.left source.new)) }
-    ensures fault { IfErr result (λ fault. IsSourceFault (S.left source.old) (S.left source.new) fault) }
-    ensures cause { IsErrOf result SeasonFault.ReadFault → Rose (S.faults source.old) (S.faults source.new) }
-    ensures count { S.faults source.old ≤ S.faults source.new }
-{
-    match read_whole(alloc, source, MOST_BYTES) {
-        Ok(bytes) => Ok(bytes),
-        Err(ReadFault::Failed) => Err(SeasonFault::ReadFault),
-        Err(ReadFault::TooLong) => Err(SeasonFault::TooLong),
-        Err(ReadFault::OutOfMemory) => Err(SeasonFault::OutOfMemory),
+    /// The season of this content and text.
+    fn with_text(content: Content, text: Text) -> Season
+        requires { Gives text content }
+        ensures { IsSeason text result }
+    {
+        let Content {
+            head,
+            register,
+            matrix,
+            choices,
+        } = content;
+        Season {
+            version: 1,
+            rounds: head.rounds,
+            clerk: head.clerk,
+            register,
+            matrix,
+            choices,
+            text,
+        }
     }
 }

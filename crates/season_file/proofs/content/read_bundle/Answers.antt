@@ -3,7 +3,7 @@ use Rattle.std.specs.Prelude.{is_some}
 use Rattle.rank_lists.specs.Register.{find_holder}
 use Rattle.season_file.specs.Bundle.{Parts}
 use Rattle.season_file.proofs.SeasonLemmas.{cut-told, not_some}
-use Rattle.season_file.proofs.season.read_bundle.Goals as goal
+use Rattle.season_file.proofs.content.read_bundle.Goals as goal
 
 pub returns-in-Err-clause-fault : goal.returns-in-Err-clause-fault
 returns-in-Err-clause-fault c = cut-told c.args.bytes.now c.in-Err.fault c.requires c.in-Err.ensures
