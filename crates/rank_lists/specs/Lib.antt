@@ -1,4 +1,5 @@
 pub mod Fields
+pub mod Laws
 pub mod Places
 pub mod Ranking
 pub mod Register
