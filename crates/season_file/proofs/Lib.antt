@@ -1,2 +1,3 @@
 mod CuttingLemmas
+mod LawsLemmas
 mod SeasonLemmas

@@ -9,6 +9,7 @@
 pub mod cutting;
 pub mod fault;
 pub mod head;
+pub mod laws;
 pub mod season;
 #[cfg(test)]
 mod tests;
