@@ -1,2 +1,3 @@
 mod ChoicesLemmas
+mod LawsLemmas
 mod ListingLemmas

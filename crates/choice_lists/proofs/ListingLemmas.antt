@@ -58,8 +58,8 @@ choices-push : (count : ℕ) (entries : List Entry) (entry : Entry) → choices_
 choices-push count [] entry = refl
 choices-push count (e ∷ entries) entry = choices-push (count + length e.programmes) entries entry
 
--- each list is sound with one more
-sound-step : (ranks : Ranks) (seats : Seats) (entries : List Entry) (entry : Entry) → ((q : ℕ) → IsChoice ranks seats q (listed (list_at q entries))) → IsChoice ranks seats entry.candidate entry.programmes
+-- Each list is sound with one more.
+pub sound-step : (ranks : Ranks) (seats : Seats) (entries : List Entry) (entry : Entry) → ((q : ℕ) → IsChoice ranks seats q (listed (list_at q entries))) → IsChoice ranks seats entry.candidate entry.programmes
     → (q : ℕ) → IsChoice ranks seats q (listed (list_at q (entries ++ entry ∷ [])))
 sound-step ranks seats entries entry sound new q =
     subst (λ (o : Option (List ProgId)). IsChoice ranks seats q (listed o)) (sym (first_of-push (λ e. q == e.candidate) (λ e. e.programmes) entries entry))

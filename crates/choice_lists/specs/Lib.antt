@@ -1,3 +1,4 @@
 pub mod Choices
 pub mod Kinds
+pub mod Laws
 pub mod Listing

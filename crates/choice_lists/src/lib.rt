@@ -8,6 +8,7 @@
 
 pub mod choices;
 pub mod fault;
+pub mod laws;
 pub mod listing;
 #[cfg(test)]
 mod tests;

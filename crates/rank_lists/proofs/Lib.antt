@@ -1,3 +1,4 @@
 mod EntriesLemmas
+mod LawsLemmas
 mod MadeLemmas
 mod RankingLemmas

@@ -1,3 +1,4 @@
 mod CuttingLemmas
 mod HeadLemmas
+mod LawsLemmas
 mod SeasonLemmas

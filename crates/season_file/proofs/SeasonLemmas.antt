@@ -75,11 +75,15 @@ two_faults false text r fault e = inl cc
 two_faults true text (Ok parts) fault e = absurd cc
 two_faults true text (Err rest) fault e = inr (fault_line text rest, cc)
 
+-- A fault of the cutting is that of the first line, or of a section line.
+pub cutting_fault : (bytes : List ℕ) (fault : SeasonFault) → bundle_of bytes ≡ Err fault → (fault ≡ BadFirstLine) ⊎ ((line : ℕ) × (fault ≡ Section line))
+cutting_fault bytes fault e =
+    let mid : List ℕ = skip_mark bytes in
+    two_faults (bytes_eq (title mid) (codes "office bundle 1")) mid (bodies (skip_empty (behind mid))) fault e
+
 -- A fault of the cutting is the bundle's.
 pub cut-told : (bytes : List ℕ) (fault : SeasonFault) → IsText bytes → bundle_of bytes ≡ Err fault → IsSeasonFault bytes fault
-cut-told bytes fault text e =
-    let mid : List ℕ = skip_mark bytes in
-    elim (two_faults (bytes_eq (title mid) (codes "office bundle 1")) mid (bodies (skip_empty (behind mid))) fault e) [
-      | inl same ↦ subst (IsSeasonFault bytes) (sym same) (text, subst (λ (f : SeasonFault). bundle_of bytes ≡ Err f) same e)
-      | inr found ↦ subst (IsSeasonFault bytes) (sym found.1) (text, subst (λ (f : SeasonFault). bundle_of bytes ≡ Err f) found.1 e)
-    ]
+cut-told bytes fault text e = elim (cutting_fault bytes fault e) [
+  | inl same ↦ subst (IsSeasonFault bytes) (sym same) (text, subst (λ (f : SeasonFault). bundle_of bytes ≡ Err f) same e)
+  | inr found ↦ subst (IsSeasonFault bytes) (sym found.1) (text, subst (λ (f : SeasonFault). bundle_of bytes ≡ Err f) found.1 e)
+]

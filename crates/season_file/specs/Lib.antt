@@ -1,3 +1,4 @@
 pub mod Bundle
 pub mod Head
+pub mod Laws
 pub mod Season

@@ -10,6 +10,7 @@ pub mod content;
 pub mod cutting;
 pub mod fault;
 pub mod head;
+pub mod laws;
 pub mod season;
 #[cfg(test)]
 mod tests;

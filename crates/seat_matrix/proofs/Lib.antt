@@ -1,1 +1,2 @@
+mod LawsLemmas
 mod SeatsLemmas

@@ -1,4 +1,5 @@
 pub mod Fields
 pub mod Kinds
+pub mod Laws
 pub mod Matrix
 pub mod Table

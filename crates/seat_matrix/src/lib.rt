@@ -9,6 +9,7 @@
 pub mod entry;
 pub mod fault;
 pub mod fields;
+pub mod laws;
 pub mod matrix;
 pub mod table;
 #[cfg(test)]

@@ -1,0 +1,16 @@
+// What holds of choices themselves, whoever reads them.
+ghost use Rattle.std.specs.Prelude.{List};
+ghost use Rattle.section_rows.specs.Rows.{Row};
+ghost use Rattle.rank_lists.specs.Register.{Ranks};
+ghost use Rattle.seat_matrix.specs.Matrix.{Seats};
+ghost use Rattle.choice_lists.specs.Laws.{DependOnPeopleAndProgrammes, HaveOneReading};
+
+/// Beside ranks and seats, rows give sound lists or have one first fault, and never both.
+pub fn one_reading()
+    ensures { (ranks : Ranks) (seats : Seats) (rows : List Row) → HaveOneReading ranks seats rows }
+{}
+
+/// Of the ranks only the people matter, and of the seats only the programmes.
+pub fn same_reading()
+    ensures { (rows : List Row) → DependOnPeopleAndProgrammes rows }
+{}

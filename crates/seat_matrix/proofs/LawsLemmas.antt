@@ -1,0 +1,213 @@
+-- Rows have exactly one reading.
+use Rattle.std.proofs.Common.{◌≡◌, ◌⊎◌, inl, inr, ℕ, Bool, true, false, cond, List, [], ◌∷◌, ◌++◌, ◌+◌, map, Option, Some, None, refl, sym, ap, subst, ◌∙◌}
+use Rattle.std.specs.Prelude.{◌==◌, ◌&&◌, ◌||◌, bytes_eq, is_some, if◌then◌else◌}
+use Rattle.std.specs.List.{AllByRecursion, list_any}
+use Rattle.std.proofs.lemmas.Bool.{cond-false, cond-true, false_from_ne_true}
+use Rattle.std.proofs.lemmas.Slice.Eq.{bytes_eq-Decides}
+use Rattle.office_base.specs.Lists.{Pairwise}
+use Rattle.office_text.proofs.FirstFaultLemmas.{one_answer}
+use Rattle.section_rows.specs.Rows.{Row}
+use Rattle.section_rows.specs.Table.{entries_of}
+use Rattle.section_rows.proofs.StepsLemmas.{first_of-push, or_else}
+use Rattle.seat_matrix.specs.Fields.{step_number}
+use Rattle.seat_matrix.specs.Laws.{AreSame, HaveOneReading}
+use Rattle.seat_matrix.specs.Matrix.{IsFault, IsMatrix, IsRead, Seats, codes_after, find_home, find_seating, home_at, judge, reading, seating_at, with_code}
+use Rattle.seat_matrix.specs.declared.entry.Entry.{Entry}
+use Rattle.seat_matrix.specs.declared.entry.Home.{Home}
+use Rattle.seat_matrix.specs.declared.entry.Seating.{Seating}
+use Rattle.seat_matrix.specs.declared.fault.MatrixFault.TheVariants.{Bad}
+use Rattle.seat_matrix.specs.declared.fault.MatrixKind.{MatrixKind}
+
+-- programmes with their homes
+abbrev Homes : Type 0
+Homes = List (List ℕ × Home)
+
+-- the codes of programmes
+abbrev codes_in : Homes → List (List ℕ)
+codes_in programmes = map (λ held. held.0) programmes
+
+-- no code stands twice among these
+abbrev Distinct : List (List ℕ) → Type 0
+Distinct codes = Pairwise (λ a b. a ≡ b → ⊥) codes
+
+-- the programmes with that of one more entry, unless it is among them
+abbrev with_programme : Homes → Entry → Homes
+with_programme programmes entry = if is_some (find_home entry.programme programmes) then programmes else programmes ++ (entry.programme, entry.home) ∷ []
+
+-- the programmes of entries, behind these
+abbrev programmes_after : Homes → List Entry → Homes
+programmes_after programmes [] = programmes
+programmes_after programmes (entry ∷ entries) = programmes_after (with_programme programmes entry) entries
+
+-- the seats of the steps of entries
+abbrev steps_of : List Entry → List ((List ℕ × ℕ) × Seating)
+steps_of entries = map (λ entry. ((entry.programme, step_number entry.step), entry.seating)) entries
+
+-- a home is found where the code is among the codes
+known_code : (code : List ℕ) (programmes : Homes) → is_some (find_home code programmes) ≡ list_any (bytes_eq code) (codes_in programmes)
+known_code code [] = refl
+known_code code (held ∷ programmes) = by (bytes_eq code held.0) (known_code code programmes)
+  where
+    by : (b : Bool) → is_some (find_home code programmes) ≡ list_any (bytes_eq code) (codes_in programmes)
+        → is_some (cond b (Some held.1) (find_home code programmes)) ≡ (b || list_any (bytes_eq code) (codes_in programmes))
+    by true h = refl
+    by false h = h
+
+codes-push : (programmes : Homes) (held : List ℕ × Home) → codes_in (programmes ++ held ∷ []) ≡ codes_in programmes ++ held.0 ∷ []
+codes-push [] held = refl
+codes-push (first ∷ programmes) held = ap (λ (codes : List (List ℕ)). first.0 ∷ codes) (codes-push programmes held)
+
+-- The programmes with one more have the codes with one more.
+with_programme-codes : (programmes : Homes) (entry : Entry) → codes_in (with_programme programmes entry) ≡ with_code (codes_in programmes) entry.programme
+with_programme-codes programmes entry = by (is_some (find_home entry.programme programmes)) (list_any (bytes_eq entry.programme) (codes_in programmes)) (known_code entry.programme programmes)
+  where
+    by : (b c : Bool) → b ≡ c
+        → codes_in (cond b programmes (programmes ++ (entry.programme, entry.home) ∷ [])) ≡ cond c (codes_in programmes) (codes_in programmes ++ entry.programme ∷ [])
+    by true true e = refl
+    by true false e = cc e
+    by false true e = cc e
+    by false false e = codes-push programmes (entry.programme, entry.home)
+
+programmes-codes : (programmes : Homes) (entries : List Entry) → codes_in (programmes_after programmes entries) ≡ codes_after (codes_in programmes) entries
+programmes-codes programmes [] = refl
+programmes-codes programmes (entry ∷ entries) =
+    programmes-codes (with_programme programmes entry) entries ∙ ap (λ (codes : List (List ℕ)). codes_after codes entries) (with_programme-codes programmes entry)
+
+-- what was found hides what comes behind it
+known_first : {X : Type 0} (o next : Option X) (b : Bool) (x : X) → (b ≡ true → is_some o ≡ true) → or_else o next ≡ or_else o (cond b (Some x) next)
+known_first (Some y) next b x h = refl
+known_first None next true x h = cc (h refl)
+known_first None next false x h = refl
+
+-- the first of three
+new_first : {X : Type 0} (o next : Option X) (b : Bool) (x : X) → or_else (or_else o (cond b (Some x) None)) next ≡ or_else o (cond b (Some x) next)
+new_first (Some y) next b x = refl
+new_first None next true x = refl
+new_first None next false x = refl
+
+-- What is found with one more entry.
+with_programme-found : (code : List ℕ) (programmes : Homes) (entry : Entry) (next : Option Home)
+    → or_else (find_home code (with_programme programmes entry)) next ≡ or_else (find_home code programmes) (cond (bytes_eq code entry.programme) (Some entry.home) next)
+with_programme-found code programmes entry next = by (is_some (find_home entry.programme programmes)) refl
+  where
+    by : (b : Bool) → is_some (find_home entry.programme programmes) ≡ b
+        → or_else (find_home code (cond b programmes (programmes ++ (entry.programme, entry.home) ∷ []))) next ≡ or_else (find_home code programmes) (cond (bytes_eq code entry.programme) (Some entry.home) next)
+    by true e = known_first (find_home code programmes) next (bytes_eq code entry.programme) entry.home
+        (λ same. ap (λ (c : List ℕ). is_some (find_home c programmes)) ((bytes_eq-Decides code entry.programme).0 same) ∙ e)
+    by false e = ap (λ (o : Option Home). or_else o next) (first_of-push (λ held. bytes_eq code held.0) (λ held. held.1) programmes (entry.programme, entry.home))
+        ∙ new_first (find_home code programmes) next (bytes_eq code entry.programme) entry.home
+
+or_none : {X : Type 0} (o : Option X) → o ≡ or_else o None
+or_none None = refl
+or_none (Some x) = refl
+
+programmes-found : (code : List ℕ) (programmes : Homes) (entries : List Entry) → find_home code (programmes_after programmes entries) ≡ or_else (find_home code programmes) (home_at code entries)
+programmes-found code programmes [] = or_none (find_home code programmes)
+programmes-found code programmes (entry ∷ entries) = programmes-found code (with_programme programmes entry) entries ∙ with_programme-found code programmes entry (home_at code entries)
+
+steps-found : (code : List ℕ) (step : ℕ) (entries : List Entry) → find_seating code step (steps_of entries) ≡ seating_at code step entries
+steps-found code step [] = refl
+steps-found code step (entry ∷ entries) = ap (λ (o : Option Seating). cond (bytes_eq code entry.programme && step == step_number entry.step) (Some entry.seating) o) (steps-found code step entries)
+
+-- All entries have a matrix.
+matrix_of : (entries : List Entry) → IsMatrix entries (record { programmes = programmes_after [] entries; steps = steps_of entries })
+matrix_of entries = record {
+  programmes = programmes-codes [] entries;
+  homes = λ code. programmes-found code [] entries;
+  seatings = λ code step. steps-found code step entries;
+}
+
+-- a code that is not among others is another one
+all_other : (first code : List ℕ) (codes : List (List ℕ)) → (first ≡ code → ⊥) → AllByRecursion (λ other. first ≡ other → ⊥) codes → AllByRecursion (λ other. first ≡ other → ⊥) (codes ++ code ∷ [])
+all_other first code [] other all = (other, tt)
+all_other first code (next ∷ codes) other all = (all.0, all_other first code codes other all.1)
+
+or_parts : (b c : Bool) → (b || c) ≡ false → (b ≡ false) × (c ≡ false)
+or_parts true c e = cc e
+or_parts false c e = (refl, e)
+
+distinct-push : (codes : List (List ℕ)) (code : List ℕ) → list_any (bytes_eq code) codes ≡ false → Distinct codes → Distinct (codes ++ code ∷ [])
+distinct-push [] code e distinct = (tt, tt)
+distinct-push (first ∷ codes) code e distinct =
+    let parts = or_parts (bytes_eq code first) (list_any (bytes_eq code) codes) e in
+    (all_other first code codes (λ same. cc (parts.0, (bytes_eq-Decides code first).1 (sym same))) distinct.0, distinct-push codes code parts.1 distinct.1)
+
+distinct-with : (codes : List (List ℕ)) (code : List ℕ) → Distinct codes → Distinct (with_code codes code)
+distinct-with codes code distinct = by (list_any (bytes_eq code) codes) refl
+  where
+    by : (b : Bool) → list_any (bytes_eq code) codes ≡ b → Distinct (cond b codes (codes ++ code ∷ []))
+    by true e = distinct
+    by false e = distinct-push codes code e distinct
+
+-- The codes of entries are distinct.
+codes-distinct : (codes : List (List ℕ)) (entries : List Entry) → Distinct codes → Distinct (codes_after codes entries)
+codes-distinct codes [] distinct = distinct
+codes-distinct codes (entry ∷ entries) distinct = codes-distinct (with_code codes entry.programme) entries (distinct-with codes entry.programme distinct)
+
+-- a code that is not among those of programmes is not found
+not_found : (code : List ℕ) (programmes : Homes) → AllByRecursion (λ other. code ≡ other → ⊥) (codes_in programmes) → find_home code programmes ≡ None
+not_found code [] all = refl
+not_found code (held ∷ programmes) all =
+    cond-false (bytes_eq code held.0) _ _ (false_from_ne_true (bytes_eq code held.0) (λ e. all.0 ((bytes_eq-Decides code held.0).0 e))) ∙ not_found code programmes all.1
+
+-- the first programme is found by its own code
+found_first : (held : List ℕ × Home) (programmes : Homes) → find_home held.0 (held ∷ programmes) ≡ Some held.1
+found_first held programmes = cond-true (bytes_eq held.0 held.0) _ _ ((bytes_eq-Decides held.0 held.0).1 refl)
+
+-- where the codes are one, the same is found behind the first
+found_behind : (first second : List ℕ × Home) (firsts seconds : Homes) → first ≡ second → codes_in firsts ≡ codes_in seconds → AllByRecursion (λ other. first.0 ≡ other → ⊥) (codes_in firsts)
+    → ((code : List ℕ) → find_home code (first ∷ firsts) ≡ find_home code (second ∷ seconds)) → (code : List ℕ) → find_home code firsts ≡ find_home code seconds
+found_behind first second firsts seconds same codes all e code = by (bytes_eq code first.0) refl
+  where
+    by : (b : Bool) → bytes_eq code first.0 ≡ b → find_home code firsts ≡ find_home code seconds
+    by true f =
+        let here : code ≡ first.0 = (bytes_eq-Decides code first.0).0 f in
+        let others = subst (λ (c : List ℕ). AllByRecursion (λ other. c ≡ other → ⊥) (codes_in firsts)) (sym here) all in
+        not_found code firsts others ∙ sym (not_found code seconds (subst (λ (l : List (List ℕ)). AllByRecursion (λ other. code ≡ other → ⊥) l) codes others))
+    by false f =
+        sym (cond-false (bytes_eq code first.0) (Some first.1) (find_home code firsts) f) ∙ e code
+        ∙ cond-false (bytes_eq code second.0) (Some second.1) (find_home code seconds) (ap (λ (held : List ℕ × Home). bytes_eq code held.0) (sym same) ∙ f)
+
+-- programmes with one code and one home are one
+same_held : (held other : List ℕ × Home) → held.0 ≡ other.0 → held.1 ≡ other.1 → held ≡ other
+same_held held other codes homes = ap (λ (c : List ℕ). (c, held.1)) codes ∙ ap (λ (h : Home). (other.0, h)) homes
+
+-- Programmes are known by their codes and what is found.
+same_programmes : (programmes others : Homes) → codes_in programmes ≡ codes_in others → Distinct (codes_in programmes) → ((code : List ℕ) → find_home code programmes ≡ find_home code others) → programmes ≡ others
+same_programmes [] [] codes distinct e = refl
+same_programmes [] (second ∷ seconds) codes distinct e = cc codes
+same_programmes (first ∷ firsts) [] codes distinct e = cc codes
+same_programmes (first ∷ firsts) (second ∷ seconds) codes distinct e =
+    let ids : first.0 ≡ second.0 = cc codes in
+    let behind : codes_in firsts ≡ codes_in seconds = cc codes in
+    let there : find_home first.0 (second ∷ seconds) ≡ Some second.1 = cond-true (bytes_eq first.0 second.0) _ _ ((bytes_eq-Decides first.0 second.0).1 ids) in
+    let homes : first.1 ≡ second.1 = cc (found_first first firsts, e first.0, there) in
+    let same = same_held first second ids homes in
+    let rest = same_programmes firsts seconds behind distinct.1 (found_behind first second firsts seconds same behind distinct.0 e) in
+    cc (same, rest)
+
+-- Entries have one matrix at most.
+one_matrix : (entries : List Entry) (seats other : Seats) → IsMatrix entries seats → IsMatrix entries other → AreSame seats other
+one_matrix entries seats other a b = record {
+  programmes = same_programmes seats.programmes other.programmes (a.programmes ∙ sym b.programmes) (subst Distinct (sym a.programmes) (codes-distinct [] entries tt))
+      (λ code. a.homes code ∙ sym (b.homes code));
+  seatings = λ code step. a.seatings code step ∙ sym (b.seatings code step);
+}
+
+-- Rows give seats or have a fault.
+some_reading : (rows : List Row) → ((seats : Seats) × IsRead rows seats) ⊎ ((row : ℕ) × (kind : MatrixKind) × IsFault rows (Bad row kind))
+some_reading rows = elim (one_answer judge rows).some [
+  | inl none ↦ inl (record { programmes = programmes_after [] (entries_of reading rows); steps = steps_of (entries_of reading rows) }, (none, matrix_of (entries_of reading rows)))
+  | inr found ↦ inr (found.0 + 1, found.1, (found.0, refl, found.2))
+]
+
+-- Rows have exactly one reading.
+pub one_reading : (rows : List Row) → HaveOneReading rows
+one_reading rows = record {
+  some = some_reading rows;
+  apart = λ seats row kind read fault. (one_answer judge rows).apart fault.0 kind read.0 fault.2;
+  one_value = λ seats other a b. one_matrix (entries_of reading rows) seats other a.1 b.1;
+  one_fault = λ row other kind next a b.
+      let same = (one_answer judge rows).one a.0 b.0 kind next a.2 b.2 in
+      (a.1 ∙ ap (λ (n : ℕ). n + 1) same.0 ∙ sym b.1, same.1);
+}
