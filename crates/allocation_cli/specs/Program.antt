@@ -1,15 +1,10 @@
 -- What the program writes and how it ends.
-use Rattle.std.specs.Prelude.{◌≡◌, ℕ, List, [], ◌∷◌, Option, Some, None, take, codes}
-use Rattle.step_sheet.specs.Sheet.{SheetGives, HasFault}
-use Rattle.step_sheet.specs.declared.fault.SheetFault.{SheetFault}
-use Rattle.office_base.specs.declared.step.Step.{Step}
+use Rattle.std.specs.Prelude.{◌≡◌, ℕ, List, Option, take, codes}
 use Rattle.allocation_cli.specs.Answer.{IsOutputLeft, IsFaultLeft}
+use Rattle.allocation_cli.specs.Words.{SpellNothing, words_of}
 use Rattle.allocation_cli.specs.declared.status.Status.{Status}
 use Rattle.allocation_cli.specs.declared.status.Status.TheVariants.{Ok, Usage, BadInput, ReadFault, WriteFault, OutOfMemory}
-
--- the words are the one word `step`
-abbrev pub SpellStep : List (List ℕ) → Type 0
-SpellStep words = words ≡ codes "step" ∷ []
+use Rattle.allocation_cli.specs.declared.words.Command.{Command}
 
 abbrev pub usage_line : List ℕ
 usage_line = codes "fault: usage\n"
@@ -22,12 +17,12 @@ memory_line = codes "fault: memory\n"
 
 -- the whole text that goes with each status, for the words and for the bytes that the source had left
 abbrev pub IsTextOf : List (List ℕ) → Option (List ℕ) → Status → List ℕ → Type 0
-IsTextOf words left Ok text = SpellStep words × IsOutputLeft left text
-IsTextOf words left Usage text = ¬ SpellStep words × (text ≡ usage_line)
-IsTextOf words left BadInput text = SpellStep words × IsFaultLeft left text
-IsTextOf words left ReadFault text = SpellStep words × (text ≡ read_line)
+IsTextOf words left Ok text = (command : Command) × (words ≡ words_of command) × IsOutputLeft command left text
+IsTextOf words left Usage text = SpellNothing words × (text ≡ usage_line)
+IsTextOf words left BadInput text = (command : Command) × (words ≡ words_of command) × IsFaultLeft command left text
+IsTextOf words left ReadFault text = (command : Command) × (words ≡ words_of command) × (text ≡ read_line)
 IsTextOf words left WriteFault text = ⊥
-IsTextOf words left OutOfMemory text = SpellStep words × (text ≡ memory_line)
+IsTextOf words left OutOfMemory text = (command : Command) × (words ≡ words_of command) × (text ≡ memory_line)
 
 -- Where the sink failed, a front of some status's text is written; else the whole text.
 abbrev pub IsWritten : List (List ℕ) → Option (List ℕ) → Status → List ℕ → Type 0
@@ -37,13 +32,3 @@ IsWritten words left BadInput output = IsTextOf words left BadInput output
 IsWritten words left ReadFault output = IsTextOf words left ReadFault output
 IsWritten words left WriteFault output = (status : Status) × (text : List ℕ) × (n : ℕ) × IsTextOf words left status text × (output ≡ take n text)
 IsWritten words left OutOfMemory output = IsTextOf words left OutOfMemory output
-
--- the source tells its bytes, and they are a sheet
-abbrev pub TellsSheet : Option (List ℕ) → Type 0
-TellsSheet None = ⊥
-TellsSheet (Some bytes) = (step : Step) × SheetGives bytes step
-
--- the source tells its bytes, and they have a fault
-abbrev pub TellsFault : Option (List ℕ) → Type 0
-TellsFault None = ⊥
-TellsFault (Some bytes) = (fault : SheetFault) × HasFault bytes fault

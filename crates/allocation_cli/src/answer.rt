@@ -1,15 +1,19 @@
 // What a command answers to the bytes of its source, before anything is written.
 ghost use Rattle.std.specs.Prelude.{◌≡◌, ◌≤◌, ◌<◌, ◌^◌, ℕ, List, length, IfOk, IfErr, OnOk};
-ghost use Rattle.office_base.specs.Outside.{Rose, IsAtEnd, TookMore};
+ghost use Rattle.office_base.specs.Outside.{Rose, IsAtEnd};
 ghost use Rattle.office_base.specs.StepChoice.{IsStep};
-ghost use Rattle.step_sheet.specs.Sheet.{SheetGives, HasFault};
-ghost use Rattle.allocation_cli.specs.Answer.{IsOutputLeft, IsFailureOf, IsStepOutput, IsStepText, IsSheetFailure, IsFaultLine};
+ghost use Rattle.step_sheet.specs.Output.{fault_output};
+ghost use Rattle.allocation_cli.specs.Answer.{IsFailureOf, IsInputFailure, IsOutput, IsOutputLeft, IsStepText, TellsLine, TellsSeasonFault};
 ghost use Rattle.allocation_cli.specs.declared.answer.Failure.TheVariants.{NoMemory};
+ghost use Rattle.allocation_cli.specs.declared.words.Command.TheVariants.{Check, Step as StepCommand};
 
+use crate::words::Command;
 use merit_choice::choose;
 use office_base::{OutOfMemory, ReadFault, Source, Step, Text, read_whole};
+use season_file::{Season, SeasonFault};
+use season_texts::{counts_text, fault_text};
 use std::alloc::Global;
-use step_sheet::{MAX_BYTES, SheetError, SheetFault, SheetKind, fault_text, read_sheet, step_text};
+use step_sheet::{MAX_BYTES, SheetError, SheetFault, SheetKind, read_sheet, step_text};
 
 /// Why a command has no output.
 #[derive(Debug, Drop)]
@@ -30,15 +34,32 @@ impl From<OutOfMemory> for Failure {
     }
 }
 
-/// The output of `step` for the sheet that the source gives.
-pub fn step_answer<S: Source>(alloc: Global, source: &mut S) -> Result<Text, Failure>
-    ensures output { IfOk result (IsOutputLeft (S.left source.old)) }
+/// The output of a command for the input that the source gives.
+pub fn answer_of<S: Source>(
+    alloc: Global,
+    command: Command,
+    source: &mut S,
+) -> Result<Text, Failure>
+    ensures output { IfOk result (IsOutputLeft command (S.left source.old)) }
     ensures ended { OnOk result (IsAtEnd (S.left source.new)) }
-    ensures failure { IfErr result (IsFailureOf (S.left source.old) (Rose (S.faults source.old) (S.faults source.new))) }
+    ensures failure { IfErr result (IsFailureOf command (S.left source.old) (Rose (S.faults source.old) (S.faults source.new))) }
+    ensures count { S.faults source.old ≤ S.faults source.new }
+{
+    match command {
+        Command::Step => step_answer(alloc, source),
+        Command::Check => check_answer(alloc, source),
+    }
+}
+
+/// The output of `step` for the sheet that the source gives.
+fn step_answer<S: Source>(alloc: Global, source: &mut S) -> Result<Text, Failure>
+    ensures output { IfOk result (IsOutputLeft StepCommand (S.left source.old)) }
+    ensures ended { OnOk result (IsAtEnd (S.left source.new)) }
+    ensures failure { IfErr result (IsFailureOf StepCommand (S.left source.old) (Rose (S.faults source.old) (S.faults source.new))) }
     ensures count { S.faults source.old ≤ S.faults source.new }
 {
     match read_whole(alloc, source, MAX_BYTES) {
-        Ok(bytes) => answer_to(alloc, bytes.as_slice()),
+        Ok(bytes) => sheet_answer(alloc, bytes.as_slice()),
         Err(ReadFault::TooLong) => Err(too_long(alloc)),
         Err(ReadFault::Failed) => Err(Failure::Read),
         Err(ReadFault::OutOfMemory) => Err(Failure::NoMemory),
@@ -46,13 +67,13 @@ pub fn step_answer<S: Source>(alloc: Global, source: &mut S) -> Result<Text, Fai
 }
 
 /// The output of `step` for the bytes of a sheet.
-fn answer_to(alloc: Global, bytes: &[u8]) -> Result<Text, Failure>
-    ensures output { IfOk result (IsStepOutput bytes.now) }
-    ensures failure { IfErr result (IsSheetFailure bytes.now) }
+fn sheet_answer(alloc: Global, bytes: &[u8]) -> Result<Text, Failure>
+    ensures output { IfOk result (IsOutput StepCommand bytes.now) }
+    ensures failure { IfErr result (IsInputFailure StepCommand bytes.now) }
 {
     match read_sheet(alloc, bytes) {
         Ok(step) => Ok(list_of(alloc, &step)?),
-        Err(SheetError::Bad(fault)) => Err(fault_of(alloc, &fault)),
+        Err(SheetError::Bad(fault)) => Err(sheet_failure(alloc, &fault)),
         Err(SheetError::OutOfMemory) => Err(Failure::NoMemory),
     }
 }
@@ -74,24 +95,51 @@ fn list_of(alloc: Global, step: &Step) -> Result<Text, OutOfMemory>
 }
 
 /// The failure that tells a fault of a sheet.
-fn fault_of(alloc: Global, fault: &SheetFault) -> Failure
-    ensures { IsFaultLine fault.now result }
+fn sheet_failure(alloc: Global, fault: &SheetFault) -> Failure
+    ensures { TellsLine (fault_output fault.now) result }
 {
-    match fault_text(alloc, fault) {
+    match step_sheet::fault_text(alloc, fault) {
         Ok(line) => Failure::Bad(line),
         Err(OutOfMemory) => Failure::NoMemory,
     }
 }
 
-/// The failure that tells of too many bytes.
+/// The failure that tells of too many bytes of a sheet.
 fn too_long(alloc: Global) -> Failure
-    ensures { (bytes : List ℕ) → MAX_BYTES < length bytes → IsSheetFailure bytes result }
+    ensures { (bytes : List ℕ) → MAX_BYTES < length bytes → IsInputFailure StepCommand bytes result }
 {
-    fault_of(
+    sheet_failure(
         alloc,
         &SheetFault {
             line: 0,
             kind: SheetKind::TooLong,
         },
     )
+}
+
+/// The output of `check` for the bundle that the source gives.
+fn check_answer<S: Source>(alloc: Global, source: &mut S) -> Result<Text, Failure>
+    ensures output { IfOk result (IsOutputLeft Check (S.left source.old)) }
+    ensures ended { OnOk result (IsAtEnd (S.left source.new)) }
+    ensures failure { IfErr result (IsFailureOf Check (S.left source.old) (Rose (S.faults source.old) (S.faults source.new))) }
+    ensures count { S.faults source.old ≤ S.faults source.new }
+{
+    match Season::read(alloc, source, false) {
+        Ok(season) => Ok(counts_text(alloc, &season)?),
+        Err(fault) => Err(bundle_failure(alloc, fault)),
+    }
+}
+
+/// The failure that tells why there is no season.
+fn bundle_failure(alloc: Global, fault: SeasonFault) -> Failure
+    ensures { TellsSeasonFault fault result }
+{
+    match fault {
+        SeasonFault::ReadFault => Failure::Read,
+        SeasonFault::OutOfMemory => Failure::NoMemory,
+        _ => match fault_text(alloc, fault) {
+            Ok(line) => Failure::Bad(line),
+            Err(OutOfMemory) => Failure::NoMemory,
+        },
+    }
 }

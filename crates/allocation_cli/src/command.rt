@@ -1,16 +1,21 @@
 // The top call of the office.
-ghost use Rattle.std.specs.Prelude.{◌≡◌, ◌≤◌, ◌⊎◌, ◌↔◌, ℕ, List, IsTrue, take};
+ghost use Rattle.std.specs.Prelude.{◌≡◌, ◌≤◌, ◌⊎◌, ℕ, List, take};
 ghost use Rattle.office_base.specs.Outside.{Rose, IsAtEnd, Appends};
-ghost use Rattle.allocation_cli.specs.Program.{SpellStep, IsWritten, TellsSheet, TellsFault};
+ghost use Rattle.allocation_cli.specs.Answer.{TellsFault, TellsInput};
+ghost use Rattle.allocation_cli.specs.Program.{IsWritten};
+ghost use Rattle.allocation_cli.specs.Words.{SpellNothing, words_of};
+ghost use Rattle.allocation_cli.specs.declared.words.Command.{Command as AnyCommand};
 
-use crate::answer::{Failure, step_answer};
+use crate::answer::{Failure, answer_of};
+use crate::laws::one_kind;
 use crate::status::Status;
+use crate::words::read_words;
 use office_base::{Sink, Source, Words, write_whole};
 use std::alloc::Global;
 
 /// Runs the command that the words spell, from the bytes of the source to the bytes of the sink.
 ///
-/// The command `step` reads a step sheet and writes whom the step admits.
+/// The command `step` reads a step sheet and writes whom the step admits; `check` reads a season bundle and writes how much it has.
 pub fn allocate<S: Source, K: Sink>(
     alloc: Global,
     words: &Words,
@@ -27,32 +32,23 @@ pub fn allocate<S: Source, K: Sink>(
     ensures write_fault { result ≡ Status.WriteFault → Rose (K.faults sink.old) (K.faults sink.new) }
 
     // Where neither failed, the answer is the one that the words and the bytes call for, or want of memory.
-    ensures usage { ¬ SpellStep words.now → ¬ Rose (K.faults sink.old) (K.faults sink.new) → result ≡ Status.Usage }
-    ensures complete { SpellStep words.now → TellsSheet (S.left source.old)
+    ensures usage { SpellNothing words.now → ¬ Rose (K.faults sink.old) (K.faults sink.new) → result ≡ Status.Usage }
+    ensures complete { (command : AnyCommand) → words.now ≡ words_of command → TellsInput command (S.left source.old)
         → ¬ Rose (S.faults source.old) (S.faults source.new) → ¬ Rose (K.faults sink.old) (K.faults sink.new)
         → (result ≡ Status.Ok) ⊎ (result ≡ Status.OutOfMemory) }
-    ensures refused { SpellStep words.now → TellsFault (S.left source.old)
+    ensures refused { (command : AnyCommand) → words.now ≡ words_of command → TellsFault command (S.left source.old)
         → ¬ Rose (S.faults source.old) (S.faults source.new) → ¬ Rose (K.faults sink.old) (K.faults sink.new)
         → (result ≡ Status.BadInput) ⊎ (result ≡ Status.OutOfMemory) }
 {
-    if !spell_step(words) {
+    one_kind();
+    let Some(command) = read_words(words) else {
         return write_answer(sink, b"fault: usage\n", Status::Usage);
-    }
-    match step_answer(alloc, source) {
+    };
+    match answer_of(alloc, command, source) {
         Ok(text) => write_answer(sink, text.as_slice(), Status::Ok),
         Err(Failure::Bad(line)) => write_answer(sink, line.as_slice(), Status::BadInput),
         Err(Failure::Read) => write_answer(sink, b"fault: read\n", Status::ReadFault),
         Err(Failure::NoMemory) => write_answer(sink, b"fault: memory\n", Status::OutOfMemory),
-    }
-}
-
-/// Whether the words spell the command `step`.
-fn spell_step(words: &Words) -> bool
-    ensures { IsTrue result ↔ SpellStep words.now }
-{
-    match words.word(0) {
-        Some(word) => words.len() == 1 && word == "step",
-        None => false,
     }
 }
 

@@ -7,10 +7,12 @@
 
 mod answer;
 mod command;
+mod laws;
 mod status;
 mod streams;
 #[cfg(test)]
 mod tests;
+mod words;
 
 use crate::command::allocate;
 use crate::streams::{StandardInput, StandardOutput};

@@ -1,0 +1,32 @@
+"""What the measurements share: a program run over an input, its best wall time and its peak memory."""
+import os
+import subprocess
+import sys
+import time
+
+TOP = os.path.dirname(os.path.dirname(os.path.realpath(__file__)))
+PROGRAM = os.path.join(TOP, "crates", "allocation_cli", "out", "allocation_cli")
+RUNS = 5
+
+
+def measure(words, path):
+    """The best wall time of some runs in seconds, and the peak memory in bytes."""
+    best, peak = None, 0
+    for _ in range(RUNS):
+        with open(path, "rb") as source:
+            begun = time.perf_counter()
+            child = subprocess.Popen(words, stdin=source, stdout=subprocess.DEVNULL)
+            _, status, used = os.wait4(child.pid, 0)
+            taken = time.perf_counter() - begun
+        if status != 0:
+            sys.exit(f"bench: {words[0]} ended with wait status {status}")
+        best = taken if best is None else min(best, taken)
+        peak = max(peak, used.ru_maxrss * 1024)
+    return best, peak
+
+
+def write_lines(path, lines):
+    """Writes the lines one by one, so that a large input does not lie in memory while a program is measured."""
+    with open(path, "w", encoding="ascii") as out:
+        out.writelines(line + "\n" for line in lines)
+    return os.path.getsize(path)

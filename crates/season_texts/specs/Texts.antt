@@ -1,0 +1,67 @@
+-- The texts of a season bundle.
+use Rattle.std.specs.Prelude.{ℕ, List, ◌++◌, codes, length, sum_by}
+use Rattle.std.specs.Fmt.{decimal}
+use Rattle.rank_lists.specs.Kinds as rank_kinds
+use Rattle.rank_lists.specs.declared.fault.RankFault.{RankFault}
+use Rattle.rank_lists.specs.declared.fault.RankFault.TheVariants.{Bad as BadRank, OutOfMemory as NoRankMemory}
+use Rattle.seat_matrix.specs.Kinds as matrix_kinds
+use Rattle.seat_matrix.specs.declared.fault.MatrixFault.{MatrixFault}
+use Rattle.seat_matrix.specs.declared.fault.MatrixFault.TheVariants.{Bad as BadMatrix, OutOfMemory as NoMatrixMemory}
+use Rattle.choice_lists.specs.Choices.{list_of}
+use Rattle.choice_lists.specs.Kinds as choice_kinds
+use Rattle.choice_lists.specs.declared.fault.ChoiceFault.{ChoiceFault}
+use Rattle.choice_lists.specs.declared.fault.ChoiceFault.TheVariants.{Bad as BadChoice, OutOfMemory as NoChoiceMemory}
+use Rattle.season_file.specs.declared.fault.SeasonFault.{SeasonFault}
+use Rattle.season_file.specs.declared.fault.SeasonFault.TheVariants.{ReadFault, TooLong, BadFirstLine, Section, BadSeason, Register, Matrix, Choices, NotUtf8, OutOfMemory}
+use Rattle.season_file.specs.declared.season.Season.{Season}
+
+-- how many programmes stand on the choice lists of all candidates together
+abbrev pub choice_count : Season → ℕ
+choice_count season = sum_by (λ person. length (list_of season.choices person.id.0)) season.register.people
+
+-- the line of these counts
+abbrev pub line_of_counts : ℕ → ℕ → ℕ → ℕ → List ℕ
+line_of_counts candidates programmes choices rounds =
+    codes "bundle candidates " ++ decimal candidates ++ codes " programmes " ++ decimal programmes ++ codes " choices " ++ decimal choices ++ codes " rounds " ++ decimal rounds ++ codes "\n"
+
+-- the line of a season's counts: candidates of the register, programmes of the matrix, programmes on all choice lists, rounds
+abbrev pub counts_line : Season → List ℕ
+counts_line season = line_of_counts (length season.register.people) (length season.matrix.programmes) (choice_count season) season.rounds
+
+-- the line of a fault at a line of the bundle
+abbrev pub section_line : ℕ → List ℕ
+section_line line = codes "fault: bundle line " ++ decimal line ++ codes " Section\n"
+
+-- the line of a fault at a row of a section, by its kind
+abbrev pub row_line : List ℕ → ℕ → List ℕ → List ℕ
+row_line section row kind = codes "fault: " ++ section ++ codes " row " ++ decimal row ++ codes " " ++ kind ++ codes "\n"
+
+-- the line of want of memory
+abbrev pub memory_line : List ℕ
+memory_line = codes "fault: memory\n"
+
+-- the lines of a register's, a matrix's and the choices' faults
+abbrev pub register_line : RankFault → List ℕ
+register_line (BadRank row kind) = row_line (codes "register") row (rank_kinds.kind_name kind)
+register_line NoRankMemory = memory_line
+
+abbrev pub matrix_line : MatrixFault → List ℕ
+matrix_line (BadMatrix row kind) = row_line (codes "matrix") row (matrix_kinds.kind_name kind)
+matrix_line NoMatrixMemory = memory_line
+
+abbrev pub choices_line : ChoiceFault → List ℕ
+choices_line (BadChoice row kind) = row_line (codes "choices") row (choice_kinds.kind_name kind)
+choices_line NoChoiceMemory = memory_line
+
+-- the line that tells a fault
+abbrev pub fault_line : SeasonFault → List ℕ
+fault_line ReadFault = codes "fault: read\n"
+fault_line TooLong = codes "fault: bundle TooLong\n"
+fault_line BadFirstLine = codes "fault: bundle BadFirstLine\n"
+fault_line (Section line) = section_line line
+fault_line (BadSeason row) = row_line (codes "season") row (codes "BadSeason")
+fault_line (Register fault) = register_line fault
+fault_line (Matrix fault) = matrix_line fault
+fault_line (Choices fault) = choices_line fault
+fault_line NotUtf8 = codes "fault: bundle NotUtf8\n"
+fault_line OutOfMemory = memory_line
