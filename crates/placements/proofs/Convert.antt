@@ -28,11 +28,11 @@ slot_of-other : (pair : Pair) (pairs : List Pair) (cand : CandId) → pair.cand 
 slot_of-other pair pairs cand h = cond-false _ _ _ (apart_numbers pair.cand cand h)
 
 -- a pair gives its person's slot
-slot_of-own : (pair : Pair) (pairs : List Pair) (cand : CandId) → pair.cand ≡ cand → slot_of (pair ∷ pairs) cand ≡ Some pair.slot
+pub slot_of-own : (pair : Pair) (pairs : List Pair) (cand : CandId) → pair.cand ≡ cand → slot_of (pair ∷ pairs) cand ≡ Some pair.slot
 slot_of-own pair pairs cand h = cond-true _ _ _ (eq-eqb pair.cand.0 cand.0 (ap (λ (c : CandId). c.0) h))
 
 -- a pair of nobody among the people leaves all slots
-slots_of-others : (pair : Pair) (pairs : List Pair) (people : List Person) → AllByRecursion (λ person. pair.cand ≢ person.id) people
+pub slots_of-others : (pair : Pair) (pairs : List Pair) (people : List Person) → AllByRecursion (λ person. pair.cand ≢ person.id) people
     → slots_of (pair ∷ pairs) people ≡ slots_of pairs people
 slots_of-others pair pairs [] h = refl
 slots_of-others pair pairs (person ∷ people) h =
@@ -41,7 +41,7 @@ slots_of-others pair pairs (person ∷ people) h =
     cc
 
 -- who is apart from a person is apart from the candidate of the person's pair
-from_same : (pair : Pair) (people : List Person) (cand : CandId) → pair.cand ≡ cand → AllByRecursion (λ other. cand ≢ other.id) people
+pub from_same : (pair : Pair) (people : List Person) (cand : CandId) → pair.cand ≡ cand → AllByRecursion (λ other. cand ≢ other.id) people
     → AllByRecursion (λ other. pair.cand ≢ other.id) people
 from_same pair people cand e h = subst (λ (c : CandId). AllByRecursion (λ other. c ≢ other.id) people) (sym e) h
 
@@ -66,7 +66,7 @@ MayStand-one_more pair pairs (person ∷ people) apart (inr fills) stand = (
 )
 
 -- a candidate of none of the pairs has no slot
-slot_of-none : (cand : CandId) (pairs : List Pair) → AllByRecursion (λ pair. cand ≢ pair.cand) pairs → slot_of pairs cand ≡ None
+pub slot_of-none : (cand : CandId) (pairs : List Pair) → AllByRecursion (λ pair. cand ≢ pair.cand) pairs → slot_of pairs cand ≡ None
 slot_of-none cand [] h = refl
 slot_of-none cand (pair ∷ pairs) h = slot_of-other pair pairs cand (λ e. h.0 (sym e)) ∙ slot_of-none cand pairs h.1
 

@@ -1,3 +1,4 @@
 pub mod Bounds
 pub mod First
+pub mod Laws
 pub mod Search

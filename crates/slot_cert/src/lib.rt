@@ -9,6 +9,7 @@
 mod bounds;
 pub mod canonical;
 pub mod cert;
+pub mod laws;
 
 pub use canonical::canonical_pairs;
 pub use cert::Cert;
