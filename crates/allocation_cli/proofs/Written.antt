@@ -6,7 +6,7 @@ use Rattle.office_base.specs.Outside.{Appends, IsAtEnd, Took, TookMore}
 use Rattle.step_sheet.specs.Output.{fault_output}
 use Rattle.step_sheet.specs.Sheet as sheet
 use Rattle.step_sheet.specs.declared.fault.SheetFault.{SheetFault}
-use Rattle.allocation_cli.specs.Answer.{AreLeft, AreOfOneKind, IsFailureOf, IsFaultLeft, IsFaultOutput, IsFaulty, IsInput, IsInputFailure, IsOutput, IsOutputLeft, TellsFault, TellsInput, TellsLine, TellsSeasonFault}
+use Rattle.allocation_cli.specs.Answer.{AreLeft, HaveOneAnswer, IsFailureOf, IsFaultLeft, IsFaultOutput, IsFaulty, IsInput, IsInputFailure, IsOutput, IsOutputLeft, TellsFault, TellsInput, TellsLine, TellsSeasonFault}
 use Rattle.season_file.specs.Laws.{HasFault}
 use Rattle.season_file.specs.Season.{HasGiven, IsSeasonFault, IsSourceFault, content_of}
 use Rattle.season_file.specs.declared.fault.SeasonFault.{SeasonFault}
@@ -112,19 +112,19 @@ line_is_faulty Step bytes line has = (has.0, has.1)
 line_is_faulty Check bytes line has = (has.0, has.1)
 
 -- What a source tells without faults has no fault's line, and what it tells with one has no output.
-pub not_faulty : (command other : Command) (left : Option (List ℕ)) (line : List ℕ) → ((command : Command) (bytes : List ℕ) → AreOfOneKind command bytes) → command ≡ other
+pub not_faulty : (command other : Command) (left : Option (List ℕ)) (line : List ℕ) → ((command : Command) (bytes : List ℕ) → HaveOneAnswer command bytes) → command ≡ other
     → TellsInput other left → IsFaultLeft command left line → ⊥
-not_faulty command other None line kinds same tells has = tells
-not_faulty command other (Some bytes) line kinds same tells has =
+not_faulty command other None line answers same tells has = tells
+not_faulty command other (Some bytes) line answers same tells has =
     let input = subst (λ (c : Command). IsInput c bytes) (sym same) tells in
-    (kinds command bytes).apart input (subst (IsFaulty command) has.1 (line_is_faulty command has.0 line has.2))
+    (answers command bytes).apart input (subst (IsFaulty command) has.1 (line_is_faulty command has.0 line has.2))
 
-pub not_input : (command other : Command) (left : Option (List ℕ)) (output : List ℕ) → ((command : Command) (bytes : List ℕ) → AreOfOneKind command bytes) → command ≡ other
+pub not_input : (command other : Command) (left : Option (List ℕ)) (output : List ℕ) → ((command : Command) (bytes : List ℕ) → HaveOneAnswer command bytes) → command ≡ other
     → TellsFault other left → IsOutputLeft command left output → ⊥
-not_input command other None output kinds same tells made = tells
-not_input command other (Some bytes) output kinds same tells made =
+not_input command other None output answers same tells made = tells
+not_input command other (Some bytes) output answers same tells made =
     let faulty = subst (λ (c : Command). IsFaulty c bytes) (sym same) tells in
-    (kinds command bytes).apart (subst (IsInput command) made.1 (output_is_input command made.0 output made.2)) faulty
+    (answers command bytes).apart (subst (IsInput command) made.1 (output_is_input command made.0 output made.2)) faulty
 
 -- Words spell one command.
 pub one_command : (command other : Command) (words : List (List ℕ)) → words ≡ words_of command → words ≡ words_of other → command ≡ other

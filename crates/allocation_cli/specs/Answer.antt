@@ -1,7 +1,7 @@
 -- What a command answers to the bytes that its source had left.
 use Rattle.std.specs.Prelude.{◌≡◌, ◌⊎◌, ℕ, List, Option, Some, None, length}
 use Rattle.office_base.specs.Certificate.{IsCanonical}
-use Rattle.office_base.specs.StepChoice.{IsStepChoice}
+use Rattle.office_base.specs.StepChoice.{IsStep, IsStepChoice}
 use Rattle.office_base.specs.declared.person.Person.{Person}
 use Rattle.office_base.specs.declared.step.Pair.{Pair}
 use Rattle.office_base.specs.declared.step.Step.{Step as StepOfSheet}
@@ -20,8 +20,9 @@ use Rattle.allocation_cli.specs.declared.answer.Failure.TheVariants.{Read, Bad, 
 use Rattle.allocation_cli.specs.declared.words.Command.{Command}
 use Rattle.allocation_cli.specs.declared.words.Command.TheVariants.{Step, Check}
 
--- What `step` writes for a step: its choice and the canonical certificate.
+-- What `step` writes for a sound step: its choice and the canonical certificate.
 pub record IsStepText (step : StepOfSheet) (output : List ℕ) : Type 0 where
+  pub sound : IsStep step
   pub admitted : List Person
   pub pairs : List Pair
   pub choice : IsStepChoice step admitted
@@ -76,10 +77,12 @@ abbrev pub IsFaulty : Command → List ℕ → Type 0
 IsFaulty Step bytes = (fault : SheetFault) × sheet.HasFault bytes fault
 IsFaulty Check bytes = (fault : SeasonFault) × season_laws.HasFault bytes fault
 
--- Bytes are a command's input without faults or have one; never both.
-pub record AreOfOneKind (command : Command) (bytes : List ℕ) : Type 0 where
+-- Bytes are a command's input without faults or have one, and never both; and they have one output or one fault's line.
+pub record HaveOneAnswer (command : Command) (bytes : List ℕ) : Type 0 where
   pub some : IsInput command bytes ⊎ IsFaulty command bytes
   pub apart : IsInput command bytes → IsFaulty command bytes → ⊥
+  pub one_output : (output other : List ℕ) → IsOutput command bytes output → IsOutput command bytes other → output ≡ other
+  pub one_line : (line other : List ℕ) → IsFaultOutput command bytes line → IsFaultOutput command bytes other → line ≡ other
 
 -- the source tells its bytes, and they are a command's input without faults
 abbrev pub TellsInput : Command → Option (List ℕ) → Type 0

@@ -7,7 +7,7 @@ ghost use Rattle.allocation_cli.specs.Words.{SpellNothing, words_of};
 ghost use Rattle.allocation_cli.specs.declared.words.Command.{Command as AnyCommand};
 
 use crate::answer::{Failure, answer_of};
-use crate::laws::one_kind;
+use crate::laws::one_answer;
 use crate::status::Status;
 use crate::words::read_words;
 use office_base::{Sink, Source, Words, write_whole};
@@ -40,7 +40,7 @@ pub fn allocate<S: Source, K: Sink>(
         → ¬ Rose (S.faults source.old) (S.faults source.new) → ¬ Rose (K.faults sink.old) (K.faults sink.new)
         → (result ≡ Status.BadInput) ⊎ (result ≡ Status.OutOfMemory) }
 {
-    one_kind();
+    one_answer();
     let Some(command) = read_words(words) else {
         return write_answer(sink, b"fault: usage\n", Status::Usage);
     };

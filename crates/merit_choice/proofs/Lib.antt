@@ -2,7 +2,7 @@ mod Filled
 mod Filling
 mod Marking
 mod Marks
-mod Members
+pub mod Members
 mod Raises
 mod Slots
 pub mod StepLaws

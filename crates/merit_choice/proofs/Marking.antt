@@ -12,7 +12,7 @@ use Rattle.office_base.specs.declared.person.ListId.{ListId}
 use Rattle.office_base.specs.declared.person.Person.{Person}
 use Rattle.office_base.specs.declared.step.Protections.{Protections}
 use Rattle.office_base.specs.declared.step.Step.{Step}
-use Rattle.placements.specs.Ranks.{CanBePlaced, AreAmong}
+use Rattle.placements.specs.Ranks.{AreAmong, AreDistinct, CanBePlaced}
 use Rattle.placements.proofs.Exchange.{all_weaker}
 use Rattle.placements.proofs.Ranks.{any_all, among_longer, among_itself, among_again, among_joined, among_front, among_back, placed_again, taken, refused}
 use Rattle.slot_matching.specs.Augmented.{IsAugmented}
@@ -20,7 +20,6 @@ use Rattle.slot_matching.specs.Kept.{Kept, MayJoin}
 use Rattle.slot_matching.specs.declared.matching.Augment.{Augment}
 use Rattle.slot_matching.specs.declared.matching.Augment.TheVariants.{Raised, Held}
 use Rattle.merit_choice.specs.Marks.{marked, IsRaise, AreRaises}
-use Rattle.merit_choice.proofs.Members.{AreDistinct}
 use Rattle.merit_choice.proofs.Raises.{onto, AreNew, apart_part, new-from_nobody, raise_from, no_raise_from, honoured_nobody}
 
 -- ---- one of the people, between those before and those behind

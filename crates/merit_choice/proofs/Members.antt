@@ -3,14 +3,11 @@ use Rattle.std.proofs.Common.{◌≡◌, ◌≢◌, ◌⊎◌, Bool, true, false
 use Rattle.std.specs.List.{AllByRecursion}
 use Rattle.office_base.specs.Lists.{AnyByRecursion, IsSublist, Pairwise}
 use Rattle.office_base.specs.declared.person.Person.{Person}
+use Rattle.placements.specs.Ranks.{AreDistinct}
 use Rattle.placements.proofs.Ranks.{any_all, any_among, among_sublist, one_person, finds_person, among_itself}
 use Rattle.merit_choice.specs.Laws.{IsAmong}
 use Rattle.merit_choice.specs.Marks.{kept}
 use Rattle.merit_choice.proofs.Marks.{Covers, AreFewer, kept-sublist}
-
--- the people are distinct persons
-abbrev pub AreDistinct : List Person → Type 0
-AreDistinct people = Pairwise (λ a b. a.id ≢ b.id) people
 
 -- who is among the people is not the one apart from all of them
 pub apart_from : (person other : Person) (people : List Person) → AllByRecursion (λ one. person.id ≢ one.id) people → IsAmong other people → person ≢ other

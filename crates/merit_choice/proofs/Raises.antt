@@ -6,14 +6,14 @@ use Rattle.office_base.specs.Lists.{AnyByRecursion}
 use Rattle.office_base.specs.Placement.{IsHonoured}
 use Rattle.office_base.specs.declared.person.Person.{Person}
 use Rattle.office_base.specs.declared.step.Protections.{Protections}
-use Rattle.placements.specs.Ranks.{AreAmong}
+use Rattle.placements.specs.Ranks.{AreAmong, AreDistinct}
 use Rattle.placements.proofs.Exchange.{all_weaker}
 use Rattle.placements.proofs.Greatest.{honoured-exists, honoured-one}
 use Rattle.placements.proofs.Ranks.{all_both, any_all, any_among, among_longer, among_again, among_itself, among_front, among_back, among_joined, one_step, monotone, outside, same_people, diminishing, no_more_than_people}
 use Rattle.merit_choice.specs.Laws.{IsAmong}
 use Rattle.merit_choice.specs.Marks.{marked, kept, IsRaise, AreRaises}
 use Rattle.merit_choice.proofs.Marks.{Covers, AreFewer, AreNoFewerLater}
-use Rattle.merit_choice.proofs.Members.{AreDistinct, apart_from}
+use Rattle.merit_choice.proofs.Members.{apart_from}
 
 -- ---- one person
 

@@ -8,14 +8,11 @@ use Rattle.office_base.specs.declared.person.CandId.{CandId}
 use Rattle.office_base.specs.declared.person.ListId.{ListId}
 use Rattle.office_base.specs.declared.person.Person.{Person}
 use Rattle.office_base.proofs.Sublists.{IsSublist-take, AllByRecursion-sublist}
-use Rattle.placements.specs.Ranks.{AreAmong}
+use Rattle.placements.specs.Ranks.{AreAmong, AreDistinct}
 use Rattle.placements.proofs.Ranks.{any_all, any_among, among_sublist, among_itself, one_person, pairwise_sublist}
 use Rattle.merit_choice.specs.Laws.{IsAmong}
+use Rattle.merit_choice.proofs.Members.{apart_from}
 use Rattle.open_then_category.specs.Programme.{is_taken, without}
-
--- the people are distinct persons
-abbrev pub AreDistinct : List Person → Type 0
-AreDistinct people = Pairwise (λ a b. a.id ≢ b.id) people
 
 -- ---- sublists and filters
 
@@ -132,12 +129,6 @@ without_mono all some more taken others distinct sub within others_within stays 
     (taken_among all others x distinct others_within wide holds))))
 
 -- ---- the best of them
-
--- who is among the people is not the one apart from all of them
-apart_from : (person other : Person) (people : List Person) → AllByRecursion (λ one. person.id ≢ one.id) people → IsAmong other people → person ≢ other
-apart_from person other people apart among same =
-    let found = any_all (λ one. other ≡ one) (λ one. person.id ≢ one.id) people among apart in
-    found.2 (ap (λ (p : Person). p.id) (same ∙ found.1))
 
 -- who is one of some people, and of the best of more, is of the best of the some where those are no fewer
 pub among_best : (x : Person) (m n : ℕ) (xs ys : List Person) → AreDistinct ys → IsSublist xs ys → m ≤ n → IsAmong x xs → IsAmong x (take m ys) → IsAmong x (take n xs)

@@ -11,7 +11,7 @@ use Rattle.office_base.specs.declared.person.Person.{Person}
 use Rattle.office_base.specs.declared.step.StepKind.{StepKind}
 use Rattle.office_base.specs.declared.step.StepKind.TheVariants.{Open, Ews as EwsStep, Obc as ObcStep, Sc as ScStep, St as StStep, Dereserved}
 use Rattle.office_base.proofs.Sublists.{IsSublist-same, IsSublist-take, length-sublist}
-use Rattle.placements.specs.Ranks.{AreAmong}
+use Rattle.placements.specs.Ranks.{AreAmong, AreDistinct}
 use Rattle.placements.proofs.Ranks.{any_among, among_sublist, among_again, among_itself}
 use Rattle.merit_choice.specs.Laws.{IsAmong, HasMorePeople}
 use Rattle.merit_choice.proofs.StepLaws.{choice_exists, refused_stays_refused, no_fewer, leaving_out_refused}
@@ -20,7 +20,7 @@ use Rattle.open_then_category.specs.Programme.{AreStepSeats, AreProgrammeSeats, 
 use Rattle.open_then_category.specs.Laws.{IsRefused, OneProgrammeChoice, ProgrammeChoiceExists, ChoosesFromMore, RefusedFromMore, UnfilledFalls, NoFewerAdmitted, LeavingOutTheRefused, EachRefusedAllRefused}
 use Rattle.open_then_category.specs.declared.seats.ProgrammeSeats.{ProgrammeSeats}
 use Rattle.open_then_category.specs.declared.seats.StepSeats.{StepSeats}
-use Rattle.open_then_category.proofs.Lists.{AreDistinct, filter_mono, filter-sublist, sublist_again, among_filter, among_filter_from, among_without, among_without_from, without_mono, among_or_not, among_best, best_of_some, ranked_sublist}
+use Rattle.open_then_category.proofs.Lists.{filter_mono, filter-sublist, sublist_again, among_filter, among_filter_from, among_without, among_without_from, without_mono, among_or_not, among_best, best_of_some, ranked_sublist}
 
 -- ---- one step
 

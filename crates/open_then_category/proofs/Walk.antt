@@ -10,11 +10,12 @@ use Rattle.office_base.specs.StepChoice.{AreRanked}
 use Rattle.office_base.specs.declared.person.ListId.{ListId}
 use Rattle.office_base.specs.declared.person.Person.{Person}
 use Rattle.office_base.proofs.Sublists.{IsSublist-nil}
-use Rattle.placements.specs.Ranks.{AreAmong}
+use Rattle.placements.specs.Ranks.{AreAmong, AreDistinct}
+use Rattle.placements.proofs.Convert.{same_cand}
 use Rattle.placements.proofs.Ranks.{any_all, any_among, among_again, among_sublist}
 use Rattle.merit_choice.specs.Laws.{IsAmong}
 use Rattle.open_then_category.specs.Programme.{is_taken, is_same, is_of, without}
-use Rattle.open_then_category.proofs.Lists.{AreDistinct, taken_number, taken_among, among_filter, filter-sublist, sublist_again, ranked_sublist}
+use Rattle.open_then_category.proofs.Lists.{taken_number, taken_among, among_filter, filter-sublist, sublist_again, ranked_sublist}
 
 -- the people who are left where those taken stand in the order of the people
 abbrev pub minus : List Person → List Person → List Person
@@ -29,10 +30,6 @@ filter_agree p q (x ∷ xs) agree =
     let here : p x ≡ q x = agree x (inl refl) in
     let rest : filter p xs ≡ filter q xs = filter_agree p q xs (λ y there. agree y (inr there)) in
     ap (λ (b : Bool). cond b (x ∷ filter p xs) (filter p xs)) here ∙ ap (λ (ys : List Person). cond (q x) (x ∷ ys) ys) rest
-
--- two numbers of candidates are one where they are equal
-same_cand : (a b : CandId) → a.0 ≡ b.0 → a ≡ b
-same_cand a b e = ap (λ (n : ℕ). let cand : CandId = record { 0 = n } in cand) e
 
 -- nobody of some later people has the number of one before them
 later_number : (person other : Person) (people : List Person) → AllByRecursion (λ one. person.id ≢ one.id) people → IsAmong other people → eqb person.id.0 other.id.0 ≡ false

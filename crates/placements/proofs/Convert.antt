@@ -9,19 +9,17 @@ use Rattle.office_base.specs.declared.person.CandId.{CandId}
 use Rattle.office_base.specs.declared.person.Person.{Person}
 use Rattle.office_base.specs.declared.step.Pair.{Pair}
 use Rattle.office_base.specs.declared.step.Protections.{Protections}
+use Rattle.office_base.proofs.Sublists.{IsSublist-nil}
+use Rattle.placements.specs.Ranks.{AreDistinct}
 use Rattle.placements.specs.Slots.{MayStand, used, filled, AreSlots, pairs_of}
 
--- equal numbers are one candidate
-same_cand : (a b : CandId) → a.0 ≡ b.0 → a ≡ b
+-- Equal numbers are one candidate.
+pub same_cand : (a b : CandId) → a.0 ≡ b.0 → a ≡ b
 same_cand a b e = ap (λ (n : ℕ). let c : CandId = record { 0 = n } in c) e
 
 -- candidates apart have numbers apart
 apart_numbers : (a b : CandId) → a ≢ b → eqb a.0 b.0 ≡ false
 apart_numbers a b h = ne_eqb a.0 b.0 (λ e. h (same_cand a b e))
-
--- the people are distinct persons
-abbrev AreDistinct : List Person → Type 0
-AreDistinct people = Pairwise (λ a b. a.id ≢ b.id) people
 
 -- a pair of somebody else leaves a person's slot
 slot_of-other : (pair : Pair) (pairs : List Pair) (cand : CandId) → pair.cand ≢ cand → slot_of (pair ∷ pairs) cand ≡ slot_of pairs cand
@@ -240,15 +238,10 @@ slots_of-pairs_of (person ∷ people) (Some t ∷ slots) apart h =
     (slot_of-own pair (pairs_of people slots) person.id refl)
     (slots_of-others pair (pairs_of people slots) people apart.0 ∙ slots_of-pairs_of people slots apart.1 h.1)
 
--- nothing is a part of every list
-pub nil-IsSublist : {X : Type 0} (xs : List X) → IsSublist [] xs
-nil-IsSublist [] = refl
-nil-IsSublist (x ∷ xs) = inl (nil-IsSublist xs)
-
 -- the pairs of the slots stand in the order of the people
 pub pairs_of-in_order : (people : List Person) (slots : List (Option ℕ))
     → IsSublist (map (λ pair. pair.cand) (pairs_of people slots)) (map (λ person. person.id) people)
 pairs_of-in_order [] slots = refl
-pairs_of-in_order (person ∷ people) [] = inl (nil-IsSublist (map (λ (p : Person). p.id) people))
+pairs_of-in_order (person ∷ people) [] = inl (IsSublist-nil (map (λ (p : Person). p.id) people))
 pairs_of-in_order (person ∷ people) (None ∷ slots) = inl (pairs_of-in_order people slots)
 pairs_of-in_order (person ∷ people) (Some t ∷ slots) = inr (map (λ (pair : Pair). pair.cand) (pairs_of people slots), refl, pairs_of-in_order people slots)

@@ -8,6 +8,7 @@ use Rattle.office_base.specs.declared.person.CandId.{CandId}
 use Rattle.office_base.specs.declared.person.Person.{Person}
 use Rattle.office_base.specs.declared.step.Pair.{Pair}
 use Rattle.office_base.specs.declared.step.Protections.{Protections}
+use Rattle.office_base.proofs.Sublists.{AllByRecursion-sublist}
 use Rattle.placements.specs.Ranks.{CanBePlaced, AreAmong}
 use Rattle.placements.proofs.Exchange.{Leaves, Apart, Stands, AllStand, Joins, all_weaker, apart_back, pairwise_leaves, length_leaves, fewer, finds, stands_at, stands_or, stands_still, at_standing, all_front, all_joined, all_stand_same, exchange_pairs}
 
@@ -520,20 +521,12 @@ standing_people pairs (first ∷ people) =
       )
     ]
 
--- what holds of each of all holds of each of a sublist
-pub all_sublist : {X : Type 0} (P : X → Type 0) (some all : List X) → IsSublist some all → AllByRecursion P all → AllByRecursion P some
-all_sublist P some [] h each = subst (AllByRecursion P) (sym h) tt
-all_sublist P some (x ∷ all) h each = elim h [
-  | inl skips ↦ all_sublist P some all skips each.1
-  | inr takes ↦ subst (AllByRecursion P) (sym takes.1) (each.0, all_sublist P takes.0 all takes.2 each.1)
-]
-
 -- what holds of each and every later one does so in a sublist
 pub pairwise_sublist : {X : Type 0} (R : X → X → Type 0) (some all : List X) → IsSublist some all → Pairwise R all → Pairwise R some
 pairwise_sublist R some [] h each = subst (Pairwise R) (sym h) tt
 pairwise_sublist R some (x ∷ all) h each = elim h [
   | inl skips ↦ pairwise_sublist R some all skips each.1
-  | inr takes ↦ subst (Pairwise R) (sym takes.1) (all_sublist (R x) takes.0 all takes.2 each.0, pairwise_sublist R takes.0 all takes.2 each.1)
+  | inr takes ↦ subst (Pairwise R) (sym takes.1) (AllByRecursion-sublist (R x) takes.0 all takes.2 each.0, pairwise_sublist R takes.0 all takes.2 each.1)
 ]
 
 -- some of the people who can all be placed are among as many such people as all of them honour

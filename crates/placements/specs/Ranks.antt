@@ -1,7 +1,7 @@
 -- When all of some people can be placed at once, and who is among whom.
-use Rattle.std.specs.Prelude.{◌≡◌, List, length}
+use Rattle.std.specs.Prelude.{◌≡◌, ◌≢◌, List, length}
 use Rattle.std.specs.List.{AllByRecursion}
-use Rattle.office_base.specs.Lists.{AnyByRecursion}
+use Rattle.office_base.specs.Lists.{AnyByRecursion, Pairwise}
 use Rattle.office_base.specs.Placement.{IsPlacement}
 use Rattle.office_base.specs.declared.person.Person.{Person}
 use Rattle.office_base.specs.declared.step.Pair.{Pair}
@@ -10,6 +10,10 @@ use Rattle.office_base.specs.declared.step.Protections.{Protections}
 -- some placement leaves none of the people out
 abbrev pub CanBePlaced : Protections → List Person → Type 0
 CanBePlaced protections people = (pairs : List Pair) × IsPlacement protections people pairs × (length pairs ≡ length people)
+
+-- no two of the people have one number
+abbrev pub AreDistinct : List Person → Type 0
+AreDistinct people = Pairwise (λ a b. a.id ≢ b.id) people
 
 -- each of the first is one of the second
 abbrev pub AreAmong : List Person → List Person → Type 0

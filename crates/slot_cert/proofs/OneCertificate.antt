@@ -2,11 +2,12 @@
 use Rattle.std.proofs.Common.{◌≡◌, ◌≢◌, ℕ, List, [], ◌∷◌, length, map, Option, Some, None, refl, sym, ◌∙◌, ap, ap₂, subst, inl, inr, le_antisymm, arith}
 use Rattle.std.specs.List.{AllByRecursion}
 use Rattle.office_base.specs.Certificate.{slot_of, slots_of, IsEarlierSlot, AreNoLater}
-use Rattle.office_base.specs.Lists.{IsSublist, Pairwise}
+use Rattle.office_base.specs.Lists.{IsSublist}
 use Rattle.office_base.specs.declared.person.CandId.{CandId}
 use Rattle.office_base.specs.declared.person.Person.{Person}
 use Rattle.office_base.specs.declared.step.Pair.{Pair}
 use Rattle.office_base.proofs.Sublists.{AllByRecursion-sublist}
+use Rattle.placements.specs.Ranks.{AreDistinct}
 use Rattle.placements.specs.Slots.{pairs_of}
 use Rattle.placements.proofs.Convert.{slot_of-own, slots_of-others, from_same, slot_of-none}
 use Rattle.slot_cert.specs.Laws.{OneCertificate}
@@ -53,7 +54,7 @@ slot_of-later cand people pairs apart order = slot_of-none cand pairs
     (apart-pairs cand pairs (AllByRecursion-sublist (λ (other : CandId). cand ≢ other) _ _ order (apart-cands cand people apart)))
 
 -- pairs that stand in the order of distinct people are those of their slots
-pairs_of-slots_of : (people : List Person) (pairs : List Pair) → Pairwise (λ a b. a.id ≢ b.id) people
+pairs_of-slots_of : (people : List Person) (pairs : List Pair) → AreDistinct people
     → IsSublist (map (λ pair. pair.cand) pairs) (map (λ person. person.id) people) → pairs_of people (slots_of pairs people) ≡ pairs
 pairs_of-slots_of [] [] distinct order = refl
 pairs_of-slots_of [] (pair ∷ pairs) distinct order = absurd (cc)

@@ -1,17 +1,13 @@
 -- Laws of the numbers honoured and of people who can all be placed at once, over the definitions alone.
 use Rattle.std.specs.Prelude.{◌≡◌, ◌≢◌, ◌≤◌, ◌<◌, ◌+◌, ◌⊎◌, ◌↔◌, ℕ, suc, List, [], ◌∷◌, ◌++◌, length}
 use Rattle.std.specs.List.{AllByRecursion}
-use Rattle.office_base.specs.Lists.{AnyByRecursion, IsSublist, Pairwise}
+use Rattle.office_base.specs.Lists.{AnyByRecursion, IsSublist}
 use Rattle.office_base.specs.Person.{IsTraitSet}
 use Rattle.office_base.specs.Placement.{IsHonoured}
 use Rattle.office_base.specs.declared.person.Person.{Person}
 use Rattle.office_base.specs.declared.step.Protections.{Protections}
 use Rattle.placements.specs.Demand.{asking, positions}
-use Rattle.placements.specs.Ranks.{CanBePlaced}
-
--- no two of the people have one number
-abbrev pub AreDistinct : List Person → Type 0
-AreDistinct people = Pairwise (λ a b. a.id ≢ b.id) people
+use Rattle.placements.specs.Ranks.{AreDistinct, CanBePlaced}
 
 -- Exchange: of two parts of the people who can all be placed, the longer one has a person who is not in the shorter one and can be placed with it.
 abbrev pub ExchangeLaw : Type 0

@@ -33,9 +33,9 @@ returns-in-Err-NoMemory-clause-written g c =
 
 pub returns-in-Ok-clause-refused : goal.returns-in-Ok-clause-refused
 returns-in-Ok-clause-refused g c = λ other spelled faulty _ _.
-    absurd (not_input c.in-Some.command other (g.S.Source.left c.args.source.now) _ c.one_kind.ensures (one_command c.in-Some.command other c.args.words.now c.in-Some.ensures.command spelled) faulty c.in-Ok.ensures.output)
+    absurd (not_input c.in-Some.command other (g.S.Source.left c.args.source.now) _ c.one_answer.ensures (one_command c.in-Some.command other c.args.words.now c.in-Some.ensures.command spelled) faulty c.in-Ok.ensures.output)
 
 pub returns-in-Err-Bad-clause-complete : goal.returns-in-Err-Bad-clause-complete
 returns-in-Err-Bad-clause-complete g c = λ other spelled input _ _.
     let failure = rw c.in-Err-Bad.field-0-is at c.in-Err-Bad.ensures.failure in
-    absurd (not_faulty c.in-Some.command other (g.S.Source.left c.args.source.now) _ c.one_kind.ensures (one_command c.in-Some.command other c.args.words.now c.in-Some.ensures.command spelled) input failure)
+    absurd (not_faulty c.in-Some.command other (g.S.Source.left c.args.source.now) _ c.one_answer.ensures (one_command c.in-Some.command other c.args.words.now c.in-Some.ensures.command spelled) input failure)

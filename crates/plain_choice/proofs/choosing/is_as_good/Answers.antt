@@ -1,5 +1,6 @@
 use Rattle.std.proofs.Common.{arith, eqb-true}
-use Rattle.placements.proofs.Ranks.{all_sublist, pairwise_sublist}
+use Rattle.office_base.proofs.Sublists.{AllByRecursion-sublist}
+use Rattle.placements.proofs.Ranks.{pairwise_sublist}
 use Rattle.plain_choice.proofs.Against.{IsAsGood-from_no_worse, IsNoWorse-from_as_good, honours_no_fewer}
 use Rattle.plain_choice.proofs.choosing.is_as_good.Goals as goal
 
@@ -7,13 +8,13 @@ pub honoured-number-requires-clause-distinct : goal.honoured-number-requires-cla
 honoured-number-requires-clause-distinct c = pairwise_sublist _ _ _ c.requires.set c.requires.step.people.distinct
 
 pub honoured-number-requires-clause-traits : goal.honoured-number-requires-clause-traits
-honoured-number-requires-clause-traits c = all_sublist _ _ _ c.requires.set c.requires.step.people.traits
+honoured-number-requires-clause-traits c = AllByRecursion-sublist _ _ _ c.requires.set c.requires.step.people.traits
 
 pub honoured-others_number-requires-clause-distinct : goal.honoured-others_number-requires-clause-distinct
 honoured-others_number-requires-clause-distinct c = pairwise_sublist _ _ _ c.requires.other c.requires.step.people.distinct
 
 pub honoured-others_number-requires-clause-traits : goal.honoured-others_number-requires-clause-traits
-honoured-others_number-requires-clause-traits c = all_sublist _ _ _ c.requires.other c.requires.step.people.traits
+honoured-others_number-requires-clause-traits c = AllByRecursion-sublist _ _ _ c.requires.other c.requires.step.people.traits
 
 pub returns-then-others_number-number-2 : goal.returns-then-others_number-number-2
 returns-then-others_number-number-2 c = (

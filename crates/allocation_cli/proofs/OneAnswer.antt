@@ -1,0 +1,85 @@
+-- A command's input has one answer.
+use Rattle.std.proofs.Common.{◌≡◌, ◌≢◌, ◌+◌, ℕ, List, [], ◌∷◌, length, refl, sym, ap, subst, ◌∙◌}
+use Rattle.std.specs.Prelude.{fold}
+use Rattle.office_base.specs.Certificate.{IsCanonical}
+use Rattle.office_base.specs.declared.person.Person.{Person}
+use Rattle.office_base.specs.declared.step.Pair.{Pair}
+use Rattle.office_base.specs.declared.step.Step.{Step as StepOfSheet}
+use Rattle.placements.proofs.Ranks.{pairwise_sublist}
+use Rattle.merit_choice.specs.Laws.{OneChoice}
+use Rattle.slot_cert.specs.Laws.{OneCertificate}
+use Rattle.step_sheet.specs.Output.{fault_output, step_output}
+use Rattle.step_sheet.specs.Sheet as sheet
+use Rattle.choice_lists.specs.Choices.{list_of}
+use Rattle.season_file.specs.Laws as season_laws
+use Rattle.season_file.specs.Season.{content_of}
+use Rattle.season_file.specs.declared.season.Season.{Season}
+use Rattle.season_texts.specs.Texts.{choice_count, counts_line, fault_line, line_of_counts}
+use Rattle.allocation_cli.specs.Answer.{HaveOneAnswer, IsCheckOutput, IsStepOutput, IsStepText}
+use Rattle.allocation_cli.specs.declared.words.Command.{Command}
+use Rattle.allocation_cli.specs.declared.words.Command.TheVariants.{Step, Check}
+
+-- the laws of sheets, choices, certificates and bundles
+pub record AreLawful : Type 0 where
+  pub sheets : (bytes : List ℕ) → sheet.HaveOneReading bytes
+  pub bundles : (bytes : List ℕ) → season_laws.HaveOneReading bytes
+  pub choice : OneChoice
+  pub certificate : OneCertificate
+
+-- people are counted alike by tests that are alike
+counted_alike : (f g : Person → ℕ) (a : ℕ) (people : List Person) → ((person : Person) → f person ≡ g person) → fold (λ n x. n + f x) a people ≡ fold (λ n x. n + g x) a people
+counted_alike f g a [] same = refl
+counted_alike f g a (person ∷ people) same =
+    ap (λ (n : ℕ). fold (λ m x. m + f x) (a + n) people) (same person) ∙ counted_alike f g (a + g person) people same
+
+-- lines of equal counts are one
+same_line : (m n p q c d r s : ℕ) → m ≡ n → p ≡ q → c ≡ d → r ≡ s → line_of_counts m p c r ≡ line_of_counts n q d s
+same_line m n p q c d r s a b e f =
+    ap (λ (x : ℕ). line_of_counts x p c r) a ∙ ap (λ (x : ℕ). line_of_counts n x c r) b ∙ ap (λ (x : ℕ). line_of_counts n q x r) e ∙ ap (λ (x : ℕ). line_of_counts n q d x) f
+
+-- seasons that answer every look-up alike have the same counts
+same_counts : (season other : Season) (row next : ℕ) → season_laws.AreSame (content_of season row) (content_of other next) → counts_line season ≡ counts_line other
+same_counts season other row next same =
+    same_line _ _ _ _ _ _ _ _
+    (ap (λ (people : List Person). length people) same.people)
+    (ap (λ programmes. length programmes) same.programmes)
+    (counted_alike (λ person. length (list_of season.choices person.id.0)) (λ person. length (list_of other.choices person.id.0)) 0 season.register.people (λ person. ap (λ progs. length progs) (same.lists person.id.0))
+    ∙ ap (λ (people : List Person). fold (λ n person. n + length (list_of other.choices person.id.0)) 0 people) same.people)
+    (ap (λ head. head.rounds) same.head)
+
+-- a season bundle has one output
+one_check : AreLawful → (bytes output other : List ℕ) → IsCheckOutput bytes output → IsCheckOutput bytes other → output ≡ other
+one_check laws bytes output other a b =
+    let same = (laws.bundles bytes).one_content (content_of a.0 a.1.row) (content_of b.0 b.1.row) a.1.given b.1.given in
+    a.2 ∙ same_counts a.0 b.0 a.1.row b.1.row same ∙ sym b.2
+
+-- a step has one text
+one_text : AreLawful → (step : StepOfSheet) (output other : List ℕ) → IsStepText step output → IsStepText step other → output ≡ other
+one_text laws step output other a b =
+    let admitted = laws.choice step a.admitted b.admitted a.sound a.choice b.choice in
+    let distinct = pairwise_sublist (λ one next. one.id ≢ next.id) a.admitted step.people a.choice.may.people a.sound.people.distinct in
+    let certificate = subst (λ (people : List Person). IsCanonical step.protections people b.pairs) (sym admitted) b.certificate in
+    let pairs = laws.certificate step.protections a.admitted a.pairs b.pairs distinct a.certificate certificate in
+    a.text ∙ ap (λ (people : List Person). step_output step.seats (length step.people) people a.pairs) admitted
+    ∙ ap (λ (l : List Pair). step_output step.seats (length step.people) b.admitted l) pairs ∙ sym b.text
+
+-- a sheet has one output
+one_step : AreLawful → (bytes output other : List ℕ) → IsStepOutput bytes output → IsStepOutput bytes other → output ≡ other
+one_step laws bytes output other a b =
+    let same = (laws.sheets bytes).one_step a.0 b.0 a.1 b.1 in
+    one_text laws a.0 output other a.2 (subst (λ (step : StepOfSheet). IsStepText step other) (sym same) b.2)
+
+-- A command's input has one answer.
+pub one_answer : AreLawful → (command : Command) (bytes : List ℕ) → HaveOneAnswer command bytes
+one_answer laws Step bytes = record {
+  some = (laws.sheets bytes).some;
+  apart = λ input faulty. (laws.sheets bytes).apart input.0 faulty.0 input.1 faulty.1;
+  one_output = one_step laws bytes;
+  one_line = λ line other a b. a.2 ∙ ap fault_output ((laws.sheets bytes).one_fault a.0 b.0 a.1 b.1) ∙ sym b.2;
+}
+one_answer laws Check bytes = record {
+  some = (laws.bundles bytes).some;
+  apart = λ input faulty. (laws.bundles bytes).apart input.0 faulty.0 input.1 faulty.1;
+  one_output = one_check laws bytes;
+  one_line = λ line other a b. a.2 ∙ ap fault_line ((laws.bundles bytes).one_fault a.0 b.0 a.1 b.1) ∙ sym b.2;
+}
