@@ -14,7 +14,7 @@ use Rattle.choice_lists.specs.Choices.{list_of}
 use Rattle.season_file.specs.Laws as season_laws
 use Rattle.season_file.specs.Season.{content_of}
 use Rattle.season_file.specs.declared.season.Season.{Season}
-use Rattle.season_texts.specs.Texts.{choice_count, counts_line, fault_line, line_of_counts}
+use Rattle.season_texts.specs.Texts.{counts_line, fault_line, line_of_counts}
 use Rattle.allocation_cli.specs.Answer.{HaveOneAnswer, IsCheckOutput, IsStepOutput, IsStepText}
 use Rattle.allocation_cli.specs.declared.words.Command.{Command}
 use Rattle.allocation_cli.specs.declared.words.Command.TheVariants.{Step, Check}

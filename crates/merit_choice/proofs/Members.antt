@@ -1,7 +1,7 @@
 -- Who is among the people whose marks are set.
 use Rattle.std.proofs.Common.{◌≡◌, ◌≢◌, ◌⊎◌, Bool, true, false, List, [], ◌∷◌, refl, sym, ap, ◌∙◌, subst, inl, inr}
 use Rattle.std.specs.List.{AllByRecursion}
-use Rattle.office_base.specs.Lists.{AnyByRecursion, IsSublist, Pairwise}
+use Rattle.office_base.specs.Lists.{AnyByRecursion, IsSublist}
 use Rattle.office_base.specs.declared.person.Person.{Person}
 use Rattle.placements.specs.Ranks.{AreDistinct}
 use Rattle.placements.proofs.Ranks.{any_all, any_among, among_sublist, one_person, finds_person, among_itself}

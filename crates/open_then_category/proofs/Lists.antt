@@ -1,8 +1,8 @@
 -- Filters of people, who is taken from them, and the best of them.
-use Rattle.std.proofs.Common.{◌≡◌, ◌≢◌, ◌≤◌, ◌⊎◌, ℕ, zero, suc, Bool, true, false, not, cond, List, [], ◌∷◌, take, eqb, refl, sym, ap, ◌∙◌, subst, inl, inr, arith}
+use Rattle.std.proofs.Common.{◌≡◌, ◌≤◌, ◌⊎◌, ℕ, zero, suc, Bool, true, false, not, cond, List, [], ◌∷◌, take, eqb, refl, sym, ap, ◌∙◌, subst, inl, inr, arith}
 use Rattle.std.proofs.lemmas.Bool.{cond_both, cond-true, eqb-true, eq-eqb, or_left, or_right, or_cases, not-true, not_from_false, false_from_ne_true, both_ways, cases_Bool}
-use Rattle.std.specs.List.{filter, AllByRecursion}
-use Rattle.office_base.specs.Lists.{AnyByRecursion, IsSublist, Pairwise}
+use Rattle.std.specs.List.{filter}
+use Rattle.office_base.specs.Lists.{AnyByRecursion, IsSublist}
 use Rattle.office_base.specs.StepChoice.{AreRanked}
 use Rattle.office_base.specs.declared.person.CandId.{CandId}
 use Rattle.office_base.specs.declared.person.ListId.{ListId}
