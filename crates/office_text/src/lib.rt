@@ -13,6 +13,6 @@ pub mod number;
 mod tests;
 pub mod traits;
 
-pub use lines::{next_field, next_text_line, skip_mark, trim_commas};
+pub use lines::{drop_cr, next_field, next_text_line, skip_mark, trim_commas};
 pub use number::{push_number, read_number};
 pub use traits::{letter_of, read_traits, trait_number};
