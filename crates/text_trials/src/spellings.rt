@@ -1,9 +1,9 @@
 // Spellings with their values from outside.
-use crate::{
+use office_base::{Text, TraitSet};
+use office_text::{
     letter_of, next_field, next_text_line, push_number, read_number, read_traits, skip_mark,
     trait_number, trim_commas,
 };
-use office_base::{Text, TraitSet};
 use std::test::Fail;
 
 #[test]

@@ -1,33 +1,11 @@
 // Every step of at most four people over three traits, with at most two protections for each and three seats.
+use crate::candidates::step_of;
 use merit_choice::choose;
-use office_base::{
-    CandId, Category, ListId, OutOfMemory, People, Person, Place, Protections, Step, TraitSet,
-};
+use office_base::{OutOfMemory, Step};
 use plain_choice::{canonical, is_choice, is_step};
 use slot_cert::canonical_pairs;
 use std::alloc::Global;
 use std::test::Fail;
-
-// People with these sets of traits, in merit order, at the places 1, 2, 3 and so on of list 1.
-fn people_of(alloc: Global, sets: &[u8]) -> Result<People, OutOfMemory> {
-    let mut people = People::new(alloc);
-    let mut place = 0u32;
-    for traits in sets {
-        place = place.saturating_add(1);
-        people.push(Person {
-            id: CandId(place),
-            category: Category::Gen,
-            traits: TraitSet(*traits),
-            places: [
-                Place::Common(place),
-                Place::Absent,
-                Place::Absent,
-                Place::Absent,
-            ],
-        })?;
-    }
-    Ok(people)
-}
 
 // Whether the choice is the plain choice, and the canonical pairs of all people are the plain ones.
 fn agree(alloc: Global, step: &Step) -> Result<bool, OutOfMemory> {
@@ -46,14 +24,8 @@ fn all_agree(alloc: Global, sets: &[u8]) -> Result<bool, OutOfMemory> {
     let mut same = true;
     for seats in 0..4u16 {
         for counts in 0..27u16 {
-            let step = Step {
-                list: ListId(1),
-                seats,
-                protections: Protections {
-                    counts: [counts % 3, counts / 3 % 3, counts / 9, 0, 0, 0],
-                },
-                people: people_of(alloc, sets)?,
-            };
+            let protections = [counts % 3, counts / 3 % 3, counts / 9];
+            let step = step_of(alloc, seats, protections, sets)?;
             same &= agree(alloc, &step)?;
         }
     }

@@ -1,8 +1,8 @@
 // Sheets with their steps and faults, and the texts, from outside.
-use crate::{SheetError, SheetFault, SheetKind, fault_text, read_sheet, step_text};
 use office_base::{CandId, Pair, Place, Text, TraitSet};
 use std::alloc::Global;
 use std::test::Fail;
+use step_sheet::{SheetError, SheetFault, SheetKind, fault_text, read_sheet, step_text};
 
 const SHEET: &[u8] = b"step sheet 1\nseats,3\ncand,11,-\ncand,12,W\ncand,13,-\ncand,14\ncand,15,D";
 
@@ -57,7 +57,7 @@ fn first_lines_and_seats_have_faults(rt: HostRuntime) {
 }
 
 #[test]
-fn lines_behind_the_seats_have_faults(rt: HostRuntime) -> Result<(), Fail> {
+fn lines_after_the_seats_have_faults(rt: HostRuntime) -> Result<(), Fail> {
     let cases: [(&[u8], u32, SheetKind); 15] = [
         (b"cand,0,-", 3, SheetKind::BadLine),
         (b"cand,1,DW", 3, SheetKind::BadLine),

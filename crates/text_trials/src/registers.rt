@@ -1,13 +1,12 @@
 // Bodies of the register with their answers.
-use crate::{RankFault, RankKind, Register};
+use crate::sections::REGISTER_HEADER;
 use office_base::{CandId, Category, ListId, Place, TraitSet};
+use rank_lists::{RankFault, RankKind, Register};
 use std::test::Fail;
-
-const HEADER: &str = "id,category,traits,token,m1,m2,m3,m4\n";
 
 /// A header with these rows below it.
 fn body(rt: HostRuntime, rows: &str) -> Result<String, Fail> {
-    Ok(format!(in rt.alloc(); "{HEADER}{rows}")?)
+    Ok(format!(in rt.alloc(); "{REGISTER_HEADER}{rows}")?)
 }
 
 fn fault(rt: HostRuntime, rows: &str) -> Result<Option<(u32, RankKind)>, Fail> {

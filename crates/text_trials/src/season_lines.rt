@@ -1,8 +1,8 @@
 // The texts of a small season and of each kind of fault.
-use crate::{counts_text, fault_text};
 use choice_lists::{ChoiceFault, ChoiceKind};
 use rank_lists::{RankFault, RankKind};
 use season_file::{Season, SeasonFault};
+use season_texts::{counts_text, fault_text};
 use seat_matrix::{MatrixFault, MatrixKind};
 use std::test::Fail;
 

@@ -1,4 +1,5 @@
 // The limits of the season file's sections, with bodies that are just too large.
+use crate::sections::{CHOICES_HEADER, MATRIX_HEADER, REGISTER_HEADER};
 use choice_lists::{ChoiceFault, ChoiceKind, Choices};
 use rank_lists::{RankFault, RankKind, Register};
 use seat_matrix::{Matrix, MatrixFault, MatrixKind};
@@ -8,7 +9,7 @@ use std::test::Fail;
 
 // A register of this many candidates.
 fn register_of(alloc: Global, candidates: u32) -> Result<String, AllocError> {
-    let mut body = String::from_str(alloc, "id,category,traits,token,m1,m2,m3,m4\n")?;
+    let mut body = String::from_str(alloc, REGISTER_HEADER)?;
     for number in 0..candidates {
         write!(body, "1{number:06},GEN,-,token{number:06},1{number:06}\n")?;
     }
@@ -17,7 +18,7 @@ fn register_of(alloc: Global, candidates: u32) -> Result<String, AllocError> {
 
 // A matrix of this many programmes, each with this many open seats.
 fn matrix_of(alloc: Global, programmes: u32, seats: u32) -> Result<String, AllocError> {
-    let mut body = String::from_str(alloc, "programme,institute,list,step,seats,W,D,X,S,F,L\n")?;
+    let mut body = String::from_str(alloc, MATRIX_HEADER)?;
     for number in 0..programmes {
         write!(body, "P{number},I1,1,OPEN,{seats}\n")?;
     }
@@ -30,7 +31,7 @@ fn choices_of(alloc: Global, candidates: u32) -> Result<String, AllocError> {
     for number in 0..1_000 {
         write!(all, ",P{number}")?;
     }
-    let mut body = String::from_str(alloc, "candidate,programmes\n")?;
+    let mut body = String::from_str(alloc, CHOICES_HEADER)?;
     for number in 0..candidates {
         write!(body, "1{number:06}{all}\n")?;
     }

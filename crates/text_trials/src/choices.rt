@@ -1,30 +1,24 @@
 // Bodies of the choices with their answers.
-use crate::{ChoiceFault, ChoiceKind, Choices};
+use crate::sections::{CHOICES_HEADER, register_and_matrix};
+use choice_lists::{ChoiceFault, ChoiceKind, Choices};
 use office_base::{CandId, ProgId};
-use rank_lists::Register;
-use seat_matrix::Matrix;
 use std::test::Fail;
 
-const REGISTER: &str =
-    "id,category,traits,token,m1,m2,m3,m4\n1,GEN,-,tok00001,1\n2,SC,-,tok00002,,1R\n3,OBC,W,tok00003,2R,2\n";
+const REGISTER: &str = "1,GEN,-,tok00001,1\n2,SC,-,tok00002,,1R\n3,OBC,W,tok00003,2R,2\n";
 
-const MATRIX: &str =
-    "programme,institute,list,step,seats,W,D,X,S,F,L\nA,I1,1,OPEN,1\nB,I1,2,OPEN,1\nC,I2,1,OPEN,1\n";
+const MATRIX: &str = "A,I1,1,OPEN,1\nB,I1,2,OPEN,1\nC,I2,1,OPEN,1\n";
 
 /// What the choices of a body are beside the register and the matrix above.
 fn answer(rt: HostRuntime, text: &[u8]) -> Result<Result<Choices, ChoiceFault>, Fail> {
-    match (
-        Register::read(rt.alloc(), REGISTER.as_bytes()),
-        Matrix::read(rt.alloc(), MATRIX.as_bytes()),
-    ) {
-        (Ok(register), Ok(matrix)) => Ok(Choices::read(rt.alloc(), text, &register, &matrix)),
-        _ => Ok(Err(ChoiceFault::OutOfMemory)),
+    match register_and_matrix(rt.alloc(), REGISTER, MATRIX)? {
+        Some((register, matrix)) => Ok(Choices::read(rt.alloc(), text, &register, &matrix)),
+        None => Ok(Err(ChoiceFault::OutOfMemory)),
     }
 }
 
 /// The fault of a header with these rows below it.
 fn fault(rt: HostRuntime, rows: &str) -> Result<Option<ChoiceFault>, Fail> {
-    let text = format!(in rt.alloc(); "candidate,programmes\n{rows}")?;
+    let text = format!(in rt.alloc(); "{CHOICES_HEADER}{rows}")?;
     Ok(answer(rt, text.as_bytes())?.err())
 }
 

@@ -1,13 +1,12 @@
 // Bodies of the matrix with their answers.
-use crate::{Matrix, MatrixFault, MatrixKind};
+use crate::sections::MATRIX_HEADER;
 use office_base::{Code, ListId, ProgId, StepKind};
+use seat_matrix::{Matrix, MatrixFault, MatrixKind};
 use std::test::Fail;
-
-const HEADER: &str = "programme,institute,list,step,seats,W,D,X,S,F,L\n";
 
 /// The first fault of a header with these rows below it.
 fn fault(rt: HostRuntime, rows: &str) -> Result<Option<(u32, MatrixKind)>, Fail> {
-    let text = format!(in rt.alloc(); "{HEADER}{rows}")?;
+    let text = format!(in rt.alloc(); "{MATRIX_HEADER}{rows}")?;
     match Matrix::read(rt.alloc(), text.as_bytes()) {
         Err(MatrixFault::Bad { row, kind }) => Ok(Some((row, kind))),
         _ => Ok(None),
@@ -58,7 +57,7 @@ fn faults_are_told_with_their_rows(rt: HostRuntime) -> Result<(), Fail> {
 #[test]
 fn spellings_are_read(rt: HostRuntime) -> Result<(), Fail> {
     let text = format!(in rt.alloc();
-        "{HEADER}\r\nB-1,I1,2,OPEN,3,2,,1,,,,\rA,\"I2\",1,OBC-NCL,4000\n,,\nB-1,I1,2,ST,0\n"
+        "{MATRIX_HEADER}\r\nB-1,I1,2,OPEN,3,2,,1,,,,\rA,\"I2\",1,OBC-NCL,4000\n,,\nB-1,I1,2,ST,0\n"
     )?;
     let Ok(matrix) = Matrix::read(rt.alloc(), text.as_bytes()) else {
         assert!(rt; false);
