@@ -6,7 +6,7 @@ ghost use Rattle.keeper_mem.specs.Tables.{NoSeason, Records, with_season, with_a
 
 use crate::memory::Memory;
 use crate::{AllotRow, AnswerRow, KeepFault, Keeper, Kept, RaiseRow};
-use office_base::OutOfMemory;
+use office_base::{OutOfMemory, fails_at};
 use std::alloc::Global;
 use std::marker::Model;
 
@@ -59,6 +59,7 @@ impl MemKeeper {
         ensures memory { self.new.memory ≡ self.old.memory }
         ensures calls { self.new.calls ≡ counted self.old.calls }
         ensures same { self.new.fail_at ≡ self.old.fail_at }
+        ensures count { self.old.faults ≤ self.new.faults }
         ensures ok { OnOk result (self.new.faults ≡ self.old.faults) }
         ensures err { OnErr result (self.new.faults ≡ counted self.old.faults) }
         ensures failed { OnErr result (IsErrOf result KeepFault.Failed) }
@@ -66,8 +67,7 @@ impl MemKeeper {
         ensures passes { OnOk result (Contains self.old.fail_at (counted self.old.calls) → ⊥) }
     {
         self.calls = self.calls.saturating_add(1);
-        let call = self.calls;
-        if self.fail_at.iter().any(|at| u64::from(*at) == call) {
+        if fails_at(&self.fail_at, self.calls) {
             self.faults = self.faults.saturating_add(1);
             return Err(KeepFault::Failed);
         }
@@ -86,42 +86,144 @@ impl Keeper for MemKeeper {
 
     ghost spare = { λ k. k.memory.spare };
 
-    fn has_season(&mut self) -> Result<bool, KeepFault> {
+    fn has_season(&mut self) -> Result<bool, KeepFault>
+        ensures ok { IfOk result (λ found. IsFound found self.old.memory.tables) }
+        ensures told { AreTold self.old.memory.tables self.new.memory.tables }
+        ensures spare { OnOk result (self.new.memory.spare ≡ self.old.memory.spare) }
+        ensures spare_err { OnErr result (self.old.memory.spare ≤ self.new.memory.spare) }
+        ensures steady { OnOk result (self.new.faults ≡ self.old.faults) }
+        ensures count { self.old.faults ≤ self.new.faults }
+        ensures cause { IsErrOf result KeepFault.Failed → Rose self.old.faults self.new.faults }
+        ensures room { true ≡ true }
+        // it fails exactly where its number says so
+        ensures fails { IsErrOf result KeepFault.Failed ↔ Contains self.old.fail_at (counted self.old.calls) }
+        ensures calls { self.new.calls ≡ counted self.old.calls }
+        ensures told_to { self.new.fail_at ≡ self.old.fail_at }
+        ensures by_one { IsErrOf result KeepFault.Failed → self.new.faults ≡ counted self.old.faults }
+    {
         self.begin_call()?;
         Ok(self.memory.has_season())
     }
 
-    fn put_season(&mut self, text: &[u8]) -> Result<(), KeepFault> {
+    fn put_season(&mut self, text: &[u8]) -> Result<(), KeepFault>
+        requires { IsFound false self.old.memory.tables }
+        ensures ok { OnOk result (AreTold (with_season text.now self.old.memory.tables) self.new.memory.tables) }
+        ensures err { OnErr result (AreTold self.old.memory.tables self.new.memory.tables) }
+        ensures spare { OnOk result (self.new.memory.spare ≡ self.old.memory.spare) }
+        ensures spare_err { OnErr result (self.old.memory.spare ≤ self.new.memory.spare) }
+        ensures steady { OnOk result (self.new.faults ≡ self.old.faults) }
+        ensures count { self.old.faults ≤ self.new.faults }
+        ensures cause { IsErrOf result KeepFault.Failed → Rose self.old.faults self.new.faults }
+        ensures room { true ≡ true }
+        // it fails exactly where its number says so
+        ensures fails { IsErrOf result KeepFault.Failed ↔ Contains self.old.fail_at (counted self.old.calls) }
+        ensures calls { self.new.calls ≡ counted self.old.calls }
+        ensures told_to { self.new.fail_at ≡ self.old.fail_at }
+        ensures by_one { IsErrOf result KeepFault.Failed → self.new.faults ≡ counted self.old.faults }
+    {
         self.begin_call()?;
         self.memory.put_season(text)?;
         Ok(())
     }
 
-    fn reserve_answers(&mut self, n: u32) -> Result<(), KeepFault> {
+    fn reserve_answers(&mut self, n: u32) -> Result<(), KeepFault>
+        ensures ok { OnOk result (true ≡ true → n ≤ self.new.memory.spare) }
+        ensures told { AreTold self.old.memory.tables self.new.memory.tables }
+        ensures spare { self.old.memory.spare ≤ self.new.memory.spare }
+        ensures steady { OnOk result (self.new.faults ≡ self.old.faults) }
+        ensures count { self.old.faults ≤ self.new.faults }
+        ensures cause { IsErrOf result KeepFault.Failed → Rose self.old.faults self.new.faults }
+        ensures room { true ≡ true }
+        // it fails exactly where its number says so
+        ensures fails { IsErrOf result KeepFault.Failed ↔ Contains self.old.fail_at (counted self.old.calls) }
+        ensures calls { self.new.calls ≡ counted self.old.calls }
+        ensures told_to { self.new.fail_at ≡ self.old.fail_at }
+        ensures by_one { IsErrOf result KeepFault.Failed → self.new.faults ≡ counted self.old.faults }
+    {
         self.begin_call()?;
         self.memory.reserve_answers(n)?;
         Ok(())
     }
 
-    fn put_answer(&mut self, row: AnswerRow) -> Result<(), KeepFault> {
+    fn put_answer(&mut self, row: AnswerRow) -> Result<(), KeepFault>
+        requires { IsFound true self.old.memory.tables }
+        ensures ok { OnOk result (AreTold (with_answer row self.old.memory.tables) self.new.memory.tables) }
+        ensures err { OnErr result (AreTold self.old.memory.tables self.new.memory.tables) }
+        ensures spare { OnOk result (self.new.memory.spare ≡ self.old.memory.spare - 1) }
+        ensures spare_err { OnErr result (self.old.memory.spare ≤ self.new.memory.spare) }
+        ensures memory { IsErrOf result KeepFault.OutOfMemory → self.old.memory.spare ≡ 0 }
+        ensures steady { OnOk result (self.new.faults ≡ self.old.faults) }
+        ensures count { self.old.faults ≤ self.new.faults }
+        ensures cause { IsErrOf result KeepFault.Failed → Rose self.old.faults self.new.faults }
+        ensures room { true ≡ true }
+        // it fails exactly where its number says so
+        ensures fails { IsErrOf result KeepFault.Failed ↔ Contains self.old.fail_at (counted self.old.calls) }
+        ensures calls { self.new.calls ≡ counted self.old.calls }
+        ensures told_to { self.new.fail_at ≡ self.old.fail_at }
+        ensures by_one { IsErrOf result KeepFault.Failed → self.new.faults ≡ counted self.old.faults }
+    {
         self.begin_call()?;
         self.memory.put_answer(row)?;
         Ok(())
     }
 
-    fn put_raise(&mut self, row: RaiseRow) -> Result<(), KeepFault> {
+    fn put_raise(&mut self, row: RaiseRow) -> Result<(), KeepFault>
+        requires { IsFound true self.old.memory.tables }
+        ensures ok { OnOk result (AreTold (with_raise row self.old.memory.tables) self.new.memory.tables) }
+        ensures err { OnErr result (AreTold self.old.memory.tables self.new.memory.tables) }
+        ensures spare { OnOk result (self.new.memory.spare ≡ self.old.memory.spare) }
+        ensures spare_err { OnErr result (self.old.memory.spare ≤ self.new.memory.spare) }
+        ensures steady { OnOk result (self.new.faults ≡ self.old.faults) }
+        ensures count { self.old.faults ≤ self.new.faults }
+        ensures cause { IsErrOf result KeepFault.Failed → Rose self.old.faults self.new.faults }
+        ensures room { true ≡ true }
+        // it fails exactly where its number says so
+        ensures fails { IsErrOf result KeepFault.Failed ↔ Contains self.old.fail_at (counted self.old.calls) }
+        ensures calls { self.new.calls ≡ counted self.old.calls }
+        ensures told_to { self.new.fail_at ≡ self.old.fail_at }
+        ensures by_one { IsErrOf result KeepFault.Failed → self.new.faults ≡ counted self.old.faults }
+    {
         self.begin_call()?;
         self.memory.put_raise(row)?;
         Ok(())
     }
 
-    fn put_cut(&mut self, rows: &[AllotRow]) -> Result<(), KeepFault> {
+    fn put_cut(&mut self, rows: &[AllotRow]) -> Result<(), KeepFault>
+        requires { IsFound true self.old.memory.tables }
+        ensures ok { OnOk result (AreTold (with_cut rows.now self.old.memory.tables) self.new.memory.tables) }
+        ensures err { OnErr result (AreTold self.old.memory.tables self.new.memory.tables) }
+        ensures spare { OnOk result (self.new.memory.spare ≡ self.old.memory.spare) }
+        ensures spare_err { OnErr result (self.old.memory.spare ≤ self.new.memory.spare) }
+        ensures steady { OnOk result (self.new.faults ≡ self.old.faults) }
+        ensures count { self.old.faults ≤ self.new.faults }
+        ensures cause { IsErrOf result KeepFault.Failed → Rose self.old.faults self.new.faults }
+        ensures room { true ≡ true }
+        // it fails exactly where its number says so
+        ensures fails { IsErrOf result KeepFault.Failed ↔ Contains self.old.fail_at (counted self.old.calls) }
+        ensures calls { self.new.calls ≡ counted self.old.calls }
+        ensures told_to { self.new.fail_at ≡ self.old.fail_at }
+        ensures by_one { IsErrOf result KeepFault.Failed → self.new.faults ≡ counted self.old.faults }
+    {
         self.begin_call()?;
         self.memory.put_cut(rows)?;
         Ok(())
     }
 
-    fn load(&mut self, alloc: Global) -> Result<Option<Kept>, KeepFault> {
+    fn load(&mut self, alloc: Global) -> Result<Option<Kept>, KeepFault>
+        ensures ok { IfOk result (λ found. MatchOption found (IsFound false self.old.memory.tables) (IsLoaded self.old.memory.tables)) }
+        ensures told { AreTold self.old.memory.tables self.new.memory.tables }
+        ensures spare { OnOk result (self.new.memory.spare ≡ self.old.memory.spare) }
+        ensures spare_err { OnErr result (self.old.memory.spare ≤ self.new.memory.spare) }
+        ensures steady { OnOk result (self.new.faults ≡ self.old.faults) }
+        ensures count { self.old.faults ≤ self.new.faults }
+        ensures cause { IsErrOf result KeepFault.Failed → Rose self.old.faults self.new.faults }
+        ensures room { true ≡ true }
+        // it fails exactly where its number says so
+        ensures fails { IsErrOf result KeepFault.Failed ↔ Contains self.old.fail_at (counted self.old.calls) }
+        ensures calls { self.new.calls ≡ counted self.old.calls }
+        ensures told_to { self.new.fail_at ≡ self.old.fail_at }
+        ensures by_one { IsErrOf result KeepFault.Failed → self.new.faults ≡ counted self.old.faults }
+    {
         self.begin_call()?;
         Ok(self.memory.load(alloc)?)
     }
