@@ -5,8 +5,8 @@ use Rattle.office_base.specs.Person.{number_of}
 use Rattle.rank_lists.specs.Places.{place_cmp}
 use Rattle.rank_lists.specs.Register.{is_number}
 use Rattle.section_rows.proofs.StepsLemmas.{cond-or}
-use Rattle.rank_lists.proofs.RankingLemmas.{place_found}
-use Rattle.rank_lists.proofs.ranking.take.Goals as goal
+use Rattle.rank_lists.proofs.BuilderLemmas.{place_found}
+use Rattle.rank_lists.proofs.builder.take.Goals as goal
 
 pub returns-in_ok-insert : goal.returns-in_ok-insert
 returns-in_ok-insert c = λ l n.

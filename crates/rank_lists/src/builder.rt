@@ -14,7 +14,7 @@ use crate::fields::{read_category, read_place};
 use crate::register::Register;
 use office_base::{CandId, Category, OutOfMemory, Person, Place, Token};
 use office_text::{read_number, read_traits};
-use section_rows::Rows;
+use section_rows::{Rows, TableBuilder};
 use std::alloc::{AllocError, Global};
 use std::collections::{BTreeMap, BTreeSet};
 
@@ -24,24 +24,24 @@ const MOST: usize = 250_000;
 /// The greatest id.
 const LAST_ID: u32 = 999_999_999;
 
-/// The candidates so far by id, who holds which token, and the numbers taken in each list, counted from 0.
+/// A register in the making: the candidates so far by id, who holds which token, and the numbers taken in each list, counted from 0.
 #[derive(Drop)]
-pub(crate) struct Ranking {
+pub(crate) struct RegisterBuilder {
     pub(crate) people: BTreeMap<u32, Person>,
     pub(crate) holders: BTreeMap<Token, CandId>,
     pub(crate) taken: BTreeSet<(u8, u32)>,
 }
 
-impl Ranking {
-    ghost use Rattle.rank_lists.specs.Ranking.{Keeps};
+impl RegisterBuilder {
+    ghost use Rattle.rank_lists.specs.Builder.{Keeps};
     ghost use Rattle.rank_lists.specs.Register.{IsRegister, any_repeats, new_id, new_token, reading, repeats, places_of, any_relaxed};
     ghost use Rattle.rank_lists.specs.declared.entry.Entry.{Entry};
 
     /// No candidates.
-    pub(crate) fn new(alloc: Global) -> Ranking
+    pub(crate) fn new(alloc: Global) -> RegisterBuilder
         ensures { Keeps [] result }
     {
-        Ranking {
+        RegisterBuilder {
             people: BTreeMap::new(alloc),
             holders: BTreeMap::new(alloc),
             taken: BTreeSet::new(alloc),
@@ -101,7 +101,7 @@ impl Ranking {
 
     /// What a row gives, or the first of its faults.
     #[tactic(auto, unfolding(crate::specs::Register::reading))]
-    pub(crate) fn read(&self, row: &Rows<'_>) -> Result<Entry, RankKind>
+    fn read(&self, row: &Rows<'_>) -> Result<Entry, RankKind>
         ensures { (entries : List Entry) → Keeps entries self.now → result ≡ reading entries row.now.row }
     {
         let id = self.new_id(row)?;
@@ -130,8 +130,8 @@ impl Ranking {
         })
     }
 
-    /// Puts in what a row gave. Where there is no memory for it, the ranking is of no use any more.
-    pub(crate) fn add(&mut self, entry: Entry) -> Result<(), OutOfMemory>
+    /// Puts in what a row gave. Where there is no memory for it, the builder is of no use any more.
+    fn add(&mut self, entry: Entry) -> Result<(), OutOfMemory>
         ensures { OnOk result ((entries : List Entry) (row : Row) → Keeps entries self.old → reading entries row ≡ Ok entry → Keeps (entries ++ entry ∷ []) self.new) }
     {
         let person = entry.person;
@@ -149,7 +149,7 @@ impl Ranking {
         requires { (entries : List Entry) × Keeps entries self }
         ensures { IfOk result (λ register. (entries : List Entry) → Keeps entries self → IsRegister entries register) }
     {
-        let Ranking {
+        let RegisterBuilder {
             people,
             holders,
             taken: _,
@@ -158,6 +158,52 @@ impl Ranking {
             people: in_order(alloc, &people)?,
             holders,
         })
+    }
+}
+
+impl TableBuilder for RegisterBuilder {
+    ghost use Rattle.rank_lists.specs.Builder.{Keeps};
+    ghost use Rattle.rank_lists.specs.Register.{header, reading};
+    ghost use Rattle.rank_lists.specs.declared.entry.Entry.{Entry};
+    ghost use Rattle.rank_lists.specs.declared.fault.RankKind.TheVariants.{BadHeader};
+
+    type Kind = RankKind;
+
+    ghost Entry = { Entry };
+
+    ghost names = { header };
+
+    ghost bad = { BadHeader };
+
+    ghost reading = { λ _. reading };
+
+    ghost keeps = { λ builder entries. Keeps entries builder };
+
+    fn is_header(row: &Rows<'_>) -> bool {
+        row.is(&[
+            b"id".as_slice(),
+            b"category".as_slice(),
+            b"traits".as_slice(),
+            b"token".as_slice(),
+            b"m1".as_slice(),
+            b"m2".as_slice(),
+            b"m3".as_slice(),
+            b"m4".as_slice(),
+        ])
+    }
+
+    fn bad_header() -> RankKind {
+        RankKind::BadHeader
+    }
+
+    fn put(&mut self, row: &Rows<'_>) -> Result<Option<RankKind>, OutOfMemory> {
+        match self.read(row) {
+            Ok(entry) => {
+                self.add(entry)?;
+                Ok(None)
+            }
+            Err(kind) => Ok(Some(kind)),
+        }
     }
 }
 

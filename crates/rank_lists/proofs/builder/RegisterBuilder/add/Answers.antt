@@ -4,8 +4,8 @@ use Rattle.std.specs.Ordering.{is_eq, nat_cmp}
 use Rattle.office_base.specs.declared.person.CandId.{CandId}
 use Rattle.office_base.specs.declared.person.Person.{Person}
 use Rattle.rank_lists.proofs.EntriesLemmas.{entries-step}
-use Rattle.rank_lists.proofs.RankingLemmas.{accepted, holder-step, keyed-insert, person-step, taken-chain, count-step, at-0, at-1, at-2, at-3}
-use Rattle.rank_lists.proofs.ranking.Ranking.add.Goals as goal
+use Rattle.rank_lists.proofs.BuilderLemmas.{accepted, holder-step, keyed-insert, person-step, taken-chain, count-step, at-0, at-1, at-2, at-3}
+use Rattle.rank_lists.proofs.builder.RegisterBuilder.add.Goals as goal
 
 pub returns : goal.returns
 returns c = λ entries row keeps e.

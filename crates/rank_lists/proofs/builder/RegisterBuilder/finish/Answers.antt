@@ -1,5 +1,5 @@
 use Rattle.rank_lists.proofs.MadeLemmas.{made, made_sound}
-use Rattle.rank_lists.proofs.ranking.Ranking.finish.Goals as goal
+use Rattle.rank_lists.proofs.builder.RegisterBuilder.finish.Goals as goal
 
 pub invariant_of-result : goal.invariant_of-result
 invariant_of-result c = made_sound c.requires.0 c.args.self _ c.requires.1 c.in_ok-in_order.ensures.all c.in_ok-in_order.ensures.ordered
