@@ -38,3 +38,8 @@ TookMore limit before after = (bytes : List ℕ) × (limit < length bytes) × To
 abbrev pub Appends : List ℕ → Option (List ℕ) → Option (List ℕ) → Type 0
 Appends bytes None after = after ≡ None
 Appends bytes (Some before) after = after ≡ Some (before ++ bytes)
+
+-- these are the bytes left, where they are told
+abbrev pub AreLeft : List ℕ → Option (List ℕ) → Type 0
+AreLeft bytes None = Unit {0}
+AreLeft bytes (Some left) = bytes ≡ left
