@@ -1,14 +1,14 @@
 -- How a command that answers with one text ends.
 use Rattle.std.proofs.Common.{◌≡◌, ◌<◌, ◌⊎◌, ◌∙◌, ◌++◌, inl, inr, ℕ, List, [], Option, Some, None, Result, Ok, Err, take, length, refl, sym, subst, ap, arith, length-append}
 use Rattle.std.proofs.lemmas.List.{append-nil}
-use Rattle.std.specs.Prelude.{IfOk, IfErr}
-use Rattle.office_base.specs.Outside.{Appends, IsAtEnd, Took, TookMore}
-use Rattle.allocation_cli.specs.Answers.{Answers, AreLeft, HasLeft, HaveOneAnswer, IsFailureOf, IsInputFailure, Tells}
+use Rattle.std.specs.Prelude.{IfOk, IfErr, IsErrOf}
+use Rattle.office_base.specs.Outside.{Appends, AreLeft, IsAtEnd, Took, TookMore}
+use Rattle.allocation_cli.specs.Answers.{Answers, HasLeft, HaveOneAnswer, IsFailureOf, IsInputFailure, Tells}
 use Rattle.allocation_cli.specs.Program.{IsTextOf, Writes, status_of, text_of}
 use Rattle.allocation_cli.specs.declared.failure.Failure.{Failure}
 use Rattle.allocation_cli.specs.declared.failure.Failure.TheVariants.{Read, Bad, NoMemory}
 use Rattle.allocation_cli.specs.declared.status.Status.{Status}
-use Rattle.allocation_cli.specs.declared.status.Status.TheVariants.{Ok as Done, BadInput, WriteFault, OutOfMemory}
+use Rattle.allocation_cli.specs.declared.status.Status.TheVariants.{Ok as Done, BadInput, ReadFault, WriteFault, OutOfMemory}
 
 -- a text was written whole, with its status; or the sink failed, and a prefix of it was
 abbrev pub WasTold : Status → List ℕ → Option (List ℕ) → Option (List ℕ) → Type 0 → Status → Type 0
@@ -69,6 +69,14 @@ fault_is_refused answers left failed (Ok output) result before after broke laws 
 fault_is_refused answers left failed (Err Read) result before after broke laws made cause told tells read wrote = absurd (read cause)
 fault_is_refused answers left failed (Err (Bad line)) result before after broke laws made cause told tells read wrote = inl (status_is_told BadInput result line before after broke told wrote)
 fault_is_refused answers left failed (Err NoMemory) result before after broke laws made cause told tells read wrote = inr (status_is_told OutOfMemory result _ before after broke told wrote)
+
+-- Where neither side's fault is told, the source did not fail.
+pub source_held : (answer : Result (List ℕ) Failure) (result : Status) (before after : Option (List ℕ)) (broke Held : Type 0) → ((IsErrOf answer Read → ⊥) → Held)
+    → WasTold (status_of answer) (text_of answer) before after broke result → (result ≡ ReadFault → ⊥) → (result ≡ WriteFault → ⊥) → Held
+source_held (Ok output) result before after broke Held steady told read wrote = steady (λ same. cc)
+source_held (Err Read) result before after broke Held steady told read wrote = elim told [ inl whole ↦ absurd (read whole.0) | inr cut ↦ absurd (wrote cut.0) ]
+source_held (Err (Bad line)) result before after broke Held steady told read wrote = steady (λ same. cc)
+source_held (Err NoMemory) result before after broke Held steady told read wrote = steady (λ same. cc)
 
 -- Bytes that were taken up to the end are those that were left.
 pub all_left : (bytes : List ℕ) (left after : Option (List ℕ)) → Took bytes left after → IsAtEnd after → AreLeft bytes left

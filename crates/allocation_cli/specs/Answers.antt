@@ -1,5 +1,6 @@
 -- What a command answers with one text to the bytes that its source had left.
-use Rattle.std.specs.Prelude.{◌≡◌, ◌⊎◌, ℕ, List, Option, Some, None, Result, Ok, Err}
+use Rattle.std.specs.Prelude.{◌≡◌, ◌⊎◌, ℕ, List, Option, Some, None}
+use Rattle.office_base.specs.Outside.{AreLeft}
 use Rattle.allocation_cli.specs.declared.failure.Failure.{Failure}
 use Rattle.allocation_cli.specs.declared.failure.Failure.TheVariants.{Read, Bad, NoMemory}
 
@@ -23,11 +24,6 @@ pub record HaveOneAnswer (answers : Answers) (bytes : List ℕ) : Type 0 where
   pub of_fault : (line : List ℕ) → answers.IsFaultLine bytes line → answers.IsFaulty bytes
   pub one_output : (output other : List ℕ) → answers.IsOutput bytes output → answers.IsOutput bytes other → output ≡ other
   pub one_line : (line other : List ℕ) → answers.IsFaultLine bytes line → answers.IsFaultLine bytes other → line ≡ other
-
--- these are the bytes that were left, where the source tells them
-abbrev pub AreLeft : List ℕ → Option (List ℕ) → Type 0
-AreLeft bytes None = Unit {0}
-AreLeft bytes (Some left) = bytes ≡ left
 
 -- some bytes that were left have this text in this way
 abbrev pub HasLeft : (List ℕ → List ℕ → Type 0) → Option (List ℕ) → List ℕ → Type 0

@@ -1,5 +1,6 @@
 -- The command `check`: its input is a season bundle without requests, its output how much the season has.
 use Rattle.std.specs.Prelude.{◌≡◌, ℕ, List, Option}
+use Rattle.office_base.specs.Outside.{AreLeft}
 use Rattle.season_file.specs.Laws.{HasFault}
 use Rattle.season_file.specs.Season.{Gives, IsSeason}
 use Rattle.season_file.specs.declared.content.Content.{Content}
@@ -7,7 +8,7 @@ use Rattle.season_file.specs.declared.fault.SeasonFault.{SeasonFault}
 use Rattle.season_file.specs.declared.fault.SeasonFault.TheVariants.{ReadFault, OutOfMemory}
 use Rattle.season_file.specs.declared.season.Season.{Season}
 use Rattle.season_texts.specs.Texts.{counts_line, fault_line}
-use Rattle.allocation_cli.specs.Answers.{Answers, AreLeft}
+use Rattle.allocation_cli.specs.Answers.{Answers}
 use Rattle.allocation_cli.specs.declared.failure.Failure.{Failure}
 use Rattle.allocation_cli.specs.declared.failure.Failure.TheVariants.{Read, Bad, NoMemory}
 
@@ -35,8 +36,8 @@ IsBundleFaultLine bytes line = (fault : SeasonFault) × HasFault bytes fault × 
 abbrev pub check_answers : Answers
 check_answers = record { IsInput = IsBundle; IsFaulty = IsFaultyBundle; IsOutput = IsCheckOutput; IsFaultLine = IsBundleFaultLine }
 
--- The failure tells this fault of a season by its line, or that the source failed. Nothing is claimed of memory.
+-- The failure tells this fault of a season by its line, or that the source failed. Of memory it is claimed that the source did not fail.
 abbrev pub TellsSeasonFault : SeasonFault → Failure → Type 0
 TellsSeasonFault fault Read = fault ≡ ReadFault
 TellsSeasonFault fault (Bad line) = (fault ≡ ReadFault → ⊥) × (fault ≡ OutOfMemory → ⊥) × (line ≡ fault_line fault)
-TellsSeasonFault fault NoMemory = Unit {0}
+TellsSeasonFault fault NoMemory = fault ≡ ReadFault → ⊥

@@ -1,6 +1,7 @@
 -- The command `step`: its input is a step sheet, its output whom the sheet's step admits.
 use Rattle.std.specs.Prelude.{◌≡◌, ℕ, List, Option, length}
 use Rattle.office_base.specs.Certificate.{IsCanonical}
+use Rattle.office_base.specs.Outside.{AreLeft}
 use Rattle.office_base.specs.StepChoice.{IsStep, IsStepChoice}
 use Rattle.office_base.specs.declared.person.Person.{Person}
 use Rattle.office_base.specs.declared.step.Pair.{Pair}
@@ -8,7 +9,7 @@ use Rattle.office_base.specs.declared.step.Step.{Step}
 use Rattle.step_sheet.specs.Output.{step_output, fault_output}
 use Rattle.step_sheet.specs.Sheet.{SheetGives, HasFault}
 use Rattle.step_sheet.specs.declared.fault.SheetFault.{SheetFault}
-use Rattle.allocation_cli.specs.Answers.{Answers, AreLeft}
+use Rattle.allocation_cli.specs.Answers.{Answers}
 
 -- What `step` writes for a sound step: its choice and the canonical certificate.
 pub record IsStepText (step : Step) (output : List ℕ) : Type 0 where

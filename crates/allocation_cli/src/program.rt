@@ -1,8 +1,8 @@
 // The top call of the office.
-ghost use Rattle.std.specs.Prelude.{◌≡◌, ◌≤◌, ◌⊎◌, ℕ, List, take, codes};
+ghost use Rattle.std.specs.Prelude.{◌≡◌, ◌≢◌, ◌⊎◌, ℕ, List, take};
 ghost use Rattle.office_base.specs.Outside.{Rose, IsAtEnd, Appends};
 ghost use Rattle.season_texts.specs.Texts.{memory_line};
-ghost use Rattle.allocation_cli.specs.Program.{Ends, IsWritten, TellsFault, TellsInput, read_line, status_of, text_of, usage_line};
+ghost use Rattle.allocation_cli.specs.Program.{Ends, IsWritten, TellsFault, TellsInput, status_of, text_of};
 ghost use Rattle.allocation_cli.specs.Words.{SpellNothing, words_of};
 ghost use Rattle.allocation_cli.specs.declared.words.Command.{Command as AnyCommand};
 
@@ -36,6 +36,10 @@ pub fn allocate<S: Source, K: Sink>(
     ensures read_fault { result ≡ Status.ReadFault → Rose (S.faults source.old) (S.faults source.new) }
     ensures write_fault { result ≡ Status.WriteFault → Rose (K.faults sink.old) (K.faults sink.new) }
 
+    // A fault of the outside is told: without one the object did not fail. A sink's fault hides one of the source.
+    ensures source_steady { result ≢ Status.ReadFault → result ≢ Status.WriteFault → S.faults source.new ≡ S.faults source.old }
+    ensures sink_steady { result ≢ Status.WriteFault → K.faults sink.new ≡ K.faults sink.old }
+
     // Where neither failed, the answer is the one that the words and the bytes call for, or want of memory.
     ensures usage { SpellNothing words.now → ¬ Rose (K.faults sink.old) (K.faults sink.new) → result ≡ Status.Usage }
     ensures complete { (command : AnyCommand) → words.now ≡ words_of command → TellsInput command (S.left source.old)
@@ -54,9 +58,10 @@ pub fn allocate<S: Source, K: Sink>(
 
 /// Writes that a word of the command line found no memory, as every want of memory is told.
 pub fn tell_no_memory<K: Sink>(sink: &mut K) -> Status
-    ensures { ((result ≡ Status.OutOfMemory) × Appends memory_line (K.written sink.old) (K.written sink.new))
+    ensures told { ((result ≡ Status.OutOfMemory) × Appends memory_line (K.written sink.old) (K.written sink.new))
         ⊎ ((result ≡ Status.WriteFault) × Rose (K.faults sink.old) (K.faults sink.new)
         × ((n : ℕ) × Appends (take n memory_line) (K.written sink.old) (K.written sink.new))) }
+    ensures steady { result ≢ Status.WriteFault → K.faults sink.new ≡ K.faults sink.old }
 {
     write_answer(sink, b"fault: memory\n", Status::OutOfMemory)
 }
@@ -73,6 +78,8 @@ fn run<S: Source, K: Sink>(
     ensures read_whole { result ≡ Status.Ok → IsAtEnd (S.left source.new) }
     ensures read_fault { result ≡ Status.ReadFault → Rose (S.faults source.old) (S.faults source.new) }
     ensures write_fault { result ≡ Status.WriteFault → Rose (K.faults sink.old) (K.faults sink.new) }
+    ensures source_steady { result ≢ Status.ReadFault → result ≢ Status.WriteFault → S.faults source.new ≡ S.faults source.old }
+    ensures sink_steady { result ≢ Status.WriteFault → K.faults sink.new ≡ K.faults sink.old }
     ensures complete { TellsInput command (S.left source.old)
         → ¬ Rose (S.faults source.old) (S.faults source.new) → ¬ Rose (K.faults sink.old) (K.faults sink.new)
         → (result ≡ Status.Ok) ⊎ (result ≡ Status.OutOfMemory) }
@@ -89,9 +96,10 @@ fn run<S: Source, K: Sink>(
 
 /// Writes the answer of a command, or why there is none, and gives its status.
 fn finish<K: Sink>(sink: &mut K, answer: Result<Text, Failure>) -> Status
-    ensures { ((result ≡ status_of answer) × Appends (text_of answer) (K.written sink.old) (K.written sink.new))
+    ensures told { ((result ≡ status_of answer) × Appends (text_of answer) (K.written sink.old) (K.written sink.new))
         ⊎ ((result ≡ Status.WriteFault) × Rose (K.faults sink.old) (K.faults sink.new)
         × ((n : ℕ) × Appends (take n (text_of answer)) (K.written sink.old) (K.written sink.new))) }
+    ensures steady { result ≢ Status.WriteFault → K.faults sink.new ≡ K.faults sink.old }
 {
     match answer {
         Ok(text) => write_answer(sink, text.as_slice(), Status::Ok),
@@ -103,9 +111,10 @@ fn finish<K: Sink>(sink: &mut K, answer: Result<Text, Failure>) -> Status
 
 /// Writes a text whole and gives its status, or gives `WriteFault` where the sink fails.
 fn write_answer<K: Sink>(sink: &mut K, text: &[u8], status: Status) -> Status
-    ensures { ((result ≡ status) × Appends text.now (K.written sink.old) (K.written sink.new))
+    ensures told { ((result ≡ status) × Appends text.now (K.written sink.old) (K.written sink.new))
         ⊎ ((result ≡ Status.WriteFault) × Rose (K.faults sink.old) (K.faults sink.new)
         × ((n : ℕ) × Appends (take n text.now) (K.written sink.old) (K.written sink.new))) }
+    ensures steady { result ≢ Status.WriteFault → K.faults sink.new ≡ K.faults sink.old }
 {
     match write_whole(sink, text) {
         Ok(()) => status,

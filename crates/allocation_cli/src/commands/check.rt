@@ -1,5 +1,5 @@
 // The command `check`: it reads a season bundle without requests and answers how much the season has.
-ghost use Rattle.std.specs.Prelude.{◌≤◌, IfOk, IfErr, OnOk};
+ghost use Rattle.std.specs.Prelude.{◌≡◌, ◌≤◌, IfOk, IfErr, OnOk, IsErrOf};
 ghost use Rattle.office_base.specs.Outside.{Rose, IsAtEnd};
 ghost use Rattle.allocation_cli.specs.Answers.{HasLeft, IsFailureOf};
 ghost use Rattle.allocation_cli.specs.Check.{IsLeftSeason, TellsSeasonFault, check_answers};
@@ -16,6 +16,7 @@ pub fn check_answer<S: Source>(alloc: Global, source: &mut S) -> Result<Text, Fa
     ensures ended { OnOk result (IsAtEnd (S.left source.new)) }
     ensures failure { IfErr result (IsFailureOf check_answers (S.left source.old) (Rose (S.faults source.old) (S.faults source.new))) }
     ensures count { S.faults source.old ≤ S.faults source.new }
+    ensures steady { ¬ IsErrOf result Failure.Read → S.faults source.new ≡ S.faults source.old }
 {
     let season = check_input(alloc, source)?;
     Ok(counts_text(alloc, &season)?)
@@ -27,6 +28,7 @@ fn check_input<S: Source>(alloc: Global, source: &mut S) -> Result<Season, Failu
     ensures ended { OnOk result (IsAtEnd (S.left source.new)) }
     ensures failure { IfErr result (IsFailureOf check_answers (S.left source.old) (Rose (S.faults source.old) (S.faults source.new))) }
     ensures count { S.faults source.old ≤ S.faults source.new }
+    ensures steady { ¬ IsErrOf result Failure.Read → S.faults source.new ≡ S.faults source.old }
 {
     match Season::read(alloc, source, false) {
         Ok(season) => Ok(season),

@@ -1,5 +1,6 @@
 // The command `step`: it reads a step sheet and answers whom the step admits.
-ghost use Rattle.std.specs.Prelude.{◌≡◌, ◌≤◌, ◌<◌, ◌^◌, ℕ, List, length, IfOk, IfErr, OnOk};
+ghost use Rattle.std.specs.Prelude.{◌≡◌, ◌≤◌, ◌<◌, ◌^◌, ℕ, List, length, IfOk, IfErr, OnOk, IsErrOf};
+ghost use Rattle.office_base.specs.Limits.{most_sheet_bytes};
 ghost use Rattle.office_base.specs.Outside.{Rose, IsAtEnd};
 ghost use Rattle.office_base.specs.StepChoice.{IsStep};
 ghost use Rattle.step_sheet.specs.Output.{fault_output};
@@ -9,9 +10,10 @@ ghost use Rattle.allocation_cli.specs.Step.{IsLeftSheet, IsStepText, step_answer
 
 use crate::failure::Failure;
 use merit_choice::choose;
+use office_base::limits::MOST_SHEET_BYTES;
 use office_base::{OutOfMemory, ReadFault, Source, Step, Text, read_whole};
 use std::alloc::Global;
-use step_sheet::{MAX_BYTES, SheetError, SheetFault, SheetKind, fault_text, read_sheet, step_text};
+use step_sheet::{SheetError, SheetFault, SheetKind, fault_text, read_sheet, step_text};
 
 /// The output of `step` for the sheet that the source gives.
 pub fn step_answer<S: Source>(alloc: Global, source: &mut S) -> Result<Text, Failure>
@@ -19,6 +21,7 @@ pub fn step_answer<S: Source>(alloc: Global, source: &mut S) -> Result<Text, Fai
     ensures ended { OnOk result (IsAtEnd (S.left source.new)) }
     ensures failure { IfErr result (IsFailureOf step_answers (S.left source.old) (Rose (S.faults source.old) (S.faults source.new))) }
     ensures count { S.faults source.old ≤ S.faults source.new }
+    ensures steady { ¬ IsErrOf result Failure.Read → S.faults source.new ≡ S.faults source.old }
 {
     let step = step_input(alloc, source)?;
     Ok(list_of(alloc, &step)?)
@@ -32,8 +35,9 @@ fn step_input<S: Source>(alloc: Global, source: &mut S) -> Result<Step, Failure>
     ensures ended { OnOk result (IsAtEnd (S.left source.new)) }
     ensures failure { IfErr result (IsFailureOf step_answers (S.left source.old) (Rose (S.faults source.old) (S.faults source.new))) }
     ensures count { S.faults source.old ≤ S.faults source.new }
+    ensures steady { ¬ IsErrOf result Failure.Read → S.faults source.new ≡ S.faults source.old }
 {
-    match read_whole(alloc, source, MAX_BYTES) {
+    match read_whole(alloc, source, MOST_SHEET_BYTES) {
         Ok(bytes) => sheet_step(alloc, bytes.as_slice()),
         Err(ReadFault::TooLong) => Err(too_long(alloc)),
         Err(ReadFault::Failed) => Err(Failure::Read),
@@ -83,7 +87,7 @@ fn sheet_failure(alloc: Global, fault: &SheetFault) -> Failure
 
 /// The failure that tells of too many bytes of a sheet.
 fn too_long(alloc: Global) -> Failure
-    ensures { (bytes : List ℕ) → MAX_BYTES < length bytes → IsInputFailure step_answers bytes result }
+    ensures { (bytes : List ℕ) → most_sheet_bytes < length bytes → IsInputFailure step_answers bytes result }
 {
     sheet_failure(
         alloc,
