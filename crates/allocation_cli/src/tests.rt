@@ -66,7 +66,7 @@ const SHEETS: [(&str, &str); 9] = [
         "step sheet 1\nseats,3\nprotect,W,2\ncand,1,-\ncand,2,-\ncand,3,-\ncand,4,W\n",
         "step seats 3 candidates 4 admitted 3\nhonoured 1\n1 -\n2 -\n4 W\nend\n",
     ),
-    // three traits: the worst does not push out who fills as many
+    // three traits
     (
         "step sheet 1\nseats,3\nprotect,W,1\nprotect,D,1\nprotect,X,1\ncand,1,WD\ncand,2,DX\ncand,3,W\ncand,4,X\n",
         "step seats 3 candidates 4 admitted 3\nhonoured 3\n1 D\n2 X\n3 W\nend\n",
