@@ -10,8 +10,6 @@ pub mod laws;
 pub mod lines;
 pub mod names;
 pub mod number;
-#[cfg(test)]
-mod tests;
 pub mod traits;
 
 pub use lines::{drop_cr, next_field, next_text_line, skip_mark, trim_commas};
