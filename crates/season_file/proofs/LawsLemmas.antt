@@ -11,8 +11,8 @@ use Rattle.section_rows.specs.Rows.{Row, rows_of}
 use Rattle.request_rows.specs.Requests.{script_of}
 use Rattle.rank_lists.specs.Laws as rank_laws
 use Rattle.rank_lists.specs.Register as rank_grammar
-use Rattle.rank_lists.specs.declared.fault.RankFault.{RankFault}
-use Rattle.rank_lists.specs.declared.fault.RankFault.TheVariants.{Bad as BadRank, OutOfMemory as NoRankMemory}
+use Rattle.section_rows.specs.declared.fault.TableFault.{TableFault}
+use Rattle.section_rows.specs.declared.fault.TableFault.TheVariants.{Bad as BadRank, OutOfMemory as NoRankMemory}
 use Rattle.rank_lists.specs.declared.fault.RankKind.{RankKind}
 use Rattle.seat_matrix.specs.Laws as seat_laws
 use Rattle.seat_matrix.specs.Matrix as seat_grammar
@@ -82,7 +82,7 @@ head-staged parts row (inr found) =
     let (content, give, held, e) = found in
     inr (content.head, give.head, inr (content.register, give.register, inr (content.matrix, give.matrix, inr (content.choices, give.choices, inl (held, ap BadSeason e)))))
 
-register-staged : (parts : Parts) (fault : RankFault) → IsRegisterFault parts fault → FromHead parts (Register fault)
+register-staged : (parts : Parts) (fault : TableFault RankKind) → IsRegisterFault parts fault → FromHead parts (Register fault)
 register-staged parts (BadRank row kind) found = let (head, e, first) = found in inr (head, e, inl (row, kind, first, refl))
 register-staged parts NoRankMemory found = absurd found
 

@@ -6,8 +6,9 @@ use Rattle.office_base.specs.Outside.{IsAtEnd, Took}
 use Rattle.section_rows.specs.Rows.{rows_of}
 use Rattle.section_rows.specs.Steps.{needs}
 use Rattle.rank_lists.specs.Register as rank_grammar
-use Rattle.rank_lists.specs.declared.fault.RankFault.{RankFault}
-use Rattle.rank_lists.specs.declared.fault.RankFault.TheVariants.{Bad as BadRank, OutOfMemory as NoRankMemory}
+use Rattle.section_rows.specs.declared.fault.TableFault.{TableFault}
+use Rattle.section_rows.specs.declared.fault.TableFault.TheVariants.{Bad as BadRank, OutOfMemory as NoRankMemory}
+use Rattle.rank_lists.specs.declared.fault.RankKind.{RankKind}
 use Rattle.seat_matrix.specs.Matrix as seat_grammar
 use Rattle.seat_matrix.specs.declared.fault.MatrixFault.{MatrixFault}
 use Rattle.seat_matrix.specs.declared.fault.MatrixFault.TheVariants.{Bad as BadMatrix, OutOfMemory as NoMatrixMemory}
@@ -22,7 +23,7 @@ use Rattle.season_file.specs.declared.fault.SeasonFault.TheVariants.{ReadFault, 
 use Rattle.season_file.specs.declared.head.Head.{Head}
 
 -- A register's fault is the sections'.
-pub register-told : (parts : Parts) (head : Head) (fault : RankFault) → head_of (rows_of parts.season) ≡ Ok head → rank_grammar.IsFault (rows_of parts.register) fault → IsSectionFault parts (register_error fault)
+pub register-told : (parts : Parts) (head : Head) (fault : TableFault RankKind) → head_of (rows_of parts.season) ≡ Ok head → rank_grammar.IsFault (rows_of parts.register) fault → IsSectionFault parts (register_error fault)
 register-told parts head (BadRank row kind) given first = (head, given, first)
 register-told parts head NoRankMemory given first = tt
 

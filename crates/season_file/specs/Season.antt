@@ -9,8 +9,9 @@ use Rattle.request_rows.specs.Requests.{script_of}
 use Rattle.request_rows.specs.declared.script.ScriptFault.{ScriptFault}
 use Rattle.request_rows.specs.declared.script.ScriptFault.TheVariants.{BadRequest as BadRow, OutOfMemory as NoScriptMemory}
 use Rattle.rank_lists.specs.Register as rank_grammar
-use Rattle.rank_lists.specs.declared.fault.RankFault.{RankFault}
-use Rattle.rank_lists.specs.declared.fault.RankFault.TheVariants.{Bad as BadRank, OutOfMemory as NoRankMemory}
+use Rattle.section_rows.specs.declared.fault.TableFault.{TableFault}
+use Rattle.section_rows.specs.declared.fault.TableFault.TheVariants.{Bad as BadRank, OutOfMemory as NoRankMemory}
+use Rattle.rank_lists.specs.declared.fault.RankKind.{RankKind}
 use Rattle.seat_matrix.specs.Matrix as seat_grammar
 use Rattle.seat_matrix.specs.declared.fault.MatrixFault.{MatrixFault}
 use Rattle.seat_matrix.specs.declared.fault.MatrixFault.TheVariants.{Bad as BadMatrix, OutOfMemory as NoMatrixMemory}
@@ -48,7 +49,7 @@ abbrev pub request_rows_of : Parts → List (List (List ℕ))
 request_rows_of parts = rows_of (after_line parts.requests)
 
 -- a fault of a section is told as it is, except for want of memory
-abbrev pub register_error : RankFault → SeasonFault
+abbrev pub register_error : TableFault RankKind → SeasonFault
 register_error (BadRank row kind) = Register (BadRank row kind)
 register_error NoRankMemory = OutOfMemory
 
@@ -65,7 +66,7 @@ script_error (BadRow row) = BadRequest row
 script_error NoScriptMemory = OutOfMemory
 
 -- the first fault of a register, which is not want of memory
-abbrev pub IsRegisterFault : Parts → RankFault → Type 0
+abbrev pub IsRegisterFault : Parts → TableFault RankKind → Type 0
 IsRegisterFault parts (BadRank row kind) = (head : Head) × (head_of (rows_of parts.season) ≡ Ok head) × rank_grammar.IsFault (rows_of parts.register) (BadRank row kind)
 IsRegisterFault parts NoRankMemory = ⊥
 
