@@ -5,6 +5,10 @@ use Rattle.office_text.specs.Lines.{skip_mark}
 use Rattle.office_base.specs.Outside.{IsAtEnd, Took}
 use Rattle.section_rows.specs.Rows.{rows_of}
 use Rattle.section_rows.specs.Steps.{needs}
+use Rattle.request_rows.specs.Requests.{IsScriptFault as AreRowsWithout}
+use Rattle.request_rows.specs.declared.script.ScriptFault.{ScriptFault}
+use Rattle.request_rows.specs.declared.script.ScriptFault.TheVariants.{BadRequest as BadRow, OutOfMemory as NoScriptMemory}
+use Rattle.season_file.specs.declared.content.Content.{Content}
 use Rattle.rank_lists.specs.Register as rank_grammar
 use Rattle.section_rows.specs.declared.fault.TableFault.{TableFault}
 use Rattle.section_rows.specs.declared.fault.TableFault.TheVariants.{Bad as BadRank, OutOfMemory as NoRankMemory}
@@ -17,7 +21,7 @@ use Rattle.choice_lists.specs.declared.fault.ChoiceFault.{ChoiceFault}
 use Rattle.choice_lists.specs.declared.fault.ChoiceFault.TheVariants.{Bad as BadChoice, OutOfMemory as NoChoiceMemory}
 use Rattle.season_file.specs.Bundle.{Parts, after_line, before_requests, bundle_of, closed, fault_line, last_section, season_text, section, sections, skip_empty, title, version_of, with_line}
 use Rattle.season_file.specs.Head.{head_of}
-use Rattle.season_file.specs.Season.{IsSeasonFault, IsSectionFault, IsSourceFault, IsText, IsUnread, choice_error, matrix_error, register_error}
+use Rattle.season_file.specs.Season.{IsClerkApart, IsSeasonFault, IsSectionFault, IsSourceFault, IsText, IsUnread, SectionsGive, choice_error, matrix_error, register_error, request_rows_of, script_error}
 use Rattle.season_file.specs.declared.fault.SeasonFault.{SeasonFault}
 use Rattle.season_file.specs.declared.fault.SeasonFault.TheVariants.{ReadFault, TooLong, BadFirstLine, Section, BadSeason, Register, Matrix, Choices, NotUtf8, BadRequest, OutOfMemory}
 use Rattle.season_file.specs.declared.head.Head.{Head}
@@ -94,3 +98,9 @@ cut-told requests bytes fault text e = elim (cutting_fault requests bytes fault 
 -- The text of a season that was cut.
 pub text-cut : (requests : Bool) (bytes : List ℕ) (parts : Parts) → bundle_of requests bytes ≡ Ok parts → take (length bytes - length parts.requests) bytes ≡ season_text requests bytes
 text-cut requests bytes parts e = sym (ap (before_requests bytes) e)
+
+-- A row that is no request is the bundle's fault, after sections without faults.
+pub script-told : (requests : Bool) (bytes : List ℕ) (parts : Parts) (content : Content) (fault : ScriptFault) → IsText bytes → bundle_of requests bytes ≡ Ok parts → SectionsGive parts content → IsClerkApart content
+    → AreRowsWithout (request_rows_of parts) fault → IsSeasonFault requests bytes (script_error fault)
+script-told requests bytes parts content (BadRow row) text cut give clerk first = (text, (parts, cut, (content, give, clerk, first)))
+script-told requests bytes parts content NoScriptMemory text cut give clerk first = tt

@@ -1,10 +1,10 @@
 -- Which season a bundle is, and which fault is its first.
-use Rattle.std.specs.Prelude.{◌≡◌, ◌<◌, ◌≤◌, ◌⊎◌, ℕ, Bool, false, List, [], Option, None, Ok, Err, IsSome, length}
+use Rattle.std.specs.Prelude.{◌≡◌, ◌<◌, ◌≤◌, ◌⊎◌, ℕ, Bool, false, List, [], ◌∷◌, Option, None, Ok, Err, IsSome, length}
 use Rattle.std.specs.Str.{IsUtf8}
 use Rattle.office_base.specs.Limits.{most_bundle_bytes}
 use Rattle.office_base.specs.Outside.{IsAtEnd, Took, TookMore}
 use Rattle.office_base.specs.declared.asks.Request.{Request}
-use Rattle.section_rows.specs.Rows.{rows_of}
+use Rattle.section_rows.specs.Rows.{Row, rows_of}
 use Rattle.request_rows.specs.Requests.{script_of}
 use Rattle.request_rows.specs.declared.script.ScriptFault.{ScriptFault}
 use Rattle.request_rows.specs.declared.script.ScriptFault.TheVariants.{BadRequest as BadRow, OutOfMemory as NoScriptMemory}
@@ -44,9 +44,13 @@ pub record SectionsGive (parts : Parts) (content : Content) : Type 0 where
 abbrev pub IsClerkApart : Content → Type 0
 IsClerkApart content = rank_grammar.find_holder content.head.clerk content.register.holders ≡ None
 
--- the rows of the requests; none where there are no requests
-abbrev pub request_rows_of : Parts → List (List (List ℕ))
-request_rows_of parts = rows_of (after_line parts.requests)
+-- the rows after the section line of the requests; none where there is no such section
+abbrev pub rows_of_requests : List ℕ → List Row
+rows_of_requests [] = []
+rows_of_requests (byte ∷ section) = rows_of (after_line (byte ∷ section))
+
+abbrev pub request_rows_of : Parts → List Row
+request_rows_of parts = rows_of_requests parts.requests
 
 -- a fault of a section is told as it is, except for want of memory
 abbrev pub register_error : TableFault RankKind → SeasonFault

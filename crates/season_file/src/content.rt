@@ -2,11 +2,10 @@
 ghost use Rattle.std.specs.Prelude.{◌≡◌, ◌≤◌, Ok, is_some, length, take, IfOk, IfErr, IsErrOf};
 ghost use Rattle.office_base.specs.Limits.{most_bundle_bytes};
 ghost use Rattle.office_base.specs.Outside.{IsAtEnd, Rose, Took};
-ghost use Rattle.section_rows.specs.Rows.{rows_of};
 ghost use Rattle.rank_lists.specs.Register.{find_holder};
 ghost use Rattle.request_rows.specs.Requests.{IsScriptFault as AreRowsWithout, script_of};
-ghost use Rattle.season_file.specs.Bundle.{after_line, season_text};
-ghost use Rattle.season_file.specs.Season.{BundleGives, IsSeasonFault, IsSectionFault, IsText, IsUnread, SectionsGive, choice_error, matrix_error, register_error, script_error};
+ghost use Rattle.season_file.specs.Bundle.{season_text};
+ghost use Rattle.season_file.specs.Season.{BundleGives, IsSeasonFault, IsSectionFault, IsText, IsUnread, SectionsGive, choice_error, matrix_error, register_error, rows_of_requests, script_error};
 
 use crate::cutting::{Pieces, after_line, cut};
 use crate::fault::SeasonFault;
@@ -113,11 +112,14 @@ fn is_candidate(content: &Content) -> bool
     content.register.who(content.head.clerk.bytes()).is_some()
 }
 
-/// The requests of a section that begins with its section line, or the first row that is none.
+/// The requests of a section that begins with its section line, or the first row that is none. Without a section there are none.
 fn read_requests(alloc: Global, section: &[u8]) -> Result<Script, ScriptFault>
-    ensures value { IfOk result (λ script. script_of (rows_of (after_line section.now)) ≡ Ok script) }
-    ensures fault { IfErr result (λ fault. AreRowsWithout (rows_of (after_line section.now)) fault) }
+    ensures value { IfOk result (λ script. script_of (rows_of_requests section.now) ≡ Ok script) }
+    ensures fault { IfErr result (λ fault. AreRowsWithout (rows_of_requests section.now) fault) }
 {
+    if section.is_empty() {
+        return Ok(Script::new(alloc));
+    }
     read_script(alloc, after_line(section))
 }
 

@@ -71,7 +71,10 @@ impl Season {
             content,
             script,
             end,
-        } = read_content(alloc, text.as_slice(), requests)?;
+        } = match read_content(alloc, text.as_slice(), requests) {
+            Ok(given) => given,
+            Err(fault) => return Err(fault),
+        };
         text.truncate(end);
         Ok((Season::with_text(content, text), script))
     }
