@@ -12,7 +12,7 @@ use Rattle.choice_lists.specs.Kinds as choice_kinds
 use Rattle.choice_lists.specs.declared.fault.ChoiceFault.{ChoiceFault}
 use Rattle.choice_lists.specs.declared.fault.ChoiceFault.TheVariants.{Bad as BadChoice, OutOfMemory as NoChoiceMemory}
 use Rattle.season_file.specs.declared.fault.SeasonFault.{SeasonFault}
-use Rattle.season_file.specs.declared.fault.SeasonFault.TheVariants.{ReadFault, TooLong, BadFirstLine, Section, BadSeason, Register, Matrix, Choices, NotUtf8, OutOfMemory}
+use Rattle.season_file.specs.declared.fault.SeasonFault.TheVariants.{ReadFault, TooLong, BadFirstLine, Section, BadSeason, Register, Matrix, Choices, NotUtf8, BadRequest, OutOfMemory}
 use Rattle.season_file.specs.declared.season.Season.{Season}
 
 -- how many programmes stand on the choice lists of all candidates together
@@ -64,4 +64,5 @@ fault_line (Register fault) = register_line fault
 fault_line (Matrix fault) = matrix_line fault
 fault_line (Choices fault) = choices_line fault
 fault_line NotUtf8 = codes "fault: bundle NotUtf8\n"
+fault_line (BadRequest row) = row_line (codes "requests") row (codes "BadRequest")
 fault_line OutOfMemory = memory_line
