@@ -1,3 +1,2 @@
 pub mod People
 mod Streams
-pub mod Sublists
