@@ -20,7 +20,7 @@ pub trait Spelling<const N: usize> {
     /// They are at most `N`.
     ghost fits: { (bytes : List ℕ) → spells bytes ≡ true → length bytes ≤ N };
 
-    /// Their number fits into one byte.
+    /// Their number fits into one byte of the text.
     ghost small: { N ≤ 255 };
 
     /// Whether the bytes spell one.
