@@ -8,8 +8,12 @@ use Rattle.office_base.specs.declared.person.Person.{Person}
 use Rattle.office_base.specs.declared.step.Protections.{Protections}
 use Rattle.placements.specs.Demand.{is_within, asking, asking_outside, positions}
 use Rattle.placements.specs.Greatest.{one_less}
-use Rattle.placements.proofs.Hall.{either, both, one_if, one_if_true, one_if_false, asking_more, has_within, positions_same, positions_fewer}
+use Rattle.placements.proofs.Hall.{either, both, within_bits, one_if, one_if_true, one_if_false, asking_more, has_within, positions_same, positions_fewer}
 use Rattle.placements.proofs.Replace.{within_again}
+
+-- a set is within itself
+pub within_itself : (a : TraitSet) → is_within a a ≡ true
+within_itself a = within_bits a a (λ i. omega arith)
 
 -- 0 where the test passes
 abbrev pub none_if : Bool → ℕ
