@@ -15,7 +15,10 @@ use Rattle.season_file.specs.Laws as season_laws
 use Rattle.season_file.specs.Season.{content_of}
 use Rattle.season_file.specs.declared.season.Season.{Season}
 use Rattle.season_texts.specs.Texts.{counts_line, fault_line, line_of_counts}
-use Rattle.allocation_cli.specs.Answer.{HaveOneAnswer, IsCheckOutput, IsStepOutput, IsStepText}
+use Rattle.allocation_cli.specs.Answers.{HaveOneAnswer}
+use Rattle.allocation_cli.specs.Check.{IsCheckOutput, check_answers}
+use Rattle.allocation_cli.specs.Program.{answers_of}
+use Rattle.allocation_cli.specs.Step.{IsStepOutput, IsStepText, step_answers}
 use Rattle.allocation_cli.specs.declared.words.Command.{Command}
 use Rattle.allocation_cli.specs.declared.words.Command.TheVariants.{Step, Check}
 
@@ -69,17 +72,29 @@ one_step laws bytes output other a b =
     let same = (laws.sheets bytes).one_step a.0 b.0 a.1 b.1 in
     one_text laws a.0 output other a.2 (subst (λ (step : StepOfSheet). IsStepText step other) (sym same) b.2)
 
--- A command's input has one answer.
-pub one_answer : AreLawful → (command : Command) (bytes : List ℕ) → HaveOneAnswer command bytes
-one_answer laws Step bytes = record {
+-- a sheet has one answer under `step`
+one_step_answer : AreLawful → (bytes : List ℕ) → HaveOneAnswer step_answers bytes
+one_step_answer laws bytes = record {
   some = (laws.sheets bytes).some;
   apart = λ input faulty. (laws.sheets bytes).apart input.0 faulty.0 input.1 faulty.1;
+  of_input = λ output made. (made.0, made.1);
+  of_fault = λ line has. (has.0, has.1);
   one_output = one_step laws bytes;
   one_line = λ line other a b. a.2 ∙ ap fault_output ((laws.sheets bytes).one_fault a.0 b.0 a.1 b.1) ∙ sym b.2;
 }
-one_answer laws Check bytes = record {
+
+-- a bundle has one answer under `check`
+one_check_answer : AreLawful → (bytes : List ℕ) → HaveOneAnswer check_answers bytes
+one_check_answer laws bytes = record {
   some = (laws.bundles bytes).some;
   apart = λ input faulty. (laws.bundles bytes).apart input.0 faulty.0 input.1 faulty.1;
+  of_input = λ output made. (content_of made.0 made.1.row, made.1.given);
+  of_fault = λ line has. (has.0, has.1);
   one_output = one_check laws bytes;
   one_line = λ line other a b. a.2 ∙ ap fault_line ((laws.bundles bytes).one_fault a.0 b.0 a.1 b.1) ∙ sym b.2;
 }
+
+-- A command's input has one answer.
+pub one_answer : AreLawful → (command : Command) (bytes : List ℕ) → HaveOneAnswer (answers_of command) bytes
+one_answer laws Step bytes = one_step_answer laws bytes
+one_answer laws Check bytes = one_check_answer laws bytes

@@ -1,2 +1,3 @@
 pub mod CodesLemmas
+pub mod People
 mod Streams

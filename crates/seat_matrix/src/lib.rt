@@ -12,8 +12,6 @@ pub mod fields;
 pub mod laws;
 pub mod matrix;
 pub mod table;
-#[cfg(test)]
-mod tests;
 
 pub use entry::{Entry, Home, Seating};
 pub use fault::{MatrixFault, MatrixKind};
