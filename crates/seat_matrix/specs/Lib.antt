@@ -2,4 +2,5 @@ pub mod Fields
 pub mod Kinds
 pub mod Laws
 pub mod Matrix
+pub mod Seats
 pub mod Table
