@@ -10,6 +10,3 @@ pub mod people;
 
 pub use empty_seats::unfilled;
 pub use people::{commons, fill};
-
-#[cfg(test)]
-mod tests;

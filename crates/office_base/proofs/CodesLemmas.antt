@@ -3,7 +3,7 @@ use Rattle.std.proofs.Common.{◌≡◌, ◌≤◌, ℕ, List, take, length, ref
 use Rattle.std.proofs.Math.Seq.{take-append_seam}
 use Rattle.office_base.specs.Codes.{padded, IsPadded}
 
--- the bytes stand at the front of what is padded
+-- the bytes begin what is padded
 pub take-padded : (n : ℕ) (bytes : List ℕ) → take (length bytes) (padded n bytes) ≡ bytes
 take-padded n bytes = take-append_seam bytes _
 

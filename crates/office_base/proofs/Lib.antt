@@ -1,3 +1,4 @@
 pub mod CodesLemmas
+pub mod People
 mod Streams
 pub mod Sublists

@@ -15,11 +15,11 @@ is_code text = nat_le 1 (length text) && nat_le (length text) 16 && list_all is_
 abbrev pub is_token : List ℕ → Bool
 is_token text = nat_le 8 (length text) && nat_le (length text) 32 && list_all is_ascii_alphanumeric text
 
--- bytes with zeros behind them, up to n in all
+-- bytes and then zeros, up to n in all
 abbrev pub padded : ℕ → List ℕ → List ℕ
 padded n bytes = bytes ++ replicate (n - length bytes) 0
 
--- What stands behind the bytes in memory is zeros, so that equal bytes are equal in memory.
+-- What follows the bytes in memory is zeros, so that equal bytes are equal in memory.
 pub record IsPadded (n : ℕ) (all bytes : List ℕ) (used : ℕ) : Type 0 where
   pub within : used ≤ n
   pub same : all ≡ padded n bytes

@@ -1,8 +1,11 @@
 pub mod Certificate
 pub mod Codes
+pub mod Limits
 pub mod Lists
 pub mod Memory
+pub mod Numbered
 pub mod Outside
 pub mod Person
 pub mod Placement
 pub mod StepChoice
+pub mod Version

@@ -9,8 +9,6 @@
 pub mod laws;
 pub mod lines;
 pub mod number;
-#[cfg(test)]
-mod tests;
 pub mod traits;
 
 pub use lines::{next_field, next_text_line, skip_mark, trim_commas};

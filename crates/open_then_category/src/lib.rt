@@ -16,6 +16,3 @@ pub mod seats;
 pub use choice::programme_choice;
 pub use programme::{Programme, StepList};
 pub use seats::{ProgrammeSeats, StepSeats};
-
-#[cfg(test)]
-mod tests;

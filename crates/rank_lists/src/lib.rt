@@ -12,8 +12,6 @@ pub mod fields;
 pub mod laws;
 pub mod ranking;
 pub mod register;
-#[cfg(test)]
-mod tests;
 
 pub use entry::Entry;
 pub use fault::{RankFault, RankKind};

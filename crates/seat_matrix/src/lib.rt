@@ -13,8 +13,6 @@ pub mod laws;
 pub mod matrix;
 pub mod seats;
 pub mod table;
-#[cfg(test)]
-mod tests;
 
 pub use entry::{Entry, Home};
 pub use fault::{MatrixFault, MatrixKind};

@@ -11,6 +11,3 @@ pub mod matching;
 mod spare;
 
 pub use matching::{Augment, Matching};
-
-#[cfg(test)]
-mod tests;

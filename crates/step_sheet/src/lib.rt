@@ -11,8 +11,6 @@ pub mod laws;
 mod line;
 mod row;
 pub mod sheet;
-#[cfg(test)]
-mod tests;
 pub mod text;
 
 pub use fault::{SheetError, SheetFault, SheetKind};

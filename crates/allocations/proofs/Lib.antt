@@ -1,0 +1,5 @@
+pub mod Claims
+pub mod Course
+pub mod Falls
+pub mod Places
+pub mod Those
