@@ -1,5 +1,6 @@
 mod Filled
 mod Filling
+mod InMerit
 mod Marking
 mod Marks
 pub mod Members
