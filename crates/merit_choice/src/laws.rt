@@ -1,6 +1,6 @@
 // The laws of the choice of a step and of the merit order, over their definitions alone. Each is the contract of a function that does nothing.
 ghost use Rattle.merit_choice.specs.InMerit.{InMeritRanks, OneMeritOrder, SameMeritOrder, PartCanBeRanked, PartInMerit, RankedInMerit, RankedPart, WithPersonRanks};
-ghost use Rattle.merit_choice.specs.Laws.{OneChoice, ChoiceExists, ChoiceSize, RefusedStaysRefused, NoFewer, LeavingOutRefused, MoreSeats};
+ghost use Rattle.merit_choice.specs.Laws.{OneChoice, ChoiceExists, ChoiceSize, RefusedStaysRefused, NoFewer, LeavingOutRefused, MoreSeats, ByHand, MarksByHand, OneTooMany, SeatsForAll, RefusedBefore, OneByOne};
 
 /// A step has at most one choice.
 pub fn one_choice()
@@ -35,6 +35,36 @@ pub fn leaving_out_refused()
 /// Who is chosen stays chosen where there are more seats for the same protections.
 pub fn more_seats()
     ensures { MoreSeats }
+{}
+
+/// Down the merit order, mark who raises the number that those marked before honour; the marked and the best of the others are the choice.
+pub fn by_hand()
+    ensures { ByHand }
+{}
+
+/// The people of a step can be marked so.
+pub fn marks_by_hand()
+    ensures { MarksByHand }
+{}
+
+/// Of one person more than there are seats, the worst is left out without whom as many protections are honoured.
+pub fn one_too_many()
+    ensures { OneTooMany }
+{}
+
+/// Where there are seats for all, all are chosen.
+pub fn seats_for_all()
+    ensures { SeatsForAll }
+{}
+
+/// Without some people who were not chosen before, from fewer people, the choice is the same.
+pub fn refused_before()
+    ensures { RefusedBefore }
+{}
+
+/// Whoever is held after people came one by one, whatever their order, is chosen from all who came.
+pub fn one_by_one()
+    ensures { OneByOne }
 {}
 
 /// People by merit are the same persons, each better than all who follow.
