@@ -51,7 +51,7 @@ stage_more list seats test some more chosen others s = record {
   list = refl;
   seats = refl;
   protections = refl;
-  people = filter_mono test test some more s.part (λ x here holds. holds);
+  people = among_sublist (filter test some) (filter test more) (filter_mono test test some more s.part (λ x here holds. holds));
 }
 
 -- who is chosen by a test is one of the people, and the test says so
