@@ -4,3 +4,4 @@ pub mod Laws
 pub mod Matrix
 pub mod Seats
 pub mod Table
+pub mod Unfilled

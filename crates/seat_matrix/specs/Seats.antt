@@ -1,5 +1,5 @@
 -- The seats of a programme.
-use Rattle.std.specs.Prelude.{◌≤◌, ◌==◌, Bool, true, false, sum, List, [], ◌∷◌}
+use Rattle.std.specs.Prelude.{◌≡◌, ◌≤◌, Bool, true, false, sum, [], ◌∷◌}
 use Rattle.office_base.specs.Person.{IsList}
 use Rattle.office_base.specs.declared.step.Protections.{Protections}
 use Rattle.office_base.specs.declared.step.StepKind.{StepKind}
@@ -60,3 +60,9 @@ pub record IsSeated (seating : Seating) : Type 0 where
 pub record AreProgrammeSeats (seats : ProgrammeSeats) : Type 0 where
   pub list : IsList seats.list
   pub steps : (step : StepKind) → IsSeated (seats_of seats step)
+
+-- The second has the list and the protections of the first, and no fewer seats in any step.
+pub record HaveMoreSeats (few more : ProgrammeSeats) : Type 0 where
+  pub list : more.list ≡ few.list
+  pub protections : (step : StepKind) → (seats_of more step).protections ≡ (seats_of few step).protections
+  pub seats : (step : StepKind) → (seats_of few step).seats ≤ (seats_of more step).seats

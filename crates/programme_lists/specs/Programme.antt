@@ -1,49 +1,20 @@
 -- The choice of a programme, by the choice of a step alone: open seats first, then those of each category from its members whom the open ones
--- did not take, then the seats that a category left empty (Baswana and others 2019).
-use Rattle.std.specs.Prelude.{◌≡◌, ◌≤◌, ◌-◌, ℕ, List, [], ◌∷◌, Bool, true, false, not, ◌||◌, ◌==◌, length, take, sum, slice_index_or}
+-- did not take (Baswana and others 2019), then the seats that categories left unfilled.
+use Rattle.std.specs.Prelude.{◌≡◌, ℕ, List, [], ◌∷◌, Bool, true, false, not, ◌||◌, ◌==◌, length, take}
 use Rattle.std.specs.List.{filter}
-use Rattle.office_base.specs.Person.{IsList}
+use Rattle.office_base.specs.Person.{is_common}
 use Rattle.office_base.specs.StepChoice.{IsStepChoice}
 use Rattle.office_base.specs.declared.person.Category.{Category}
 use Rattle.office_base.specs.declared.person.Category.TheVariants.{Gen, Ews, Obc, Sc, St}
 use Rattle.office_base.specs.declared.person.ListId.{ListId}
 use Rattle.office_base.specs.declared.person.Person.{Person}
-use Rattle.office_base.specs.declared.step.Protections.{Protections}
 use Rattle.office_base.specs.declared.step.Step.{Step}
 use Rattle.office_base.specs.declared.step.StepKind.{StepKind}
 use Rattle.office_base.specs.declared.step.StepKind.TheVariants.{Open, Ews as EwsStep, Obc as ObcStep, Sc as ScStep, St as StStep, Dereserved}
-use Rattle.dereserve.specs.Common.{is_common}
-use Rattle.open_then_category.specs.declared.seats.ProgrammeSeats.{ProgrammeSeats}
-use Rattle.open_then_category.specs.declared.seats.StepSeats.{StepSeats}
-
--- ---- seats
-
--- nothing is protected
-abbrev pub no_protections : Protections
-no_protections = record { counts = 0 ∷ 0 ∷ 0 ∷ 0 ∷ 0 ∷ 0 ∷ [] }
-
--- a step without seats of its own
-abbrev pub no_seats : StepSeats
-no_seats = record { seats = 0; protections = no_protections }
-
--- the seats of a step; the de-reserved step has none of its own
-abbrev pub seats_of : ProgrammeSeats → StepKind → StepSeats
-seats_of seats Open = slice_index_or seats.steps 0 no_seats
-seats_of seats EwsStep = slice_index_or seats.steps 1 no_seats
-seats_of seats ObcStep = slice_index_or seats.steps 2 no_seats
-seats_of seats ScStep = slice_index_or seats.steps 3 no_seats
-seats_of seats StStep = slice_index_or seats.steps 4 no_seats
-seats_of seats Dereserved = no_seats
-
--- the protected positions are among the seats, of which there are at most 4,000
-pub record AreStepSeats (seats : StepSeats) : Type 0 where
-  pub protections : sum seats.protections.counts ≤ seats.seats
-  pub few : seats.seats ≤ 4000
-
--- what the seats of a programme have to be
-pub record AreProgrammeSeats (seats : ProgrammeSeats) : Type 0 where
-  pub list : IsList seats.list
-  pub steps : (kind : StepKind) → AreStepSeats (seats_of seats kind)
+use Rattle.seat_matrix.specs.Seats.{seats_of}
+use Rattle.seat_matrix.specs.Unfilled.{left_unfilled}
+use Rattle.seat_matrix.specs.declared.seats.ProgrammeSeats.{ProgrammeSeats}
+use Rattle.seat_matrix.specs.declared.seats.Seating.{Seating}
 
 -- ---- people
 
@@ -104,19 +75,19 @@ people_of list applicants admissions ScStep = filter (is_of Sc) (without applica
 people_of list applicants admissions StStep = filter (is_of St) (without applicants admissions.open_step)
 people_of list applicants admissions Dereserved = filter (is_common list) (left_over applicants admissions)
 
--- The seats of the de-reserved step. In version 1, the only one, they are those that step OBC left empty.
+-- the seats of the de-reserved step: those that OBC left unfilled, and in version 2 those that EWS left unfilled too
 abbrev pub unfilled : ℕ → ProgrammeSeats → Admissions → ℕ
-unfilled version seats admissions = (seats_of seats ObcStep).seats - length admissions.obc
+unfilled version seats admissions = left_unfilled version (seats_of seats EwsStep).seats (length admissions.ews) (seats_of seats ObcStep).seats (length admissions.obc)
 
 -- one list of a programme, with the people who stand for the seats
-abbrev pub step_with : ListId → StepSeats → List Person → Step
+abbrev pub step_with : ListId → Seating → List Person → Step
 step_with list seats people = record { list = list; seats = seats.seats; protections = seats.protections; people = people }
 
 -- a step that has seats of its own
 abbrev pub step_of : ProgrammeSeats → List Person → Admissions → StepKind → Step
 step_of seats applicants admissions kind = step_with seats.list (seats_of seats kind) (people_of seats.list applicants admissions kind)
 
--- The admissions are the choice of the programme from its applicants, who stand in merit order.
+-- The admissions are the choice of the programme, by the version of the bundle, from its applicants, who stand in merit order.
 pub record IsProgrammeChoice (version : ℕ) (seats : ProgrammeSeats) (applicants : List Person) (admissions : Admissions) : Type 0 where
   pub open_step : IsStepChoice (step_of seats applicants admissions Open) admissions.open_step
   pub ews : IsStepChoice (step_of seats applicants admissions EwsStep) admissions.ews

@@ -1,21 +1,16 @@
--- The lists that a programme shows of its steps, and its applicants in merit order.
-use Rattle.std.specs.Prelude.{◌≡◌, ◌≢◌, ℕ, List, [], ◌∷◌, length, IsSome}
-use Rattle.std.specs.Option.{unwrap_or}
-use Rattle.std.specs.List.{AllByRecursion, AllZip}
-use Rattle.std.specs.List.Sorted.{IsPermutation}
+-- The lists that a programme shows of its steps.
+use Rattle.std.specs.Prelude.{◌≡◌, ℕ, List, [], ◌∷◌, length}
+use Rattle.std.specs.List.{AllZip}
 use Rattle.office_base.specs.Certificate.{IsCanonical}
-use Rattle.office_base.specs.Lists.{Pairwise}
-use Rattle.office_base.specs.Person.{IsTraitSet, number_in}
-use Rattle.office_base.specs.StepChoice.{AreRanked}
-use Rattle.office_base.specs.declared.person.ListId.{ListId}
 use Rattle.office_base.specs.declared.person.Person.{Person}
 use Rattle.office_base.specs.declared.step.Protections.{Protections}
 use Rattle.office_base.specs.declared.step.StepKind.{StepKind}
 use Rattle.office_base.specs.declared.step.StepKind.TheVariants.{Open, Ews, Obc, Sc, St, Dereserved}
-use Rattle.open_then_category.specs.Programme.{Admissions, admitted_by, seats_of, unfilled, people_of, IsProgrammeChoice}
-use Rattle.open_then_category.specs.declared.programme.Programme.{Programme}
-use Rattle.open_then_category.specs.declared.programme.StepList.{StepList}
-use Rattle.open_then_category.specs.declared.seats.ProgrammeSeats.{ProgrammeSeats}
+use Rattle.programme_lists.specs.Programme.{Admissions, admitted_by, unfilled, people_of, IsProgrammeChoice}
+use Rattle.seat_matrix.specs.Seats.{seats_of}
+use Rattle.programme_lists.specs.declared.programme.Programme.{Programme}
+use Rattle.programme_lists.specs.declared.programme.StepList.{StepList}
+use Rattle.seat_matrix.specs.declared.seats.ProgrammeSeats.{ProgrammeSeats}
 
 -- the seats that a step fills; the de-reserved step fills those that categories left empty
 abbrev pub seats_filled : ℕ → ProgrammeSeats → Admissions → StepKind → ℕ
@@ -48,19 +43,3 @@ ShowsSteps version seats applicants admissions programme =
 abbrev pub ShowsChoice : ℕ → ProgrammeSeats → List Person → Programme → Type 0
 ShowsChoice version seats applicants programme =
     (admissions : Admissions) × IsProgrammeChoice version seats applicants admissions × ShowsSteps version seats applicants admissions programme
-
--- the number of a person's place in the list, 0 where there is none
-abbrev pub merit_in : ListId → Person → ℕ
-merit_in list person = unwrap_or (number_in list person) 0
-
--- The people may apply to a programme of the list, in any order: they are distinct persons with distinct places there.
-pub record AreApplicants (list : ListId) (people : List Person) : Type 0 where
-  pub traits : AllByRecursion (λ person. IsTraitSet person.traits) people
-  pub placed : AllByRecursion (λ person. IsSome (number_in list person)) people
-  pub numbers : Pairwise (λ a b. number_in list a ≢ number_in list b) people
-  pub distinct : Pairwise (λ a b. a.id ≢ b.id) people
-
--- the same people in merit order
-pub record IsMeritOrder (list : ListId) (people ranked : List Person) : Type 0 where
-  pub same : IsPermutation people ranked
-  pub in_order : AreRanked list ranked
