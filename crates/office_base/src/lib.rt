@@ -29,7 +29,7 @@ pub use code::Code;
 pub use errors::{Failed, OutOfMemory};
 pub use listed::{Listed, Pairs, People, Text};
 pub use mem_sink::MemSink;
-pub use mem_source::MemSource;
+pub use mem_source::{MemSource, fails_at};
 pub use outside::{Sink, Source};
 pub use person::{CandId, Category, ListId, Person, Place, ProgId, TraitSet, better};
 pub use step::{Pair, Protections, Step, StepKind};
