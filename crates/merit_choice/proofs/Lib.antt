@@ -4,5 +4,4 @@ mod Marking
 mod Marks
 pub mod Members
 mod Raises
-mod Slots
 pub mod StepLaws

@@ -1,4 +1,3 @@
 pub mod CodesLemmas
 pub mod People
 mod Streams
-pub mod Sublists

@@ -3,3 +3,7 @@ pub mod Exchange
 pub mod Greatest
 pub mod Hall
 pub mod Ranks
+pub mod Replace
+pub mod Slots
+pub mod Sublists
+pub mod Without
