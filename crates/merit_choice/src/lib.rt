@@ -7,10 +7,13 @@
 #![tactic(auto)]
 
 pub mod choice;
+mod held;
 pub mod laws;
+pub mod state;
 
 pub use choice::{Chosen, choose};
 pub use office_base::Step;
+pub use state::{Offered, StepState};
 
 #[cfg(test)]
 mod tests;
