@@ -11,5 +11,4 @@ mod Offering
 mod OneByOne
 mod Places
 mod Raises
-mod Slots
 pub mod StepLaws

@@ -1,3 +1,2 @@
 pub mod CodesLemmas
 mod Streams
-pub mod Sublists

@@ -8,7 +8,7 @@ use Rattle.office_base.specs.declared.person.ListId.{ListId}
 use Rattle.office_base.specs.declared.person.Person.{Person}
 use Rattle.office_base.specs.declared.step.StepKind.{StepKind}
 use Rattle.office_base.specs.declared.step.StepKind.TheVariants.{Open, Ews as EwsStep, Obc as ObcStep, Sc as ScStep, St as StStep, Dereserved}
-use Rattle.office_base.proofs.Sublists.{length-sublist}
+use Rattle.placements.proofs.Sublists.{length-sublist}
 use Rattle.open_then_category.specs.Listing.{Shows, ShowsChoice}
 use Rattle.dereserve.specs.Common.{is_common}
 use Rattle.open_then_category.specs.Programme.{Admissions, no_protections, seats_of, is_of, without, step_with}

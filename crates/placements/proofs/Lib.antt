@@ -4,4 +4,6 @@ pub mod Greatest
 pub mod Hall
 pub mod Ranks
 pub mod Replace
+pub mod Slots
+pub mod Sublists
 pub mod Without

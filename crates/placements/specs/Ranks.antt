@@ -20,6 +20,10 @@ AreDistinct people = Pairwise (λ a b. a.id ≢ b.id) people
 abbrev pub AreAmong : List Person → List Person → Type 0
 AreAmong some all = AllByRecursion (λ person. AnyByRecursion (λ other. person ≡ other) all) some
 
+-- these are the people with the person, in any order
+abbrev pub AreWith : Person → List Person → List Person → Type 0
+AreWith person people all = AreAmong all (person ∷ people) × AreAmong (person ∷ people) all
+
 -- the people without the first one of this number
 abbrev pub without : CandId → List Person → List Person
 without cand [] = []

@@ -27,10 +27,11 @@ fn moves_and_holds(rt: HostRuntime) -> Result<(), Fail> {
         counts: [1, 1, 0, 0, 0, 0],
     };
     let mut matching = Matching::new(rt.alloc(), protections, ListId(1))?;
-    assert_eq!(rt; matching.augment(&person(1, 0)), Augment::Held);
+    assert_eq!(rt; matching.augment(&person(1, 0)), Augment::Held { worst: None });
     assert_eq!(rt; matching.augment(&person(2, 3)), Augment::Raised);
     assert_eq!(rt; matching.augment(&person(3, 1)), Augment::Raised);
-    assert_eq!(rt; matching.augment(&person(4, 2)), Augment::Held);
+    assert_eq!(rt; matching.augment(&person(4, 2)), Augment::Held { worst: Some(CandId(3)) });
+    matching.exchange(CandId(3), &person(4, 2));
     assert_eq!(rt; matching.honoured(), 2);
     assert_eq!(rt; matching.members().len(), 2);
     Ok(())

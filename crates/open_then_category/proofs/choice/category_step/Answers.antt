@@ -2,7 +2,7 @@ use Rattle.std.proofs.Common.{List, length, ap, sym, subst, arith}
 use Rattle.std.specs.List.{filter}
 use Rattle.office_base.specs.StepChoice.{IsStep}
 use Rattle.office_base.specs.declared.person.Person.{Person}
-use Rattle.office_base.proofs.Sublists.{length-sublist}
+use Rattle.placements.proofs.Sublists.{length-sublist}
 use Rattle.open_then_category.specs.Programme.{seats_of, is_of, step_with}
 use Rattle.open_then_category.specs.declared.seats.StepSeats.{StepSeats}
 use Rattle.open_then_category.proofs.Lists.{filter-sublist}

@@ -3,7 +3,7 @@ use Rattle.std.specs.List.{filter}
 use Rattle.office_base.specs.StepChoice.{IsStep}
 use Rattle.office_base.specs.declared.person.Person.{Person}
 use Rattle.office_base.specs.declared.step.StepKind.TheVariants.{Open}
-use Rattle.office_base.proofs.Sublists.{length-sublist}
+use Rattle.placements.proofs.Sublists.{length-sublist}
 use Rattle.dereserve.specs.Common.{is_common}
 use Rattle.open_then_category.specs.Programme.{seats_of, step_with}
 use Rattle.open_then_category.specs.declared.seats.StepSeats.{StepSeats}

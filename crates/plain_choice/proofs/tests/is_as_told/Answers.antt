@@ -1,4 +1,4 @@
-use Rattle.office_base.proofs.Sublists.{AllByRecursion-sublist}
+use Rattle.placements.proofs.Sublists.{AllByRecursion-sublist}
 use Rattle.placements.proofs.Ranks.{pairwise_sublist}
 use Rattle.plain_choice.proofs.tests.is_as_told.Goals as goal
 
