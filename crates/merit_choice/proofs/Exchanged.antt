@@ -30,7 +30,6 @@ pub record Replaces (list : ListId) (protections : Protections) (held needed : L
   pub better : IsBetter list person worst
 
 module _ (list : ListId) (protections : Protections) (held needed : List Person) (person worst : Person) (r : Replaces list protections held needed person worst) where
-
   -- who is left of the needed, and what is known of them and of the person
   left_held : AreAmong (without worst.id needed) held
   left_held = among_again (without worst.id needed) needed held (without_among worst.id needed) r.needs.among
@@ -167,10 +166,13 @@ module _ (list : ListId) (protections : Protections) (held needed : List Person)
         | inl same ↦
             let others = without one.id needed in
             let mine : AreAmong others (worst ∷ rest) = needed_rejoined one in
-            let wide : AreAmong (other ∷ others) (who ∷ other ∷ rest) = (inr (inl refl), are_among others (who ∷ other ∷ rest) (λ each there. elim (among_more each others (worst ∷ rest) mine there) [
-              | inl here ↦ inl (here ∙ sym same)
-              | inr later ↦ inr (inr later)
-            ])) in
+            let wide : AreAmong (other ∷ others) (who ∷ other ∷ rest) = (
+              inr (inl refl),
+              are_among others (who ∷ other ∷ rest) (λ each there. elim (among_more each others (worst ∷ rest) mine there) [
+                | inl here ↦ inl (here ∙ sym same)
+                | inr later ↦ inr (inr later)
+              ]),
+            ) in
             r.needs.best one other in_needed in_held gone better
             (placed_part protections (other ∷ others) (who ∷ other ∷ rest) all
             (apart_some other.id others needed (without_among one.id needed) far, distinct_without one.id needed r.needs.distinct) wide joins.3)
@@ -178,10 +180,13 @@ module _ (list : ListId) (protections : Protections) (held needed : List Person)
           | inr in_rest ↦ nobody_of who rest joins.2.1 in_rest
           | inl is_one ↦
               let mine : AreAmong left (one ∷ rest) = left_rejoined one in_left in
-              let wide : AreAmong (other ∷ left) (who ∷ other ∷ rest) = (inr (inl refl), are_among left (who ∷ other ∷ rest) (λ each there. elim (among_more each left (one ∷ rest) mine there) [
-                | inl here ↦ inl (here ∙ sym is_one)
-                | inr later ↦ inr (inr later)
-              ])) in
+              let wide : AreAmong (other ∷ left) (who ∷ other ∷ rest) = (
+                inr (inl refl),
+                are_among left (who ∷ other ∷ rest) (λ each there. elim (among_more each left (one ∷ rest) mine there) [
+                  | inl here ↦ inl (here ∙ sym is_one)
+                  | inr later ↦ inr (inr later)
+                ]),
+              ) in
               let fits = placed_part protections (other ∷ left) (who ∷ other ∷ rest) all
               (apart_some other.id left needed (without_among worst.id needed) far, left_distinct) wide joins.3 in
               let apart : other.id ≢ worst.id = λ e. gone (subst (λ (each : Person). IsAmong each needed) (sym (is_worst other in_held e)) r.member) in
@@ -205,8 +210,11 @@ module _ (list : ListId) (protections : Protections) (held needed : List Person)
       let worst_apart : AllByRecursion (λ each. worst.id ≢ each.id) rest =
       apart_some worst.id rest left (without_among one.id left) (without_apart worst.id needed r.needs.distinct) in
       let not_him : worst.id ≢ person.id = other_number worst person.id held r.new worst_held in
-      let wide : AreAmong (person ∷ others) (worst ∷ person ∷ rest) = (inr (inl refl), are_among others (worst ∷ person ∷ rest) (λ each there.
-      elim (among_more each others (worst ∷ rest) (needed_rejoined one) there) [ inl here ↦ inl here | inr later ↦ inr (inr later) ])) in
+      let wide : AreAmong (person ∷ others) (worst ∷ person ∷ rest) = (
+        inr (inl refl),
+        are_among others (worst ∷ person ∷ rest) (λ each there.
+            elim (among_more each others (worst ∷ rest) (needed_rejoined one) there) [ inl here ↦ inl here | inr later ↦ inr (inr later) ]),
+      ) in
       not_replaced one in_left (subst (λ (who : Person). IsBetter list who one) same better)
       (placed_part protections (person ∷ others) (worst ∷ person ∷ rest)
       ((not_him, worst_apart), (apart_some person.id rest needed rest_needs person_apart, distinct_without one.id left left_distinct))

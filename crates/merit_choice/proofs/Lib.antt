@@ -3,6 +3,7 @@ mod Exchanged
 mod Filled
 mod Filling
 mod InMerit
+mod Joining
 mod Marking
 mod Marks
 pub mod Members

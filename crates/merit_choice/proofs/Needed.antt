@@ -143,20 +143,22 @@ needed_again list protections held others needed again distinct within among the
       let in_held = among_more other others held within in_others in
       let gone : IsAmong other needed → ⊥ = λ mine. out (among_more other needed again there mine) in
       n.most other in_held gone
-          (placed_part protections (other ∷ needed) (other ∷ again) (apart other again in_held (among_again again needed held back n.among) out, own)
-          (apart other needed in_held n.among gone, n.distinct) (inl refl, among_longer other needed again there) can);
+      (placed_part protections (other ∷ needed) (other ∷ again) (apart other again in_held (among_again again needed held back n.among) out, own)
+      (apart other needed in_held n.among gone, n.distinct) (inl refl, among_longer other needed again there) can);
   best = λ one other mine in_others out better can.
       let in_held = among_more other others held within in_others in
       let gone : IsAmong other needed → ⊥ = λ his. out (among_more other needed again there his) in
       let far = apart other again in_held (among_again again needed held back n.among) out in
       let near = apart other needed in_held n.among gone in
       n.best one other (among_more one again needed back mine) in_held gone better
-          (placed_part protections (other ∷ without one.id needed) (other ∷ without one.id again)
-          (apart_some other.id (without one.id again) again (without_among one.id again) far, distinct_without one.id again own)
-          (apart_some other.id (without one.id needed) needed (without_among one.id needed) near, distinct_without one.id needed n.distinct)
-          (inl refl, among_longer other (without one.id needed) (without one.id again) (are_among (without one.id needed) (without one.id again) (λ person left.
-          among_without one.id person again (among_more person needed again there (among_more person (without one.id needed) needed (without_among one.id needed) left))
-          (other_number person one.id (without one.id needed) (without_apart one.id needed n.distinct) left)))) can);
+      (placed_part protections (other ∷ without one.id needed) (other ∷ without one.id again)
+      (apart_some other.id (without one.id again) again (without_among one.id again) far, distinct_without one.id again own)
+      (apart_some other.id (without one.id needed) needed (without_among one.id needed) near, distinct_without one.id needed n.distinct) (
+        inl refl,
+        among_longer other (without one.id needed) (without one.id again) (are_among (without one.id needed) (without one.id again) (λ person left.
+            among_without one.id person again (among_more person needed again there (among_more person (without one.id needed) needed (without_among one.id needed) left))
+            (other_number person one.id (without one.id needed) (without_apart one.id needed n.distinct) left))),
+      ) can);
 }
   where
     apart : (other : Person) (some : List Person) → IsAmong other held → AreAmong some held → (IsAmong other some → ⊥) → AllByRecursion (λ person. other.id ≢ person.id) some
@@ -247,11 +249,12 @@ needed_joined list protections held needed person distinct new n can = record {
               let far = apart_of other needed held distinct n.among in_held gone in
               let not_him : other.id ≢ person.id = other_number other person.id held new in_held in
               n.best one other his in_held gone better
-                  (placed_part protections (other ∷ less) (other ∷ person ∷ less)
-                  ((not_him, apart_some other.id less needed (without_among one.id needed) far),
-                  (apart_some person.id less needed (without_among one.id needed) mine, distinct_without one.id needed n.distinct))
-                  (apart_some other.id less needed (without_among one.id needed) far, distinct_without one.id needed n.distinct)
-                  (inl refl, among_longer other less (person ∷ less) (among_longer person less less (among_itself less))) told)
+              (placed_part protections (other ∷ less) (other ∷ person ∷ less) (
+                (not_him, apart_some other.id less needed (without_among one.id needed) far),
+                (apart_some person.id less needed (without_among one.id needed) mine, distinct_without one.id needed n.distinct),
+              )
+              (apart_some other.id less needed (without_among one.id needed) far, distinct_without one.id needed n.distinct)
+              (inl refl, among_longer other less (person ∷ less) (among_longer person less less (among_itself less))) told)
         ]
   ];
 }

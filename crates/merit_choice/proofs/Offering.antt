@@ -169,3 +169,33 @@ has_left state person kept people marks gone rest rest_marks come many gives =
           ] in
           (has_number gone held before, taken_out ∙ ap (without gone.id) come.are);
     }
+
+-- ---- told by the fields
+
+-- what a step keeps, told by its fields
+abbrev pub state_of : ListId → ℕ → Protections → List Person → StepKept
+state_of list seats protections held = record { list = list; seats = seats; protections = protections; held = held }
+
+-- a person has come to the step as it was
+pub comes : (state old : StepKept) (person : Person) (kept : Kept) (people : List Person) (marks : List Bool) → IsStepKept state → state ≡ old → IsNewTo old.list old.held person
+    → people ≡ with_person state.list person state.held → kept.protections ≡ state.protections → IsMatched state.list people marks kept → HasCome state person kept people marks
+comes state old person kept people marks ok same new are protections matched = record {
+  is_kept = ok;
+  new = subst (λ (s : StepKept). IsNewTo s.list s.held person) (sym same) new;
+  are = are;
+  protections = protections;
+  matched = matched;
+}
+
+-- the protections are as before
+as_before : (state : StepKept) (kept : Kept) (people : List Person) → kept.protections ≡ state.protections → IsStepKept (record state { held = people })
+    → IsStepKept (state_of state.list state.seats kept.protections people)
+as_before state kept people same ok = subst (λ (p : Protections). IsStepKept (state_of state.list state.seats p people)) (sym same) ok
+
+pub taken_now : (state : StepKept) (person : Person) (kept : Kept) (people : List Person) (marks : List Bool) → HasCome state person kept people marks → length people ≤ state.seats
+    → IsStepKept (state_of state.list state.seats kept.protections people)
+taken_now state person kept people marks come room = as_before state kept people come.protections (taken_kept state person kept people marks come room)
+
+pub left_now : (state : StepKept) (person : Person) (kept : Kept) (gone : Person) (rest : List Person) (marks : List Bool) → kept.protections ≡ state.protections
+    → HasLeft state person kept gone rest marks → IsStepKept (state_of state.list state.seats kept.protections rest)
+left_now state person kept gone rest marks same left = as_before state kept rest same left.is_kept

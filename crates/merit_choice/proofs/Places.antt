@@ -35,7 +35,7 @@ with_before list person worse [] rest told =
     ap (λ (b : Bool). cond b (person ∷ worse ∷ rest) (worse ∷ with_person list person rest)) told
 with_before list person worse (one ∷ front) rest told =
     elim (is_better list person one) as (λ b. cond b (person ∷ one ∷ (front ++ worse ∷ rest)) (one ∷ with_person list person (front ++ worse ∷ rest))
-        ≡ cond b (person ∷ one ∷ front) (one ∷ with_person list person front) ++ worse ∷ rest) [
+    ≡ cond b (person ∷ one ∷ front) (one ∷ with_person list person front) ++ worse ∷ rest) [
       | true ↦ refl
       | false ↦ ap (λ (people : List Person). one ∷ people) (with_before list person worse front rest told)
     ]
@@ -222,9 +222,11 @@ told_without needed again (one ∷ people) (mark ∷ marks) zero cand other dist
 )
 told_without needed again (one ∷ people) (mark ∷ marks) (suc at) cand other distinct inside who there back all =
     let found = any_all (λ (each : Person). get_or people at other ≡ each) (λ (each : Person). one.id ≢ each.id) people (among_at people at other (omega arith)) distinct.0 in
-    let apart : one.id ≢ cand = λ same. found.2 (same ∙ sym who ∙ ap (λ (p : Person). p.id) found.1) in
-    (first mark apart all.0, told_without needed again people marks at cand other distinct.1 (omega arith) who
-    (λ each in_people. there each (inr in_people)) (λ each in_people. back each (inr in_people)) all.1)
+    let apart : one.id ≢ cand = λ same. found.2 (same ∙ sym who ∙ ap (λ (p : Person). p.id) found.1) in (
+      first mark apart all.0,
+      told_without needed again people marks at cand other distinct.1 (omega arith) who
+          (λ each in_people. there each (inr in_people)) (λ each in_people. back each (inr in_people)) all.1,
+    )
   where
     first : (m : Bool) → (one.id ≢ cand) → Tells needed one m → Tells again one m
     first true apart his = there one (inl refl) apart his

@@ -2,11 +2,14 @@
 ghost use Rattle.std.specs.Prelude.{◌≡◌, ◌≤◌, ◌<◌, [], ◌∷◌, sum, vec_len, vec_capacity, IfOk};
 ghost use Rattle.office_base.specs.Person.{IsList};
 ghost use Rattle.office_base.specs.StepChoice.{AreRanked, IsStepChoice};
+ghost use Rattle.placements.specs.Ranks.{CanBePlaced};
+ghost use Rattle.slot_matching.specs.Augmented.{IsWorstFor};
+ghost use Rattle.slot_matching.specs.Kept.{with_member};
 ghost use Rattle.merit_choice.specs.InMerit.{IsNewTo, with_person};
 ghost use Rattle.merit_choice.specs.State.{IsStepKept, step_with, IsAnswered, IsMatched};
 
-use crate::held::{leave, place_for, put};
-use office_base::{CandId, ListId, OutOfMemory, Person, Protections};
+use crate::held::{leave, place_for, place_of, put};
+use office_base::{CandId, ListId, OutOfMemory, Person, Protections, better};
 use slot_matching::{Augment, Matching};
 use std::alloc::Global;
 use std::marker::Model;
@@ -123,7 +126,13 @@ fn enter(
     ensures marks_room { vec_capacity marks.old ≤ vec_capacity marks.new }
 {
     let at = place_for(held.as_slice(), person, list);
-    let needed = join(matching, held.as_slice(), marks.as_mut_slice(), person, list);
+    let needed = join(
+        matching,
+        held.as_slice(),
+        marks.as_mut_slice(),
+        person,
+        list,
+    );
     put(held, at, *person);
     put(marks, at, needed);
 }
@@ -143,5 +152,41 @@ fn join(
     ensures protections { matching.new.protections ≡ matching.old.protections }
     ensures matched { IsMatched list (person.now ∷ held.now) (result ∷ marks.new) matching.new }
 {
-    false
+    match matching.augment(person) {
+        Augment::Raised => true,
+        Augment::Held { worst: None } => false,
+        Augment::Held { worst: Some(worst) } => {
+            replace(matching, held, marks, person, list, worst)
+        }
+    }
+}
+
+/// Puts the person in the place of the worst of the needed whom the person can replace, where that one is worse, and tells
+/// whether it did.
+fn replace(
+    matching: &mut Matching,
+    held: &[Person],
+    marks: &mut [bool],
+    person: &Person,
+    list: ListId,
+    worst: CandId,
+) -> bool
+    requires list { IsList list }
+    requires ranked { AreRanked list held.now }
+    requires new { IsNewTo list held.now person.now }
+    requires matched { IsMatched list held.now marks.old matching.old }
+    requires held_back { ¬ CanBePlaced matching.old.protections (with_member matching.old person.now).members }
+    requires worst { IsWorstFor matching.old person.now (Some worst) }
+    ensures protections { matching.new.protections ≡ matching.old.protections }
+    ensures matched { IsMatched list (person.now ∷ held.now) (result ∷ marks.new) matching.new }
+{
+    let Some(at) = place_of(held, worst) else {
+        unreachable!("whoever is needed is held")
+    };
+    if !better(person, &held[at], list) {
+        return false;
+    }
+    matching.exchange(worst, person);
+    marks[at] = false;
+    true
 }

@@ -1,5 +1,4 @@
 use Rattle.merit_choice.proofs.OneByOne
-use Rattle.merit_choice.proofs.Offering
 use Rattle.merit_choice.proofs.laws.seats_for_all.Goals as goal
 
 pub returns : goal.returns
