@@ -10,8 +10,6 @@ pub mod choices;
 pub mod fault;
 pub mod laws;
 pub mod listing;
-#[cfg(test)]
-mod tests;
 
 pub use choices::Choices;
 pub use fault::{ChoiceFault, ChoiceKind};

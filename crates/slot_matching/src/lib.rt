@@ -12,6 +12,3 @@ mod members;
 mod spare;
 
 pub use matching::{Augment, Matching};
-
-#[cfg(test)]
-mod tests;
