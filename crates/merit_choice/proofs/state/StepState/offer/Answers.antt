@@ -1,13 +1,16 @@
-use Rattle.std.proofs.Common.{◌≡◌, ◌≢◌, ◌≤◌, ◌<◌, ◌∙◌, ℕ, true, length, sym, ap, subst, arith}
-use Rattle.std.proofs.lemmas.Bool.{eqb-true, eqb-false}
+use Rattle.std.proofs.Common.{◌≡◌, ◌≢◌, ◌≤◌, ◌<◌, ◌∙◌, ℕ, true, List, length, refl, sym, ap, subst, arith}
+use Rattle.std.specs.List.{insert}
+use Rattle.std.proofs.lemmas.Bool.{both_ways, eqb-true, eqb-false}
 use Rattle.office_base.specs.StepChoice.{IsStepChoice}
 use Rattle.office_base.specs.declared.person.CandId.{CandId}
-use Rattle.merit_choice.specs.InMerit.{with_person}
+use Rattle.office_base.specs.declared.person.Person.{Person}
+use Rattle.merit_choice.specs.InMerit.{IsNewTo, with_person}
 use Rattle.merit_choice.specs.Needed.{Tells}
 use Rattle.merit_choice.specs.State.{StepKept, step_with, IsAnswered}
 use Rattle.merit_choice.specs.declared.state.Offered.{Offered}
 use Rattle.merit_choice.specs.declared.state.Offered.TheVariants.{Displaced, Refused}
-use Rattle.merit_choice.proofs.Offering.{comes, state_of, taken_choice, taken_fewer, taken_now, not_all_needed, has_left, left_now}
+use Rattle.merit_choice.proofs.Offering.{comes, state_of, taken_choice, taken_fewer, taken_now, not_all_needed, has_left, left_now, refused_choice}
+use Rattle.merit_choice.proofs.Joining.{may_join}
 use Rattle.merit_choice.proofs.Places.{zip_length}
 use Rattle.merit_choice.proofs.state.StepState.offer.Goals as goal
 use Rattle.merit_choice.proofs.state.StepState.offer.Goals.{then-eq, else-eq}
@@ -18,6 +21,30 @@ enter-requires-clause-marks_room c =
     let few = c.self.invariant.is_kept.few in
     let room = c.self.invariant.marks_room in
     omega arith
+
+-- ---- the person comes after all, and is not needed
+
+pub raises-requires : goal.raises-requires
+raises-requires c =
+    let old = c.args.self.now in
+    let person = c.args.person.now in
+    let state = state_of c.self.inside.list c.self.inside.seats c.self.inside.matching.protections c.self.inside.held.items in
+    let same : state ≡ old = c.self.view_is in
+    may_join c.self.inside.list c.self.inside.held.items c.self.inside.marks.items c.self.inside.matching person
+    (subst (λ (s : StepKept). IsNewTo s.list s.held person) (sym same) c.requires) c.self.invariant.matched
+
+pub returns-then-not-raises-clause-choice : goal.returns-then-not-raises-clause-choice
+returns-then-not-raises-clause-choice c =
+    let person = c.args.person.now in
+    let held = c.self.inside.held.items in
+    let at = c.place_for-at.result in
+    let state = state_of c.self.inside.list c.self.inside.seats c.self.inside.matching.protections held in
+    let place : insert held at person ≡ with_person c.self.inside.list person held =
+    subst (λ (people : List Person). insert people at person ≡ with_person c.self.inside.list person people) c.as_slice.ensures.value c.place_for-at.ensures.place in
+    let within = c.place_for-at.ensures.within in
+    let here = ap length c.as_slice.ensures.value in
+    refused_choice state c.args.self.now person c.self.inside.matching c.self.inside.marks.items at c.self.invariant.is_kept c.self.view_is c.requires c.self.invariant.matched refl
+    (omega arith) (c.if-at-from.true ∙ c.from.ensures) place (λ can. both_ways c.raises.result c.if-not-raises.true (c.raises.ensures.1 can))
 
 -- ---- a seat is free
 
