@@ -1,5 +1,5 @@
 -- One person comes to a step: what it holds then.
-use Rattle.std.proofs.Common.{◌≡◌, ◌≢◌, ◌≤◌, ◌<◌, ◌⊎◌, ℕ, zero, suc, sum, Bool, true, false, cond, List, [], ◌∷◌, ◌++◌, length, get_or, take, drop, refl, sym, ap, ◌∙◌, subst, inl, inr, arith}
+use Rattle.std.proofs.Common.{◌≡◌, ◌≢◌, ◌≤◌, ◌<◌, ◌⊎◌, ℕ, zero, suc, sum, Bool, true, false, cond, List, [], ◌∷◌, ◌++◌, length, take, drop, refl, sym, ap, ◌∙◌, subst, inl, inr, arith}
 use Rattle.std.specs.List.{AllByRecursion, AllZip, insert, remove}
 use Rattle.office_base.specs.Lists.{AnyByRecursion, IsSublist, Pairwise}
 use Rattle.office_base.specs.Person.{IsBetter, number_in}
@@ -10,9 +10,9 @@ use Rattle.office_base.specs.declared.step.Protections.{Protections}
 use Rattle.office_base.specs.declared.step.Step.{Step}
 use Rattle.placements.specs.Ranks.{AreAmong, AreDistinct, CanBePlaced, without}
 use Rattle.placements.proofs.Ranks.{any_all, among_itself, among_again, placed_end}
-use Rattle.placements.proofs.Without.{without_first, without_later, without_none, without_sublist, without_among, among_without, length_without}
+use Rattle.placements.proofs.Without.{without_first, without_later, without_sublist, without_among, among_without, length_without}
 use Rattle.slot_matching.specs.Kept.{Kept}
-use Rattle.merit_choice.specs.Held.{IsLastFree, AreAllSet, IsLeft}
+use Rattle.merit_choice.specs.Held.{AreAllSet, IsLeft}
 use Rattle.merit_choice.specs.InMerit.{is_better, IsNewTo, with_person}
 use Rattle.merit_choice.specs.Laws.{IsAmong}
 use Rattle.merit_choice.specs.Needed.{AreNeeded, Tells}
