@@ -1,22 +1,24 @@
 -- What one more entry changes of choices in the making.
-use Rattle.std.proofs.Common.{◌≡◌, ◌⊎◌, inl, inr, ℕ, zero, suc, Bool, true, false, List, [], ◌∷◌, ◌++◌, Option, Some, None, Ok, Err, length, get_or, refl, sym, ap, subst, ◌∙◌, cond, arith, add-one, length-append, map}
-use Rattle.std.specs.Prelude.{◌==◌, ◌<◌, ◌≤◌, ◌+◌, ◌-◌, IsSome, is_some, drop, option_map, replicate, slice_get, slice_index_or, slice_set}
+use Rattle.std.proofs.Common.{◌≡◌, lt-ltb, le-ltb, ℕ, zero, suc, Bool, true, false, List, [], ◌∷◌, ◌++◌, Option, Some, None, Ok, Err, length, get_or, refl, sym, ap, subst, ◌∙◌, cond, arith, add-one, length-append, map}
+use Rattle.std.specs.Prelude.{◌==◌, ◌||◌, ◌<◌, ◌≤◌, ◌+◌, ◌-◌, IsSome, is_some, nat_lt, drop, option_map, replicate, slice_get, slice_index_or, slice_set}
 use Rattle.std.specs.List.{AllByRecursion}
 use Rattle.std.proofs.lemmas.Bool.{cond-false, cond-true, eqb-false, eqb-true, eq-eqb, false≢true, ne_eqb}
-use Rattle.std.proofs.lemmas.List.{length-drop}
+use Rattle.std.proofs.lemmas.List.{length-drop, length-replicate}
+use Rattle.std.proofs.lemmas.Option.{get_or_from_slice_get, slice_get_within}
 use Rattle.office_base.specs.Lists.{Pairwise}
 use Rattle.office_base.specs.declared.person.Person.{Person}
 use Rattle.office_base.specs.declared.person.ProgId.{ProgId}
-use Rattle.section_rows.specs.Rows.{Row}
-use Rattle.section_rows.specs.Steps.{first_of}
+use Rattle.section_rows.specs.Rows.{Row, field}
+use Rattle.section_rows.specs.Steps.{first_of, unless}
 use Rattle.section_rows.proofs.StepsLemmas.{first_of-other, first_of-push, first_of-same, or_else}
-use Rattle.rank_lists.specs.Register.{Ranks, find_person, row_of}
+use Rattle.rank_lists.specs.Register.{AreRanks, Ranks, find_person, row_of}
 use Rattle.seat_matrix.specs.Matrix.{Seats}
-use Rattle.choice_lists.specs.Choices.{AreListsOf, AreChoices, AreKept, Entry, IsChoice, Lists, choices, choices_after, list_at, list_of, listed, lists_along, new_candidate, reading}
+use Rattle.choice_lists.specs.Choices.{AreListsOf, AreChoices, AreKept, Entry, IsChoice, Lists, choices, choices_after, is_chosen, list_at, list_of, listed, lists_along, new_candidate, person_of, reading, all_choices}
 use Rattle.choice_lists.specs.Builder.{Keeps, along}
 use Rattle.choice_lists.specs.declared.builder.ChoicesBuilder.{ChoicesBuilder}
 use Rattle.choice_lists.specs.declared.fault.ChoiceKind.{ChoiceKind}
-use Rattle.choice_lists.proofs.ChoicesLemmas.{IsNew, choices_ok, good_choice, new_candidate_ok}
+use Rattle.choice_lists.specs.declared.fault.ChoiceKind.TheVariants.{RepeatedCandidate, TooLong, TooMany}
+use Rattle.choice_lists.proofs.ChoicesLemmas.{IsNew, choices_ok, good_choice, is_chosen-push, new_candidate_ok}
 
 choices-push : (count : ℕ) (entries : List Entry) (entry : Entry) → choices_after count (entries ++ entry ∷ []) ≡ choices_after count entries + length entry.programmes
 choices-push count [] entry = refl
@@ -199,8 +201,8 @@ list_of-known entries (p ∷ people) q = by (q == p.id.0) refl (list_of-known en
   where
     by : (b : Bool) → (q == p.id.0) ≡ b
         → list_of (map (λ person. (person.id.0, listed (list_at person.id.0 entries))) people) q ≡ cond (is_some (find_person q people)) (listed (list_at q entries)) []
-        → listed (cond b (Some (listed (list_at p.id.0 entries))) (first_of (λ held. q == held.0) (λ held. held.1) (map (λ person. (person.id.0, listed (list_at person.id.0 entries))) people)))
-            ≡ cond (is_some (cond b (Some p) (find_person q people))) (listed (list_at q entries)) []
+        → listed (cond b (Some (listed (list_at p.id.0 entries))) (first_of (λ (held : ℕ × List ProgId). q == held.0) (λ (held : ℕ × List ProgId). held.1) (map (λ (person : Person). (person.id.0, listed (list_at person.id.0 entries))) people)))
+        ≡ cond (is_some (cond b (Some p) (find_person q people))) (listed (list_at q entries)) []
     by true e more = ap (λ (k : ℕ). listed (list_at k entries)) (sym (eqb-true q p.id.0 e))
     by false e more = more
 
@@ -252,5 +254,108 @@ pub made_kept : (entries : List Entry) (builder : ChoicesBuilder) → Keeps entr
 made_kept entries builder keeps = record {
   rising = ids_rise builder.register.now.people keeps.ranks.rising;
   count = length_along entries builder.register.now.people ∙ ap (λ (ls : List (List ProgId)). length ls) (sym keeps.lists);
-  lists = λ q. let sound = made_sound entries builder keeps q in (sound.distinct, sound.short);
+  sound = λ q. let sound = made_sound entries builder keeps q in (sound.distinct, sound.short);
+}
+
+-- whether the person at a position of the register had a row
+pub had_at : (entries : List Entry) (builder : ChoicesBuilder) (q at : ℕ) (b d : Bool) → Keeps entries builder → row_of q builder.register.now.people ≡ Some at
+    → b ≡ slice_index_or builder.had_row.items at d → is_some (list_at q entries) ≡ b
+had_at entries builder q at b d keeps there e =
+    sym (e ∙ ap (λ (bs : List Bool). slice_index_or bs at d) keeps.had_row ∙ get_or_from_slice_get (along is_some entries builder.register.now.people) at _ d (along_at is_some entries builder.register.now.people q at there))
+
+-- the position of somebody is within what goes along with the people
+along_within : {X : Type 0} (value : Option (List ProgId) → X) (entries : List Entry) (people : List Person) (q at : ℕ) → row_of q people ≡ Some at → at < length (along value entries people)
+along_within value entries people q at e = slice_get_within (along value entries people) at _ (along_at value entries people q at e)
+
+pub lists_within : (entries : List Entry) (builder : ChoicesBuilder) (q at : ℕ) → Keeps entries builder → row_of q builder.register.now.people ≡ Some at → at < length builder.lists
+lists_within entries builder q at keeps e =
+    let within = along_within listed entries builder.register.now.people q at e in
+    omega (arith, within, ap (λ (ls : List (List ProgId)). length ls) keeps.lists)
+
+pub had_within : (entries : List Entry) (builder : ChoicesBuilder) (q at : ℕ) → Keeps entries builder → row_of q builder.register.now.people ≡ Some at → at < length builder.had_row.items
+had_within entries builder q at keeps e =
+    let within = along_within is_some entries builder.register.now.people q at e in
+    omega (arith, within, ap (λ (bs : List Bool). length bs) keeps.had_row)
+
+-- A new candidate named no programme last.
+pub apart : (entries : List Entry) (builder : ChoicesBuilder) (row : Row) (person : Person) (n : ℕ) → Keeps entries builder → new_candidate builder.register.now entries row ≡ Ok person
+    → (slice_index_or builder.named_last.items n 0 == person.id.0) ≡ false
+apart entries builder row person n keeps e =
+    let new : IsNew builder.register.now entries row person = new_candidate_ok builder.register.now entries row person e in
+    keeps.named_last n person.id.0 (keeps.ranks.registered person.id.0 person new.known).low new.fresh
+
+-- the marks with one more programme named by somebody
+mark_same : (named : List ℕ) (k id : ℕ) → k < length named → slice_index_or (slice_set named k id) k 0 ≡ id
+mark_same [] k id within = absurd (omega arith)
+mark_same (m ∷ named) zero id within = refl
+mark_same (m ∷ named) (suc k) id within = mark_same named k id (omega arith)
+
+mark_other : (named : List ℕ) (k id n : ℕ) → (n ≡ k → ⊥) → slice_index_or (slice_set named k id) n 0 ≡ slice_index_or named n 0
+mark_other [] k id n ne = refl
+mark_other (m ∷ named) zero id zero ne = absurd (ne refl)
+mark_other (m ∷ named) zero id (suc n) ne = refl
+mark_other (m ∷ named) (suc k) id zero ne = refl
+mark_other (m ∷ named) (suc k) id (suc n) ne = mark_other named k id n (λ e. ne (ap suc e))
+
+pub marks_chosen : (named : List ℕ) (k id n : ℕ) (prog : ProgId) (progs : List ProgId) → k ≡ prog.0 → k < length named → (slice_index_or named n 0 == id) ≡ is_chosen n progs
+    → (slice_index_or (slice_set named k id) n 0 == id) ≡ is_chosen n (progs ++ prog ∷ [])
+marks_chosen named k id n prog progs e within before = by (n == k) refl ∙ ap (λ (m : ℕ). n == m || is_chosen n progs) e ∙ sym (is_chosen-push n progs prog)
+  where
+    by : (b : Bool) → (n == k) ≡ b → (slice_index_or (slice_set named k id) n 0 == id) ≡ (n == k || is_chosen n progs)
+    by true f =
+        let same : n ≡ k = eqb-true n k f in
+        let here : slice_index_or (slice_set named k id) n 0 ≡ id = ap (λ (m : ℕ). slice_index_or (slice_set named k id) m 0) same ∙ mark_same named k id within in
+        eq-eqb (slice_index_or (slice_set named k id) n 0) id here ∙ sym (ap (λ (b : Bool). b || is_chosen n progs) f)
+    by false f =
+        ap (λ (m : ℕ). m == id) (mark_other named k id n (eqb-false n k f)) ∙ before ∙ sym (ap (λ (b : Bool). b || is_chosen n progs) f)
+
+pub marks_others : (named : List ℕ) (k id n q : ℕ) → (id == q) ≡ false → (slice_index_or named n 0 == q) ≡ false → (slice_index_or (slice_set named k id) n 0 == q) ≡ false
+marks_others [] k id n q e f = f
+marks_others (m ∷ named) zero id zero q e f = e
+marks_others (m ∷ named) zero id (suc n) q e f = f
+marks_others (m ∷ named) (suc k) id zero q e f = f
+marks_others (m ∷ named) (suc k) id (suc n) q e f = marks_others named k id n q e f
+
+-- How the candidate of a row is tested.
+pub candidate_tests : (ranks : Ranks) (entries : List Entry) (row : Row) (person : Person) → Some person ≡ person_of ranks (field row 0)
+    → new_candidate ranks entries row ≡ unless (is_some (list_at person.id.0 entries)) RepeatedCandidate (unless (nat_lt 1000 (length row - 1)) TooLong (unless (nat_lt 5000000 (all_choices entries + (length row - 1))) TooMany (Ok person)))
+candidate_tests ranks entries row person e = rw (← e) refl
+
+pub tests_had : (ranks : Ranks) (entries : List Entry) (row : Row) (person : Person) → Some person ≡ person_of ranks (field row 0) → is_some (list_at person.id.0 entries) ≡ true
+    → new_candidate ranks entries row ≡ Err RepeatedCandidate
+tests_had ranks entries row person e f = candidate_tests ranks entries row person e ∙ (rw f refl)
+
+pub tests_long : (ranks : Ranks) (entries : List Entry) (row : Row) (person : Person) → Some person ≡ person_of ranks (field row 0) → is_some (list_at person.id.0 entries) ≡ false
+    → 1000 < length row - 1 → new_candidate ranks entries row ≡ Err TooLong
+tests_long ranks entries row person e f g =
+    let long : nat_lt 1000 (length row - 1) ≡ true = lt-ltb 1000 (length row - 1) g in
+    candidate_tests ranks entries row person e ∙ (rw (f, long) refl)
+
+pub tests_many : (ranks : Ranks) (entries : List Entry) (row : Row) (person : Person) → Some person ≡ person_of ranks (field row 0) → is_some (list_at person.id.0 entries) ≡ false
+    → length row - 1 ≤ 1000 → 5000000 < all_choices entries + (length row - 1) → new_candidate ranks entries row ≡ Err TooMany
+tests_many ranks entries row person e f g h =
+    let short : nat_lt 1000 (length row - 1) ≡ false = le-ltb 1000 (length row - 1) g in
+    let many : nat_lt 5000000 (all_choices entries + (length row - 1)) ≡ true = lt-ltb 5000000 (all_choices entries + (length row - 1)) h in
+    candidate_tests ranks entries row person e ∙ (rw (f, short, many) refl)
+
+pub tests_none : (ranks : Ranks) (entries : List Entry) (row : Row) (person : Person) → Some person ≡ person_of ranks (field row 0) → is_some (list_at person.id.0 entries) ≡ false
+    → length row - 1 ≤ 1000 → all_choices entries + (length row - 1) ≤ 5000000 → new_candidate ranks entries row ≡ Ok person
+tests_none ranks entries row person e f g h =
+    let short : nat_lt 1000 (length row - 1) ≡ false = le-ltb 1000 (length row - 1) g in
+    let few : nat_lt 5000000 (all_choices entries + (length row - 1)) ≡ false = le-ltb 5000000 (all_choices entries + (length row - 1)) h in
+    candidate_tests ranks entries row person e ∙ (rw (f, short, few) refl)
+
+-- No lists, beside a register and a matrix.
+pub nothing_kept : (builder : ChoicesBuilder) (count places : ℕ) → AreRanks builder.register.now → count ≡ length builder.register.now.people → places ≡ length builder.matrix.now.programmes
+    → builder.lists ≡ replicate count [] → builder.had_row.items ≡ replicate count false → builder.named_last.items ≡ replicate places 0 → builder.total ≡ 0 → Keeps [] builder
+nothing_kept builder count places ranks e f lists had_row named total = record {
+  ranks = ranks;
+  sound = λ q. record { distinct = tt; short = omega arith; numbers = tt; ranked = tt };
+  known = λ q some. cc some;
+  lists = lists ∙ ap (λ (n : ℕ). replicate n []) e ∙ along_nobody listed builder.register.now.people;
+  had_row = had_row ∙ ap (λ (n : ℕ). replicate n false) e ∙ along_nobody is_some builder.register.now.people;
+  marks = ap (λ (ns : List ℕ). length ns) named ∙ length-replicate places 0 ∙ f;
+  named_last = λ n q some none. ap (λ (ns : List ℕ). slice_index_or ns n 0 == q) named ∙ nobody places n q some;
+  total = total;
+  few = omega arith;
 }

@@ -84,10 +84,25 @@ within_at items (r ∷ ranges) zero d all less = all.0
 within_at items (r ∷ ranges) (suc n) d all less = within_at items ranges n d all.1 (omega arith)
 
 -- no items, in any number of lists
-pub empty_within : {T : Type 0} (count : ℕ) → AreWithin {T = T} [] (replicate count (0, 0))
-empty_within zero = tt
-empty_within (suc n) = ((omega arith, omega arith), empty_within n)
-
 pub empty_lists : {T : Type 0} (count : ℕ) → lists_of {T = T} [] (replicate count (0, 0)) ≡ replicate count []
 empty_lists zero = refl
 empty_lists {T} (suc n) = ap (λ (ls : List (List T)). [] ∷ ls) (empty_lists n)
+
+-- what the calls on the two vectors make of the lists
+pub set_made : {T : Type 0} (items more all : List T) (ranges changed : List (ℕ × ℕ)) (lists : List (List T)) (n start end : ℕ) → AreWithin items ranges → all ≡ items ++ more
+    → start ≡ length items → end ≡ length all → changed ≡ slice_set ranges n (start, end) → lists_of items ranges ≡ lists → lists_of all changed ≡ slice_set lists n more
+set_made {T} items more all ranges changed lists n start end within e f g h same =
+    let last : end ≡ length (items ++ more) = g ∙ ap (λ (l : List T). length l) e in
+    ap (λ (l : List T). lists_of l changed) e ∙ ap (lists_of (items ++ more)) h
+    ∙ ap (λ (k : ℕ). lists_of (items ++ more) (slice_set ranges n (k, end))) f
+    ∙ ap (λ (k : ℕ). lists_of (items ++ more) (slice_set ranges n (length items, k))) last
+    ∙ set_lists items more ranges n within ∙ ap (λ (ls : List (List T)). slice_set ls n more) same
+
+pub push_made : {T : Type 0} (items more all : List T) (ranges changed : List (ℕ × ℕ)) (lists : List (List T)) (start end : ℕ) → AreWithin items ranges → all ≡ items ++ more
+    → start ≡ length items → end ≡ length all → changed ≡ ranges ++ (start, end) ∷ [] → lists_of items ranges ≡ lists → lists_of all changed ≡ lists ++ more ∷ []
+push_made {T} items more all ranges changed lists start end within e f g h same =
+    let last : end ≡ length (items ++ more) = g ∙ ap (λ (l : List T). length l) e in
+    ap (λ (l : List T). lists_of l changed) e ∙ ap (lists_of (items ++ more)) h
+    ∙ ap (λ (k : ℕ). lists_of (items ++ more) (ranges ++ (k, end) ∷ [])) f
+    ∙ ap (λ (k : ℕ). lists_of (items ++ more) (ranges ++ (length items, k) ∷ [])) last
+    ∙ push_lists items more ranges within ∙ ap (λ (ls : List (List T)). ls ++ more ∷ []) same

@@ -135,7 +135,7 @@ lists_along (id ∷ ids) (list ∷ lists) = (id, list) ∷ lists_along ids lists
 pub record AreKept (ids : List ℕ) (lists : List (List ProgId)) : Type 0 where
   pub rising : Pairwise (λ a b. a < b) ids
   pub count : length ids ≡ length lists
-  pub lists : AreLists (lists_along ids lists)
+  pub sound : AreLists (lists_along ids lists)
 
 -- the lists are those of the entries
 abbrev pub AreListsOf : List Entry → Lists → Type 0

@@ -1,6 +1,7 @@
 // Choices in the making: what each further row is held against.
 ghost use Rattle.std.specs.Prelude.{◌≡◌, ◌<◌, [], List, Ok, Err, Some, IfOk, OnOk, IfSome, MatchResult, ℕ, false, length, map, option_map, slice_index_or, ◌==◌};
 ghost use Rattle.office_base.specs.declared.person.ProgId.{ProgId};
+ghost use Rattle.section_rows.specs.Rows.{same_fields};
 ghost use Rattle.rank_lists.specs.Register.{row_of};
 ghost use Rattle.choice_lists.specs.Choices.{choice, is_chosen, is_ranked, person_of, programme_of};
 ghost use Rattle.choice_lists.specs.Builder.{AreGiven};
@@ -89,9 +90,9 @@ impl<'a> ChoicesBuilder<'a> {
     /// The choices of all that was put in.
     pub(crate) fn finish(self, alloc: Global) -> Result<Choices, OutOfMemory>
         requires { (entries : List Entry) × Keeps entries self }
-        ensures lists { IfOk result (λ choices. (entries : List Entry) → Keeps entries self → AreListsOf entries choices) }
-        ensures sound { IfOk result (λ choices. AreChoices self.register.now self.matrix.now choices) }
-        ensures aligned { IfOk result (λ choices. map (λ held. held.0) choices ≡ map (λ person. person.id.0) self.register.now.people) }
+        ensures lists { IfOk result (λ choices. (entries : List Entry) → Keeps entries self.entry → AreListsOf entries choices) }
+        ensures sound { IfOk result (λ choices. AreChoices self.entry.register.now self.entry.matrix.now choices) }
+        ensures aligned { IfOk result (λ choices. map (λ held. held.0) choices ≡ map (λ person. person.id.0) self.entry.register.now.people) }
     {
         let ids = ids_of(alloc, self.register.people())?;
         Ok(Choices {
@@ -124,11 +125,15 @@ impl<'a> TableBuilder for ChoicesBuilder<'a> {
 
     ghost keeps = { λ builder entries. Keeps entries builder };
 
-    fn is_header(row: &Rows<'_>) -> bool {
+    fn is_header(row: &Rows<'_>) -> bool
+        ensures { result ≡ same_fields row.now.row header }
+    {
         row.is(&[b"candidate".as_slice(), b"programmes".as_slice()])
     }
 
-    fn bad_header() -> ChoiceKind {
+    fn bad_header() -> ChoiceKind
+        ensures { result ≡ BadHeader }
+    {
         ChoiceKind::BadHeader
     }
 
@@ -149,7 +154,7 @@ impl<'a> TableBuilder for ChoicesBuilder<'a> {
         }
         self.lists.set(at, self.chosen.as_slice())?;
         self.had_row[at] = true;
-        self.total += self.chosen.len();
+        self.total += self.chosen.as_slice().len();
         Ok(None)
     }
 }

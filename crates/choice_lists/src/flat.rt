@@ -44,16 +44,6 @@ impl<T> FlatLists<T> {
         }
     }
 
-    /// This many empty lists.
-    pub fn empty_lists(alloc: Global, count: usize) -> Result<FlatLists<T>, OutOfMemory>
-        ensures { IfOk result (λ lists. lists ≡ replicate count []) }
-    {
-        Ok(FlatLists {
-            items: Vec::new(alloc),
-            ranges: vec![in alloc; (0, 0); count]?,
-        })
-    }
-
     /// How many lists there are.
     pub fn len(&self) -> usize
         ensures { result ≡ length self.now }
@@ -72,14 +62,25 @@ impl<T> FlatLists<T> {
 }
 
 impl<T: Copy> FlatLists<T> {
+    /// This many empty lists.
+    pub fn empty_lists(alloc: Global, count: usize) -> Result<FlatLists<T>, OutOfMemory>
+        ensures { IfOk result (λ lists. lists ≡ replicate count []) }
+    {
+        let ranges = vec![in alloc; (0, 0); count]?;
+        Ok(FlatLists {
+            items: Vec::new(alloc),
+            ranges,
+        })
+    }
+
     /// Puts a list in place of the one of this number, from 0. Where there is no memory, the lists are of no use any more.
     pub fn set(&mut self, number: usize, list: &[T]) -> Result<(), OutOfMemory>
         requires { number < length self.old }
         ensures { OnOk result (self.new ≡ slice_set self.old number list.now) }
     {
-        let start = self.items.len();
+        let start = self.items.as_slice().len();
         self.items.extend_from_slice(list)?;
-        self.ranges[number] = (start, self.items.len());
+        self.ranges[number] = (start, self.items.as_slice().len());
         Ok(())
     }
 
@@ -87,9 +88,9 @@ impl<T: Copy> FlatLists<T> {
     pub fn push(&mut self, list: &[T]) -> Result<(), OutOfMemory>
         ensures { OnOk result (self.new ≡ self.old ++ list.now ∷ []) }
     {
-        let start = self.items.len();
+        let start = self.items.as_slice().len();
         self.items.extend_from_slice(list)?;
-        self.ranges.push((start, self.items.len()))?;
+        self.ranges.push((start, self.items.as_slice().len()))?;
         Ok(())
     }
 }
