@@ -12,7 +12,7 @@ use Rattle.section_rows.specs.Rows.{Row, field}
 use Rattle.section_rows.specs.Steps.{first_of, unless}
 use Rattle.section_rows.proofs.StepsLemmas.{first_of-other, first_of-push, first_of-same, or_else}
 use Rattle.rank_lists.specs.Register.{AreRanks, Ranks, find_person, row_of}
-use Rattle.seat_matrix.specs.Matrix.{Seats}
+use Rattle.seat_matrix.specs.Matrix.{SeatTable}
 use Rattle.choice_lists.specs.Choices.{AreListsOf, AreChoices, AreKept, Entry, IsChoice, Lists, choices, choices_after, is_chosen, list_at, list_of, listed, lists_along, new_candidate, person_of, reading, all_choices}
 use Rattle.choice_lists.specs.Builder.{Keeps, along}
 use Rattle.choice_lists.specs.declared.builder.ChoicesBuilder.{ChoicesBuilder}
@@ -25,7 +25,7 @@ choices-push count [] entry = refl
 choices-push count (e ∷ entries) entry = choices-push (count + length e.programmes) entries entry
 
 -- Each list is sound with one more.
-pub sound-step : (ranks : Ranks) (seats : Seats) (entries : List Entry) (entry : Entry) → ((q : ℕ) → IsChoice ranks seats q (listed (list_at q entries))) → IsChoice ranks seats entry.candidate entry.programmes
+pub sound-step : (ranks : Ranks) (seats : SeatTable) (entries : List Entry) (entry : Entry) → ((q : ℕ) → IsChoice ranks seats q (listed (list_at q entries))) → IsChoice ranks seats entry.candidate entry.programmes
     → (q : ℕ) → IsChoice ranks seats q (listed (list_at q (entries ++ entry ∷ [])))
 sound-step ranks seats entries entry sound new q =
     subst (λ (o : Option (List ProgId)). IsChoice ranks seats q (listed o)) (sym (first_of-push (λ e. q == e.candidate) (λ e. e.programmes) entries entry))
@@ -37,17 +37,17 @@ sound-step ranks seats entries entry sound new q =
     by None false e old = old
 
 -- A row is read as its candidate and its programmes are.
-pub reading-ok : (ranks : Ranks) (seats : Seats) (entries : List Entry) (row : Row) (person : Person) (progs : List ProgId) → new_candidate ranks entries row ≡ Ok person → choices seats person [] (drop 1 row) ≡ Ok progs
+pub reading-ok : (ranks : Ranks) (seats : SeatTable) (entries : List Entry) (row : Row) (person : Person) (progs : List ProgId) → new_candidate ranks entries row ≡ Ok person → choices seats person [] (drop 1 row) ≡ Ok progs
     → reading ranks seats entries row ≡ Ok (record { candidate = person.id.0; programmes = progs })
 unfolding reading
 reading-ok ranks seats entries row person progs c d = rw (c, d) refl
 
-pub reading-bad-row : (ranks : Ranks) (seats : Seats) (entries : List Entry) (row : Row) (person : Person) (kind : ChoiceKind) → new_candidate ranks entries row ≡ Ok person → choices seats person [] (drop 1 row) ≡ Err kind
+pub reading-bad-row : (ranks : Ranks) (seats : SeatTable) (entries : List Entry) (row : Row) (person : Person) (kind : ChoiceKind) → new_candidate ranks entries row ≡ Ok person → choices seats person [] (drop 1 row) ≡ Err kind
     → reading ranks seats entries row ≡ Err kind
 unfolding reading
 reading-bad-row ranks seats entries row person kind c d = rw (c, d) refl
 
-pub reading-bad-candidate : (ranks : Ranks) (seats : Seats) (entries : List Entry) (row : Row) (kind : ChoiceKind) → new_candidate ranks entries row ≡ Err kind → reading ranks seats entries row ≡ Err kind
+pub reading-bad-candidate : (ranks : Ranks) (seats : SeatTable) (entries : List Entry) (row : Row) (kind : ChoiceKind) → new_candidate ranks entries row ≡ Err kind → reading ranks seats entries row ≡ Err kind
 unfolding reading
 reading-bad-candidate ranks seats entries row kind c = rw c refl
 
@@ -165,7 +165,7 @@ pub keeps_step : (entries : List Entry) (row : Row) (person : Person) (at : ℕ)
 keeps_step entries row person at progs old new keeps c there d same_register same_matrix lists had_row marks others total =
     let entry : Entry = record { candidate = person.id.0; programmes = progs } in
     let ranks : Ranks = old.register.now in
-    let seats : Seats = old.matrix.now in
+    let seats : SeatTable = old.matrix.now in
     let ranks_same : ranks ≡ new.register.now = sym (λ i. (same_register i).now) in
     let seats_same : seats ≡ new.matrix.now = sym (λ i. (same_matrix i).now) in
     let accepted : IsNew ranks entries row person = new_candidate_ok ranks entries row person c in
@@ -176,13 +176,13 @@ keeps_step entries row person at progs old new keeps c there d same_register sam
     record {
       ranks = rw ranks_same at keeps.ranks;
       sound = λ q. subst (λ (r : Ranks). IsChoice r new.matrix.now q (listed (list_at q (entries ++ entry ∷ [])))) ranks_same
-          (subst (λ (s : Seats). IsChoice ranks s q (listed (list_at q (entries ++ entry ∷ [])))) seats_same (sound q));
+          (subst (λ (s : SeatTable). IsChoice ranks s q (listed (list_at q (entries ++ entry ∷ [])))) seats_same (sound q));
       known = λ q some. subst (λ (r : Ranks). IsSome (find_person q r.people)) ranks_same (known q some);
       lists = lists ∙ ap (λ (ls : List (List ProgId)). slice_set ls at progs) keeps.lists ∙ along_set listed entries entry ranks.people at keeps.ranks.rising there accepted.fresh
           ∙ ap (λ (r : Ranks). along listed (entries ++ entry ∷ []) r.people) ranks_same;
       had_row = had_row ∙ ap (λ (bs : List Bool). slice_set bs at true) keeps.had_row ∙ along_set is_some entries entry ranks.people at keeps.ranks.rising there accepted.fresh
           ∙ ap (λ (r : Ranks). along is_some (entries ++ entry ∷ []) r.people) ranks_same;
-      marks = marks ∙ keeps.marks ∙ ap (λ (s : Seats). length s.programmes) seats_same;
+      marks = marks ∙ keeps.marks ∙ ap (λ (s : SeatTable). length s.programmes) seats_same;
       named_last = named-step entries entry old.named_last.items new.named_last.items keeps.named_last accepted.fresh others;
       total = omega (arith, total, keeps.total, choices-push 0 entries entry);
       few = omega (arith, choices-push 0 entries entry, accepted.room, count, fields);

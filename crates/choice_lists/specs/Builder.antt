@@ -4,7 +4,7 @@ use Rattle.office_base.specs.declared.person.Person.{Person}
 use Rattle.office_base.specs.declared.person.ProgId.{ProgId}
 use Rattle.section_rows.specs.Rows.{Row}
 use Rattle.rank_lists.specs.Register.{AreRanks, find_person}
-use Rattle.seat_matrix.specs.Matrix.{Seats}
+use Rattle.seat_matrix.specs.Matrix.{SeatTable}
 use Rattle.choice_lists.specs.Choices.{Entry, IsChoice, all_choices, choices, list_at, listed}
 use Rattle.choice_lists.specs.declared.builder.ChoicesBuilder.{ChoicesBuilder}
 use Rattle.choice_lists.specs.declared.fault.ChoiceKind.{ChoiceKind}
@@ -26,6 +26,6 @@ pub record Keeps (entries : List Entry) (builder : ChoicesBuilder) : Type 0 wher
   pub few : all_choices entries ≤ 5000000
 
 -- the fields of a row after the first give these programmes, or have this fault
-abbrev pub AreGiven : Seats → Person → Row → List ProgId → Option ChoiceKind → Type 0
+abbrev pub AreGiven : SeatTable → Person → Row → List ProgId → Option ChoiceKind → Type 0
 AreGiven seats person row progs None = choices seats person [] (drop 1 row) ≡ Ok progs
 AreGiven seats person row progs (Some kind) = choices seats person [] (drop 1 row) ≡ Err kind

@@ -3,3 +3,4 @@ pub mod Choices
 pub mod Flat
 pub mod Kinds
 pub mod Laws
+pub mod OneProof

@@ -106,7 +106,7 @@ impl<'a> TableBuilder for ChoicesBuilder<'a> {
     ghost use Rattle.choice_lists.specs.Builder.{Keeps};
     ghost use Rattle.choice_lists.specs.Choices.{Entry, header, reading};
     ghost use Rattle.rank_lists.specs.Register.{Ranks};
-    ghost use Rattle.seat_matrix.specs.Matrix.{Seats};
+    ghost use Rattle.seat_matrix.specs.Matrix.{SeatTable};
     ghost use Rattle.choice_lists.specs.declared.fault.ChoiceKind.TheVariants.{BadHeader};
 
     type Kind = ChoiceKind;
@@ -117,7 +117,7 @@ impl<'a> TableBuilder for ChoicesBuilder<'a> {
 
     ghost bad = { BadHeader };
 
-    ghost Beside = { Ranks × Seats };
+    ghost Beside = { Ranks × SeatTable };
 
     ghost beside = { λ builder. (builder.register.now, builder.matrix.now) };
 

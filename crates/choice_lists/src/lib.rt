@@ -12,8 +12,6 @@ pub mod choices;
 pub mod fault;
 pub mod flat;
 pub mod laws;
-#[cfg(test)]
-mod tests;
 
 pub use choices::Choices;
 pub use fault::{ChoiceFault, ChoiceKind};

@@ -1,13 +1,24 @@
-// The choices of a step and of a programme held against plain programs: on every small one both give the same.
+// The choices of a step and of a programme on worked cases, and held against plain programs on every small one.
 //
-// It has tests alone, so nothing stands on it. The plain programs try all placements and all sublists, and the calls of
-// the product are proved by the same definitions; so a difference here would show a definition that does not say what is
+// It has tests alone, so nothing stands on it: the layers under it are proved once, without them. The worked cases were
+// found by hand from the definitions. The plain programs try all placements and all sublists, and the calls of the
+// product are proved by the same definitions; so a difference here would show a definition that does not say what is
 // meant, or a compiler that does not do what was proved.
 #![tactic(auto)]
 
 #[cfg(test)]
-mod limits;
+mod candidates;
+#[cfg(test)]
+mod certificates;
+#[cfg(test)]
+mod empty_seats;
+#[cfg(test)]
+mod matching;
 #[cfg(test)]
 mod programmes;
 #[cfg(test)]
-mod tests;
+mod small_programmes;
+#[cfg(test)]
+mod small_steps;
+#[cfg(test)]
+mod steps;

@@ -1,267 +1,155 @@
-// Small programmes with seats of every kind: their choice held against a plain program that goes by the rule.
-ghost use Rattle.std.specs.Prelude.{IsTrue};
-ghost use Rattle.open_then_category.specs.Listing.{AreApplicants};
-
-use office_base::{
-    CandId, Category, ListId, OutOfMemory, People, Person, Place, ProgId, Protections, Step,
-    StepKind, TraitSet,
+// Programmes whose lists were found by hand from the rule.
+use crate::candidates::{
+    Kind, applicant, are_people, candidates_of, matrix_of, may_apply, step_without_seats,
 };
+use office_base::{Category, OutOfMemory, ProgId, StepKind};
 use open_then_category::programme_choice;
-use plain_choice::{choice, is_step};
-use seat_matrix::Matrix;
-use std::alloc::{AllocError, Global};
+use std::alloc::Global;
 use std::test::Fail;
 
-/// What an applicant is, but for the place.
+const GEN: Kind = Kind {
+    category: Category::Gen,
+    traits: 0,
+    common: true,
+};
+
+const OBC: Kind = Kind {
+    category: Category::Obc,
+    traits: 0,
+    common: true,
+};
+
+const EWS: Kind = Kind {
+    category: Category::Ews,
+    traits: 0,
+    common: true,
+};
+
+const SC: Kind = Kind {
+    category: Category::Sc,
+    traits: 0,
+    common: true,
+};
+
+/// A programme of list 1 by the bundle's version and its rows in the matrix, the candidates of places 1, 2 and so on, and what its lists tell: the step,
+/// its seats, the number of people and the persons' places.
 #[derive(Clone, Copy)]
-struct Kind {
-    category: Category,
-    traits: u8,
-    common: bool,
+struct Case<'a> {
+    version: u8,
+    rows: &'a str,
+    people: &'a [Kind],
+    told: &'a [(StepKind, u32, u32, &'a [u32])],
 }
 
-const fn applicant(category: Category, traits: u8, common: bool) -> Kind {
-    Kind {
-        category,
-        traits,
-        common,
-    }
-}
-
-// The applicants have the places 1, 2 and so on of list 1.
-fn applicants_of(alloc: Global, kinds: &[Kind]) -> Result<People, OutOfMemory> {
-    let mut people = People::new(alloc);
-    for (number, kind) in (1..100).zip(kinds) {
-        let place = if kind.common {
-            Place::Common(number)
-        } else {
-            Place::Relaxed(number)
-        };
-        people.push(Person {
-            id: CandId(number),
-            category: kind.category,
-            traits: TraitSet(kind.traits),
-            places: [place, Place::Absent, Place::Absent, Place::Absent],
-        })?;
-    }
-    Ok(people)
-}
-
-fn is_common(person: &Person) -> bool {
-    matches!(person.places[0], Place::Common(_))
-}
-
-fn is_taken(taken: &[Person], person: &Person) -> bool {
-    taken.iter().any(|other| other.id == person.id)
-}
-
-// The people with a common place.
-fn commons(alloc: Global, people: &[Person]) -> Result<People, OutOfMemory> {
-    let mut kept = People::new(alloc);
-    for person in people {
-        if is_common(person) {
-            kept.push(*person)?;
-        }
-    }
-    Ok(kept)
-}
-
-// The people of a category.
-fn members(alloc: Global, people: &[Person], category: Category) -> Result<People, OutOfMemory> {
-    let mut kept = People::new(alloc);
-    for person in people {
-        if person.category == category {
-            kept.push(*person)?;
-        }
-    }
-    Ok(kept)
-}
-
-// The people whom a step did not take.
-fn left(alloc: Global, people: &[Person], taken: &[Person]) -> Result<People, OutOfMemory> {
-    let mut kept = People::new(alloc);
-    for person in people {
-        if !is_taken(taken, person) {
-            kept.push(*person)?;
-        }
-    }
-    Ok(kept)
-}
-
-// Whom a step of the matrix's programme admits of these people, found by trying all sets.
-fn admits(
-    alloc: Global,
-    matrix: &Matrix,
-    kind: StepKind,
-    people: People,
-) -> Result<Option<People>, OutOfMemory> {
-    if matrix.count() == 0 {
-        return Ok(None);
-    }
-    let step = Step {
-        list: ListId(1),
-        seats: matrix.seats(ProgId(0), kind),
-        protections: matrix.protections(ProgId(0), kind),
-        people,
+/// Whether the lists of the programme are as they are told.
+fn holds(alloc: Global, case: &Case) -> Result<bool, OutOfMemory> {
+    let Some(matrix) = matrix_of(alloc, case.rows)? else {
+        return Ok(false);
     };
-    if is_step(&step) {
-        choice(alloc, &step)
-    } else {
-        Ok(None)
-    }
-}
-
-// Whom the step of a category admits of those whom OPEN left.
-fn category_admits(
-    alloc: Global,
-    matrix: &Matrix,
-    kind: StepKind,
-    category: Category,
-    rest: &[Person],
-) -> Result<Option<People>, OutOfMemory> {
-    let people = members(alloc, rest, category)?;
-    admits(alloc, matrix, kind, people)
-}
-
-// The persons of the six steps, by the rule; None where a step has no choice.
-fn plain_choice_of(
-    alloc: Global,
-    matrix: &Matrix,
-    applicants: &[Person],
-) -> Result<Option<Vec<People>>, OutOfMemory> {
-    let Some(open) = admits(alloc, matrix, StepKind::Open, commons(alloc, applicants)?)? else {
-        return Ok(None);
-    };
-    let rest = left(alloc, applicants, open.as_slice())?;
-    let mut last = left(alloc, applicants, open.as_slice())?;
-    let mut steps = vec![in alloc; open]?;
-    let mut obc_admitted = 0;
-    for (kind, category) in [
-        (StepKind::Ews, Category::Ews),
-        (StepKind::Obc, Category::Obc),
-        (StepKind::Sc, Category::Sc),
-        (StepKind::St, Category::St),
-    ] {
-        match category_admits(alloc, matrix, kind, category, rest.as_slice())? {
-            Some(persons) => {
-                if category == Category::Obc {
-                    obc_admitted = persons.len();
-                }
-                last = left(alloc, last.as_slice(), persons.as_slice())?;
-                steps.push(persons)?;
-            }
-            None => return Ok(None),
-        }
-    }
-    let seats = usize::from(obc_seats(matrix)).saturating_sub(obc_admitted);
-    steps.push(first(alloc, commons(alloc, last.as_slice())?.as_slice(), seats)?)?;
-    Ok(Some(steps))
-}
-
-fn obc_seats(matrix: &Matrix) -> u16 {
-    if matrix.count() == 0 {
-        0
-    } else {
-        matrix.seats(ProgId(0), StepKind::Obc)
-    }
-}
-
-// The first of the people, as many as there are seats.
-fn first(alloc: Global, people: &[Person], seats: usize) -> Result<People, OutOfMemory> {
-    let mut kept = People::new(alloc);
-    for person in people.iter().take(seats) {
-        kept.push(*person)?;
-    }
-    Ok(kept)
-}
-
-/// Whether the people are ranked, so that they may apply.
-fn may_apply(step: &Step) -> bool
-    ensures { IsTrue result → AreApplicants step.now.list step.now.people }
-{
-    is_step(step)
-}
-
-// Whether the programme of the matrix chooses as the plain program does.
-fn agree(alloc: Global, matrix: &Matrix, kinds: &[Kind]) -> Result<bool, OutOfMemory> {
     if matrix.count() != 1 {
         return Ok(false);
     }
     let prog = ProgId(0);
-    let step = Step {
-        list: matrix.list(prog),
-        seats: 0,
-        protections: Protections { counts: [0; 6] },
-        people: applicants_of(alloc, kinds)?,
-    };
+    let step = step_without_seats(matrix.list(prog), candidates_of(alloc, case.people)?);
     if !may_apply(&step) {
         return Ok(false);
     }
-    let people = step.people.as_slice();
-    let programme = programme_choice(alloc, matrix, 1, prog, people)?;
-    match plain_choice_of(alloc, matrix, people)? {
-        Some(plain) => Ok(
-            plain.len() == 6
-                && programme.steps.iter().zip(plain.iter()).all(|(list, persons)| list
-                    .admitted
-                    .as_slice()
-                    == persons.as_slice()),
-        ),
-        None => Ok(false),
+    if case.version != 1 && case.version != 2 {
+        return Ok(false);
     }
-}
-
-// Whether they agree on all lists of four applicants of these kinds.
-fn all_agree(alloc: Global, matrix: &Matrix, kinds: &[Kind]) -> Result<bool, OutOfMemory> {
-    let mut same = true;
-    for first in kinds {
-        for second in kinds {
-            for third in kinds {
-                for fourth in kinds {
-                    same &= agree(alloc, matrix, &[*first, *second, *third, *fourth])?;
-                }
-            }
-        }
-    }
-    Ok(same)
-}
-
-// The matrix of one programme, where the protections are within the seats.
-fn matrix_of(alloc: Global, counts: [u16; 5]) -> Result<Option<Matrix>, AllocError> {
-    let [open, women, obc, disabled, sc] = counts;
-    let text = format!(in alloc;
-        "programme,institute,list,step,seats,W,D,X,S,F,L\nA,I1,1,OPEN,{open},{women}\nA,I1,1,OBC,{obc},0,{disabled}\nA,I1,1,SC,{sc}\n"
-    )?;
-    Ok(Matrix::read(alloc, text.as_bytes()).ok())
+    let programme = programme_choice(alloc, &matrix, case.version, prog, step.people.as_slice())?;
+    Ok(
+        case.told.iter().zip(&programme.steps).all(|((kind, seats, candidates, persons), list)| {
+            list.kind == *kind
+                && list.seats == *seats
+                && list.candidates == *candidates
+                && are_people(list.admitted.as_slice(), persons)
+        }),
+    )
 }
 
 #[test]
-fn the_programme_chooses_by_the_rule(rt: HostRuntime) -> Result<(), Fail> {
-    let alloc = rt.alloc();
-    let kinds = [
-        applicant(Category::Gen, 1, true),
-        applicant(Category::Ews, 1, true),
-        applicant(Category::Obc, 0, true),
-        applicant(Category::Obc, 3, true),
-        applicant(Category::Obc, 1, false),
-        applicant(Category::Sc, 2, true),
-        applicant(Category::St, 0, false),
+fn open_comes_before_the_category(rt: HostRuntime) -> Result<(), Fail> {
+    let case = Case {
+        version: 1,
+        rows: "A,I1,1,OPEN,2\nA,I1,1,OBC,1",
+        people: &[GEN, OBC, OBC, SC, GEN],
+        told: &[
+            (StepKind::Open, 2, 5, &[1, 2]),
+            (StepKind::Ews, 0, 0, &[]),
+            (StepKind::Obc, 1, 1, &[3]),
+            (StepKind::Sc, 0, 1, &[]),
+            (StepKind::St, 0, 0, &[]),
+            (StepKind::Dereserved, 0, 2, &[]),
+        ],
+    };
+    let as_told = holds(rt.alloc(), &case)?;
+    assert!(rt; as_told);
+    Ok(())
+}
+
+#[test]
+fn unfilled_obc_seats_alone_are_given_away(rt: HostRuntime) -> Result<(), Fail> {
+    let case = Case {
+        version: 1,
+        rows: "A,I1,1,OPEN,1\nA,I1,1,OBC,2\nA,I1,1,SC,2",
+        people: &[GEN, OBC, GEN, GEN],
+        told: &[
+            (StepKind::Open, 1, 4, &[1]),
+            (StepKind::Ews, 0, 0, &[]),
+            (StepKind::Obc, 2, 1, &[2]),
+            (StepKind::Sc, 2, 0, &[]),
+            (StepKind::St, 0, 0, &[]),
+            (StepKind::Dereserved, 1, 2, &[3]),
+        ],
+    };
+    let as_told = holds(rt.alloc(), &case)?;
+    assert!(rt; as_told);
+    Ok(())
+}
+
+#[test]
+fn relaxed_places_count_for_the_category_alone(rt: HostRuntime) -> Result<(), Fail> {
+    let case = Case {
+        version: 1,
+        rows: "A,I1,1,OPEN,1\nA,I1,1,OBC,1",
+        people: &[applicant(Category::Sc, 0, false), GEN, GEN],
+        told: &[
+            (StepKind::Open, 1, 2, &[2]),
+            (StepKind::Ews, 0, 0, &[]),
+            (StepKind::Obc, 1, 0, &[]),
+            (StepKind::Sc, 0, 1, &[]),
+            (StepKind::St, 0, 0, &[]),
+            (StepKind::Dereserved, 1, 1, &[3]),
+        ],
+    };
+    let as_told = holds(rt.alloc(), &case)?;
+    assert!(rt; as_told);
+    Ok(())
+}
+
+#[test]
+fn unfilled_ews_seats_are_given_away_in_version_2(rt: HostRuntime) -> Result<(), Fail> {
+    let told = [
+        (1, (StepKind::Dereserved, 1, 3, [3].as_slice())),
+        (2, (StepKind::Dereserved, 2, 3, [3, 4].as_slice())),
     ];
-    let mut programmes = 0u32;
-    for open in 0..3u16 {
-        for women in 0..2u16 {
-            for obc in 0..3u16 {
-                for disabled in 0..2u16 {
-                    for sc in 0..2u16 {
-                        if let Some(matrix) = matrix_of(alloc, [open, women, obc, disabled, sc])? {
-                            assert!(rt; all_agree(alloc, &matrix, &kinds)?);
-                            programmes = programmes.saturating_add(1);
-                        }
-                    }
-                }
-            }
-        }
+    for (version, last) in told {
+        let case = Case {
+            version,
+            rows: "A,I1,1,OPEN,1\nA,I1,1,EWS,2\nA,I1,1,OBC,1\nA,I1,1,SC,1",
+            people: &[GEN, EWS, GEN, GEN, GEN],
+            told: &[
+                (StepKind::Open, 1, 5, &[1]),
+                (StepKind::Ews, 2, 1, &[2]),
+                (StepKind::Obc, 1, 0, &[]),
+                (StepKind::Sc, 1, 0, &[]),
+                (StepKind::St, 0, 0, &[]),
+                last,
+            ],
+        };
+        let as_told = holds(rt.alloc(), &case)?;
+        assert!(rt; as_told);
     }
-    assert_eq!(rt; programmes, 50);
     Ok(())
 }

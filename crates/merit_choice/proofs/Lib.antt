@@ -1,8 +1,10 @@
+mod ByHand
 mod Filled
 mod Filling
+mod InMerit
 mod Marking
 mod Marks
 pub mod Members
+mod OneByOne
 mod Raises
-mod Slots
 pub mod StepLaws

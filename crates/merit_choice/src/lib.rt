@@ -11,6 +11,3 @@ pub mod laws;
 
 pub use choice::{Chosen, choose};
 pub use office_base::Step;
-
-#[cfg(test)]
-mod tests;

@@ -1,8 +1,12 @@
 pub mod Certificate
 pub mod Codes
+pub mod Limits
 pub mod Lists
 pub mod Memory
+pub mod Merit
+pub mod Numbered
 pub mod Outside
 pub mod Person
 pub mod Placement
 pub mod StepChoice
+pub mod Version

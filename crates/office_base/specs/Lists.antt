@@ -16,3 +16,7 @@ Pairwise R (x ∷ xs) = AllByRecursion (R x) xs × Pairwise R xs
 abbrev pub IsSublist : {X : Type 0} → List X → List X → Type 0
 IsSublist xs [] = xs ≡ []
 IsSublist {X} xs (y ∷ ys) = IsSublist xs ys ⊎ ((rest : List X) × (xs ≡ y ∷ rest) × IsSublist rest ys)
+
+-- x is one of the elements
+abbrev pub IsAmong : {X : Type 0} → X → List X → Type 0
+IsAmong x xs = AnyByRecursion (λ other. x ≡ other) xs

@@ -1,5 +1,5 @@
 -- Persons, and which of two is better (Baswana and others 2019: merit lists per programme).
-use Rattle.std.specs.Prelude.{◌<◌, ◌≤◌, ◌-◌, ◌^◌, ℕ, Option, Some, None, slice_index_or, Bool, not, nat_eq, bit_and}
+use Rattle.std.specs.Prelude.{◌<◌, ◌≤◌, ◌-◌, ◌^◌, ◌==◌, ℕ, List, [], ◌∷◌, Option, Some, None, slice_index_or, Bool, true, false, not, nat_eq, bit_and, if◌then◌else◌}
 use Rattle.office_base.specs.declared.person.ListId.{ListId}
 use Rattle.office_base.specs.declared.person.TraitSet.{TraitSet}
 use Rattle.office_base.specs.declared.person.Person.{Person}
@@ -41,3 +41,19 @@ IsAhead None _ = ⊥
 -- both have a place in the list, and the first one's number is smaller
 abbrev pub IsBetter : ListId → Person → Person → Type 0
 IsBetter list a b = IsAhead (number_in list a) (number_in list b)
+
+-- a place that counts for open and de-reserved seats
+abbrev pub is_common_place : Place → Bool
+is_common_place Absent = false
+is_common_place (Common n) = true
+is_common_place (Relaxed n) = false
+
+-- the person has a common place in the list
+abbrev pub is_common : ListId → Person → Bool
+is_common list person = is_common_place (place_in list person)
+
+-- what a list that goes along with the people has for the person of this number
+abbrev pub at_person : {X : Type 0} → ℕ → List Person → List X → Option X
+at_person id [] xs = None
+at_person id (person ∷ people) [] = None
+at_person id (person ∷ people) (x ∷ xs) = if person.id.0 == id then Some x else at_person id people xs

@@ -5,28 +5,36 @@
 // decides who is admitted, and none knows of files, of rounds or of programmes.
 #![tactic(auto)]
 
+pub mod asks;
+pub mod booked;
 pub mod code;
 pub mod errors;
+pub mod limits;
 pub mod listed;
 pub mod mem_sink;
 pub mod mem_source;
 pub mod outside;
 mod padding;
 pub mod person;
+pub mod short_text;
 pub mod step;
+pub mod steps;
 pub mod sure;
 pub mod token;
 pub mod whole;
 pub mod words;
 
+pub use asks::{Ask, By, Choice, Request, Seat};
+pub use booked::Booked;
 pub use code::Code;
 pub use errors::{Failed, OutOfMemory};
 pub use listed::{Listed, Pairs, People, Text};
 pub use mem_sink::MemSink;
-pub use mem_source::MemSource;
+pub use mem_source::{MemSource, fails_at};
 pub use outside::{Sink, Source};
 pub use person::{CandId, Category, ListId, Person, Place, ProgId, TraitSet, better};
 pub use step::{Pair, Protections, Step, StepKind};
+pub use steps::Steps;
 pub use sure::{SureSink, SureSource};
 pub use token::Token;
 pub use whole::{ReadFault, read_whole, write_whole};

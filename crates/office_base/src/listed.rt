@@ -1,5 +1,5 @@
 // A list of values that contracts see as a list, and not as a vector with its room.
-ghost use Rattle.std.specs.Prelude.{◌≡◌, ◌<◌, ◌∷◌, [], ◌++◌, ℕ, length, OnOk, OnErr, IfOk, List, IsTrue, ◌↔◌};
+ghost use Rattle.std.specs.Prelude.{◌≡◌, ◌<◌, ◌∷◌, [], ◌++◌, ℕ, length, OnOk, OnErr, IfOk, List, IsTrue, take, ◌↔◌};
 
 use crate::{OutOfMemory, Pair, Person};
 use std::alloc::Global;
@@ -45,6 +45,13 @@ impl<T> Listed<T> {
         })
     }
 
+    /// The values of a vector, in their order. It takes no memory.
+    pub fn from_vec(items: Vec<T>) -> Listed<T>
+        ensures { result ≡ items.items }
+    {
+        Listed { items }
+    }
+
     pub fn len(&self) -> usize
         ensures { result ≡ length self.now }
     {
@@ -73,9 +80,25 @@ impl<T: Drop> Listed<T> {
         self.items.push(value)?;
         Ok(())
     }
+
+    /// Keeps the first `len` values, or all where there are no more, and drops the others. It takes no memory.
+    pub fn truncate(&mut self, len: usize)
+        ensures { self.new ≡ take len self.old }
+    {
+        self.items.truncate(len);
+    }
 }
 
 impl<T: Copy> Listed<T> {
+    /// The same values in a list of its own.
+    pub fn copy(&self, alloc: Global) -> Result<Listed<T>, OutOfMemory>
+        ensures { IfOk result (λ list. list ≡ self.now) }
+    {
+        Ok(Listed {
+            items: Vec::from_slice(alloc, self.items.as_slice())?,
+        })
+    }
+
     /// Puts copies of these values at the end, all or none: where there is no memory, the list is as before.
     pub fn extend_from_slice(&mut self, more: &[T]) -> Result<(), OutOfMemory>
         ensures ok { OnOk result (self.new ≡ self.old ++ more.now) }

@@ -1,6 +1,6 @@
 // A sink in memory, which tells its bytes and fails where it is told to or where its room is at an end.
-ghost use Rattle.std.specs.Prelude.{◌≡◌, ◌<◌, ◌≤◌, ◌-◌, ◌↔◌, ◌⊎◌, [], ℕ, List, Option, length, take, min, IfOk, OnErr, IsErr, Some, Contains};
-ghost use Rattle.office_base.specs.Outside.{Rose, AppendsFront};
+ghost use Rattle.std.specs.Prelude.{◌≡◌, ◌<◌, ◌≤◌, ◌-◌, ◌↔◌, ◌⊎◌, [], ℕ, List, Option, length, take, min, IfOk, OnOk, OnErr, IsErr, Some, Contains};
+ghost use Rattle.office_base.specs.Outside.{Rose, AppendsPrefix};
 ghost use Rattle.office_base.specs.Memory.{counted};
 
 use crate::mem_source::fails_at;
@@ -59,14 +59,16 @@ impl Sink for MemSink {
     fn write(&mut self, piece: &[u8]) -> Result<usize, Failed>
         ensures within { IfOk result (λ n. n ≤ length piece.now) }
         ensures some { IfOk result (λ n. 0 < length piece.now → 0 < n) }
-        ensures appended { IfOk result (λ n. AppendsFront n piece.now (Some self.old.written) (Some self.new.written)) }
+        ensures appended { IfOk result (λ n. AppendsPrefix n piece.now (Some self.old.written) (Some self.new.written)) }
         ensures kept { OnErr result (Some self.new.written ≡ Some self.old.written) }
         ensures count { self.old.faults ≤ self.new.faults }
+        ensures steady { OnOk result (self.new.faults ≡ self.old.faults) }
         ensures cause { OnErr result (Rose self.old.faults self.new.faults) }
-        // it takes as much as there is room for, and fails exactly where its number says so or there is none
+        // it takes as much as there is room for, and fails exactly where its number says so or there is none; a failure is one fault more
         ensures room { IfOk result (λ n. n ≡ min (length piece.now) (self.old.room - length self.old.written)) }
         ensures fails { IsErr result
             ↔ (Contains self.old.fail_at (counted self.old.calls) ⊎ ((0 < length piece.now) × (self.old.room ≤ length self.old.written))) }
+        ensures raised { OnErr result (self.new.faults ≡ counted self.old.faults) }
         ensures rest { self.new ≡ record { written = self.new.written; room = self.old.room; calls = counted self.old.calls; fail_at = self.old.fail_at; faults = self.new.faults } }
     {
         self.calls = self.calls.saturating_add(1);

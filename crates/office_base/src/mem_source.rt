@@ -1,6 +1,6 @@
 // A source in memory, which tells its bytes and fails where it is told to.
-ghost use Rattle.std.specs.Prelude.{◌≡◌, ◌<◌, ◌≤◌, ◌↔◌, [], ℕ, List, Option, length, take, drop, min, IfOk, OnErr, IsErr, IsTrue, Some, Contains};
-ghost use Rattle.office_base.specs.Outside.{Rose, TakesFront, ComesAtTheEnd};
+ghost use Rattle.std.specs.Prelude.{◌≡◌, ◌<◌, ◌≤◌, ◌↔◌, [], ℕ, List, Option, length, take, drop, min, IfOk, OnOk, OnErr, IsErr, IsTrue, Some, Contains};
+ghost use Rattle.office_base.specs.Outside.{Rose, TakesPrefix, ComesAtTheEnd};
 ghost use Rattle.office_base.specs.Memory.{counted};
 
 use crate::{Failed, OutOfMemory, Source};
@@ -59,14 +59,16 @@ impl Source for MemSource {
 
     fn read(&mut self, buf: &mut [u8]) -> Result<usize, Failed>
         ensures within { IfOk result (λ n. n ≤ length buf.old) }
-        ensures taken { IfOk result (λ n. TakesFront n (Some self.old.left) (Some self.new.left) buf.new) }
+        ensures taken { IfOk result (λ n. TakesPrefix n (Some self.old.left) (Some self.new.left) buf.new) }
         ensures ended { IfOk result (λ n. ComesAtTheEnd n (length buf.old) (Some self.old.left)) }
         ensures kept { OnErr result (Some self.new.left ≡ Some self.old.left) }
         ensures count { self.old.faults ≤ self.new.faults }
+        ensures steady { OnOk result (self.new.faults ≡ self.old.faults) }
         ensures cause { OnErr result (Rose self.old.faults self.new.faults) }
-        // it gives as much as the piece and the buffer allow, and fails exactly where its number says so
+        // it gives as much as the piece and the buffer allow, and fails exactly where its number says so; a failure is one fault more
         ensures piece { IfOk result (λ n. n ≡ min self.old.piece (min (length buf.old) (length self.old.left))) }
         ensures fails { IsErr result ↔ Contains self.old.fail_at (counted self.old.calls) }
+        ensures raised { OnErr result (self.new.faults ≡ counted self.old.faults) }
         ensures rest { self.new ≡ record { left = self.new.left; piece = self.old.piece; calls = counted self.old.calls; fail_at = self.old.fail_at; faults = self.new.faults } }
     {
         self.calls = self.calls.saturating_add(1);
@@ -82,8 +84,8 @@ impl Source for MemSource {
     }
 }
 
-/// Whether the call of this number is among those that fail.
-pub(crate) fn fails_at(fail_at: &[u32], call: u64) -> bool
+/// Whether the call of this number, from 1, is among those that an object in memory is told to fail.
+pub fn fails_at(fail_at: &[u32], call: u64) -> bool
     ensures { IsTrue result ↔ Contains fail_at.now call }
 {
     fail_at.iter().any(|at| u64::from(*at) == call)

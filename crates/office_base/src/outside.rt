@@ -1,6 +1,6 @@
 // The outside as the office sees it. What an object holds is told or not; its count of faults always is.
-ghost use Rattle.std.specs.Prelude.{◌≤◌, ◌<◌, ◌≡◌, ℕ, List, Option, length, IfOk, OnErr};
-ghost use Rattle.office_base.specs.Outside.{Rose, TakesFront, ComesAtTheEnd, AppendsFront};
+ghost use Rattle.std.specs.Prelude.{◌≤◌, ◌<◌, ◌≡◌, ℕ, List, Option, length, IfOk, OnOk, OnErr};
+ghost use Rattle.office_base.specs.Outside.{Rose, TakesPrefix, ComesAtTheEnd, AppendsPrefix};
 
 use crate::Failed;
 
@@ -12,14 +12,15 @@ pub trait Source {
     /// How often the source has failed. It never falls, and stays at 2^64 - 1.
     ghost faults: { Self → ℕ };
 
-    /// Puts bytes at the front of the buffer and says how many. 0 at a buffer that is not empty is the end of input.
-    /// What stands behind them in the buffer is left open.
+    /// Puts bytes at the start of the buffer and says how many. 0 at a buffer that is not empty is the end of input.
+    /// What follows them in the buffer is left open. `Failed` comes only where the source failed in this call: its count rose.
     fn read(&mut self, buf: &mut [u8]) -> Result<usize, Failed>
         ensures within { IfOk result (λ n. n ≤ length buf.old) }
-        ensures taken { IfOk result (λ n. TakesFront n (left self.old) (left self.new) buf.new) }
+        ensures taken { IfOk result (λ n. TakesPrefix n (left self.old) (left self.new) buf.new) }
         ensures ended { IfOk result (λ n. ComesAtTheEnd n (length buf.old) (left self.old)) }
         ensures kept { OnErr result (left self.new ≡ left self.old) }
         ensures count { faults self.old ≤ faults self.new }
+        ensures steady { OnOk result (faults self.new ≡ faults self.old) }
         ensures cause { OnErr result (Rose (faults self.old) (faults self.new)) };
 }
 
@@ -31,12 +32,14 @@ pub trait Sink {
     /// How often the sink has failed. It never falls, and stays at 2^64 - 1.
     ghost faults: { Self → ℕ };
 
-    /// Takes bytes from the front of the piece and says how many: at least one, unless the piece is empty.
+    /// Takes a prefix of the piece and says how long it is: at least one byte, unless the piece is empty. `Failed` comes only
+    /// where the sink failed in this call: its count rose.
     fn write(&mut self, piece: &[u8]) -> Result<usize, Failed>
         ensures within { IfOk result (λ n. n ≤ length piece.now) }
         ensures some { IfOk result (λ n. 0 < length piece.now → 0 < n) }
-        ensures appended { IfOk result (λ n. AppendsFront n piece.now (written self.old) (written self.new)) }
+        ensures appended { IfOk result (λ n. AppendsPrefix n piece.now (written self.old) (written self.new)) }
         ensures kept { OnErr result (written self.new ≡ written self.old) }
         ensures count { faults self.old ≤ faults self.new }
+        ensures steady { OnOk result (faults self.new ≡ faults self.old) }
         ensures cause { OnErr result (Rose (faults self.old) (faults self.new)) };
 }

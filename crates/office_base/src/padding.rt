@@ -1,8 +1,8 @@
-// Bytes at the front of an array.
+// Bytes at the start of an array.
 ghost use Rattle.std.specs.Prelude.{◌≡◌, ◌≤◌, length};
 ghost use Rattle.office_base.specs.Codes.{padded};
 
-/// The bytes with zeros behind them.
+/// The bytes, and then zeros.
 pub(crate) fn padded<const N: usize>(bytes: &[u8]) -> [u8; N]
     requires { length bytes.now ≤ N }
     ensures { result ≡ padded N bytes.now }

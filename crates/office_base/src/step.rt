@@ -1,4 +1,6 @@
 // A step: seats of one merit list, of which some are protected for traits, and the people who stand for them.
+ghost use Rattle.std.specs.Prelude.{◌≡◌, sum};
+
 use crate::{CandId, ListId, People};
 
 /// Which seats of a programme a step fills: open ones, those of a category, or those that a category left unfilled.
@@ -16,6 +18,17 @@ pub enum StepKind {
 #[derive(Clone, Copy, Debug, PartialEq, Eq)]
 pub struct Protections {
     pub counts: [u16; 6],
+}
+
+impl Protections {
+    /// How many seats are protected for some trait.
+    pub fn sum(&self) -> u32
+        ensures { result ≡ sum self.now.counts }
+    {
+        let [women, disabled, servicemen, sports, fighters, local] = self.counts;
+        let first = u32::from(women) + u32::from(disabled) + u32::from(servicemen);
+        first + u32::from(sports) + u32::from(fighters) + u32::from(local)
+    }
 }
 
 /// A candidate on a protected position. `slot` is the number of the position's trait, from 0 to 5.

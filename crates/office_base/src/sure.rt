@@ -1,6 +1,6 @@
 // A source and a sink that never fail: their count of faults is the constant 0.
-ghost use Rattle.std.specs.Prelude.{◌≡◌, ◌<◌, ◌≤◌, [], ℕ, List, Option, length, min, IfOk, IsOk, OnErr, Some, None};
-ghost use Rattle.office_base.specs.Outside.{Rose, TakesFront, ComesAtTheEnd, AppendsFront};
+ghost use Rattle.std.specs.Prelude.{◌≡◌, ◌<◌, ◌≤◌, [], ℕ, List, Option, length, min, IfOk, IsOk, OnOk, OnErr, Some, None};
+ghost use Rattle.office_base.specs.Outside.{Rose, TakesPrefix, ComesAtTheEnd, AppendsPrefix};
 
 use crate::{Failed, OutOfMemory, Sink, Source};
 use std::alloc::Global;
@@ -45,10 +45,11 @@ impl Source for SureSource {
 
     fn read(&mut self, buf: &mut [u8]) -> Result<usize, Failed>
         ensures within { IfOk result (λ n. n ≤ length buf.old) }
-        ensures taken { IfOk result (λ n. TakesFront n (Some self.old.0) (Some self.new.0) buf.new) }
+        ensures taken { IfOk result (λ n. TakesPrefix n (Some self.old.0) (Some self.new.0) buf.new) }
         ensures ended { IfOk result (λ n. ComesAtTheEnd n (length buf.old) (Some self.old.0)) }
         ensures kept { OnErr result (Some self.new.0 ≡ Some self.old.0) }
         ensures count { 0 ≤ 0 }
+        ensures steady { OnOk result (◌≡◌ {A = ℕ} 0 0) }
         ensures cause { OnErr result (Rose 0 0) }
         // it gives as much as the piece and the buffer allow, and never fails
         ensures piece { IfOk result (λ n. n ≡ min self.old.1 (min (length buf.old) (length self.old.0))) }
@@ -81,9 +82,10 @@ impl Sink for SureSink {
     fn write(&mut self, piece: &[u8]) -> Result<usize, Failed>
         ensures within { IfOk result (λ n. n ≤ length piece.now) }
         ensures some { IfOk result (λ n. 0 < length piece.now → 0 < n) }
-        ensures appended { IfOk result (λ n. AppendsFront n piece.now None None) }
+        ensures appended { IfOk result (λ n. AppendsPrefix n piece.now None None) }
         ensures kept { OnErr result (◌≡◌ {A = Option (List ℕ)} None None) }
         ensures count { 0 ≤ 0 }
+        ensures steady { OnOk result (◌≡◌ {A = ℕ} 0 0) }
         ensures cause { OnErr result (Rose 0 0) }
         ensures whole { result ≡ Ok (length piece.now) }
     {

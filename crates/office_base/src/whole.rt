@@ -69,6 +69,9 @@ fn read_through<S: Source>(
     ensures too_long { IsErrOf result ReadFault.TooLong → TookMore limit (S.left source.old) (S.left source.new) }
     ensures cause { IsErrOf result ReadFault.Failed → Rose (S.faults source.old) (S.faults source.new) }
     ensures count { S.faults source.old ≤ S.faults source.new }
+    ensures steady { OnOk result (S.faults source.new ≡ S.faults source.old) }
+    ensures steady_too_long { IsErrOf result ReadFault.TooLong → S.faults source.new ≡ S.faults source.old }
+    ensures steady_memory { IsErrOf result ReadFault.OutOfMemory → S.faults source.new ≡ S.faults source.old }
 {
     loop {
         let count = source.read(buffer)?;
@@ -83,6 +86,7 @@ fn read_through<S: Source>(
 }
 
 /// The bytes of a source up to its end, at most `limit` of them. It keeps no more than `limit` bytes and one buffer.
+/// It goes on after no failure: unless it answers `Failed`, the source did not fail.
 pub fn read_whole<S: Source>(alloc: Global, source: &mut S, limit: usize) -> Result<Text, ReadFault>
     ensures taken { IfOk result (λ bytes. Took bytes (S.left source.old) (S.left source.new)) }
     ensures ended { IfOk result (λ bytes. IsAtEnd (S.left source.new)) }
@@ -90,17 +94,22 @@ pub fn read_whole<S: Source>(alloc: Global, source: &mut S, limit: usize) -> Res
     ensures too_long { IsErrOf result ReadFault.TooLong → TookMore limit (S.left source.old) (S.left source.new) }
     ensures cause { IsErrOf result ReadFault.Failed → Rose (S.faults source.old) (S.faults source.new) }
     ensures count { S.faults source.old ≤ S.faults source.new }
+    ensures steady { OnOk result (S.faults source.new ≡ S.faults source.old) }
+    ensures steady_too_long { IsErrOf result ReadFault.TooLong → S.faults source.new ≡ S.faults source.old }
+    ensures steady_memory { IsErrOf result ReadFault.OutOfMemory → S.faults source.new ≡ S.faults source.old }
 {
     let mut buffer = zeros(alloc, BUFFER_LEN)?;
     read_through(Text::new(alloc), source, &mut buffer, limit)
 }
 
-/// Writes a piece whole. After an `Err` a front of it was written.
+/// Writes a piece whole. After an `Err` a prefix of it was written. It goes on after no failure: where it answers `Ok`,
+/// the sink did not fail.
 pub fn write_whole<K: Sink>(sink: &mut K, piece: &[u8]) -> Result<(), Failed>
     ensures ok { OnOk result (Appends piece.now (K.written sink.old) (K.written sink.new)) }
     ensures err { OnErr result ((n : ℕ) × Appends (take n piece.now) (K.written sink.old) (K.written sink.new)) }
     ensures cause { OnErr result (Rose (K.faults sink.old) (K.faults sink.new)) }
     ensures count { K.faults sink.old ≤ K.faults sink.new }
+    ensures steady { OnOk result (K.faults sink.new ≡ K.faults sink.old) }
 {
     let mut rest = piece;
     while !rest.is_empty() {

@@ -15,6 +15,3 @@ pub use certifying::canonical;
 pub use choosing::{choice, is_choice};
 pub use placing::honoured;
 pub use ranking::is_step;
-
-#[cfg(test)]
-mod tests;

@@ -12,8 +12,6 @@ pub mod fault;
 pub mod fields;
 pub mod laws;
 pub mod register;
-#[cfg(test)]
-mod tests;
 
 pub use entry::Entry;
 pub use fault::{RankFault, RankKind};

@@ -12,8 +12,6 @@ pub mod fault;
 pub mod head;
 pub mod laws;
 pub mod season;
-#[cfg(test)]
-mod tests;
 
 pub use fault::SeasonFault;
 pub use season::Season;

@@ -7,8 +7,6 @@
 
 pub mod counts;
 pub mod fault;
-#[cfg(test)]
-mod tests;
 
 pub use counts::counts_text;
 pub use fault::fault_text;

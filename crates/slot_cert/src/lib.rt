@@ -13,6 +13,3 @@ pub mod laws;
 
 pub use canonical::canonical_pairs;
 pub use cert::Cert;
-
-#[cfg(test)]
-mod tests;

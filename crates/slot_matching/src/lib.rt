@@ -8,9 +8,7 @@
 
 pub mod laws;
 pub mod matching;
+mod members;
 mod spare;
 
 pub use matching::{Augment, Matching};
-
-#[cfg(test)]
-mod tests;

@@ -16,8 +16,8 @@ fields-preserved c =
     let pushed = c.in_ok-push-in-Ok.ensures.items in
     let within : c.from.result < length c.fields.named_last = omega (arith, c.from.ensures, c.in-Ok.ensures.known, c.requires.marks, c.fields.auto.named_last) in (
       same
-      ∙ choices-more c.args.matrix.now c.args.person.now c.args.row.now.row c.fields.at before c.field.result.now prog (omega (arith, c.fields-test.true, c.len.ensures)) c.field.ensures read
-      ∙ ap (λ (l : List ProgId). choices c.args.matrix.now c.args.person.now l (drop (c.fields.at + 1) c.args.row.now.row)) (sym pushed),
+          ∙ choices-more c.args.matrix.now c.args.person.now c.args.row.now.row c.fields.at before c.field.result.now prog (omega (arith, c.fields-test.true, c.len.ensures)) c.field.ensures read
+          ∙ ap (λ (l : List ProgId). choices c.args.matrix.now c.args.person.now l (drop (c.fields.at + 1) c.args.row.now.row)) (sym pushed),
       (λ n.
           marks_chosen c.fields.named_last c.from.result id n prog before c.from.ensures within (marks n)
           ∙ ap (λ (l : List ProgId). is_chosen n l) (sym pushed)),

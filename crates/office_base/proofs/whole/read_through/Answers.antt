@@ -4,7 +4,7 @@ use Rattle.office_base.specs.Outside.{Took}
 use Rattle.office_base.proofs.Streams.{Took-none, Took-more, Took-end, at_end, took_more}
 use Rattle.office_base.proofs.whole.read_through.Goals as goal
 
--- a front of n elements has at most n
+-- a prefix of n elements has at most n
 length-take-bound : (n : ℕ) (xs : List ℕ) → length (take n xs) ≤ n
 length-take-bound n xs = omega (arith, length-take n xs)
 
@@ -33,8 +33,8 @@ loop-bytes-preserved g c =
     let n = c.in_ok-count.count in
     let ok : c.extend_from_slice.new.self ≡ bytes ++ take n buffer = c.in_ok-extend_from_slice.ensures.ok in
     let longer : length c.extend_from_slice.new.self ≡ length bytes + length (take n buffer) = ap length ok ∙ length-append bytes (take n buffer) in
-    let front : length (take n buffer) ≤ n = length-take-bound n buffer in (
+    let some : length (take n buffer) ≤ n = length-take-bound n buffer in (
       subst (λ (x : List ℕ). Took x (g.S.Source.left c.args.source.now) (g.S.Source.left c.read.new.self)) (sym ok) (Took-more bytes buffer n _ _ _ c.loop-bytes.invariant.0 c.in_ok-count.ensures.taken),
       omega (arith, c.if-count-limit.false, c.len.ensures, c.loop-bytes.invariant.1),
-      omega (arith, c.loop-bytes.invariant.2, c.in_ok-count.ensures.count),
+      omega (arith, c.loop-bytes.invariant.2, c.in_ok-count.ensures.steady),
     )

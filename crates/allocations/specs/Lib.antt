@@ -1,0 +1,4 @@
+pub mod Course
+pub mod Fair
+pub mod Market
+pub mod Rule

@@ -1,0 +1,50 @@
+-- A rule says whom a programme admits, under which step, from which people.
+use Rattle.std.specs.Prelude.{◌≡◌, ◌↔◌, ◌⊎◌, ℕ, List}
+use Rattle.office_base.specs.Lists.{IsAmong, IsSublist}
+use Rattle.office_base.specs.declared.person.Person.{Person}
+use Rattle.office_base.specs.declared.step.StepKind.{StepKind}
+
+-- whether the programme of this number admits, from these people, this person under this step
+abbrev pub Rule : Type 1
+Rule = ℕ → List Person → Person → StepKind → Type 0
+
+-- the programme admits the person from the people
+abbrev pub Admits : Rule → ℕ → List Person → Person → Type 0
+Admits rule p people person = (kind : StepKind) × rule p people person kind
+
+-- the person is refused from the people
+abbrev pub Refuses : Rule → ℕ → List Person → Person → Type 0
+Refuses rule p people person = (kind : StepKind) → rule p people person kind → ⊥
+
+-- Some of all the people, with one person more who is refused from them.
+pub record IsRefusedBeside (rule : Rule) (p : ℕ) (some all : List Person) (person : Person) : Type 0 where
+  pub people : List Person
+  pub some_within : IsSublist some people
+  pub within : IsSublist people all
+  pub there : IsAmong person people
+  pub refused : Refuses rule p people person
+
+-- What a rule has to be, for the people who may stand before a programme together.
+pub record ChoosesWell (rule : Rule) (MayApply : ℕ → List Person → Type 0) : Type 0 where
+  -- whoever may stand together may stand there without some
+  pub part : (p : ℕ) (some all : List Person) → MayApply p all → IsSublist some all → MayApply p some
+  -- a programme admits a person or refuses the person
+  pub decided : (p : ℕ) (people : List Person) (x : Person) → MayApply p people → Admits rule p people x ⊎ Refuses rule p people x
+  -- it admits those alone who stand before it
+  pub among : (p : ℕ) (people : List Person) (x : Person) (kind : StepKind) → MayApply p people → rule p people x kind → IsAmong x people
+  -- under one step
+  pub one_step : (p : ℕ) (people : List Person) (x : Person) (kind other : StepKind) → MayApply p people → rule p people x kind → rule p people x other → kind ≡ other
+  -- who is admitted from more people is admitted from fewer
+  pub fewer : (p : ℕ) (some all : List Person) (x : Person) → MayApply p all → IsSublist some all → IsAmong x some → Admits rule p all x → Admits rule p some x
+  -- without some who are refused, each step admits the same persons
+  pub without : (p : ℕ) (some all : List Person) → MayApply p all → IsSublist some all
+      → ((x : Person) → IsAmong x all → (IsAmong x some → ⊥) → Refuses rule p all x)
+      → (x : Person) (kind : StepKind) → rule p some x kind ↔ rule p all x kind
+  -- persons who are each refused alone beside some are refused together
+  pub together : (p : ℕ) (some all : List Person) → MayApply p all → IsSublist some all
+      → ((x : Person) → IsAmong x all → (IsAmong x some → ⊥) → IsRefusedBeside rule p some all x)
+      → (x : Person) → IsAmong x all → (IsAmong x some → ⊥) → Refuses rule p all x
+
+-- whoever the first rule admits the second admits, perhaps under another step: as where seats were added
+abbrev pub Grows : Rule → Rule → (ℕ → List Person → Type 0) → Type 0
+Grows rule more MayApply = (p : ℕ) (people : List Person) (x : Person) → MayApply p people → Admits rule p people x → Admits more p people x

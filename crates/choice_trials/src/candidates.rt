@@ -1,0 +1,137 @@
+// Candidates, steps and programmes that the trials share.
+ghost use Rattle.std.specs.Prelude.{◌≡◌, ◌∷◌, [], IsTrue};
+ghost use Rattle.programme_lists.specs.Chosen.{AreApplicants};
+
+use office_base::{
+    CandId, Category, ListId, OutOfMemory, Pair, People, Person, Place, Protections, Step, TraitSet,
+};
+use plain_choice::is_step;
+use seat_matrix::Matrix;
+use std::alloc::Global;
+
+pub const W: u8 = 1;
+
+pub const D: u8 = 2;
+
+pub const X: u8 = 4;
+
+/// What a candidate is, but for the number.
+#[derive(Clone, Copy)]
+pub struct Kind {
+    pub category: Category,
+    pub traits: u8,
+    pub common: bool,
+}
+
+pub const fn applicant(category: Category, traits: u8, common: bool) -> Kind {
+    Kind {
+        category,
+        traits,
+        common,
+    }
+}
+
+/// A general candidate with the number as the common place in list 1.
+pub fn candidate(number: u32, traits: u8) -> Person
+    ensures { result ≡ record { id = record { 0 = number }; category = Category.Gen; traits = record { 0 = traits }; places = Place.Common number ∷ Place.Absent ∷ Place.Absent ∷ Place.Absent ∷ [] } }
+{
+    Person {
+        id: CandId(number),
+        category: Category::Gen,
+        traits: TraitSet(traits),
+        places: [
+            Place::Common(number),
+            Place::Absent,
+            Place::Absent,
+            Place::Absent,
+        ],
+    }
+}
+
+/// A candidate of this kind with the number as the place in list 1.
+pub fn candidate_of(number: u32, kind: Kind) -> Person {
+    let place = if kind.common {
+        Place::Common(number)
+    } else {
+        Place::Relaxed(number)
+    };
+    Person {
+        id: CandId(number),
+        category: kind.category,
+        traits: TraitSet(kind.traits),
+        places: [place, Place::Absent, Place::Absent, Place::Absent],
+    }
+}
+
+/// Candidates of these kinds in merit order, with the numbers and places 1, 2 and so on.
+pub fn candidates_of(alloc: Global, kinds: &[Kind]) -> Result<People, OutOfMemory> {
+    let mut people = People::new(alloc);
+    for (number, kind) in (1..100).zip(kinds) {
+        people.push(candidate_of(number, *kind))?;
+    }
+    Ok(people)
+}
+
+/// A step on list 1 of general candidates with these traits, in merit order, with the numbers and places 1, 2 and so on.
+pub fn step_of(
+    alloc: Global,
+    seats: u16,
+    protections: [u16; 3],
+    traits: &[u8],
+) -> Result<Step, OutOfMemory> {
+    let mut people = People::new(alloc);
+    for (number, traits) in (1..100).zip(traits) {
+        people.push(candidate(number, *traits))?;
+    }
+    let [w, d, x] = protections;
+    Ok(Step {
+        list: ListId(1),
+        seats,
+        protections: Protections {
+            counts: [w, d, x, 0, 0, 0],
+        },
+        people,
+    })
+}
+
+/// A step on the list without seats, of these people.
+pub fn step_without_seats(list: ListId, people: People) -> Step
+    ensures { result.list ≡ list }
+{
+    Step {
+        list,
+        seats: 0,
+        protections: Protections { counts: [0; 6] },
+        people,
+    }
+}
+
+/// Whether the step is sound, so that its people may apply to a programme of its list.
+pub fn may_apply(step: &Step) -> bool
+    ensures { IsTrue result → AreApplicants step.now.list step.now.people }
+{
+    merit_choice::laws::ranked_in_merit();
+    is_step(step)
+}
+
+/// The matrix of these rows, where they have no fault.
+pub fn matrix_of(alloc: Global, rows: &str) -> Result<Option<Matrix>, OutOfMemory> {
+    let text = format!(in alloc; "programme,institute,list,step,seats,W,D,X,S,F,L\n{rows}")?;
+    Ok(Matrix::read(alloc, text.as_bytes()).ok())
+}
+
+/// Whether the people have these numbers, in this order.
+pub fn are_people(people: &[Person], told: &[u32]) -> bool {
+    people.len() == told.len()
+        && people
+            .iter()
+            .zip(told)
+            .all(|(person, number)| person.id.0 == *number)
+}
+
+/// Whether the pairs are of these numbers and slots, in this order.
+pub fn are_pairs(pairs: &[Pair], told: &[(u32, u8)]) -> bool {
+    pairs.len() == told.len()
+        && pairs.iter().zip(told).all(|(pair, (number, slot))| pair.cand.0 == *number
+            && pair.slot == *slot)
+}

@@ -1,0 +1,74 @@
+// What is asked of the office, and by whom.
+use crate::{CandId, Code, ProgId, StepKind};
+
+/// What a candidate answers to a seat: keep it, keep it unless a better programme comes, the same within the seat's
+/// institute, or leave.
+#[derive(Clone, Copy, Debug, PartialEq, Eq)]
+pub enum Choice {
+    Freeze,
+    Float,
+    Slide,
+    Withdraw,
+}
+
+/// Who asks: the clerk, a candidate, or somebody whom the office does not know.
+#[derive(Clone, Copy, Debug, PartialEq, Eq)]
+pub enum By {
+    Clerk,
+    Candidate(CandId),
+    Nobody,
+}
+
+/// What is asked. Windows are numbered from 0 and rounds from 1; a turn counts the answers of a candidate in a window, from 1.
+/// A programme is named by its code, which may be the code of none.
+#[derive(Clone, Copy, Debug, PartialEq, Eq)]
+pub enum Ask {
+    /// A candidate's answer in a window.
+    Answer {
+        cand: CandId,
+        window: u16,
+        turn: u16,
+        choice: Choice,
+    },
+    /// The end of a window.
+    Cut {
+        window: u16,
+    },
+    /// The seat of a candidate.
+    Seat {
+        cand: CandId,
+    },
+    /// Why a candidate has no seat in a programme, or has one.
+    Why {
+        cand: CandId,
+        prog: Code,
+    },
+    /// The list of a programme in a round.
+    List {
+        round: u16,
+        prog: Code,
+    },
+    /// How far the office is.
+    State,
+    /// More seats for a step of a programme, from the cut of a window on: `seats` is their new number.
+    Raise {
+        window: u16,
+        prog: Code,
+        step: StepKind,
+        seats: u16,
+    },
+}
+
+/// Who asks what.
+#[derive(Clone, Copy, Debug, PartialEq, Eq)]
+pub struct Request {
+    pub by: By,
+    pub ask: Ask,
+}
+
+/// A seat of an allocation: a programme, and the step under which it admits the candidate.
+#[derive(Clone, Copy, Debug, PartialEq, Eq)]
+pub struct Seat {
+    pub prog: ProgId,
+    pub step: StepKind,
+}

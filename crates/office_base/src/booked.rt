@@ -1,0 +1,27 @@
+// A value that keeps numbered entries.
+ghost use Rattle.std.specs.Prelude.{◌≡◌, ℕ, List, true, map};
+ghost use Rattle.office_base.specs.Numbered.{last_of, rises};
+
+/// A value that stands on a basis which no call changes, keeps a list of entries with rising numbers, and counts what failed in it.
+pub trait Booked {
+    type Item;
+
+    /// What the value stands on.
+    ghost Basis: { Type 0 };
+
+    ghost basis: { Self → Basis };
+
+    /// The entries, the oldest first.
+    ghost entries: { Self → List Self.Item };
+
+    /// The number of an entry.
+    ghost number: { Self.Item → ℕ };
+
+    /// How often something failed in it.
+    ghost count: { Self → ℕ };
+
+    /// The number of the last entry, or 0 where there is none. The numbers rise, and the first is above 0.
+    fn last_number(&self) -> u64
+        ensures last { result ≡ last_of (map number (entries self.now)) }
+        ensures rising { rises 0 (map number (entries self.now)) ≡ true };
+}

@@ -1,0 +1,100 @@
+// Bundles with their answers.
+use crate::sections::{
+    CHOICES_HEADER, FIRST_SECTION, choices_section, matrix_section, register_section,
+};
+use choice_lists::{ChoiceFault, ChoiceKind};
+use office_base::{CandId, ProgId};
+use season_file::{Season, SeasonFault};
+use std::alloc::{AllocError, Global};
+use std::test::Fail;
+
+/// The season of five candidates.
+fn five_candidates(alloc: Global) -> Result<String, AllocError> {
+    let register = register_section(alloc)?;
+    let matrix = matrix_section(alloc)?;
+    let choices = choices_section(alloc)?;
+    Ok(format!(in alloc; "{FIRST_SECTION}{register}{matrix}{choices}")?)
+}
+
+/// The fault of these four parts, one after another.
+fn fault(
+    rt: HostRuntime,
+    season: &str,
+    register: &str,
+    matrix: &str,
+    choices: &str,
+) -> Result<Option<SeasonFault>, Fail> {
+    let text = format!(in rt.alloc(); "{season}{register}{matrix}{choices}")?;
+    Ok(Season::from_text(rt.alloc(), text.as_bytes()).err())
+}
+
+#[test]
+fn a_season_is_read(rt: HostRuntime) -> Result<(), Fail> {
+    let text = five_candidates(rt.alloc())?;
+    let Ok(season) = Season::from_text(rt.alloc(), text.as_bytes()) else {
+        assert!(rt; false);
+        return Ok(());
+    };
+    assert_eq!(rt; season.rounds, 2);
+    assert_eq!(rt; season.register.people().len(), 5);
+    assert!(rt; season.choices.list(CandId(4)) == [ProgId(2), ProgId(3)].as_slice());
+    assert!(rt; season.text.as_slice() == text.as_bytes());
+    Ok(())
+}
+
+#[test]
+fn faults_are_told_in_their_order(rt: HostRuntime) -> Result<(), Fail> {
+    let register = register_section(rt.alloc())?;
+    let matrix = matrix_section(rt.alloc())?;
+    let choices = choices_section(rt.alloc())?;
+    let (register, matrix, choices) = (register.as_str(), matrix.as_str(), choices.as_str());
+    assert!(rt; fault(rt, "", "", "", "")? == Some(SeasonFault::BadFirstLine));
+    assert!(rt;
+        fault(rt, FIRST_SECTION, register, "[matrix]\n", "")?
+            == Some(SeasonFault::Section { line: 13 })
+    );
+    assert!(rt;
+        fault(rt, FIRST_SECTION, matrix, register, choices)?
+            == Some(SeasonFault::Section { line: 5 })
+    );
+    assert!(rt;
+        fault(rt, "office bundle 1\n\n,,\n", register, "", "")?
+            == Some(SeasonFault::Section { line: 3 })
+    );
+    assert!(rt;
+        fault(
+            rt,
+            "office bundle 1\n[season]\nrounds,11\n",
+            register,
+            matrix,
+            choices
+        )? == Some(SeasonFault::BadSeason { row: 1 })
+    );
+    assert!(rt;
+        fault(
+            rt,
+            "office bundle 1\n[season]\nclerk,tok00003\nrounds,1\n",
+            register,
+            matrix,
+            choices
+        )? == Some(SeasonFault::BadSeason { row: 1 })
+    );
+    let twice = format!(in rt.alloc(); "[choices]\n{CHOICES_HEADER}5,A,A\n")?;
+    assert!(rt;
+        fault(rt, FIRST_SECTION, register, matrix, twice.as_str())?
+            == Some(SeasonFault::Choices(ChoiceFault::Bad {
+                row: 2,
+                kind: ChoiceKind::RepeatedProgramme
+            }))
+    );
+    Ok(())
+}
+
+#[test]
+fn line_ends_marks_and_commas_do_not_matter(rt: HostRuntime) -> Result<(), Fail> {
+    let season = five_candidates(rt.alloc())?;
+    let text = format!(in rt.alloc(); "\u{FEFF}{season}")?;
+    let text = text.as_str().replace(rt.alloc(), "\n", ",,\r\n")?;
+    assert!(rt; Season::from_text(rt.alloc(), text.as_bytes()).is_ok());
+    Ok(())
+}
