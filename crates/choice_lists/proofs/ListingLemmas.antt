@@ -13,7 +13,7 @@ use Rattle.section_rows.specs.Rows.{Row}
 use Rattle.section_rows.specs.Steps.{first_of}
 use Rattle.section_rows.proofs.StepsLemmas.{first_of-push, nat_at, number_decides, number_found, or_else, step}
 use Rattle.rank_lists.specs.Register.{Ranks}
-use Rattle.seat_matrix.specs.Matrix.{Seats}
+use Rattle.seat_matrix.specs.Matrix.{SeatTable}
 use Rattle.choice_lists.specs.Choices.{AreListsOf, AreChoices, Entry, IsChoice, Lists, choices, choices_after, list_at, list_of, listed, new_candidate, reading}
 use Rattle.choice_lists.specs.Listing.{IsWithin, Keeps, lists_of, part, part_of}
 use Rattle.choice_lists.specs.declared.fault.ChoiceKind.{ChoiceKind}
@@ -59,7 +59,7 @@ choices-push count [] entry = refl
 choices-push count (e ∷ entries) entry = choices-push (count + length e.programmes) entries entry
 
 -- Each list is sound with one more.
-pub sound-step : (ranks : Ranks) (seats : Seats) (entries : List Entry) (entry : Entry) → ((q : ℕ) → IsChoice ranks seats q (listed (list_at q entries))) → IsChoice ranks seats entry.candidate entry.programmes
+pub sound-step : (ranks : Ranks) (seats : SeatTable) (entries : List Entry) (entry : Entry) → ((q : ℕ) → IsChoice ranks seats q (listed (list_at q entries))) → IsChoice ranks seats entry.candidate entry.programmes
     → (q : ℕ) → IsChoice ranks seats q (listed (list_at q (entries ++ entry ∷ [])))
 sound-step ranks seats entries entry sound new q =
     subst (λ (o : Option (List ProgId)). IsChoice ranks seats q (listed o)) (sym (first_of-push (λ e. q == e.candidate) (λ e. e.programmes) entries entry))
@@ -75,7 +75,7 @@ pub same_range : (a b x y : ℕ) → a ≡ x → b ≡ y → ◌≡◌ {A = ℕ 
 same_range a b x y e f = ap (λ (m : ℕ). (m, b)) e ∙ ap (λ (m : ℕ). (x, m)) f
 
 -- What a listing keeps with the entry of one more row.
-pub keeps-step : (ranks : Ranks) (seats : Seats) (entries : List Entry) (row : Row) (person : Person) (progs : List ProgId) (old new : Listing)
+pub keeps-step : (ranks : Ranks) (seats : SeatTable) (entries : List Entry) (row : Row) (person : Person) (progs : List ProgId) (old new : Listing)
     → Keeps ranks seats entries old → new_candidate ranks entries row ≡ Ok person → choices seats person [] (drop 1 row) ≡ Ok progs
     → new.programmes ≡ old.programmes ++ progs
     → ((q : ℕ) → lookup (λ k. is_eq (nat_cmp q k)) new.ranges.entries ≡ cond (is_eq (nat_cmp person.id.0 q)) (Some (length old.programmes, length new.programmes)) (lookup (λ k. is_eq (nat_cmp q k)) old.ranges.entries))
@@ -109,25 +109,25 @@ keeps-step ranks seats entries row person progs old new keeps c d e updates =
         ∙ part_of-more old.programmes progs (lookup (λ k. is_eq (nat_cmp q k)) old.ranges.entries) (keeps.within q)
 
 -- A row is read as its candidate and its programmes are.
-pub reading-ok : (ranks : Ranks) (seats : Seats) (entries : List Entry) (row : Row) (person : Person) (progs : List ProgId) → new_candidate ranks entries row ≡ Ok person → choices seats person [] (drop 1 row) ≡ Ok progs
+pub reading-ok : (ranks : Ranks) (seats : SeatTable) (entries : List Entry) (row : Row) (person : Person) (progs : List ProgId) → new_candidate ranks entries row ≡ Ok person → choices seats person [] (drop 1 row) ≡ Ok progs
     → reading ranks seats entries row ≡ Ok (record { candidate = person.id.0; programmes = progs })
 unfolding reading
 reading-ok ranks seats entries row person progs c d = rw (c, d) refl
 
-pub reading-bad-row : (ranks : Ranks) (seats : Seats) (entries : List Entry) (row : Row) (person : Person) (kind : ChoiceKind) → new_candidate ranks entries row ≡ Ok person → choices seats person [] (drop 1 row) ≡ Err kind
+pub reading-bad-row : (ranks : Ranks) (seats : SeatTable) (entries : List Entry) (row : Row) (person : Person) (kind : ChoiceKind) → new_candidate ranks entries row ≡ Ok person → choices seats person [] (drop 1 row) ≡ Err kind
     → reading ranks seats entries row ≡ Err kind
 unfolding reading
 reading-bad-row ranks seats entries row person kind c d = rw (c, d) refl
 
-pub reading-bad-candidate : (ranks : Ranks) (seats : Seats) (entries : List Entry) (row : Row) (kind : ChoiceKind) → new_candidate ranks entries row ≡ Err kind → reading ranks seats entries row ≡ Err kind
+pub reading-bad-candidate : (ranks : Ranks) (seats : SeatTable) (entries : List Entry) (row : Row) (kind : ChoiceKind) → new_candidate ranks entries row ≡ Err kind → reading ranks seats entries row ≡ Err kind
 unfolding reading
 reading-bad-candidate ranks seats entries row kind c = rw c refl
 
 -- The lists of a listing are those of its entries, and sound.
-pub made : (ranks : Ranks) (seats : Seats) (entries : List Entry) (listing : Listing) → Keeps ranks seats entries listing → AreListsOf entries (lists_of listing.programmes listing.ranges.entries)
+pub made : (ranks : Ranks) (seats : SeatTable) (entries : List Entry) (listing : Listing) → Keeps ranks seats entries listing → AreListsOf entries (lists_of listing.programmes listing.ranges.entries)
 made ranks seats entries listing keeps = λ q. ap listed (find-list q listing.programmes listing.ranges.entries ∙ keeps.lists q)
 
-pub made_sound : (ranks : Ranks) (seats : Seats) (entries : List Entry) (listing : Listing) → Keeps ranks seats entries listing → AreChoices ranks seats (lists_of listing.programmes listing.ranges.entries)
+pub made_sound : (ranks : Ranks) (seats : SeatTable) (entries : List Entry) (listing : Listing) → Keeps ranks seats entries listing → AreChoices ranks seats (lists_of listing.programmes listing.ranges.entries)
 made_sound ranks seats entries listing keeps = λ q. subst (IsChoice ranks seats q) (sym (made ranks seats entries listing keeps q)) (keeps.sound q)
 
 -- What is found for a candidate is the candidate's list.

@@ -4,7 +4,7 @@ ghost use Rattle.std.specs.BTreeSet as sorted;
 ghost use Rattle.std.specs.Ordering.{nat_cmp};
 ghost use Rattle.office_base.specs.declared.person.ProgId.{ProgId};
 ghost use Rattle.rank_lists.specs.Register.{Ranks};
-ghost use Rattle.seat_matrix.specs.Matrix.{Seats};
+ghost use Rattle.seat_matrix.specs.Matrix.{SeatTable};
 ghost use Rattle.choice_lists.specs.Choices.{choice, is_chosen, is_ranked, person_of, programme_of};
 ghost use Rattle.choice_lists.specs.Listing.{IsAdded};
 
@@ -40,7 +40,7 @@ impl Listing {
 
     /// No lists.
     pub(crate) fn new(alloc: Global) -> Listing
-        ensures { (ranks : Ranks) (seats : Seats) → Keeps ranks seats [] result }
+        ensures { (ranks : Ranks) (seats : SeatTable) → Keeps ranks seats [] result }
     {
         Listing {
             programmes: Listed::new(alloc),
@@ -51,7 +51,7 @@ impl Listing {
     /// The candidate of a row, where it is the candidate's first row and there is room for its programmes.
     fn new_candidate(&self, row: &Rows<'_>, register: &Register) -> Result<Person, ChoiceKind>
         requires few { length self.now.programmes ≤ 5000000 }
-        ensures { (seats : Seats) (entries : List Entry) → Keeps register.now seats entries self.now → result ≡ new_candidate register.now entries row.now.row }
+        ensures { (seats : SeatTable) (entries : List Entry) → Keeps register.now seats entries self.now → result ≡ new_candidate register.now entries row.now.row }
     {
         let Some(person) = read_person(register, row.field(0)) else {
             return Err(ChoiceKind::UnknownCandidate);
@@ -98,9 +98,9 @@ impl Listing {
 
     /// The choices of all that was put in.
     pub(crate) fn finish(self) -> Choices
-        requires { (ranks : Ranks) × (seats : Seats) × (entries : List Entry) × Keeps ranks seats entries self }
-        ensures lists { (ranks : Ranks) (seats : Seats) (entries : List Entry) → Keeps ranks seats entries self → AreListsOf entries result }
-        ensures sound { (ranks : Ranks) (seats : Seats) (entries : List Entry) → Keeps ranks seats entries self → AreChoices ranks seats result }
+        requires { (ranks : Ranks) × (seats : SeatTable) × (entries : List Entry) × Keeps ranks seats entries self }
+        ensures lists { (ranks : Ranks) (seats : SeatTable) (entries : List Entry) → Keeps ranks seats entries self → AreListsOf entries result }
+        ensures sound { (ranks : Ranks) (seats : SeatTable) (entries : List Entry) → Keeps ranks seats entries self → AreChoices ranks seats result }
     {
         Choices {
             programmes: self.programmes,

@@ -1,2 +1,3 @@
+pub mod InMerit
 pub mod Laws
 pub mod Marks

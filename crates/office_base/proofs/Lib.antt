@@ -1,3 +1,2 @@
-pub mod CodesLemmas
 pub mod People
 mod Streams

@@ -2,6 +2,7 @@ pub mod Convert
 pub mod Exchange
 pub mod Greatest
 pub mod Hall
+pub mod Outside
 pub mod Ranks
 pub mod Replace
 pub mod Slots

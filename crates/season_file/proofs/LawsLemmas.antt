@@ -35,11 +35,11 @@ use Rattle.season_file.proofs.SeasonLemmas.{cutting_fault}
 pub record AreLawful : Type 0 where
   pub register : (rows : List Row) → rank_laws.HaveOneReading rows
   pub matrix : (rows : List Row) → seat_laws.HaveOneReading rows
-  pub choices : (ranks : rank_grammar.Ranks) (seats : seat_grammar.Seats) (rows : List Row) → choice_laws.HaveOneReading ranks seats rows
+  pub choices : (ranks : rank_grammar.Ranks) (seats : seat_grammar.SeatTable) (rows : List Row) → choice_laws.HaveOneReading ranks seats rows
   pub same : (rows : List Row) → choice_laws.DependOnPeopleAndProgrammes rows
 
 -- A fault behind what was read before it, stage by stage: at each one the fault is the stage's own, or the stage is passed.
-abbrev FromChoices : Parts → Head → rank_grammar.Ranks → seat_grammar.Seats → SeasonFault → Type 0
+abbrev FromChoices : Parts → Head → rank_grammar.Ranks → seat_grammar.SeatTable → SeasonFault → Type 0
 FromChoices parts head ranks seats fault =
     ((row : ℕ) × (kind : ChoiceKind) × choice_grammar.IsFault ranks seats (rows_of parts.choices) (BadChoice row kind) × (fault ≡ Choices (BadChoice row kind)))
     ⊎ ((lists : choice_grammar.Lists) × choice_grammar.IsRead ranks seats (rows_of parts.choices) lists × IsSome (rank_grammar.find_holder head.clerk ranks.holders) × (fault ≡ BadSeason head.row))
@@ -47,7 +47,7 @@ FromChoices parts head ranks seats fault =
 abbrev FromMatrix : Parts → Head → rank_grammar.Ranks → SeasonFault → Type 0
 FromMatrix parts head ranks fault =
     ((row : ℕ) × (kind : MatrixKind) × seat_grammar.IsFault (rows_of parts.matrix) (BadMatrix row kind) × (fault ≡ Matrix (BadMatrix row kind)))
-    ⊎ ((seats : seat_grammar.Seats) × seat_grammar.IsRead (rows_of parts.matrix) seats × FromChoices parts head ranks seats fault)
+    ⊎ ((seats : seat_grammar.SeatTable) × seat_grammar.IsRead (rows_of parts.matrix) seats × FromChoices parts head ranks seats fault)
 
 abbrev FromRegister : Parts → Head → SeasonFault → Type 0
 FromRegister parts head fault =
@@ -114,11 +114,11 @@ same_list : (r s : ℕ) (j k : ChoiceKind) → (r ≡ s) × (j ≡ k) → Choice
 same_list r s j k same = cc (same.0, same.1)
 
 -- what carries over from one register and matrix to others that are the same
-carried : AreLawful → (rows : List Row) (ranks other : rank_grammar.Ranks) (seats matrix : seat_grammar.Seats) → rank_laws.AreSame ranks other → seat_laws.AreSame seats matrix → choice_laws.CarryOver other ranks matrix seats rows
+carried : AreLawful → (rows : List Row) (ranks other : rank_grammar.Ranks) (seats matrix : seat_grammar.SeatTable) → rank_laws.AreSame ranks other → seat_laws.AreSame seats matrix → choice_laws.CarryOver other ranks matrix seats rows
 carried laws rows ranks other seats matrix a b = laws.same rows other ranks matrix seats (sym a.people) (sym b.programmes)
 
 -- Each stage has one fault at most.
-one-choices : AreLawful → (parts : Parts) (head : Head) (ranks other : rank_grammar.Ranks) (seats matrix : seat_grammar.Seats) → rank_laws.AreSame ranks other → seat_laws.AreSame seats matrix
+one-choices : AreLawful → (parts : Parts) (head : Head) (ranks other : rank_grammar.Ranks) (seats matrix : seat_grammar.SeatTable) → rank_laws.AreSame ranks other → seat_laws.AreSame seats matrix
     → (fault next : SeasonFault) → FromChoices parts head ranks seats fault → FromChoices parts head other matrix next → fault ≡ next
 one-choices laws parts head ranks other seats matrix people programmes fault next (inl a) (inl b) =
     let there = (carried laws (rows_of parts.choices) ranks other seats matrix people programmes).fault b.0 b.1 b.2 in
@@ -191,7 +191,7 @@ one_content laws parts content other a b =
       people = ranks.people;
       holders = ranks.holders;
       programmes = seats.programmes;
-      seatings = seats.seatings;
+      steps = seats.steps;
       lists = (laws.choices content.register content.matrix (rows_of parts.choices)).one_value content.choices other.choices a.choices there;
     }
 
@@ -199,7 +199,7 @@ one_content laws parts content other a b =
 not_held : (o : Option CandId) → o ≡ None → IsSome o → ⊥
 not_held o e h = cc (ap (λ (p : Option CandId). is_some p) e, h)
 
-apart-choices : AreLawful → (parts : Parts) (content : Content) (ranks : rank_grammar.Ranks) (seats : seat_grammar.Seats) (fault : SeasonFault) → Give parts content → IsClerkApart content
+apart-choices : AreLawful → (parts : Parts) (content : Content) (ranks : rank_grammar.Ranks) (seats : seat_grammar.SeatTable) (fault : SeasonFault) → Give parts content → IsClerkApart content
     → rank_laws.AreSame content.register ranks → seat_laws.AreSame content.matrix seats → FromChoices parts content.head ranks seats fault → ⊥
 apart-choices laws parts content ranks seats fault give clerk people programmes (inl b) =
     let there = (carried laws (rows_of parts.choices) content.register ranks content.matrix seats people programmes).fault b.0 b.1 b.2 in
@@ -249,7 +249,7 @@ some-content bytes parts content text cut give = by (rank_grammar.find_holder co
     by None e = inl (content, (text, (parts, cut, give), e))
     by (Some id) e = inr (BadSeason content.head.row, (text, (parts, cut, inr (content, give, ap (λ (o : Option CandId). is_some o) e, refl))))
 
-some-choices : AreLawful → (bytes : List ℕ) (parts : Parts) (head : Head) (ranks : rank_grammar.Ranks) (seats : seat_grammar.Seats) → IsText bytes → bundle_of bytes ≡ Ok parts → head_of (rows_of parts.season) ≡ Ok head
+some-choices : AreLawful → (bytes : List ℕ) (parts : Parts) (head : Head) (ranks : rank_grammar.Ranks) (seats : seat_grammar.SeatTable) → IsText bytes → bundle_of bytes ≡ Ok parts → head_of (rows_of parts.season) ≡ Ok head
     → rank_grammar.IsRead (rows_of parts.register) ranks → seat_grammar.IsRead (rows_of parts.matrix) seats → HaveSome bytes
 some-choices laws bytes parts head ranks seats text cut e read table = elim (laws.choices ranks seats (rows_of parts.choices)).some [
   | inl found ↦ some-content bytes parts (record { head = head; register = ranks; matrix = seats; choices = found.0 }) text cut (record {

@@ -32,7 +32,7 @@ matrix-told parts head ranks (BadMatrix row kind) given read first = (head, rank
 matrix-told parts head ranks NoMatrixMemory given read first = tt
 
 -- A fault of choices is the sections'.
-pub choice-told : (parts : Parts) (head : Head) (ranks : rank_grammar.Ranks) (seats : seat_grammar.Seats) (fault : ChoiceFault) → head_of (rows_of parts.season) ≡ Ok head
+pub choice-told : (parts : Parts) (head : Head) (ranks : rank_grammar.Ranks) (seats : seat_grammar.SeatTable) (fault : ChoiceFault) → head_of (rows_of parts.season) ≡ Ok head
     → rank_grammar.IsRead (rows_of parts.register) ranks → seat_grammar.IsRead (rows_of parts.matrix) seats → choice_grammar.IsFault ranks seats (rows_of parts.choices) fault
     → ArePartsWith parts (choice_error fault)
 choice-told parts head ranks seats (BadChoice row kind) given read table first = (head, ranks, seats, given, read, table, first)

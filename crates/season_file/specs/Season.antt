@@ -65,7 +65,7 @@ IsMatrixFault parts NoMatrixMemory = ⊥
 -- the first fault of choices, behind a register and a matrix without faults
 abbrev pub IsChoiceFault : Parts → ChoiceFault → Type 0
 IsChoiceFault parts (BadChoice row kind) =
-    (head : Head) × (ranks : rank_grammar.Ranks) × (seats : seat_grammar.Seats) × (head_of (rows_of parts.season) ≡ Ok head) × rank_grammar.IsRead (rows_of parts.register) ranks
+    (head : Head) × (ranks : rank_grammar.Ranks) × (seats : seat_grammar.SeatTable) × (head_of (rows_of parts.season) ≡ Ok head) × rank_grammar.IsRead (rows_of parts.register) ranks
     × seat_grammar.IsRead (rows_of parts.matrix) seats × choice_grammar.IsFault ranks seats (rows_of parts.choices) (BadChoice row kind)
 IsChoiceFault parts NoChoiceMemory = ⊥
 

@@ -2,4 +2,6 @@ pub mod Fields
 pub mod Kinds
 pub mod Laws
 pub mod Matrix
+pub mod Seats
 pub mod Table
+pub mod Unfilled

@@ -1,36 +1,35 @@
 // The seat matrix, as the layers above see it.
-ghost use Rattle.std.specs.Prelude.{◌≡◌, ◌<◌, ◌≤◌, Some, IfOk, IfErr, IfSome, length, map, option_map, position, slice_get, sum, bytes_eq};
+ghost use Rattle.std.specs.Prelude.{◌≡◌, ◌<◌, ◌≤◌, Some, IfOk, IfErr, length, map, option_map, position, slice_get, sum, bytes_eq, false};
 ghost use Rattle.office_base.specs.Person.{IsList};
 ghost use Rattle.section_rows.specs.Rows.{rows_of, same_fields};
-ghost use Rattle.seat_matrix.specs.Fields.{step_number};
-ghost use Rattle.seat_matrix.specs.Matrix.{header, is_dereserved, IsRead, IsFault, IsSeated, seating_in, seats_given, protections_given};
+ghost use Rattle.seat_matrix.specs.Matrix.{header, IsRead, IsFault, HasSeating, list_in, matrix_with, seating_in, seats_in, steps_in};
+ghost use Rattle.seat_matrix.specs.Seats.{AreProgrammeSeats, IsSeated, is_dereserved};
 
-use crate::entry::{Home, Seating};
+use crate::entry::Home;
 use crate::fault::{MatrixFault, MatrixKind};
-use crate::fields::step_number;
+use crate::seats::{ProgrammeSeats, Seating, Seatings};
 use crate::table::Table;
 use indexmap::IndexMap;
-use office_base::{Code, ListId, ProgId, Protections, StepKind};
+use office_base::{Code, ListId, OutOfMemory, ProgId, Protections, StepKind};
 use section_rows::Rows;
 use std::alloc::Global;
-use std::collections::BTreeMap;
 use std::marker::Model;
 
-/// The programmes by their numbers, and the seats of their steps.
+/// The programmes by their numbers, and the seats of the steps of each.
 #[derive(Drop)]
 pub struct Matrix {
     pub(crate) programmes: IndexMap<Code, Home>,
-    pub(crate) steps: BTreeMap<(Code, u8), Seating>,
+    pub(crate) steps: Vec<Seatings>,
 }
 
 impl Model for Matrix {
-    ghost use Rattle.seat_matrix.specs.Matrix.{Seats, AreSeats};
+    ghost use Rattle.seat_matrix.specs.Matrix.{SeatTable, AreSeats};
 
-    ghost Value = { Seats };
+    ghost Value = { SeatTable };
 
-    ghost view = { λ a. record { programmes = a.programmes.entries; steps = a.steps.entries } };
+    ghost view = { λ a. record { programmes = a.programmes.entries; steps = a.steps.items } };
 
-    ghost invariant = { λ a. AreSeats (record { programmes = a.programmes.entries; steps = a.steps.entries }) };
+    ghost invariant = { λ a. AreSeats (record { programmes = a.programmes.entries; steps = a.steps.items }) };
 }
 
 /// Whether the row is the header.
@@ -50,13 +49,6 @@ fn is_header(row: &Rows<'_>) -> bool
         b"F".as_slice(),
         b"L".as_slice(),
     ])
-}
-
-/// Whether the step is of seats that a category left unfilled.
-fn is_dereserved(step: StepKind) -> bool
-    ensures { result ≡ is_dereserved step }
-{
-    matches!(step, StepKind::Dereserved)
 }
 
 impl Matrix {
@@ -87,7 +79,7 @@ impl Matrix {
                 Err(kind) => return Err(MatrixFault::Bad { row: number, kind }),
             }
         }
-        Ok(table.finish())
+        Ok(table.finish(alloc)?)
     }
 
     /// How many programmes there are: at most 2,000.
@@ -139,25 +131,67 @@ impl Matrix {
     /// The seats of a programme in a step: 0 where no row was given, and for seats that a category left unfilled.
     pub fn seats(&self, prog: ProgId, step: StepKind) -> u16
         requires { prog.0 < length self.now.programmes }
-        ensures seats { result ≡ seats_given (seating_in self.now prog.0 step) }
+        ensures seats { result ≡ (seating_in self.now prog.0 step).seats }
         ensures most { result ≤ 4000 }
     {
-        match self.seating(prog, step) {
-            Some(seating) => seating.seats,
-            None => 0,
-        }
+        self.seating(prog, step).seats
     }
 
     /// The protections of a programme in a step: 0 where no row was given, and for seats that a category left unfilled.
     pub fn protections(&self, prog: ProgId, step: StepKind) -> Protections
         requires { prog.0 < length self.now.programmes }
-        ensures protections { result ≡ protections_given (seating_in self.now prog.0 step) }
-        ensures within { sum result.counts ≤ seats_given (seating_in self.now prog.0 step) }
+        ensures protections { result ≡ (seating_in self.now prog.0 step).protections }
+        ensures within { sum result.counts ≤ (seating_in self.now prog.0 step).seats }
     {
-        match self.seating(prog, step) {
-            Some(seating) => seating.protections,
-            None => Protections { counts: [0; 6] },
+        self.seating(prog, step).protections
+    }
+
+    /// All that the matrix has for a programme: its list, and the seats and protections of its steps.
+    pub fn programme(&self, prog: ProgId) -> ProgrammeSeats
+        requires { prog.0 < length self.now.programmes }
+        ensures seats { result ≡ seats_in self.now prog.0 }
+        ensures list { result.list ≡ list_in self.now prog.0 }
+        ensures sound { AreProgrammeSeats result }
+    {
+        ProgrammeSeats {
+            list: self.list(prog),
+            steps: self.steps[usize::from(prog.0)],
         }
+    }
+
+    /// Raises the seats of a programme in a step to this number, with its protections as before. All else stays. It takes
+    /// no memory.
+    pub fn raise(&mut self, prog: ProgId, step: StepKind, seats: u16)
+        requires programme { prog.0 < length self.old.programmes }
+        requires step { is_dereserved step ≡ false }
+        requires more { (seating_in self.old prog.0 step).seats ≤ seats }
+        requires most { seats ≤ 4000 }
+        ensures whole { self.new ≡ matrix_with self.old prog.0 step (record { seats = seats; protections = (seating_in self.old prog.0 step).protections }) }
+        ensures seats { HasSeating self.old prog.0 step (record { seats = seats; protections = (seating_in self.old prog.0 step).protections }) self.new }
+    {
+        let protections = self.protections(prog, step);
+        self.set(prog, step, seats, protections);
+    }
+
+    /// Gives a programme these seats and protections in a step. All else stays. It takes no memory.
+    pub fn set(&mut self, prog: ProgId, step: StepKind, seats: u16, protections: Protections)
+        requires programme { prog.0 < length self.old.programmes }
+        requires step { is_dereserved step ≡ false }
+        requires protections { sum protections.counts ≤ seats }
+        requires most { seats ≤ 4000 }
+        ensures whole { self.new ≡ matrix_with self.old prog.0 step (record { seats = seats; protections = protections }) }
+        ensures seats { HasSeating self.old prog.0 step (record { seats = seats; protections = protections }) self.new }
+    {
+        self.steps[usize::from(prog.0)].put(step, Seating { seats, protections });
+    }
+
+    /// An equal matrix.
+    pub fn copy(&self, alloc: Global) -> Result<Matrix, OutOfMemory>
+        ensures { IfOk result (λ matrix. matrix ≡ self.now) }
+    {
+        let programmes = self.programmes.clone()?;
+        let steps = Vec::from_slice(alloc, &self.steps)?;
+        Ok(Matrix { programmes, steps })
     }
 
     /// Where a programme stands, and its list.
@@ -172,16 +206,12 @@ impl Matrix {
         *home
     }
 
-    /// What a row gave for a programme in a step.
-    fn seating(&self, prog: ProgId, step: StepKind) -> Option<Seating>
+    /// What the matrix has for a programme in a step.
+    fn seating(&self, prog: ProgId, step: StepKind) -> Seating
         requires { prog.0 < length self.now.programmes }
         ensures given { result ≡ seating_in self.now prog.0 step }
-        ensures within { IfSome result IsSeated }
+        ensures within { IsSeated result }
     {
-        if is_dereserved(step) {
-            return None;
-        }
-        let code = self.code(prog);
-        self.steps.get(&(code, step_number(step))).copied()
+        self.steps[usize::from(prog.0)].of(step)
     }
 }

@@ -6,10 +6,11 @@ ghost use Rattle.section_rows.specs.Rows.{Row};
 ghost use Rattle.section_rows.proofs.StepsLemmas.{or_else};
 ghost use Rattle.seat_matrix.specs.Matrix.{with_code};
 
-use crate::entry::{Entry, Home, Seating};
+use crate::entry::{Entry, Home};
 use crate::fault::MatrixKind;
 use crate::fields::{protected, read_seating, read_step, step_number};
 use crate::matrix::Matrix;
+use crate::seats::{Seating, Seatings};
 use indexmap::IndexMap;
 use office_base::{Code, ListId, OutOfMemory, StepKind};
 use office_text::read_number;
@@ -32,10 +33,11 @@ pub(crate) struct Table {
 }
 
 impl Table {
-    ghost use Rattle.seat_matrix.specs.Matrix.{IsMatrix, codes_of, home_at, new_row, reading, settles};
+    ghost use Rattle.seat_matrix.specs.Fields.{step_number};
+    ghost use Rattle.seat_matrix.specs.Matrix.{IsMatrix, codes_of, given, home_at, new_row, reading, seating_at, seatings_in, settles};
     ghost use Rattle.seat_matrix.specs.Table.{Keeps};
     ghost use Rattle.seat_matrix.specs.declared.entry.Entry.{Entry};
-    ghost use Rattle.std.specs.Prelude.{length};
+    ghost use Rattle.std.specs.Prelude.{IfOk, length, map};
 
     /// No programmes.
     pub(crate) fn new(alloc: Global) -> Table
@@ -137,15 +139,53 @@ impl Table {
         Ok(())
     }
 
-    /// The matrix of all that was put in.
-    pub(crate) fn finish(self) -> Matrix
-        requires { (entries : List Entry) × Keeps entries self }
-        ensures { (entries : List Entry) → Keeps entries self → IsMatrix entries result }
+    /// What the entries give for a programme in a step.
+    fn seating(&self, code: Code, step: StepKind) -> Seating
+        ensures { (entries : List Entry) → Keeps entries self.now → result ≡ given (seating_at code (step_number step) entries) }
     {
-        Matrix {
-            programmes: self.programmes,
-            steps: self.steps,
+        match self.steps.get(&(code, step_number(step))) {
+            Some(seating) => *seating,
+            None => Seating::none(),
         }
+    }
+
+    /// What the entries give for the steps of a programme.
+    fn seatings(&self, code: Code) -> Seatings
+        ensures { (entries : List Entry) → Keeps entries self.now → result ≡ seatings_in entries code }
+    {
+        Seatings {
+            open_step: self.seating(code, StepKind::Open),
+            ews: self.seating(code, StepKind::Ews),
+            obc: self.seating(code, StepKind::Obc),
+            sc: self.seating(code, StepKind::Sc),
+            st: self.seating(code, StepKind::St),
+        }
+    }
+
+    /// What the entries give for each programme, by its number.
+    fn all_seatings(&self, alloc: Global) -> Result<Vec<Seatings>, OutOfMemory>
+        ensures { IfOk result (λ steps. (entries : List Entry) → Keeps entries self.now → steps.items ≡ map (seatings_in entries) (codes_of entries)) }
+    {
+        let mut steps = Vec::new(alloc);
+        for number in 0..self.programmes.len() {
+            let Some((code, _)) = self.programmes.get_index(number) else {
+                unreachable!("the number is below the count")
+            };
+            steps.push(self.seatings(*code))?;
+        }
+        Ok(steps)
+    }
+
+    /// The matrix of all that was put in.
+    pub(crate) fn finish(self, alloc: Global) -> Result<Matrix, OutOfMemory>
+        requires { (entries : List Entry) × Keeps entries self }
+        ensures { IfOk result (λ matrix. (entries : List Entry) → Keeps entries self → IsMatrix entries matrix) }
+    {
+        let steps = self.all_seatings(alloc)?;
+        Ok(Matrix {
+            programmes: self.programmes,
+            steps,
+        })
     }
 }
 

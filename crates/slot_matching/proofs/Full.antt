@@ -8,15 +8,13 @@ use Rattle.office_base.specs.declared.person.TraitSet.{TraitSet}
 use Rattle.office_base.specs.declared.step.Protections.{Protections}
 use Rattle.placements.specs.Demand.{is_within}
 use Rattle.placements.proofs.Hall.{both, within_each, within_bits, bits_within, NoneShort}
+use Rattle.placements.proofs.Outside.{within_itself}
 use Rattle.placements.proofs.Replace.{within_again, full_both}
 use Rattle.slot_matching.specs.Full.{AreClosed, HasSpareBelow, IsLeastFull, IsLeastOf, met}
 use Rattle.slot_matching.specs.Kept.{IsSpare}
 use Rattle.slot_matching.proofs.Steps.{none_short}
 
--- a set holds its own traits, and what it has in common with another is within both
-pub within_itself : (a : TraitSet) → is_within a a ≡ true
-within_itself a = within_bits a a (λ i. omega arith)
-
+-- what a set has in common with another is within both
 pub both_left : (a b : TraitSet) → is_within (both a b) a ≡ true
 both_left a b = within_bits (both a b) a (λ i. let bits = bit_at_and a.0 b.0 i in omega arith)
 

@@ -1,7 +1,7 @@
 -- What comes of one person.
 use Rattle.std.specs.Prelude.{◌≡◌, ◌⊎◌, [], ◌∷◌, ◌++◌, Option, Some, None}
 use Rattle.std.specs.List.{AllByRecursion}
-use Rattle.office_base.specs.Lists.{AnyByRecursion}
+use Rattle.office_base.specs.Lists.{IsAmong}
 use Rattle.office_base.specs.Person.{IsBetter}
 use Rattle.office_base.specs.declared.person.CandId.{CandId}
 use Rattle.office_base.specs.declared.person.Person.{Person}
@@ -17,7 +17,7 @@ CanReplace kept person member = CanBePlaced kept.protections (without member.id 
 -- The worst in merit of the members whom the person can replace; None where there is none.
 abbrev pub IsWorstFor : Kept → Person → Option CandId → Type 0
 IsWorstFor kept person None = AllByRecursion (λ member. ¬ CanReplace kept person member) kept.members
-IsWorstFor kept person (Some cand) = (worst : Person) × (worst.id ≡ cand) × AnyByRecursion (λ member. worst ≡ member) kept.members
+IsWorstFor kept person (Some cand) = (worst : Person) × (worst.id ≡ cand) × IsAmong worst kept.members
     × CanReplace kept person worst
     × AllByRecursion (λ member. CanReplace kept person member → (member ≡ worst) ⊎ IsBetter kept.list member worst) kept.members
 

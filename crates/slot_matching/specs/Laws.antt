@@ -2,7 +2,7 @@
 -- where one has to have the people of another, each of the other's is among its own.
 use Rattle.std.specs.Prelude.{◌≡◌, ◌≢◌, ◌≤◌, ◌<◌, ◌+◌, ◌⊎◌, ◌↔◌, ℕ, suc, List, [], ◌∷◌, ◌++◌, length}
 use Rattle.std.specs.List.{AllByRecursion}
-use Rattle.office_base.specs.Lists.{AnyByRecursion, IsSublist}
+use Rattle.office_base.specs.Lists.{IsAmong, IsSublist}
 use Rattle.office_base.specs.Person.{IsTraitSet}
 use Rattle.office_base.specs.Placement.{IsHonoured}
 use Rattle.office_base.specs.declared.person.Person.{Person}
@@ -14,7 +14,7 @@ use Rattle.placements.specs.Ranks.{AreDistinct, AreAmong, AreWith, CanBePlaced}
 abbrev pub ExchangeLaw : Type 0
 ExchangeLaw = (protections : Protections) (all some more : List Person) → AreDistinct all → AreAmong some all → AreAmong more all
     → CanBePlaced protections some → CanBePlaced protections more → length some < length more
-    → (person : Person) × AnyByRecursion (λ other. person ≡ other) more × AllByRecursion (λ other. person.id ≢ other.id) some
+    → (person : Person) × IsAmong person more × AllByRecursion (λ other. person.id ≢ other.id) some
     × CanBePlaced protections (person ∷ some) × CanBePlaced protections (some ++ person ∷ [])
 
 -- Extension: some of the people who can all be placed are among such people as many as all the people honour.

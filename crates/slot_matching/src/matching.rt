@@ -1,5 +1,5 @@
 // The matching and its members.
-ghost use Rattle.std.specs.Prelude.{◌≡◌, ◌≤◌, [], ◌∷◌, ◌++◌, length, sum, IfOk};
+ghost use Rattle.std.specs.Prelude.{◌≡◌, ◌≤◌, [], ◌∷◌, ◌++◌, ◌↔◌, length, sum, IsTrue, IfOk};
 ghost use Rattle.office_base.specs.Lists.{AnyByRecursion};
 ghost use Rattle.office_base.specs.Person.{IsList};
 ghost use Rattle.office_base.specs.Placement.{IsHonoured};
@@ -8,7 +8,7 @@ ghost use Rattle.slot_matching.specs.Augmented.{IsAugmented};
 ghost use Rattle.slot_matching.specs.Kept.{IsKept, MayJoin, with_member, without_member};
 
 use crate::members::{id_of, place_of, worst_within};
-use crate::spare::{all_spare, give_spare, least_full, positions, take_spare};
+use crate::spare::{all_spare, give_spare, has_spare, least_full, positions, take_spare};
 use office_base::{CandId, ListId, OutOfMemory, Person, Protections, TraitSet};
 use std::alloc::Global;
 use std::marker::Model;
@@ -64,6 +64,15 @@ impl Matching {
             members: Vec::with_capacity(alloc, usize::from(room))?,
             spare,
         })
+    }
+
+    /// Whether the members can all be placed with the person, so that `augment` would answer `Raised`. It takes no
+    /// memory, looks at no member, and stops at the first set of traits that shows that they cannot.
+    pub fn raises(&self, person: &Person) -> bool
+        requires { MayJoin self.now person.now }
+        ensures { IsTrue result ↔ CanBePlaced self.now.protections (with_member self.now person.now).members }
+    {
+        has_spare(&self.spare, person.traits)
     }
 
     /// Keeps the person too, where all members can then still be placed. Whoever stands on a position may be moved to

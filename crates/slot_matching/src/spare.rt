@@ -1,7 +1,7 @@
 // For each set of traits, how many persons more can be placed who hold no trait outside it.
 //
 // A person can be placed with the members exactly where each set that holds the person's traits has one to spare.
-ghost use Rattle.std.specs.Prelude.{◌≡◌, ◌≤◌, ◌<◌, ◌+◌, ℕ, length, sum, slice_index, IsTrue, if◌then◌else◌};
+ghost use Rattle.std.specs.Prelude.{◌≡◌, ◌≤◌, ◌<◌, ◌+◌, ℕ, length, sum, slice_index, IsTrue, true, ◌↔◌, if◌then◌else◌};
 ghost use Rattle.office_base.specs.Person.{IsTraitSet};
 ghost use Rattle.placements.specs.Demand.{is_within, positions};
 ghost use Rattle.slot_matching.specs.Full.{AreClosed, HasSpareBelow, IsLeastOf, met};
@@ -70,6 +70,19 @@ pub(crate) fn least_full(spare: &[u16], traits: TraitSet) -> Option<TraitSet>
         }
     }
     least
+}
+
+/// Whether each set that holds these traits has one to spare.
+pub(crate) fn has_spare(spare: &[u16], traits: TraitSet) -> bool
+    requires { length spare.now ≡ 64 }
+    ensures { IsTrue result ↔ HasSpareBelow 64 spare.now traits }
+{
+    for set in 0..SETS {
+        if is_within(traits, TraitSet(set)) && spare[usize::from(set)] == 0 {
+            return false;
+        }
+    }
+    true
 }
 
 /// Takes one from each set that holds these traits.

@@ -43,4 +43,4 @@ returns-clause-value c =
     let (done, entries, r, keeps, e) = c.rows.invariant in
     let none = rw c.if-branch.false at c.in_ok-advance-2.ensures.more in
     let (clean, same) = read-all BadHeader header reading (rows_of c.args.body.now) done c.rows.rows.left entries r none in
-    (clean, subst (λ (es : List Entry). IsMatrix es c.finish.result) (sym same) (c.finish.ensures entries keeps))
+    (clean, subst (λ (es : List Entry). IsMatrix es c.in_ok-finish.field-0) (sym same) (c.in_ok-finish.ensures entries keeps))

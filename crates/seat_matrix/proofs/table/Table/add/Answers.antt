@@ -6,7 +6,7 @@ use Rattle.section_rows.proofs.StepsLemmas.{first_of-push, or_else}
 use Rattle.seat_matrix.specs.Matrix.{with_code}
 use Rattle.seat_matrix.specs.Table.{step_cmp}
 use Rattle.seat_matrix.specs.declared.entry.Home.{Home}
-use Rattle.seat_matrix.specs.declared.entry.Seating.{Seating}
+use Rattle.seat_matrix.specs.declared.seats.Seating.{Seating}
 use Rattle.seat_matrix.proofs.SeatsLemmas.{accepted, codes-push, entries-step, lookup-any, seating-step, seats-push}
 use Rattle.seat_matrix.proofs.table.Table.add.Goals as goal
 
