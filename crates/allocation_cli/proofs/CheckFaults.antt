@@ -1,9 +1,10 @@
 -- The failures of `check` have their causes.
 use Rattle.std.proofs.Common.{◌≡◌, ℕ, List, Option, refl}
+use Rattle.office_base.specs.Limits.{most_bundle_bytes}
 use Rattle.season_file.specs.Laws.{HasFault}
 use Rattle.season_file.specs.Season.{HasGiven, IsSeasonFault, IsSourceFault}
 use Rattle.season_file.specs.declared.fault.SeasonFault.{SeasonFault}
-use Rattle.season_file.specs.declared.fault.SeasonFault.TheVariants.{ReadFault, TooLong, BadFirstLine, Section, BadSeason, Register, Matrix, Choices, NotUtf8, OutOfMemory}
+use Rattle.season_file.specs.declared.fault.SeasonFault.TheVariants.{ReadFault, TooLong, OutOfMemory}
 use Rattle.season_texts.specs.Texts.{fault_line}
 use Rattle.allocation_cli.specs.Answers.{HasLeft, IsFailureOf}
 use Rattle.allocation_cli.specs.Check.{IsBundleFaultLine, TellsSeasonFault, check_answers}
@@ -20,15 +21,9 @@ told_left left after fault line given has told = let (bytes, took, end, first) =
 line_left : (left after : Option (List ℕ)) (fault : SeasonFault) (line : List ℕ) → (fault ≡ ReadFault → ⊥) → (fault ≡ OutOfMemory → ⊥) → IsSourceFault left after fault → line ≡ fault_line fault
     → HasLeft IsBundleFaultLine left line
 line_left left after ReadFault line read memory first told = absurd (read refl)
-line_left left after TooLong line read memory first told = let long = long_left 134217728 left after first in (long.0, long.1, (TooLong, long.2, told))
-line_left left after BadFirstLine line read memory first told = told_left left after BadFirstLine line first (λ bytes h. h) told
-line_left left after (Section n) line read memory first told = told_left left after (Section n) line first (λ bytes h. h) told
-line_left left after (BadSeason row) line read memory first told = told_left left after (BadSeason row) line first (λ bytes h. h) told
-line_left left after (Register fault) line read memory first told = told_left left after (Register fault) line first (λ bytes h. h) told
-line_left left after (Matrix fault) line read memory first told = told_left left after (Matrix fault) line first (λ bytes h. h) told
-line_left left after (Choices fault) line read memory first told = told_left left after (Choices fault) line first (λ bytes h. h) told
-line_left left after NotUtf8 line read memory first told = told_left left after NotUtf8 line first (λ bytes h. h) told
+line_left left after TooLong line read memory first told = let long = long_left most_bundle_bytes left after first in (long.0, long.1, (TooLong, long.2, told))
 line_left left after OutOfMemory line read memory first told = absurd (memory refl)
+line_left left after fault line read memory first told = told_left left after fault line first (λ bytes h. h) told
 
 -- A failure that tells a season's fault has its cause.
 pub season_failed : (left after : Option (List ℕ)) (failed : Type 0) (fault : SeasonFault) (failure : Failure) → (fault ≡ ReadFault → failed) → IsSourceFault left after fault

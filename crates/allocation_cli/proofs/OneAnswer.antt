@@ -2,6 +2,7 @@
 use Rattle.std.proofs.Common.{◌≡◌, ◌≢◌, ◌+◌, ℕ, List, [], ◌∷◌, length, refl, sym, ap, subst, ◌∙◌}
 use Rattle.std.specs.Prelude.{fold}
 use Rattle.office_base.specs.Certificate.{IsCanonical}
+use Rattle.office_base.specs.StepChoice.{IsStep}
 use Rattle.office_base.specs.declared.person.Person.{Person}
 use Rattle.office_base.specs.declared.step.Pair.{Pair}
 use Rattle.office_base.specs.declared.step.Step.{Step as StepOfSheet}
@@ -25,6 +26,7 @@ use Rattle.allocation_cli.specs.declared.words.Command.TheVariants.{Step, Check}
 -- the laws of sheets, choices, certificates and bundles
 pub record AreLawful : Type 0 where
   pub sheets : (bytes : List ℕ) → sheet.HaveOneReading bytes
+  pub steps : (bytes : List ℕ) (step : StepOfSheet) → sheet.SheetGives bytes step → IsStep step
   pub bundles : (bytes : List ℕ) → season_laws.HaveOneReading bytes
   pub choice : OneChoice
   pub certificate : OneCertificate
@@ -56,11 +58,11 @@ one_check laws bytes output other a b =
     let same = (laws.bundles bytes).one_content (content_of a.0 a.1.row) (content_of b.0 b.1.row) a.1.given b.1.given in
     a.2 ∙ same_counts a.0 b.0 a.1.row b.1.row same ∙ sym b.2
 
--- a step has one text
-one_text : AreLawful → (step : StepOfSheet) (output other : List ℕ) → IsStepText step output → IsStepText step other → output ≡ other
-one_text laws step output other a b =
-    let admitted = laws.choice step a.admitted b.admitted a.sound a.choice b.choice in
-    let distinct = pairwise_sublist (λ one next. one.id ≢ next.id) a.admitted step.people a.choice.may.people a.sound.people.distinct in
+-- a sound step has one text
+one_text : AreLawful → (step : StepOfSheet) (output other : List ℕ) → IsStep step → IsStepText step output → IsStepText step other → output ≡ other
+one_text laws step output other sound a b =
+    let admitted = laws.choice step a.admitted b.admitted sound a.choice b.choice in
+    let distinct = pairwise_sublist (λ one next. one.id ≢ next.id) a.admitted step.people a.choice.may.people sound.people.distinct in
     let certificate = subst (λ (people : List Person). IsCanonical step.protections people b.pairs) (sym admitted) b.certificate in
     let pairs = laws.certificate step.protections a.admitted a.pairs b.pairs distinct a.certificate certificate in
     a.text ∙ ap (λ (people : List Person). step_output step.seats (length step.people) people a.pairs) admitted
@@ -70,7 +72,7 @@ one_text laws step output other a b =
 one_step : AreLawful → (bytes output other : List ℕ) → IsStepOutput bytes output → IsStepOutput bytes other → output ≡ other
 one_step laws bytes output other a b =
     let same = (laws.sheets bytes).one_step a.0 b.0 a.1 b.1 in
-    one_text laws a.0 output other a.2 (subst (λ (step : StepOfSheet). IsStepText step other) (sym same) b.2)
+    one_text laws a.0 output other (laws.steps bytes a.0 a.1) a.2 (subst (λ (step : StepOfSheet). IsStepText step other) (sym same) b.2)
 
 -- a sheet has one answer under `step`
 one_step_answer : AreLawful → (bytes : List ℕ) → HaveOneAnswer step_answers bytes

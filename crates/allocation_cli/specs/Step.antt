@@ -2,7 +2,7 @@
 use Rattle.std.specs.Prelude.{◌≡◌, ℕ, List, Option, length}
 use Rattle.office_base.specs.Certificate.{IsCanonical}
 use Rattle.office_base.specs.Outside.{AreLeft}
-use Rattle.office_base.specs.StepChoice.{IsStep, IsStepChoice}
+use Rattle.office_base.specs.StepChoice.{IsStepChoice}
 use Rattle.office_base.specs.declared.person.Person.{Person}
 use Rattle.office_base.specs.declared.step.Pair.{Pair}
 use Rattle.office_base.specs.declared.step.Step.{Step}
@@ -11,9 +11,8 @@ use Rattle.step_sheet.specs.Sheet.{SheetGives, HasFault}
 use Rattle.step_sheet.specs.declared.fault.SheetFault.{SheetFault}
 use Rattle.allocation_cli.specs.Answers.{Answers}
 
--- What `step` writes for a sound step: its choice and the canonical certificate.
+-- What `step` writes for a step: its choice and the canonical certificate.
 pub record IsStepText (step : Step) (output : List ℕ) : Type 0 where
-  pub sound : IsStep step
   pub admitted : List Person
   pub pairs : List Pair
   pub choice : IsStepChoice step admitted

@@ -15,6 +15,7 @@ pub fn one_answer()
     ensures { (command : AnyCommand) (bytes : List ℕ) → HaveOneAnswer (answers_of command) bytes }
 {
     step_sheet::laws::one_reading();
+    step_sheet::laws::sound_steps();
     season_file::laws::one_reading();
     merit_choice::laws::one_choice();
     slot_cert::laws::one_certificate();

@@ -67,12 +67,7 @@ pub fn tell_no_memory<K: Sink>(sink: &mut K) -> Status
 }
 
 /// Runs a command.
-fn run<S: Source, K: Sink>(
-    alloc: Global,
-    command: Command,
-    source: &mut S,
-    sink: &mut K,
-) -> Status
+fn run<S: Source, K: Sink>(alloc: Global, command: Command, source: &mut S, sink: &mut K) -> Status
     ensures written { (output : List ℕ) × Appends output (K.written sink.old) (K.written sink.new)
         × Ends command (S.left source.old) result output }
     ensures read_whole { result ≡ Status.Ok → IsAtEnd (S.left source.new) }

@@ -81,7 +81,10 @@ const SHEETS: [(&str, &str); 9] = [
 #[test]
 fn the_best_are_admitted(rt: HostRuntime) -> Result<(), Fail> {
     for (sheet, list) in SHEETS {
-        assert!(rt; writes(rt.alloc(), "step", sheet, list, Status::Ok)?, "{sheet}");
+        assert!(rt;
+            writes(rt.alloc(), "step", sheet, list, Status::Ok)?,
+            "{sheet}"
+        );
     }
     Ok(())
 }
@@ -90,7 +93,10 @@ fn the_best_are_admitted(rt: HostRuntime) -> Result<(), Fail> {
 fn a_fault_is_told(rt: HostRuntime) -> Result<(), Fail> {
     let cases = [
         ("", "fault: sheet line 1 BadFirstLine\n"),
-        ("step sheet 2\nseats,1\n", "fault: sheet line 1 BadFirstLine\n"),
+        (
+            "step sheet 2\nseats,1\n",
+            "fault: sheet line 1 BadFirstLine\n",
+        ),
         ("step sheet 1\n", "fault: sheet line 2 BadLine\n"),
         // the protections of two lines are more than the seats
         (
@@ -99,7 +105,10 @@ fn a_fault_is_told(rt: HostRuntime) -> Result<(), Fail> {
         ),
     ];
     for (sheet, line) in cases {
-        assert!(rt; writes(rt.alloc(), "step", sheet, line, Status::BadInput)?, "{sheet}");
+        assert!(rt;
+            writes(rt.alloc(), "step", sheet, line, Status::BadInput)?,
+            "{sheet}"
+        );
     }
     Ok(())
 }

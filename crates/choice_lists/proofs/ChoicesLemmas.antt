@@ -12,8 +12,8 @@ use Rattle.office_base.specs.declared.person.ProgId.{ProgId}
 use Rattle.section_rows.specs.Rows.{Row, field}
 use Rattle.section_rows.specs.Steps.{after, unless}
 use Rattle.section_rows.proofs.StepsLemmas.{after_ok, needs_ok, none_from, unless_ok}
-use Rattle.rank_lists.specs.Register.{Ranks, find_person}
-use Rattle.seat_matrix.specs.Matrix.{Seats}
+use Rattle.rank_lists.specs.Register.{Ranks, find_person, row_of}
+use Rattle.seat_matrix.specs.Matrix.{SeatTable}
 use Rattle.seat_matrix.specs.declared.entry.Home.{Home}
 use Rattle.office_text.specs.Number.{number_within}
 use Rattle.choice_lists.specs.Choices.{AreDistinct, Entry, IsChoice, all_choices, choice, choices, is_chosen, is_ranked, is_ranked_for, is_ranked_there, list_at, new_candidate, person_of, programme_of}
@@ -32,6 +32,13 @@ same_id n (p ∷ people) person e = by (n == p.id.0) refl e (same_id n people pe
 -- a person is found by the person's own id
 found_self : (n : ℕ) (people : List Person) (person : Person) → find_person n people ≡ Some person → find_person person.id.0 people ≡ Some person
 found_self n people person e = subst (λ (k : ℕ). find_person k people ≡ Some person) (same_id n people person e) e
+
+-- the person at the position of an id has that position
+pub row_own : (people : List Person) (id at : ℕ) (person : Person) → Some at ≡ row_of id people → slice_get people at ≡ find_person id people → slice_get people at ≡ Some person
+    → row_of person.id.0 people ≡ Some at
+row_own people id at person e f g =
+    let same = same_id id people person (sym f ∙ g) in
+    ap (λ (k : ℕ). row_of k people) (sym same) ∙ sym e
 
 -- the person of a text is found by the person's own id
 pub known : (ranks : Ranks) (person : Person) (o : Option ℕ) → option_and_then (λ id. find_person id ranks.people) o ≡ Some person → find_person person.id.0 ranks.people ≡ Some person
@@ -65,7 +72,7 @@ not_false true e = refl
 not_false false e = cc e
 
 -- a choice is new to the row, and the person has a place there
-choice_ok : (seats : Seats) (person : Person) (chosen : List ProgId) (text : List ℕ) (prog : ProgId) → choice seats person chosen text ≡ Ok prog
+choice_ok : (seats : SeatTable) (person : Person) (chosen : List ProgId) (text : List ℕ) (prog : ProgId) → choice seats person chosen text ≡ Ok prog
     → (is_chosen prog.0 chosen ≡ false) × (is_ranked seats person prog.0 ≡ true)
 choice_ok seats person chosen text prog e =
     let (n, e1, e2) = needs_ok (programme_of seats text) UnknownProgramme (λ n. unless (is_chosen n chosen) RepeatedProgramme (unless (not (is_ranked seats person n)) NotRankedThere (Ok (record { 0 = n })))) prog e in
@@ -90,12 +97,12 @@ distinct_push (y ∷ xs) x distinct e = by (x.0 == y.0) refl e (distinct_push xs
     by false f h more = (all_push (λ z. y.0 ≡ z.0 → ⊥) xs x distinct.0 (λ same. cc (f, eq-eqb x.0 y.0 (sym same))), more h)
 
 -- distinct programmes in whose lists the person has a place
-pub record AreGood (seats : Seats) (person : Person) (progs : List ProgId) : Type 0 where
+pub record AreGood (seats : SeatTable) (person : Person) (progs : List ProgId) : Type 0 where
   pub distinct : AreDistinct progs
   pub ranked : AllByRecursion (λ prog. is_ranked seats person prog.0 ≡ true) progs
 
 -- The programmes of a row are good, and as many as the fields.
-pub choices_ok : (seats : Seats) (person : Person) (chosen : List ProgId) (texts : List (List ℕ)) (progs : List ProgId) → choices seats person chosen texts ≡ Ok progs
+pub choices_ok : (seats : SeatTable) (person : Person) (chosen : List ProgId) (texts : List (List ℕ)) (progs : List ProgId) → choices seats person chosen texts ≡ Ok progs
     → AreGood seats person chosen → AreGood seats person progs × (length progs ≡ length chosen + length texts)
 choices_ok seats person chosen [] progs e good =
     let same : chosen ≡ progs = cc e in
@@ -110,7 +117,7 @@ choices_ok seats person chosen (text ∷ texts) progs e good =
     (more, omega (arith, count, length-append chosen (prog ∷ [])))
 
 -- a ranked programme is one of the matrix
-ranked_within : (seats : Seats) (person : Person) (n : ℕ) → is_ranked seats person n ≡ true → n < length seats.programmes
+ranked_within : (seats : SeatTable) (person : Person) (n : ℕ) → is_ranked seats person n ≡ true → n < length seats.programmes
 ranked_within seats person n e = by (slice_get seats.programmes n) refl e
   where
     by : (o : Option (List ℕ × Home)) → slice_get seats.programmes n ≡ o → is_ranked_for person o ≡ true → n < length seats.programmes
@@ -122,7 +129,7 @@ all_map P Q [] f all = tt
 all_map P Q (x ∷ xs) f all = (f x all.0, all_map P Q xs f all.1)
 
 -- Good programmes are a sound list of the person.
-pub good_choice : (ranks : Ranks) (seats : Seats) (person : Person) (progs : List ProgId) → find_person person.id.0 ranks.people ≡ Some person → AreGood seats person progs → length progs ≤ 1000
+pub good_choice : (ranks : Ranks) (seats : SeatTable) (person : Person) (progs : List ProgId) → find_person person.id.0 ranks.people ≡ Some person → AreGood seats person progs → length progs ≤ 1000
     → IsChoice ranks seats person.id.0 progs
 good_choice ranks seats person progs known good short = record {
   distinct = good.distinct;
@@ -147,7 +154,7 @@ pub fields-from : (row : Row) (at : ℕ) → at < length row → drop at row ≡
 fields-from row at within = rw (add-one at) (drop-cons row at [] within)
 
 -- One more programme of the row was read.
-pub choices-more : (seats : Seats) (person : Person) (row : Row) (at : ℕ) (progs : List ProgId) (text : List ℕ) (prog : ProgId) → at < length row → text ≡ field row at → choice seats person progs text ≡ Ok prog
+pub choices-more : (seats : SeatTable) (person : Person) (row : Row) (at : ℕ) (progs : List ProgId) (text : List ℕ) (prog : ProgId) → at < length row → text ≡ field row at → choice seats person progs text ≡ Ok prog
     → choices seats person progs (drop at row) ≡ choices seats person (progs ++ prog ∷ []) (drop (at + 1) row)
 choices-more seats person row at progs text prog within e f =
     ap (λ (texts : List (List ℕ)). choices seats person progs texts) (fields-from row at within)

@@ -7,26 +7,26 @@ use Rattle.office_base.specs.declared.person.ProgId.{ProgId}
 use Rattle.office_text.specs.FirstFault.{IsFaultless, IsFirstFault}
 use Rattle.office_text.proofs.FirstFaultLemmas.{one_answer}
 use Rattle.section_rows.specs.Rows.{Row}
+use Rattle.section_rows.specs.declared.fault.TableFault.TheVariants.{Bad}
 use Rattle.section_rows.specs.Steps.{after, first_of}
 use Rattle.section_rows.specs.Table.{Reading, entries_after, entries_of, table_judge, with_entry}
 use Rattle.section_rows.proofs.StepsLemmas.{after_ok}
 use Rattle.rank_lists.specs.Register.{Ranks}
-use Rattle.seat_matrix.specs.Matrix.{Seats}
+use Rattle.seat_matrix.specs.Matrix.{SeatTable}
 use Rattle.seat_matrix.specs.declared.entry.Home.{Home}
 use Rattle.choice_lists.specs.Choices.{AreListsOf, Entry, IsChoice, IsFault, IsRead, Lists, choice, choices, header, judge, list_at, listed, new_candidate, reading}
 use Rattle.choice_lists.specs.Laws.{DependOnPeopleAndProgrammes, HaveOneReading}
-use Rattle.choice_lists.specs.declared.fault.ChoiceFault.TheVariants.{Bad}
 use Rattle.choice_lists.specs.declared.fault.ChoiceKind.{ChoiceKind}
 use Rattle.choice_lists.specs.declared.fault.ChoiceKind.TheVariants.{BadHeader}
 use Rattle.choice_lists.proofs.ChoicesLemmas.{choices_ok, good_choice, new_candidate_ok}
-use Rattle.choice_lists.proofs.ListingLemmas.{sound-step}
+use Rattle.choice_lists.proofs.BuilderLemmas.{sound-step}
 
 -- the lists of entries
 abbrev lists_from : List Entry → Lists
 lists_from entries = map (λ entry. (entry.candidate, entry.programmes)) entries
 
 -- each list of entries is sound
-abbrev AreSound : Ranks → Seats → List Entry → Type 0
+abbrev AreSound : Ranks → SeatTable → List Entry → Type 0
 AreSound ranks seats entries = (candidate : ℕ) → IsChoice ranks seats candidate (listed (list_at candidate entries))
 
 lists-found : (entries : List Entry) (candidate : ℕ) → first_of (λ held. candidate == held.0) (λ held. held.1) (lists_from entries) ≡ list_at candidate entries
@@ -42,11 +42,11 @@ abbrev entry_of : Person → List ProgId → Result Entry ChoiceKind
 entry_of person programmes = Ok (record { candidate = person.id.0; programmes = programmes })
 
 -- what the fields of a row give a person
-abbrev wanted : Seats → Row → Person → Result Entry ChoiceKind
+abbrev wanted : SeatTable → Row → Person → Result Entry ChoiceKind
 wanted seats row person = after (choices seats person [] (drop 1 row)) (entry_of person)
 
 -- What a row gives is sound.
-row_sound : (ranks : Ranks) (seats : Seats) (entries : List Entry) (row : Row) (entry : Entry) → reading ranks seats entries row ≡ Ok entry → IsChoice ranks seats entry.candidate entry.programmes
+row_sound : (ranks : Ranks) (seats : SeatTable) (entries : List Entry) (row : Row) (entry : Entry) → reading ranks seats entries row ≡ Ok entry → IsChoice ranks seats entry.candidate entry.programmes
 unfolding reading
 row_sound ranks seats entries row entry e =
     let (person, e1, r1) = after_ok (new_candidate ranks entries row) (wanted seats row) entry e in
@@ -58,7 +58,7 @@ row_sound ranks seats entries row entry e =
     subst (λ (x : Entry). IsChoice ranks seats x.candidate x.programmes) same (good_choice ranks seats person progs accepted.known good (omega (arith, accepted.short, count, length-drop 1 row)))
 
 -- Further rows keep all lists sound.
-sound_after : (ranks : Ranks) (seats : Seats) (entries : List Entry) (rows : List Row) → AreSound ranks seats entries → AreSound ranks seats (entries_after (reading ranks seats) entries rows)
+sound_after : (ranks : Ranks) (seats : SeatTable) (entries : List Entry) (rows : List Row) → AreSound ranks seats entries → AreSound ranks seats (entries_after (reading ranks seats) entries rows)
 sound_after ranks seats entries [] sound = sound
 sound_after ranks seats entries (row ∷ rows) sound =
     sound_after ranks seats (with_entry entries (reading ranks seats entries row)) rows (by (reading ranks seats entries row) refl)
@@ -67,22 +67,22 @@ sound_after ranks seats entries (row ∷ rows) sound =
     by (Ok entry) e = sound-step ranks seats entries entry sound (row_sound ranks seats entries row entry e)
     by (Err kind) e = sound
 
-no_lists : (ranks : Ranks) (seats : Seats) → AreSound ranks seats []
+no_lists : (ranks : Ranks) (seats : SeatTable) → AreSound ranks seats []
 no_lists ranks seats candidate = record { distinct = tt; short = omega arith; numbers = tt; ranked = tt }
 
-sound_of : (ranks : Ranks) (seats : Seats) (rows : List Row) → AreSound ranks seats (entries_of (reading ranks seats) rows)
+sound_of : (ranks : Ranks) (seats : SeatTable) (rows : List Row) → AreSound ranks seats (entries_of (reading ranks seats) rows)
 sound_of ranks seats [] = no_lists ranks seats
 sound_of ranks seats (first ∷ rows) = sound_after ranks seats [] rows (no_lists ranks seats)
 
 -- Rows give lists or have a fault.
-some_reading : (ranks : Ranks) (seats : Seats) (rows : List Row) → ((lists : Lists) × IsRead ranks seats rows lists) ⊎ ((row : ℕ) × (kind : ChoiceKind) × IsFault ranks seats rows (Bad row kind))
+some_reading : (ranks : Ranks) (seats : SeatTable) (rows : List Row) → ((lists : Lists) × IsRead ranks seats rows lists) ⊎ ((row : ℕ) × (kind : ChoiceKind) × IsFault ranks seats rows (Bad row kind))
 some_reading ranks seats rows = elim (one_answer (judge ranks seats) rows).some [
   | inl none ↦ inl (lists_from (entries_of (reading ranks seats) rows), (none, lists_made (entries_of (reading ranks seats) rows)))
   | inr found ↦ inr (found.0 + 1, found.1, (found.0, refl, found.2))
 ]
 
 -- Rows have exactly one reading.
-pub one_reading : (ranks : Ranks) (seats : Seats) (rows : List Row) → HaveOneReading ranks seats rows
+pub one_reading : (ranks : Ranks) (seats : SeatTable) (rows : List Row) → HaveOneReading ranks seats rows
 one_reading ranks seats rows = record {
   some = some_reading ranks seats rows;
   apart = λ lists row kind read fault. (one_answer (judge ranks seats) rows).apart fault.0 kind read.0 fault.2;
@@ -94,10 +94,10 @@ one_reading ranks seats rows = record {
 }
 
 -- a programme is chosen among the programmes alone
-same_choice : (seats matrix : Seats) (person : Person) (chosen : List ProgId) (text : List ℕ) → seats.programmes ≡ matrix.programmes → choice seats person chosen text ≡ choice matrix person chosen text
+same_choice : (seats matrix : SeatTable) (person : Person) (chosen : List ProgId) (text : List ℕ) → seats.programmes ≡ matrix.programmes → choice seats person chosen text ≡ choice matrix person chosen text
 same_choice seats matrix person chosen text e = ap (λ (programmes : List (List ℕ × Home)). choice (record { programmes = programmes; steps = seats.steps }) person chosen text) e
 
-same_choices : (seats matrix : Seats) (person : Person) (chosen : List ProgId) (texts : List (List ℕ)) → seats.programmes ≡ matrix.programmes → choices seats person chosen texts ≡ choices matrix person chosen texts
+same_choices : (seats matrix : SeatTable) (person : Person) (chosen : List ProgId) (texts : List (List ℕ)) → seats.programmes ≡ matrix.programmes → choices seats person chosen texts ≡ choices matrix person chosen texts
 same_choices seats matrix person chosen [] e = refl
 same_choices seats matrix person chosen (text ∷ texts) e =
     ap (λ (r : Result ProgId ChoiceKind). after r (λ prog. choices seats person (chosen ++ prog ∷ []) texts)) (same_choice seats matrix person chosen text e)
@@ -113,7 +113,7 @@ same_candidate : (ranks other : Ranks) (entries : List Entry) (row : Row) → ra
 same_candidate ranks other entries row e = ap (λ (people : List Person). new_candidate (record { people = people; holders = ranks.holders }) entries row) e
 
 -- a row is read beside the people and the programmes alone
-same_row : (ranks other : Ranks) (seats matrix : Seats) (entries : List Entry) (row : Row) → ranks.people ≡ other.people → seats.programmes ≡ matrix.programmes
+same_row : (ranks other : Ranks) (seats matrix : SeatTable) (entries : List Entry) (row : Row) → ranks.people ≡ other.people → seats.programmes ≡ matrix.programmes
     → reading ranks seats entries row ≡ reading other matrix entries row
 unfolding reading
 same_row ranks other seats matrix entries row e f =
@@ -124,7 +124,7 @@ same_row ranks other seats matrix entries row e f =
     by (Err kind) = refl
 
 -- the same is read beside the same people and programmes
-same_grammar : (ranks other : Ranks) (seats matrix : Seats) → ranks.people ≡ other.people → seats.programmes ≡ matrix.programmes → reading ranks seats ≡ reading other matrix
+same_grammar : (ranks other : Ranks) (seats matrix : SeatTable) → ranks.people ≡ other.people → seats.programmes ≡ matrix.programmes → reading ranks seats ≡ reading other matrix
 same_grammar ranks other seats matrix e f = λ i entries row. same_row ranks other seats matrix entries row e f i
 
 -- Rows are read beside the people and the programmes alone.

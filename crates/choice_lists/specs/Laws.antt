@@ -1,14 +1,14 @@
 -- That rows give one set of lists or have one fault, and what that depends on.
 use Rattle.std.specs.Prelude.{◌≡◌, ◌⊎◌, ℕ, List}
 use Rattle.section_rows.specs.Rows.{Row}
+use Rattle.section_rows.specs.declared.fault.TableFault.TheVariants.{Bad}
 use Rattle.rank_lists.specs.Register.{Ranks}
-use Rattle.seat_matrix.specs.Matrix.{Seats}
+use Rattle.seat_matrix.specs.Matrix.{SeatTable}
 use Rattle.choice_lists.specs.Choices.{AreChoices, IsFault, IsRead, Lists, list_of}
-use Rattle.choice_lists.specs.declared.fault.ChoiceFault.TheVariants.{Bad}
 use Rattle.choice_lists.specs.declared.fault.ChoiceKind.{ChoiceKind}
 
 -- Beside ranks and seats, rows give sound lists or have a fault; never both, and never two that differ.
-pub record HaveOneReading (ranks : Ranks) (seats : Seats) (rows : List Row) : Type 0 where
+pub record HaveOneReading (ranks : Ranks) (seats : SeatTable) (rows : List Row) : Type 0 where
   pub some : ((lists : Lists) × IsRead ranks seats rows lists) ⊎ ((row : ℕ) × (kind : ChoiceKind) × IsFault ranks seats rows (Bad row kind))
   pub apart : (lists : Lists) (row : ℕ) (kind : ChoiceKind) → IsRead ranks seats rows lists → IsFault ranks seats rows (Bad row kind) → ⊥
   pub one_value : (lists other : Lists) → IsRead ranks seats rows lists → IsRead ranks seats rows other → (candidate : ℕ) → list_of lists candidate ≡ list_of other candidate
@@ -16,10 +16,10 @@ pub record HaveOneReading (ranks : Ranks) (seats : Seats) (rows : List Row) : Ty
   pub sound : (lists : Lists) → IsRead ranks seats rows lists → AreChoices ranks seats lists
 
 -- What rows give or have beside ranks and seats, they give or have beside others.
-pub record CarryOver (ranks other : Ranks) (seats matrix : Seats) (rows : List Row) : Type 0 where
+pub record CarryOver (ranks other : Ranks) (seats matrix : SeatTable) (rows : List Row) : Type 0 where
   pub value : (lists : Lists) → IsRead ranks seats rows lists → IsRead other matrix rows lists
   pub fault : (row : ℕ) (kind : ChoiceKind) → IsFault ranks seats rows (Bad row kind) → IsFault other matrix rows (Bad row kind)
 
 -- Of the ranks only the people matter, and of the seats only the programmes.
 abbrev pub DependOnPeopleAndProgrammes : List Row → Type 0
-DependOnPeopleAndProgrammes rows = (ranks other : Ranks) (seats matrix : Seats) → ranks.people ≡ other.people → seats.programmes ≡ matrix.programmes → CarryOver ranks other seats matrix rows
+DependOnPeopleAndProgrammes rows = (ranks other : Ranks) (seats matrix : SeatTable) → ranks.people ≡ other.people → seats.programmes ≡ matrix.programmes → CarryOver ranks other seats matrix rows

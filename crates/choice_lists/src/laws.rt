@@ -2,12 +2,12 @@
 ghost use Rattle.std.specs.Prelude.{List};
 ghost use Rattle.section_rows.specs.Rows.{Row};
 ghost use Rattle.rank_lists.specs.Register.{Ranks};
-ghost use Rattle.seat_matrix.specs.Matrix.{Seats};
+ghost use Rattle.seat_matrix.specs.Matrix.{SeatTable};
 ghost use Rattle.choice_lists.specs.Laws.{DependOnPeopleAndProgrammes, HaveOneReading};
 
 /// Beside ranks and seats, rows give sound lists or have one first fault, and never both.
 pub fn one_reading()
-    ensures { (ranks : Ranks) (seats : Seats) (rows : List Row) → HaveOneReading ranks seats rows }
+    ensures { (ranks : Ranks) (seats : SeatTable) (rows : List Row) → HaveOneReading ranks seats rows }
 {}
 
 /// Of the ranks only the people matter, and of the seats only the programmes.

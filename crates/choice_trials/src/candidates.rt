@@ -1,6 +1,6 @@
 // Candidates, steps and programmes that the trials share.
 ghost use Rattle.std.specs.Prelude.{◌≡◌, ◌∷◌, [], IsTrue};
-ghost use Rattle.open_then_category.specs.Listing.{AreApplicants};
+ghost use Rattle.programme_lists.specs.Chosen.{AreApplicants};
 
 use office_base::{
     CandId, Category, ListId, OutOfMemory, Pair, People, Person, Place, Protections, Step, TraitSet,
@@ -110,6 +110,7 @@ pub fn step_without_seats(list: ListId, people: People) -> Step
 pub fn may_apply(step: &Step) -> bool
     ensures { IsTrue result → AreApplicants step.now.list step.now.people }
 {
+    merit_choice::laws::ranked_in_merit();
     is_step(step)
 }
 

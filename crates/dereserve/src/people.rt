@@ -1,8 +1,7 @@
 // Who may fill seats that are open to all, and who fills those that a category left empty.
 ghost use Rattle.std.specs.Prelude.{◌≡◌, IfOk, take};
 ghost use Rattle.std.specs.List.{filter};
-ghost use Rattle.office_base.specs.Person.{IsList};
-ghost use Rattle.dereserve.specs.Common.{is_common};
+ghost use Rattle.office_base.specs.Person.{IsList, is_common};
 
 use office_base::{ListId, OutOfMemory, People, Person, Place};
 use std::alloc::Global;

@@ -3,16 +3,17 @@ use Rattle.std.proofs.Common.{◌≡◌, ◌≢◌, ◌≤◌, ◌-◌, ℕ, Opt
 use Rattle.office_base.specs.Lists.{IsSublist, Pairwise}
 use Rattle.office_base.specs.Person.{IsAhead, number_in}
 use Rattle.office_base.specs.Placement.{IsHonoured}
-use Rattle.office_base.specs.StepChoice.{IsStep, MayAdmit, IsNoWorse, IsStepChoice}
+use Rattle.office_base.specs.StepChoice.{AreRanked, IsStep, MayAdmit, IsNoWorse, IsStepChoice}
 use Rattle.office_base.specs.declared.person.ListId.{ListId}
 use Rattle.office_base.specs.declared.person.Person.{Person}
 use Rattle.office_base.specs.declared.step.Step.{Step}
 use Rattle.office_base.specs.declared.step.Protections.{Protections}
-use Rattle.office_base.proofs.Sublists.{length-sublist}
+use Rattle.placements.proofs.Sublists.{length-sublist}
 use Rattle.placements.proofs.Greatest.{honoured-exists}
 use Rattle.placements.proofs.Ranks.{pairwise_sublist, any_among, monotone, among_sublist}
 use Rattle.merit_choice.specs.Laws.{IsAmong, HasMorePeople, OneChoice, ChoiceExists, ChoiceSize, RefusedStaysRefused, NoFewer, LeavingOutRefused, MoreSeats}
 use Rattle.merit_choice.specs.Marks.{marked, kept, filled_up, AreRaises}
+use Rattle.merit_choice.proofs.InMerit.{ranked_part}
 use Rattle.merit_choice.proofs.Members.{kept_covered, kept_among_fewer, decides_among, sublist_of_some}
 use Rattle.merit_choice.proofs.Marks.{AreFewer, sublist-kept, filled_up-fewer, filled_up_more}
 use Rattle.merit_choice.proofs.Raises.{new-from_nobody, raises-exist, raises_fewer, honoured_marked, honoured_nobody}
@@ -79,6 +80,11 @@ choice_size step chosen ok choice =
 
 -- ---- more people
 
+-- in merit order the people are a part of the more
+part_of : (step more : Step) → HasMorePeople step more → IsSublist step.people more.people
+part_of step more both =
+    ranked_part step.list step.people more.people both.is_step.people (subst (λ (list : ListId). AreRanked list more.people) both.list both.more_is_step.people) both.people
+
 -- the marks of the more people raise the number no fewer times
 more_marked : (protections : Protections) (some all : List Person) (marks others : List Bool) → IsSublist some all
     → AreRaises protections [] some marks → AreRaises protections [] all others → marked marks ≤ marked others
@@ -111,13 +117,13 @@ refused_stays_refused step more chosen others person both one other here refused
     let among : IsAmong person (best_with step.seats more.people theirs.0) =
     subst (λ (seats : ℕ). IsAmong person (best_with seats more.people theirs.0)) both.seats (subst (IsAmong person) theirs.2 there) in
     refused (subst (IsAmong person) (sym mine.2)
-    (chosen_from_some step.protections step.seats step.people more.people mine.0 theirs.0 person both.more_is_step.people.distinct both.people mine.1 more_raises here among))
+    (chosen_from_some step.protections step.seats step.people more.people mine.0 theirs.0 person both.more_is_step.people.distinct (part_of step more both) mine.1 more_raises here among))
 
 pub no_fewer : NoFewer
 no_fewer step more chosen others both one other =
     let mine = choice_size step chosen both.is_step one in
     let theirs = choice_size more others both.more_is_step other in
-    let people = length-sublist step.people more.people both.people in
+    let people = length-sublist step.people more.people (part_of step more both) in
     let seats = both.seats in
     omega arith
 
@@ -138,7 +144,7 @@ sublist_again xs ys (z ∷ zs) first second = elim second [
 choice_of_some : (step more : Step) (others : List Person) → HasMorePeople step more → IsStepChoice more others → IsSublist others step.people → IsStepChoice step others
 choice_of_some step more others both choice sub =
     let wide = λ (set : List Person) (may : MayAdmit step set). let m : MayAdmit more set =
-    record { people = sublist_again set step.people more.people may.people both.people; seats = omega (arith, may.seats, both.seats) } in m in
+    record { people = sublist_again set step.people more.people may.people (part_of step more both); seats = omega (arith, may.seats, both.seats) } in m in
     let seats = choice.may.seats in
     let same = both.seats in
     record {
@@ -156,12 +162,12 @@ leaving_out_refused step more chosen others both one other refused =
     let distinct = both.more_is_step.people.distinct in
     let within = λ (person : Person) (there : IsAmong person others).
     let in_more : IsAmong person more.people = any_among (λ one. person ≡ one) others more.people (among_sublist others more.people other.may.people) there in
-    let found : IsAmong person step.people = elim (decides_among more.people step.people person distinct both.people in_more) [
+    let found : IsAmong person step.people = elim (decides_among more.people step.people person distinct (part_of step more both) in_more) [
       | inl here ↦ here
       | inr nowhere ↦ absurd (refused person in_more nowhere there)
     ] in
     found in
-    let sub = sublist_of_some others step.people more.people distinct other.may.people both.people within in
+    let sub = sublist_of_some others step.people more.people distinct other.may.people (part_of step more both) within in
     one_choice step chosen others both.is_step one (choice_of_some step more others both other sub)
 
 -- ---- more seats

@@ -1,13 +1,16 @@
 -- The laws of the choice of a step, as statements over the definitions of the base.
-use Rattle.std.specs.Prelude.{◌≡◌, ◌≤◌, min, List, length}
-use Rattle.office_base.specs.Lists.{AnyByRecursion, IsSublist}
+use Rattle.std.specs.Prelude.{◌≡◌, ◌≤◌, ◌<◌, ◌-◌, ℕ, suc, min, Bool, List, [], ◌∷◌, length, sum}
+pub use Rattle.office_base.specs.Lists.{IsAmong}
+use Rattle.office_base.specs.Person.{IsBetter, IsList}
+use Rattle.office_base.specs.Placement.{IsHonoured}
 use Rattle.office_base.specs.StepChoice.{IsStep, IsStepChoice}
+use Rattle.office_base.specs.declared.person.ListId.{ListId}
 use Rattle.office_base.specs.declared.person.Person.{Person}
+use Rattle.office_base.specs.declared.step.Protections.{Protections}
 use Rattle.office_base.specs.declared.step.Step.{Step}
-
--- the person is one of the people
-abbrev pub IsAmong : Person → List Person → Type 0
-IsAmong person people = AnyByRecursion (λ other. person ≡ other) people
+use Rattle.placements.specs.Ranks.{AreAmong, without}
+use Rattle.merit_choice.specs.InMerit.{CanBeRanked, in_merit, with_person}
+use Rattle.merit_choice.specs.Marks.{marked, kept, filled_up, AreMarkedByHand}
 
 -- a step has at most one choice
 abbrev pub OneChoice : Type 0
@@ -28,7 +31,7 @@ pub record HasMorePeople (step more : Step) : Type 0 where
   pub list : more.list ≡ step.list
   pub seats : more.seats ≡ step.seats
   pub protections : more.protections ≡ step.protections
-  pub people : IsSublist step.people more.people
+  pub people : AreAmong step.people more.people
 
 -- who is not chosen from some people is not chosen from more
 abbrev pub RefusedStaysRefused : Type 0
@@ -57,3 +60,45 @@ pub record HasMoreSeats (step more : Step) : Type 0 where
 abbrev pub MoreSeats : Type 0
 MoreSeats = (step more : Step) (chosen others : List Person) (person : Person) → HasMoreSeats step more → IsStepChoice step chosen → IsStepChoice more others
     → IsAmong person chosen → IsAmong person others
+
+-- By hand: going down the people, whoever raises the number that those marked before honour is marked; the marked, with the best of the others on
+-- the seats that are left, are the choice.
+abbrev pub ByHand : Type 0
+ByHand = (step : Step) (marks : List Bool) → IsStep step → AreMarkedByHand step.protections [] step.people marks
+    → IsStepChoice step (kept step.people (filled_up marks (step.seats - marked marks)))
+
+-- so people can be marked
+abbrev pub MarksByHand : Type 0
+MarksByHand = (step : Step) → IsStep step → (marks : List Bool) × AreMarkedByHand step.protections [] step.people marks
+
+-- One too many: of one person more than there are seats, the choice leaves out the worst without whom as many protections are honoured.
+abbrev pub OneTooMany : Type 0
+OneTooMany = (step : Step) (out : Person) (n : ℕ) → IsStep step → length step.people ≡ suc step.seats → IsAmong out step.people
+    → IsHonoured step.protections step.people n → IsHonoured step.protections (without out.id step.people) n
+    → ((other : Person) (m : ℕ) → IsAmong other step.people → IsBetter step.list out other → IsHonoured step.protections (without other.id step.people) m → m < n)
+    → IsStepChoice step (without out.id step.people)
+
+-- everybody is chosen where there are seats for all
+abbrev pub SeatsForAll : Type 0
+SeatsForAll = (step : Step) → IsStep step → length step.people ≤ step.seats → IsStepChoice step step.people
+
+-- A step chooses again: some were among the people of an earlier step with the same seats, and were not chosen there; without them the choice is the same.
+abbrev pub RefusedBefore : Type 0
+RefusedBefore = (step small more : Step) (chosen some others : List Person) → HasMorePeople step more → HasMorePeople small more
+    → IsStepChoice step chosen → IsStepChoice small some → IsStepChoice more others
+    → ((person : Person) → IsAmong person more.people → (IsAmong person small.people → ⊥) → IsAmong person step.people × (IsAmong person chosen → ⊥))
+    → some ≡ others
+
+-- Whom the seats hold after people came one after another, the last of them first: nobody at first, and then each time the choice from those held and
+-- the one who came.
+abbrev pub AreHeldAfter : ListId → ℕ → Protections → List Person → List Person → Type 0
+AreHeldAfter list seats protections [] held = held ≡ []
+AreHeldAfter list seats protections (person ∷ offered) held =
+    (before : List Person) × AreHeldAfter list seats protections offered before
+    × IsStepChoice (record { list = list; seats = seats; protections = protections; people = with_person list person before }) held
+
+-- One by one: these are the choice from all who came.
+abbrev pub OneByOne : Type 0
+OneByOne = (list : ListId) (seats : ℕ) (protections : Protections) (offered held : List Person) → IsList list → sum protections.counts ≤ seats → CanBeRanked list offered
+    → AreHeldAfter list seats protections offered held
+    → IsStepChoice (record { list = list; seats = seats; protections = protections; people = in_merit list offered }) held

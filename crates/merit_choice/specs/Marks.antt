@@ -1,5 +1,5 @@
 -- Marks along the people of a step, one for each of them in their order: who is needed for the protections, and whom the seats take.
-use Rattle.std.specs.Prelude.{ℕ, zero, suc, List, [], ◌∷◌, Bool, true, false}
+use Rattle.std.specs.Prelude.{ℕ, zero, suc, List, [], ◌∷◌, Bool, true, false, if◌then◌else◌}
 use Rattle.office_base.specs.Placement.{IsHonoured}
 use Rattle.office_base.specs.declared.person.Person.{Person}
 use Rattle.office_base.specs.declared.step.Protections.{Protections}
@@ -35,3 +35,11 @@ AreRaises protections before [] [] = Unit {0}
 AreRaises protections before [] (mark ∷ marks) = ⊥
 AreRaises protections before (person ∷ people) [] = ⊥
 AreRaises protections before (person ∷ people) (mark ∷ marks) = IsRaise protections before person mark × AreRaises protections (person ∷ before) people marks
+
+-- one mark for each of the people: whether the person raises the number that those honour who were marked before
+abbrev pub AreMarkedByHand : Protections → List Person → List Person → List Bool → Type 0
+AreMarkedByHand protections before [] [] = Unit {0}
+AreMarkedByHand protections before [] (mark ∷ marks) = ⊥
+AreMarkedByHand protections before (person ∷ people) [] = ⊥
+AreMarkedByHand protections before (person ∷ people) (mark ∷ marks) =
+    IsRaise protections before person mark × AreMarkedByHand protections (if mark then person ∷ before else before) people marks

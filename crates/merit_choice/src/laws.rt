@@ -1,5 +1,6 @@
-// The laws of the choice of a step, over its definition alone. Each is the contract of a function that does nothing.
-ghost use Rattle.merit_choice.specs.Laws.{OneChoice, ChoiceExists, ChoiceSize, RefusedStaysRefused, NoFewer, LeavingOutRefused, MoreSeats};
+// The laws of the choice of a step and of the merit order, over their definitions alone. Each is the contract of a function that does nothing.
+ghost use Rattle.merit_choice.specs.InMerit.{InMeritRanks, OneMeritOrder, SameMeritOrder, PartCanBeRanked, PartInMerit, RankedInMerit, RankedPart, WithPersonRanks};
+ghost use Rattle.merit_choice.specs.Laws.{OneChoice, ChoiceExists, ChoiceSize, RefusedStaysRefused, NoFewer, LeavingOutRefused, MoreSeats, ByHand, MarksByHand, OneTooMany, SeatsForAll, RefusedBefore, OneByOne};
 
 /// A step has at most one choice.
 pub fn one_choice()
@@ -34,4 +35,74 @@ pub fn leaving_out_refused()
 /// Who is chosen stays chosen where there are more seats for the same protections.
 pub fn more_seats()
     ensures { MoreSeats }
+{}
+
+/// Down the merit order, mark who raises the number that those marked before honour; the marked and the best of the others are the choice.
+pub fn by_hand()
+    ensures { ByHand }
+{}
+
+/// The people of a step can be marked so.
+pub fn marks_by_hand()
+    ensures { MarksByHand }
+{}
+
+/// Of one person more than there are seats, the worst is left out without whom as many protections are honoured.
+pub fn one_too_many()
+    ensures { OneTooMany }
+{}
+
+/// Where there are seats for all, all are chosen.
+pub fn seats_for_all()
+    ensures { SeatsForAll }
+{}
+
+/// Without some people who were not chosen before, from fewer people, the choice is the same.
+pub fn refused_before()
+    ensures { RefusedBefore }
+{}
+
+/// Whoever is held after people came one by one, whatever their order, is chosen from all who came.
+pub fn one_by_one()
+    ensures { OneByOne }
+{}
+
+/// People by merit are the same persons, each better than all who follow.
+pub fn in_merit_ranks()
+    ensures { InMeritRanks }
+{}
+
+/// Persons stand in merit order in one way alone.
+pub fn one_merit_order()
+    ensures { OneMeritOrder }
+{}
+
+/// The order by merit does not depend on the order in which the persons are told.
+pub fn same_merit_order()
+    ensures { SameMeritOrder }
+{}
+
+/// Some of the people can be put in merit order where all can.
+pub fn part_can_be_ranked()
+    ensures { PartCanBeRanked }
+{}
+
+/// Some of the people by merit are a part of all of them by merit.
+pub fn part_in_merit()
+    ensures { PartInMerit }
+{}
+
+/// People in merit order stay as they are.
+pub fn ranked_in_merit()
+    ensures { RankedInMerit }
+{}
+
+/// Of two lists in merit order, persons who are among the others are a part of them.
+pub fn ranked_part()
+    ensures { RankedPart }
+{}
+
+/// People in merit order with a new person are in merit order.
+pub fn with_person_ranks()
+    ensures { WithPersonRanks }
 {}

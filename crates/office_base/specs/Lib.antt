@@ -3,6 +3,7 @@ pub mod Codes
 pub mod Limits
 pub mod Lists
 pub mod Memory
+pub mod Merit
 pub mod Numbered
 pub mod Outside
 pub mod Person

@@ -16,6 +16,7 @@ pub mod mem_source;
 pub mod outside;
 mod padding;
 pub mod person;
+pub mod short_text;
 pub mod step;
 pub mod steps;
 pub mod sure;

@@ -8,12 +8,14 @@ use Rattle.office_base.specs.declared.person.ListId.{ListId}
 use Rattle.office_base.specs.declared.person.Person.{Person}
 use Rattle.office_base.specs.declared.step.StepKind.{StepKind}
 use Rattle.office_base.specs.declared.step.StepKind.TheVariants.{Open, Ews as EwsStep, Obc as ObcStep, Sc as ScStep, St as StStep, Dereserved}
-use Rattle.office_base.proofs.Sublists.{length-sublist}
-use Rattle.open_then_category.specs.Listing.{Shows, ShowsChoice}
-use Rattle.dereserve.specs.Common.{is_common}
-use Rattle.open_then_category.specs.Programme.{Admissions, no_protections, seats_of, is_of, without, step_with}
-use Rattle.open_then_category.specs.declared.programme.StepList.{StepList}
-use Rattle.open_then_category.specs.declared.seats.ProgrammeSeats.{ProgrammeSeats}
+use Rattle.placements.proofs.Sublists.{length-sublist}
+use Rattle.programme_lists.specs.Listing.{Shows, ShowsChoice}
+use Rattle.seat_matrix.specs.Unfilled.{left_unfilled}
+use Rattle.office_base.specs.Person.{is_common}
+use Rattle.programme_lists.specs.Programme.{Admissions, is_of, without, step_with}
+use Rattle.seat_matrix.specs.Seats.{no_protections, seats_of}
+use Rattle.programme_lists.specs.declared.programme.StepList.{StepList}
+use Rattle.seat_matrix.specs.declared.seats.ProgrammeSeats.{ProgrammeSeats}
 use Rattle.open_then_category.proofs.Lists.{filter-sublist}
 use Rattle.open_then_category.proofs.Walk.{ranked_without}
 
@@ -59,7 +61,7 @@ pub assembled : (version : ℕ) (seats : ProgrammeSeats) (applicants rest left :
     → Shows Open (seats_of seats Open).seats (seats_of seats Open).protections (filter (is_common seats.list) applicants) first.admitted first
     → IsCategoryStep seats EwsStep Ews rest ews → IsCategoryStep seats ObcStep Obc rest obc → IsCategoryStep seats ScStep Sc rest sc → IsCategoryStep seats StStep St rest st
     → left ≡ left_of rest ews.admitted obc.admitted sc.admitted st.admitted
-    → n ≡ (seats_of seats ObcStep).seats - length obc.admitted
+    → n ≡ left_unfilled version (seats_of seats EwsStep).seats (length ews.admitted) (seats_of seats ObcStep).seats (length obc.admitted)
     → Shows Dereserved n no_protections (filter (is_common seats.list) left) (take n (filter (is_common seats.list) left)) last
     → ShowsChoice version seats applicants (record { steps = first ∷ ews ∷ obc ∷ sc ∷ st ∷ last ∷ [] })
 assembled version seats applicants rest left n first ews obc sc st last e first_choice first_shows of_ews of_obc of_sc of_st same_left same_n last_shows =
@@ -69,7 +71,7 @@ assembled version seats applicants rest left n first ews obc sc st last e first_
     let of_st2 = subst (λ (people : List Person). IsCategoryStep seats StStep St people st) e of_st in
     let over = left_of (without applicants first.admitted) ews.admitted obc.admitted sc.admitted st.admitted in
     let same : left ≡ over = same_left ∙ ap (λ (people : List Person). left_of people ews.admitted obc.admitted sc.admitted st.admitted) e in
-    let empty = (seats_of seats ObcStep).seats - length obc.admitted in
+    let empty = left_unfilled version (seats_of seats EwsStep).seats (length ews.admitted) (seats_of seats ObcStep).seats (length obc.admitted) in
     let last2 : Shows Dereserved n no_protections (filter (is_common seats.list) over) (take n (filter (is_common seats.list) over)) last =
     subst (λ (people : List Person). Shows Dereserved n no_protections (filter (is_common seats.list) people) (take n (filter (is_common seats.list) people)) last) same last_shows in
     let last3 : Shows Dereserved empty no_protections (filter (is_common seats.list) over) (take empty (filter (is_common seats.list) over)) last =

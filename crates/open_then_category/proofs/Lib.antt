@@ -1,6 +1,10 @@
 mod Assemble
+mod Decide
+mod Grows
+mod Once
+mod RankedWords
+mod SetLaws
 mod Sorting
 mod Walk
-pub mod Applicants
 pub mod Lists
 pub mod ProgrammeLaws

@@ -1,18 +1,23 @@
 -- Applicants sorted by their places stand in merit order.
 use Rattle.std.proofs.Common.{◌≡◌, ◌≢◌, ◌≤◌, ◌<◌, ◌+◌, ℕ, zero, suc, Bool, true, false, List, [], ◌∷◌, length, get_or, eqb, refl, sym, ap, subst, inl, inr, arith, Option, Some, None}
 use Rattle.std.proofs.lemmas.Bool.{eq-eqb, ne_eqb, cases_eq, both_ways}
-use Rattle.std.proofs.lemmas.List.Sorted.{sum_by-IsPermutation, All-permutation}
+use Rattle.std.proofs.lemmas.List.Sorted.{sum_by-IsPermutation, All-permutation, IsPermutation-sym}
 use Rattle.std.proofs.lemmas.List.Sums.{sum_by-cons}
 use Rattle.std.specs.List.{All, AllByRecursion, sum_by}
 use Rattle.std.specs.Option.{unwrap_or}
 use Rattle.std.specs.List.Sorted.{IsPermutation, IsNonDecreasingBy}
-use Rattle.office_base.specs.Lists.{Pairwise}
+use Rattle.office_base.specs.Lists.{AnyByRecursion, Pairwise}
 use Rattle.office_base.specs.Person.{IsTraitSet, IsAhead, IsBetter, number_in}
+use Rattle.office_base.specs.StepChoice.{AreRanked}
+use Rattle.office_base.specs.Merit.{in_merit}
+use Rattle.placements.specs.Ranks.{AreAmong}
+use Rattle.placements.proofs.Ranks.{all_both, among_itself}
+use Rattle.merit_choice.specs.InMerit.{OneMeritOrder}
 use Rattle.office_base.specs.declared.person.CandId.{CandId}
 use Rattle.office_base.specs.declared.person.ListId.{ListId}
 use Rattle.office_base.specs.declared.person.Person.{Person}
-use Rattle.placements.proofs.Ranks.{all_both}
-use Rattle.open_then_category.specs.Listing.{AreApplicants, IsMeritOrder, merit_in}
+use Rattle.open_then_category.specs.Order.{merit_in}
+use Rattle.programme_lists.specs.Chosen.{AreApplicants}
 use Rattle.std.specs.Prelude.{IsSome}
 
 -- 1 for a test that holds
@@ -129,6 +134,11 @@ all_permuted : (P : Person → Type 0) (people others : List Person) → IsPermu
 all_permuted P [] others same all = all_from_all P others (All-permutation P [] others same (all_to_all P [] all))
 all_permuted P (person ∷ people) others same all = all_from_all P others (All-permutation P (person ∷ people) others same (all_to_all P (person ∷ people) all))
 
+-- the same people in merit order
+pub record IsMeritOrder (list : ListId) (people ranked : List Person) : Type 0 where
+  pub same : IsPermutation people ranked
+  pub in_order : AreRanked list ranked
+
 -- who may apply, sorted by their places, stands in merit order
 pub sorted_applicants : (list : ListId) (people others : List Person) → AreApplicants list people → IsPermutation people others → IsNonDecreasingBy (merit_in list) others → IsMeritOrder list people others
 sorted_applicants list people others may same up =
@@ -151,3 +161,12 @@ sorted_applicants list people others may same up =
             (λ a b here there differ e. differ (ap (λ (c : CandId). c.0) e)) others placed ids;
       };
     }
+
+-- people in another order are the same persons
+pub among_permuted : (people others : List Person) → IsPermutation people others → AreAmong others people
+among_permuted people others same = all_permuted (λ person. AnyByRecursion (λ one. person ≡ one) people) people others same (among_itself people)
+
+-- sorted applicants are the people by merit
+pub sorted_in_merit : OneMeritOrder → (list : ListId) (people others : List Person) → AreApplicants list people → IsMeritOrder list people others → others ≡ in_merit list people
+sorted_in_merit one list people others may order =
+    one list people others may order.in_order (among_permuted others people (IsPermutation-sym people others order.same)) (among_permuted people others order.same)

@@ -8,12 +8,12 @@ use Rattle.office_base.specs.declared.person.Category.TheVariants.{Gen, Ews, Obc
 use Rattle.office_base.specs.StepChoice.{AreRanked}
 use Rattle.office_base.specs.declared.person.ListId.{ListId}
 use Rattle.office_base.specs.declared.person.Person.{Person}
-use Rattle.office_base.proofs.Sublists.{IsSublist-nil}
+use Rattle.placements.proofs.Sublists.{IsSublist-nil}
 use Rattle.placements.specs.Ranks.{AreAmong, AreDistinct}
 use Rattle.placements.proofs.Convert.{same_cand}
 use Rattle.placements.proofs.Ranks.{any_all, any_among, among_again, among_sublist}
 use Rattle.merit_choice.specs.Laws.{IsAmong}
-use Rattle.open_then_category.specs.Programme.{is_taken, is_same, is_of, without}
+use Rattle.programme_lists.specs.Programme.{is_taken, is_same, is_of, without}
 use Rattle.open_then_category.proofs.Lists.{taken_number, taken_among, among_filter, filter-sublist, sublist_again, ranked_sublist}
 
 -- the people who are left where those taken stand in the order of the people
@@ -88,7 +88,7 @@ still_there all people some taken distinct within taken_within sub apart =
     apart x here (taken_among all taken x distinct taken_within (any_among (λ one. x ≡ one) some all within here) holds))))
 
 -- categories that are the same are one
-same_category : (a b : Category) → is_same a b ≡ true → a ≡ b
+pub same_category : (a b : Category) → is_same a b ≡ true → a ≡ b
 same_category Gen Gen holds = refl
 same_category Ews Ews holds = refl
 same_category Obc Obc holds = refl

@@ -1,4 +1,3 @@
 pub mod Laws
-pub mod Listing
-pub mod MatrixSeats
-pub mod Programme
+pub mod Order
+pub mod StepLaws

@@ -1,25 +1,26 @@
 // The choice of a programme, step by step.
 ghost use Rattle.std.specs.Prelude.{◌≡◌, ◌≤◌, ◌<◌, List, IfOk, length, take};
 ghost use Rattle.std.specs.List.{filter};
-ghost use Rattle.office_base.specs.Person.{IsList};
+ghost use Rattle.office_base.specs.Person.{IsList, is_common};
 ghost use Rattle.office_base.specs.StepChoice.{AreRanked, IsStep, IsStepChoice};
+ghost use Rattle.office_base.specs.Version.{IsVersion};
 ghost use Rattle.office_base.specs.declared.person.Person.{Person as AnyPerson};
 ghost use Rattle.office_base.specs.declared.step.StepKind.TheVariants.{Open as OpenStep, Dereserved as DereservedStep};
-ghost use Rattle.open_then_category.specs.MatrixSeats.{list_in, seats_in};
-ghost use Rattle.open_then_category.specs.Listing.{AreApplicants, IsMeritOrder, Shows, ShowsChoice};
-ghost use Rattle.dereserve.specs.Common.{is_common};
-ghost use Rattle.open_then_category.specs.Programme.{AreProgrammeSeats, no_protections, seats_of, is_of, without, step_with};
+ghost use Rattle.seat_matrix.specs.Matrix.{list_in, seats_in};
+ghost use Rattle.seat_matrix.specs.Seats.{AreProgrammeSeats, no_protections, seats_of};
+ghost use Rattle.programme_lists.specs.Chosen.{AreApplicants, ShowsFrom};
+ghost use Rattle.programme_lists.specs.Listing.{Shows, ShowsChoice};
+ghost use Rattle.programme_lists.specs.Programme.{is_of, without, step_with};
 
 use crate::filters::{left_over, members, without};
 use crate::order::in_merit_order;
-use crate::programme::{Programme, StepList};
-use crate::seats::{ProgrammeSeats, StepSeats};
-use dereserve::{commons, fill, unfilled};
+use dereserve::{commons, fill, left_unfilled};
 use merit_choice::choose;
 use office_base::{
     Category, ListId, OutOfMemory, People, Person, ProgId, Protections, Step, StepKind,
 };
-use seat_matrix::Matrix;
+use programme_lists::{Programme, StepList};
+use seat_matrix::{Matrix, ProgrammeSeats, Seating};
 use slot_cert::{Cert, canonical_pairs};
 use std::alloc::Global;
 
@@ -28,7 +29,7 @@ fn step_list(
     alloc: Global,
     kind: StepKind,
     list: ListId,
-    seats: &StepSeats,
+    seats: &Seating,
     people: People,
 ) -> Result<StepList, OutOfMemory>
     requires step { IsStep (step_with list seats.now people) }
@@ -124,18 +125,13 @@ fn held_by(list: &StepList) -> u16
 /// The choice of a programme from those whom its open step left, who stand in merit order.
 fn choose_from_rest(
     alloc: Global,
-    matrix: &Matrix,
     version: u8,
-    prog: ProgId,
     seats: &ProgrammeSeats,
     first: StepList,
     rest: &[Person],
 ) -> Result<Programme, OutOfMemory>
-    requires programme { prog.0 < length matrix.now.programmes }
-    requires version { version ≡ 1 }
-    requires matrix { seats.now ≡ seats_in matrix.now prog.0 }
+    requires version { IsVersion version }
     requires seats { AreProgrammeSeats seats.now }
-    requires open_step { length first.admitted ≤ (seats_of seats.now OpenStep).seats }
     requires ranked { AreRanked seats.now.list rest.now }
     requires few { length rest.now ≤ 4294967295 }
     ensures { IfOk result (λ programme. (applicants : List AnyPerson) → rest.now ≡ without applicants first.admitted
@@ -155,14 +151,9 @@ fn choose_from_rest(
         sc.admitted.as_slice(),
         st.admitted.as_slice(),
     )?;
-    let held = [
-        held_by(&first),
-        held_by(&ews),
-        held_by(&obc),
-        held_by(&sc),
-        held_by(&st),
-    ];
-    let empty = unfilled(matrix, prog, version, &held);
+    let ews_seats = seats.of(StepKind::Ews).seats;
+    let obc_seats = seats.of(StepKind::Obc).seats;
+    let empty = left_unfilled(version, ews_seats, held_by(&ews), obc_seats, held_by(&obc));
     let dereserved = dereserved_step(alloc, seats.list, empty, left.as_slice())?;
     Ok(Programme {
         steps: [first, ews, obc, sc, st, dereserved],
@@ -173,27 +164,25 @@ fn choose_from_rest(
 /// times from its people's first to its last, beside its choice and its certificate.
 fn choose_in_order(
     alloc: Global,
-    matrix: &Matrix,
     version: u8,
-    prog: ProgId,
+    seats: &ProgrammeSeats,
     applicants: &[Person],
 ) -> Result<Programme, OutOfMemory>
-    requires programme { prog.0 < length matrix.now.programmes }
-    requires version { version ≡ 1 }
-    requires ranked { AreRanked (list_in matrix.now prog.0) applicants.now }
+    requires version { IsVersion version }
+    requires seats { AreProgrammeSeats seats.now }
+    requires ranked { AreRanked seats.now.list applicants.now }
     requires few { length applicants.now ≤ 4294967295 }
-    ensures { IfOk result (λ programme. ShowsChoice version (seats_in matrix.now prog.0) applicants.now programme) }
+    ensures { IfOk result (λ programme. ShowsChoice version seats.now applicants.now programme) }
 {
-    let seats = ProgrammeSeats::read(matrix, prog);
-    let first = open_step(alloc, &seats, applicants)?;
+    let first = open_step(alloc, seats, applicants)?;
     let rest = without(alloc, applicants, first.admitted.as_slice())?;
-    choose_from_rest(alloc, matrix, version, prog, &seats, first, rest.as_slice())
+    choose_from_rest(alloc, version, seats, first, rest.as_slice())
 }
 
 /// The choice of a programme from applicants in any order, who are distinct and have distinct places in its list: open
 /// seats to those with a common place, then the seats of each category to its members whom the open step left, then as
-/// many seats as OBC left empty to the best with a common place whom no earlier step took. The version is that of the
-/// bundle. It sorts the applicants by merit once.
+/// many seats as OBC left unfilled, and in version 2 of the bundle EWS too, to the best with a common place whom no earlier
+/// step took. The lists are those of the applicants by merit, whatever order they come in. It sorts them once.
 pub fn programme_choice(
     alloc: Global,
     matrix: &Matrix,
@@ -202,15 +191,15 @@ pub fn programme_choice(
     applicants: &[Person],
 ) -> Result<Programme, OutOfMemory>
     requires programme { prog.0 < length matrix.now.programmes }
-    requires version { version ≡ 1 }
+    requires version { IsVersion version }
     requires applicants { AreApplicants (list_in matrix.now prog.0) applicants.now }
-    ensures { IfOk result (λ programme. (ranked : List AnyPerson) × IsMeritOrder (list_in matrix.now prog.0) applicants.now ranked
-        × ShowsChoice version (seats_in matrix.now prog.0) ranked programme) }
+    ensures { IfOk result (λ programme. ShowsFrom version (seats_in matrix.now prog.0) applicants.now programme) }
 {
     // no memory holds so many persons
     if applicants.len() > u32::MAX as usize {
         return Err(OutOfMemory);
     }
-    let ranked = in_merit_order(alloc, applicants, matrix.list(prog))?;
-    choose_in_order(alloc, matrix, version, prog, &ranked)
+    let seats = matrix.programme(prog);
+    let ranked = in_merit_order(alloc, applicants, seats.list)?;
+    choose_in_order(alloc, version, &seats, &ranked)
 }

@@ -5,7 +5,7 @@ ghost use Rattle.office_base.specs.Lists.{IsSublist};
 ghost use Rattle.office_base.specs.StepChoice.{AreRanked};
 ghost use Rattle.office_base.specs.declared.person.Category.TheVariants.{Ews, Obc, Sc, St};
 ghost use Rattle.office_base.specs.declared.person.ListId.{ListId as AnyList};
-ghost use Rattle.open_then_category.specs.Programme.{is_of, without};
+ghost use Rattle.programme_lists.specs.Programme.{is_of, without};
 
 use office_base::{Category, OutOfMemory, People, Person};
 use std::alloc::Global;

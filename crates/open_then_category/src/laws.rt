@@ -1,38 +1,126 @@
 // The laws of the choice of a programme, over its definition alone. Each is the contract of a function that does nothing.
-ghost use Rattle.open_then_category.specs.Laws.{OneProgrammeChoice, ProgrammeChoiceExists, RefusedFromMore, UnfilledFalls, NoFewerAdmitted, LeavingOutTheRefused, EachRefusedAllRefused};
+ghost use Rattle.open_then_category.specs.Laws.{OneProgrammeChoice, ProgrammeChoiceExists, RefusedFromMore, UnfilledFalls, NoFewerAdmitted, LeavingOutTheRefused, EachRefusedAllRefused, AdmittedOnce, OneStep, SlotsAreTraits, MoreSeatsKeepAll, RefusedBefore, Resumes, ChosenWell, GrowsWithSeats};
+ghost use Rattle.open_then_category.specs.StepLaws.{AreLawful};
+
+/// The laws of the choice of a step and of the merit order on which these rest.
+fn step_laws()
+    ensures { AreLawful }
+{
+    merit_choice::laws::choice_exists();
+    merit_choice::laws::choice_size();
+    merit_choice::laws::refused_stays_refused();
+    merit_choice::laws::no_fewer();
+    merit_choice::laws::leaving_out_refused();
+    merit_choice::laws::more_seats();
+    merit_choice::laws::in_merit_ranks();
+    merit_choice::laws::part_in_merit();
+    merit_choice::laws::part_can_be_ranked();
+}
 
 /// A programme has at most one choice.
 pub fn one_programme_choice()
     ensures { OneProgrammeChoice }
-{}
+{
+    step_laws();
+}
 
 /// A programme has a choice.
 pub fn programme_choice_exists()
     ensures { ProgrammeChoiceExists }
-{}
+{
+    step_laws();
+}
 
-/// Who is refused from some applicants is refused from more.
+/// Who is refused from some people is refused from more.
 pub fn refused_from_more()
     ensures { RefusedFromMore }
-{}
+{
+    step_laws();
+}
 
-/// The de-reserved step has no more seats where there are more applicants.
+/// The de-reserved step has no more seats where there are more people.
 pub fn unfilled_falls()
     ensures { UnfilledFalls }
-{}
+{
+    step_laws();
+}
 
-/// From more applicants no fewer are admitted in all.
+/// From more people no fewer are admitted in all.
 pub fn no_fewer_admitted()
     ensures { NoFewerAdmitted }
-{}
+{
+    step_laws();
+}
 
-/// Without some applicants who are refused each step admits the same persons.
+/// Without some people who are refused each step admits the same persons.
 pub fn leaving_out_the_refused()
     ensures { LeavingOutTheRefused }
-{}
+{
+    step_laws();
+}
 
 /// Where each of some persons alone is refused when added to others, all of them are refused when added together, and
 /// the choice stays.
 pub fn each_refused_all_refused()
     ensures { EachRefusedAllRefused }
-{}
+{
+    step_laws();
+}
+
+/// Each person is admitted once, and is one of the people.
+pub fn admitted_once()
+    ensures { AdmittedOnce }
+{
+    step_laws();
+}
+
+/// Each person is admitted under one step.
+pub fn one_step()
+    ensures { OneStep }
+{
+    step_laws();
+}
+
+/// Each slot of the lists of a programme is one of the six traits.
+pub fn slots_are_traits()
+    ensures { SlotsAreTraits }
+{
+    step_laws();
+}
+
+/// Where steps have more seats, with all protections as before, whoever was admitted from the same people is still
+/// admitted, perhaps under another step.
+pub fn more_seats_keep_all()
+    ensures { MoreSeatsKeepAll }
+{
+    step_laws();
+}
+
+/// Without some people whom an earlier choice refused, from fewer people, the choice is the same.
+pub fn refused_before()
+    ensures { RefusedBefore }
+{
+    step_laws();
+}
+
+/// The choice from those admitted from some people, with one person more, is the choice from all these people with that
+/// one. So after people came one by one, whatever their order, those held are the choice from all who came.
+pub fn resumes()
+    ensures { Resumes }
+{
+    step_laws();
+}
+
+/// Programmes with sound seats choose well, as the theory of rounds asks of a rule.
+pub fn chosen_well()
+    ensures { ChosenWell }
+{
+    step_laws();
+}
+
+/// And they admit everybody whom they admitted before where steps have more seats, with all protections as before.
+pub fn grows_with_seats()
+    ensures { GrowsWithSeats }
+{
+    step_laws();
+}

@@ -10,9 +10,6 @@ pub mod choice;
 mod filters;
 pub mod laws;
 mod order;
-pub mod programme;
-pub mod seats;
 
 pub use choice::programme_choice;
-pub use programme::{Programme, StepList};
-pub use seats::{ProgrammeSeats, StepSeats};
+pub use programme_lists::{Programme, ProgrammeSeats, Seating, Seatings, StepList};

@@ -12,17 +12,13 @@ use Rattle.request_rows.specs.Requests.{script_of}
 use Rattle.rank_lists.specs.Laws as rank_laws
 use Rattle.rank_lists.specs.Register as rank_grammar
 use Rattle.section_rows.specs.declared.fault.TableFault.{TableFault}
-use Rattle.section_rows.specs.declared.fault.TableFault.TheVariants.{Bad as BadRank, OutOfMemory as NoRankMemory}
+use Rattle.section_rows.specs.declared.fault.TableFault.TheVariants.{Bad as BadRow, OutOfMemory as NoTableMemory}
 use Rattle.rank_lists.specs.declared.fault.RankKind.{RankKind}
 use Rattle.seat_matrix.specs.Laws as seat_laws
 use Rattle.seat_matrix.specs.Matrix as seat_grammar
-use Rattle.seat_matrix.specs.declared.fault.MatrixFault.{MatrixFault}
-use Rattle.seat_matrix.specs.declared.fault.MatrixFault.TheVariants.{Bad as BadMatrix, OutOfMemory as NoMatrixMemory}
 use Rattle.seat_matrix.specs.declared.fault.MatrixKind.{MatrixKind}
 use Rattle.choice_lists.specs.Choices as choice_grammar
 use Rattle.choice_lists.specs.Laws as choice_laws
-use Rattle.choice_lists.specs.declared.fault.ChoiceFault.{ChoiceFault}
-use Rattle.choice_lists.specs.declared.fault.ChoiceFault.TheVariants.{Bad as BadChoice, OutOfMemory as NoChoiceMemory}
 use Rattle.choice_lists.specs.declared.fault.ChoiceKind.{ChoiceKind}
 use Rattle.season_file.specs.Bundle.{Parts, bundle_of}
 use Rattle.season_file.specs.Head.{head_of}
@@ -38,7 +34,7 @@ use Rattle.season_file.proofs.SeasonLemmas.{cutting_fault}
 pub record AreLawful : Type 0 where
   pub register : (rows : List Row) → rank_laws.HaveOneReading rows
   pub matrix : (rows : List Row) → seat_laws.HaveOneReading rows
-  pub choices : (ranks : rank_grammar.Ranks) (seats : seat_grammar.Seats) (rows : List Row) → choice_laws.HaveOneReading ranks seats rows
+  pub choices : (ranks : rank_grammar.Ranks) (seats : seat_grammar.SeatTable) (rows : List Row) → choice_laws.HaveOneReading ranks seats rows
   pub same : (rows : List Row) → choice_laws.DependOnPeopleAndProgrammes rows
 
 -- A fault after what was read before it, stage by stage: at each one the fault is the stage's own, or the stage is passed.
@@ -47,19 +43,19 @@ FromClerk parts head ranks fault =
     (IsSome (rank_grammar.find_holder head.clerk ranks.holders) × (fault ≡ BadSeason head.row))
     ⊎ ((rank_grammar.find_holder head.clerk ranks.holders ≡ None) × ((row : ℕ) × (script_of (request_rows_of parts) ≡ Err row) × (fault ≡ BadRequest row)))
 
-abbrev FromChoices : Parts → Head → rank_grammar.Ranks → seat_grammar.Seats → SeasonFault → Type 0
+abbrev FromChoices : Parts → Head → rank_grammar.Ranks → seat_grammar.SeatTable → SeasonFault → Type 0
 FromChoices parts head ranks seats fault =
-    ((row : ℕ) × (kind : ChoiceKind) × choice_grammar.IsFault ranks seats (rows_of parts.choices) (BadChoice row kind) × (fault ≡ Choices (BadChoice row kind)))
+    ((row : ℕ) × (kind : ChoiceKind) × choice_grammar.IsFault ranks seats (rows_of parts.choices) (BadRow row kind) × (fault ≡ Choices (BadRow row kind)))
     ⊎ ((lists : choice_grammar.Lists) × choice_grammar.IsRead ranks seats (rows_of parts.choices) lists × FromClerk parts head ranks fault)
 
 abbrev FromMatrix : Parts → Head → rank_grammar.Ranks → SeasonFault → Type 0
 FromMatrix parts head ranks fault =
-    ((row : ℕ) × (kind : MatrixKind) × seat_grammar.IsFault (rows_of parts.matrix) (BadMatrix row kind) × (fault ≡ Matrix (BadMatrix row kind)))
-    ⊎ ((seats : seat_grammar.Seats) × seat_grammar.IsRead (rows_of parts.matrix) seats × FromChoices parts head ranks seats fault)
+    ((row : ℕ) × (kind : MatrixKind) × seat_grammar.IsFault (rows_of parts.matrix) (BadRow row kind) × (fault ≡ Matrix (BadRow row kind)))
+    ⊎ ((seats : seat_grammar.SeatTable) × seat_grammar.IsRead (rows_of parts.matrix) seats × FromChoices parts head ranks seats fault)
 
 abbrev FromRegister : Parts → Head → SeasonFault → Type 0
 FromRegister parts head fault =
-    ((row : ℕ) × (kind : RankKind) × rank_grammar.IsFault (rows_of parts.register) (BadRank row kind) × (fault ≡ Register (BadRank row kind)))
+    ((row : ℕ) × (kind : RankKind) × rank_grammar.IsFault (rows_of parts.register) (BadRow row kind) × (fault ≡ Register (BadRow row kind)))
     ⊎ ((ranks : rank_grammar.Ranks) × rank_grammar.IsRead (rows_of parts.register) ranks × FromMatrix parts head ranks fault)
 
 abbrev FromHead : Parts → SeasonFault → Type 0
@@ -83,17 +79,17 @@ head-staged parts row (inr found) =
     inr (content.head, give.head, inr (content.register, give.register, inr (content.matrix, give.matrix, inr (content.choices, give.choices, inl (held, ap BadSeason e)))))
 
 register-staged : (parts : Parts) (fault : TableFault RankKind) → IsRegisterFault parts fault → FromHead parts (Register fault)
-register-staged parts (BadRank row kind) found = let (head, e, first) = found in inr (head, e, inl (row, kind, first, refl))
-register-staged parts NoRankMemory found = absurd found
+register-staged parts (BadRow row kind) found = let (head, e, first) = found in inr (head, e, inl (row, kind, first, refl))
+register-staged parts NoTableMemory found = absurd found
 
-matrix-staged : (parts : Parts) (fault : MatrixFault) → IsMatrixFault parts fault → FromHead parts (Matrix fault)
-matrix-staged parts (BadMatrix row kind) found = let (head, ranks, e, read, first) = found in inr (head, e, inr (ranks, read, inl (row, kind, first, refl)))
-matrix-staged parts NoMatrixMemory found = absurd found
+matrix-staged : (parts : Parts) (fault : TableFault MatrixKind) → IsMatrixFault parts fault → FromHead parts (Matrix fault)
+matrix-staged parts (BadRow row kind) found = let (head, ranks, e, read, first) = found in inr (head, e, inr (ranks, read, inl (row, kind, first, refl)))
+matrix-staged parts NoTableMemory found = absurd found
 
-choices-staged : (parts : Parts) (fault : ChoiceFault) → IsChoiceFault parts fault → FromHead parts (Choices fault)
-choices-staged parts (BadChoice row kind) found =
+choices-staged : (parts : Parts) (fault : TableFault ChoiceKind) → IsChoiceFault parts fault → FromHead parts (Choices fault)
+choices-staged parts (BadRow row kind) found =
     let (head, ranks, seats, e, read, table, first) = found in inr (head, e, inr (ranks, read, inr (seats, table, inl (row, kind, first, refl))))
-choices-staged parts NoChoiceMemory found = absurd found
+choices-staged parts NoTableMemory found = absurd found
 
 request-staged : (parts : Parts) (row : ℕ) → IsRequestFault parts row → FromHead parts (BadRequest row)
 request-staged parts row found =
@@ -118,17 +114,17 @@ staged requests bytes OutOfMemory first = absurd first
 staged requests bytes ReadFault first = let (text, found) = first in absurd found.2
 
 -- faults of one row and one kind are one
-same_rank : (r s : ℕ) (j k : RankKind) → (r ≡ s) × (j ≡ k) → Register (BadRank r j) ≡ Register (BadRank s k)
+same_rank : (r s : ℕ) (j k : RankKind) → (r ≡ s) × (j ≡ k) → Register (BadRow r j) ≡ Register (BadRow s k)
 same_rank r s j k same = cc (same.0, same.1)
 
-same_seat : (r s : ℕ) (j k : MatrixKind) → (r ≡ s) × (j ≡ k) → Matrix (BadMatrix r j) ≡ Matrix (BadMatrix s k)
+same_seat : (r s : ℕ) (j k : MatrixKind) → (r ≡ s) × (j ≡ k) → Matrix (BadRow r j) ≡ Matrix (BadRow s k)
 same_seat r s j k same = cc (same.0, same.1)
 
-same_list : (r s : ℕ) (j k : ChoiceKind) → (r ≡ s) × (j ≡ k) → Choices (BadChoice r j) ≡ Choices (BadChoice s k)
+same_list : (r s : ℕ) (j k : ChoiceKind) → (r ≡ s) × (j ≡ k) → Choices (BadRow r j) ≡ Choices (BadRow s k)
 same_list r s j k same = cc (same.0, same.1)
 
 -- what carries over from one register and matrix to others that are the same
-carried : AreLawful → (rows : List Row) (ranks other : rank_grammar.Ranks) (seats matrix : seat_grammar.Seats) → rank_laws.AreSame ranks other → seat_laws.AreSame seats matrix → choice_laws.CarryOver other ranks matrix seats rows
+carried : AreLawful → (rows : List Row) (ranks other : rank_grammar.Ranks) (seats matrix : seat_grammar.SeatTable) → rank_laws.AreSame ranks other → seat_laws.AreSame seats matrix → choice_laws.CarryOver other ranks matrix seats rows
 carried laws rows ranks other seats matrix a b = laws.same rows other ranks matrix seats (sym a.people) (sym b.programmes)
 
 -- a result is one value, or one error, and never both
@@ -154,7 +150,7 @@ one-clerk parts head ranks other same fault next (inr a) (inl b) = absurd (not_h
 one-clerk parts head ranks other same fault next (inr a) (inr b) = a.1.2 ∙ ap BadRequest (one_err (script_of (request_rows_of parts)) a.1.0 b.1.0 a.1.1 b.1.1) ∙ sym b.1.2
 
 -- Each stage has one fault at most.
-one-choices : AreLawful → (parts : Parts) (head : Head) (ranks other : rank_grammar.Ranks) (seats matrix : seat_grammar.Seats) → rank_laws.AreSame ranks other → seat_laws.AreSame seats matrix
+one-choices : AreLawful → (parts : Parts) (head : Head) (ranks other : rank_grammar.Ranks) (seats matrix : seat_grammar.SeatTable) → rank_laws.AreSame ranks other → seat_laws.AreSame seats matrix
     → (fault next : SeasonFault) → FromChoices parts head ranks seats fault → FromChoices parts head other matrix next → fault ≡ next
 one-choices laws parts head ranks other seats matrix people programmes fault next (inl a) (inl b) =
     let there = (carried laws (rows_of parts.choices) ranks other seats matrix people programmes).fault b.0 b.1 b.2 in
@@ -218,7 +214,7 @@ one_content laws parts content other a b =
       people = ranks.people;
       holders = ranks.holders;
       programmes = seats.programmes;
-      seatings = seats.seatings;
+      steps = seats.steps;
       lists = (laws.choices content.register content.matrix (rows_of parts.choices)).one_value content.choices other.choices a.choices there;
     }
 
@@ -227,7 +223,7 @@ abbrev IsScripted : Parts → Type 0
 IsScripted parts = (script : List Request) × (script_of (request_rows_of parts) ≡ Ok script)
 
 -- A stage that is passed has no fault.
-apart-choices : AreLawful → (parts : Parts) (content : Content) (ranks : rank_grammar.Ranks) (seats : seat_grammar.Seats) (fault : SeasonFault) → SectionsGive parts content → IsScripted parts → IsClerkApart content
+apart-choices : AreLawful → (parts : Parts) (content : Content) (ranks : rank_grammar.Ranks) (seats : seat_grammar.SeatTable) (fault : SeasonFault) → SectionsGive parts content → IsScripted parts → IsClerkApart content
     → rank_laws.AreSame content.register ranks → seat_laws.AreSame content.matrix seats → FromChoices parts content.head ranks seats fault → ⊥
 apart-choices laws parts content ranks seats fault give scripted clerk people programmes (inl b) =
     let there = (carried laws (rows_of parts.choices) content.register ranks content.matrix seats people programmes).fault b.0 b.1 b.2 in
@@ -285,7 +281,7 @@ some-content requests bytes parts content text cut give = by (rank_grammar.find_
     by None e = some-script requests bytes parts content text cut give e (script_of (request_rows_of parts)) refl
     by (Some id) e = inr (BadSeason content.head.row, (text, (parts, cut, inr (content, give, ap (λ (o : Option CandId). is_some o) e, refl))))
 
-some-choices : AreLawful → (requests : Bool) (bytes : List ℕ) (parts : Parts) (head : Head) (ranks : rank_grammar.Ranks) (seats : seat_grammar.Seats) → IsText bytes → bundle_of requests bytes ≡ Ok parts → head_of (rows_of parts.season) ≡ Ok head
+some-choices : AreLawful → (requests : Bool) (bytes : List ℕ) (parts : Parts) (head : Head) (ranks : rank_grammar.Ranks) (seats : seat_grammar.SeatTable) → IsText bytes → bundle_of requests bytes ≡ Ok parts → head_of (rows_of parts.season) ≡ Ok head
     → rank_grammar.IsRead (rows_of parts.register) ranks → seat_grammar.IsRead (rows_of parts.matrix) seats → HaveSome requests bytes
 some-choices laws requests bytes parts head ranks seats text cut e read table = elim (laws.choices ranks seats (rows_of parts.choices)).some [
   | inl found ↦ some-content requests bytes parts (record { version = parts.version; head = head; register = ranks; matrix = seats; choices = found.0 }) text cut (record {
@@ -296,20 +292,20 @@ some-choices laws requests bytes parts head ranks seats text cut e read table = 
     choices = found.1;
     sound = (laws.choices ranks seats (rows_of parts.choices)).sound found.0 found.1;
   })
-  | inr first ↦ inr (Choices (BadChoice first.0 first.1), (text, (parts, cut, (head, ranks, seats, e, read, table, first.2))))
+  | inr first ↦ inr (Choices (BadRow first.0 first.1), (text, (parts, cut, (head, ranks, seats, e, read, table, first.2))))
 ]
 
 some-matrix : AreLawful → (requests : Bool) (bytes : List ℕ) (parts : Parts) (head : Head) (ranks : rank_grammar.Ranks) → IsText bytes → bundle_of requests bytes ≡ Ok parts → head_of (rows_of parts.season) ≡ Ok head
     → rank_grammar.IsRead (rows_of parts.register) ranks → HaveSome requests bytes
 some-matrix laws requests bytes parts head ranks text cut e read = elim (laws.matrix (rows_of parts.matrix)).some [
   | inl found ↦ some-choices laws requests bytes parts head ranks found.0 text cut e read found.1
-  | inr first ↦ inr (Matrix (BadMatrix first.0 first.1), (text, (parts, cut, (head, ranks, e, read, first.2))))
+  | inr first ↦ inr (Matrix (BadRow first.0 first.1), (text, (parts, cut, (head, ranks, e, read, first.2))))
 ]
 
 some-register : AreLawful → (requests : Bool) (bytes : List ℕ) (parts : Parts) (head : Head) → IsText bytes → bundle_of requests bytes ≡ Ok parts → head_of (rows_of parts.season) ≡ Ok head → HaveSome requests bytes
 some-register laws requests bytes parts head text cut e = elim (laws.register (rows_of parts.register)).some [
   | inl found ↦ some-matrix laws requests bytes parts head found.0 text cut e found.1
-  | inr first ↦ inr (Register (BadRank first.0 first.1), (text, (parts, cut, (head, e, first.2))))
+  | inr first ↦ inr (Register (BadRow first.0 first.1), (text, (parts, cut, (head, e, first.2))))
 ]
 
 some-head : AreLawful → (requests : Bool) (bytes : List ℕ) (parts : Parts) → IsText bytes → bundle_of requests bytes ≡ Ok parts → (r : Result Head ℕ) → head_of (rows_of parts.season) ≡ r → HaveSome requests bytes

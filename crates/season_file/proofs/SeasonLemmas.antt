@@ -7,18 +7,16 @@ use Rattle.section_rows.specs.Rows.{rows_of}
 use Rattle.section_rows.specs.Steps.{needs}
 use Rattle.request_rows.specs.Requests.{IsScriptFault as AreRowsWithout}
 use Rattle.request_rows.specs.declared.script.ScriptFault.{ScriptFault}
-use Rattle.request_rows.specs.declared.script.ScriptFault.TheVariants.{BadRequest as BadRow, OutOfMemory as NoScriptMemory}
+use Rattle.request_rows.specs.declared.script.ScriptFault.TheVariants.{BadRequest as NoRequest, OutOfMemory as NoScriptMemory}
 use Rattle.season_file.specs.declared.content.Content.{Content}
 use Rattle.rank_lists.specs.Register as rank_grammar
 use Rattle.section_rows.specs.declared.fault.TableFault.{TableFault}
-use Rattle.section_rows.specs.declared.fault.TableFault.TheVariants.{Bad as BadRank, OutOfMemory as NoRankMemory}
+use Rattle.choice_lists.specs.declared.fault.ChoiceKind.{ChoiceKind}
+use Rattle.seat_matrix.specs.declared.fault.MatrixKind.{MatrixKind}
+use Rattle.section_rows.specs.declared.fault.TableFault.TheVariants.{Bad as BadRow, OutOfMemory as NoTableMemory}
 use Rattle.rank_lists.specs.declared.fault.RankKind.{RankKind}
 use Rattle.seat_matrix.specs.Matrix as seat_grammar
-use Rattle.seat_matrix.specs.declared.fault.MatrixFault.{MatrixFault}
-use Rattle.seat_matrix.specs.declared.fault.MatrixFault.TheVariants.{Bad as BadMatrix, OutOfMemory as NoMatrixMemory}
 use Rattle.choice_lists.specs.Choices as choice_grammar
-use Rattle.choice_lists.specs.declared.fault.ChoiceFault.{ChoiceFault}
-use Rattle.choice_lists.specs.declared.fault.ChoiceFault.TheVariants.{Bad as BadChoice, OutOfMemory as NoChoiceMemory}
 use Rattle.season_file.specs.Bundle.{Parts, after_line, before_requests, bundle_of, closed, fault_line, last_section, season_text, section, sections, skip_empty, title, version_of, with_line}
 use Rattle.season_file.specs.Head.{head_of}
 use Rattle.season_file.specs.Season.{IsClerkApart, IsSeasonFault, IsSectionFault, IsSourceFault, IsText, IsUnread, SectionsGive, choice_error, matrix_error, register_error, request_rows_of, script_error}
@@ -28,21 +26,21 @@ use Rattle.season_file.specs.declared.head.Head.{Head}
 
 -- A register's fault is the sections'.
 pub register-told : (parts : Parts) (head : Head) (fault : TableFault RankKind) → head_of (rows_of parts.season) ≡ Ok head → rank_grammar.IsFault (rows_of parts.register) fault → IsSectionFault parts (register_error fault)
-register-told parts head (BadRank row kind) given first = (head, given, first)
-register-told parts head NoRankMemory given first = tt
+register-told parts head (BadRow row kind) given first = (head, given, first)
+register-told parts head NoTableMemory given first = tt
 
 -- A matrix's fault is the sections'.
-pub matrix-told : (parts : Parts) (head : Head) (ranks : rank_grammar.Ranks) (fault : MatrixFault) → head_of (rows_of parts.season) ≡ Ok head → rank_grammar.IsRead (rows_of parts.register) ranks
+pub matrix-told : (parts : Parts) (head : Head) (ranks : rank_grammar.Ranks) (fault : TableFault MatrixKind) → head_of (rows_of parts.season) ≡ Ok head → rank_grammar.IsRead (rows_of parts.register) ranks
     → seat_grammar.IsFault (rows_of parts.matrix) fault → IsSectionFault parts (matrix_error fault)
-matrix-told parts head ranks (BadMatrix row kind) given read first = (head, ranks, given, read, first)
-matrix-told parts head ranks NoMatrixMemory given read first = tt
+matrix-told parts head ranks (BadRow row kind) given read first = (head, ranks, given, read, first)
+matrix-told parts head ranks NoTableMemory given read first = tt
 
 -- A fault of choices is the sections'.
-pub choice-told : (parts : Parts) (head : Head) (ranks : rank_grammar.Ranks) (seats : seat_grammar.Seats) (fault : ChoiceFault) → head_of (rows_of parts.season) ≡ Ok head
+pub choice-told : (parts : Parts) (head : Head) (ranks : rank_grammar.Ranks) (seats : seat_grammar.SeatTable) (fault : TableFault ChoiceKind) → head_of (rows_of parts.season) ≡ Ok head
     → rank_grammar.IsRead (rows_of parts.register) ranks → seat_grammar.IsRead (rows_of parts.matrix) seats → choice_grammar.IsFault ranks seats (rows_of parts.choices) fault
     → IsSectionFault parts (choice_error fault)
-choice-told parts head ranks seats (BadChoice row kind) given read table first = (head, ranks, seats, given, read, table, first)
-choice-told parts head ranks seats NoChoiceMemory given read table first = tt
+choice-told parts head ranks seats (BadRow row kind) given read table first = (head, ranks, seats, given, read, table, first)
+choice-told parts head ranks seats NoTableMemory given read table first = tt
 
 -- A fault of the sections is the bundle's.
 pub parts-told : (requests : Bool) (bytes : List ℕ) (parts : Parts) (fault : SeasonFault) → IsText bytes → bundle_of requests bytes ≡ Ok parts → IsSectionFault parts fault → IsSeasonFault requests bytes fault
@@ -102,5 +100,5 @@ text-cut requests bytes parts e = sym (ap (before_requests bytes) e)
 -- A row that is no request is the bundle's fault, after sections without faults.
 pub script-told : (requests : Bool) (bytes : List ℕ) (parts : Parts) (content : Content) (fault : ScriptFault) → IsText bytes → bundle_of requests bytes ≡ Ok parts → SectionsGive parts content → IsClerkApart content
     → AreRowsWithout (request_rows_of parts) fault → IsSeasonFault requests bytes (script_error fault)
-script-told requests bytes parts content (BadRow row) text cut give clerk first = (text, (parts, cut, (content, give, clerk, first)))
+script-told requests bytes parts content (NoRequest row) text cut give clerk first = (text, (parts, cut, (content, give, clerk, first)))
 script-told requests bytes parts content NoScriptMemory text cut give clerk first = tt

@@ -2,7 +2,6 @@
 use Rattle.std.specs.Prelude.{◌≡◌, ◌⊎◌, ℕ, Bool, List}
 use Rattle.office_base.specs.declared.asks.Request.{Request}
 use Rattle.rank_lists.specs.Register.{find_holder}
-use Rattle.seat_matrix.specs.Matrix.{find_seating}
 use Rattle.choice_lists.specs.Choices.{list_of}
 use Rattle.season_file.specs.Season.{BundleGives, IsSeasonFault}
 use Rattle.season_file.specs.declared.fault.SeasonFault.{SeasonFault}
@@ -16,7 +15,7 @@ pub record AreSame (content other : Content) : Type 0 where
   pub people : content.register.people ≡ other.register.people
   pub holders : (token : List ℕ) → find_holder token content.register.holders ≡ find_holder token other.register.holders
   pub programmes : content.matrix.programmes ≡ other.matrix.programmes
-  pub seatings : (code : List ℕ) (step : ℕ) → find_seating code step content.matrix.steps ≡ find_seating code step other.matrix.steps
+  pub steps : content.matrix.steps ≡ other.matrix.steps
   pub lists : (candidate : ℕ) → list_of content.choices candidate ≡ list_of other.choices candidate
 
 -- a fault of the bytes themselves: want of memory is none

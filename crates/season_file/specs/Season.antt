@@ -7,17 +7,15 @@ use Rattle.office_base.specs.declared.asks.Request.{Request}
 use Rattle.section_rows.specs.Rows.{Row, rows_of}
 use Rattle.request_rows.specs.Requests.{script_of}
 use Rattle.request_rows.specs.declared.script.ScriptFault.{ScriptFault}
-use Rattle.request_rows.specs.declared.script.ScriptFault.TheVariants.{BadRequest as BadRow, OutOfMemory as NoScriptMemory}
+use Rattle.request_rows.specs.declared.script.ScriptFault.TheVariants.{BadRequest as NoRequest, OutOfMemory as NoScriptMemory}
 use Rattle.rank_lists.specs.Register as rank_grammar
 use Rattle.section_rows.specs.declared.fault.TableFault.{TableFault}
-use Rattle.section_rows.specs.declared.fault.TableFault.TheVariants.{Bad as BadRank, OutOfMemory as NoRankMemory}
+use Rattle.choice_lists.specs.declared.fault.ChoiceKind.{ChoiceKind}
+use Rattle.seat_matrix.specs.declared.fault.MatrixKind.{MatrixKind}
+use Rattle.section_rows.specs.declared.fault.TableFault.TheVariants.{Bad as BadRow, OutOfMemory as NoTableMemory}
 use Rattle.rank_lists.specs.declared.fault.RankKind.{RankKind}
 use Rattle.seat_matrix.specs.Matrix as seat_grammar
-use Rattle.seat_matrix.specs.declared.fault.MatrixFault.{MatrixFault}
-use Rattle.seat_matrix.specs.declared.fault.MatrixFault.TheVariants.{Bad as BadMatrix, OutOfMemory as NoMatrixMemory}
 use Rattle.choice_lists.specs.Choices as choice_grammar
-use Rattle.choice_lists.specs.declared.fault.ChoiceFault.{ChoiceFault}
-use Rattle.choice_lists.specs.declared.fault.ChoiceFault.TheVariants.{Bad as BadChoice, OutOfMemory as NoChoiceMemory}
 use Rattle.season_file.specs.Bundle.{Parts, after_line, bundle_of, season_text}
 use Rattle.season_file.specs.Head.{head_of}
 use Rattle.season_file.specs.declared.fault.SeasonFault.{SeasonFault}
@@ -54,39 +52,39 @@ request_rows_of parts = rows_of_requests parts.requests
 
 -- a fault of a section is told as it is, except for want of memory
 abbrev pub register_error : TableFault RankKind → SeasonFault
-register_error (BadRank row kind) = Register (BadRank row kind)
-register_error NoRankMemory = OutOfMemory
+register_error (BadRow row kind) = Register (BadRow row kind)
+register_error NoTableMemory = OutOfMemory
 
-abbrev pub matrix_error : MatrixFault → SeasonFault
-matrix_error (BadMatrix row kind) = Matrix (BadMatrix row kind)
-matrix_error NoMatrixMemory = OutOfMemory
+abbrev pub matrix_error : TableFault MatrixKind → SeasonFault
+matrix_error (BadRow row kind) = Matrix (BadRow row kind)
+matrix_error NoTableMemory = OutOfMemory
 
-abbrev pub choice_error : ChoiceFault → SeasonFault
-choice_error (BadChoice row kind) = Choices (BadChoice row kind)
-choice_error NoChoiceMemory = OutOfMemory
+abbrev pub choice_error : TableFault ChoiceKind → SeasonFault
+choice_error (BadRow row kind) = Choices (BadRow row kind)
+choice_error NoTableMemory = OutOfMemory
 
 abbrev pub script_error : ScriptFault → SeasonFault
-script_error (BadRow row) = BadRequest row
+script_error (NoRequest row) = BadRequest row
 script_error NoScriptMemory = OutOfMemory
 
 -- the first fault of a register, which is not want of memory
 abbrev pub IsRegisterFault : Parts → TableFault RankKind → Type 0
-IsRegisterFault parts (BadRank row kind) = (head : Head) × (head_of (rows_of parts.season) ≡ Ok head) × rank_grammar.IsFault (rows_of parts.register) (BadRank row kind)
-IsRegisterFault parts NoRankMemory = ⊥
+IsRegisterFault parts (BadRow row kind) = (head : Head) × (head_of (rows_of parts.season) ≡ Ok head) × rank_grammar.IsFault (rows_of parts.register) (BadRow row kind)
+IsRegisterFault parts NoTableMemory = ⊥
 
 -- the first fault of a matrix, after a register without faults
-abbrev pub IsMatrixFault : Parts → MatrixFault → Type 0
-IsMatrixFault parts (BadMatrix row kind) =
+abbrev pub IsMatrixFault : Parts → TableFault MatrixKind → Type 0
+IsMatrixFault parts (BadRow row kind) =
     (head : Head) × (ranks : rank_grammar.Ranks) × (head_of (rows_of parts.season) ≡ Ok head) × rank_grammar.IsRead (rows_of parts.register) ranks
-    × seat_grammar.IsFault (rows_of parts.matrix) (BadMatrix row kind)
-IsMatrixFault parts NoMatrixMemory = ⊥
+    × seat_grammar.IsFault (rows_of parts.matrix) (BadRow row kind)
+IsMatrixFault parts NoTableMemory = ⊥
 
 -- the first fault of choices, after a register and a matrix without faults
-abbrev pub IsChoiceFault : Parts → ChoiceFault → Type 0
-IsChoiceFault parts (BadChoice row kind) =
-    (head : Head) × (ranks : rank_grammar.Ranks) × (seats : seat_grammar.Seats) × (head_of (rows_of parts.season) ≡ Ok head) × rank_grammar.IsRead (rows_of parts.register) ranks
-    × seat_grammar.IsRead (rows_of parts.matrix) seats × choice_grammar.IsFault ranks seats (rows_of parts.choices) (BadChoice row kind)
-IsChoiceFault parts NoChoiceMemory = ⊥
+abbrev pub IsChoiceFault : Parts → TableFault ChoiceKind → Type 0
+IsChoiceFault parts (BadRow row kind) =
+    (head : Head) × (ranks : rank_grammar.Ranks) × (seats : seat_grammar.SeatTable) × (head_of (rows_of parts.season) ≡ Ok head) × rank_grammar.IsRead (rows_of parts.register) ranks
+    × seat_grammar.IsRead (rows_of parts.matrix) seats × choice_grammar.IsFault ranks seats (rows_of parts.choices) (BadRow row kind)
+IsChoiceFault parts NoTableMemory = ⊥
 
 -- the first wrong row of the season's section; or the clerk's row, where nothing else is wrong and the clerk's token is a candidate's
 abbrev pub IsHeadFault : Parts → ℕ → Type 0

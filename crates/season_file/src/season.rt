@@ -3,7 +3,8 @@ ghost use Rattle.std.specs.Prelude.{◌≡◌, ◌≤◌, false, is_some};
 ghost use Rattle.office_base.specs.Version.{IsVersion};
 ghost use Rattle.rank_lists.specs.Register.{find_holder};
 ghost use Rattle.choice_lists.specs.Choices.{AreChoices};
-ghost use Rattle.season_file.specs.Kept.{AreChoices-prop, IsVersion-prop};
+ghost use Rattle.choice_lists.specs.OneProof.{AreChoices-prop};
+ghost use Rattle.season_file.specs.Kept.{IsVersion-prop};
 
 use crate::content::{Content, Given, read_bytes, read_content};
 use crate::fault::SeasonFault;

@@ -4,31 +4,21 @@ use Rattle.std.specs.Prelude.{◌==◌, ◌&&◌, ◌||◌, bytes_eq, is_some, i
 use Rattle.std.specs.List.{AllByRecursion, list_any}
 use Rattle.std.proofs.lemmas.Bool.{cond-false, cond-true, false_from_ne_true}
 use Rattle.std.proofs.lemmas.Slice.Eq.{bytes_eq-Decides}
-use Rattle.office_base.specs.Lists.{Pairwise}
 use Rattle.office_text.proofs.FirstFaultLemmas.{one_answer}
 use Rattle.section_rows.specs.Rows.{Row}
+use Rattle.section_rows.specs.declared.fault.TableFault.TheVariants.{Bad}
 use Rattle.section_rows.specs.Table.{entries_of}
 use Rattle.section_rows.proofs.StepsLemmas.{first_of-push, or_else}
-use Rattle.seat_matrix.specs.Fields.{step_number}
+use Rattle.seat_matrix.proofs.Codes.{Distinct, codes-distinct}
 use Rattle.seat_matrix.specs.Laws.{AreSame, HaveOneReading}
-use Rattle.seat_matrix.specs.Matrix.{IsFault, IsMatrix, IsRead, Seats, codes_after, find_home, find_seating, home_at, judge, reading, seating_at, with_code}
+use Rattle.seat_matrix.specs.Matrix.{IsFault, IsMatrix, IsRead, SeatTable, codes_after, codes_in, codes_of, find_home, home_at, judge, reading, seatings_in, with_code}
 use Rattle.seat_matrix.specs.declared.entry.Entry.{Entry}
 use Rattle.seat_matrix.specs.declared.entry.Home.{Home}
-use Rattle.seat_matrix.specs.declared.entry.Seating.{Seating}
-use Rattle.seat_matrix.specs.declared.fault.MatrixFault.TheVariants.{Bad}
 use Rattle.seat_matrix.specs.declared.fault.MatrixKind.{MatrixKind}
 
 -- programmes with their homes
 abbrev Homes : Type 0
 Homes = List (List ℕ × Home)
-
--- the codes of programmes
-abbrev codes_in : Homes → List (List ℕ)
-codes_in programmes = map (λ held. held.0) programmes
-
--- no code stands twice among these
-abbrev Distinct : List (List ℕ) → Type 0
-Distinct codes = Pairwise (λ a b. a ≡ b → ⊥) codes
 
 -- the programmes with that of one more entry, unless it is among them
 abbrev with_programme : Homes → Entry → Homes
@@ -38,10 +28,6 @@ with_programme programmes entry = if is_some (find_home entry.programme programm
 abbrev programmes_after : Homes → List Entry → Homes
 programmes_after programmes [] = programmes
 programmes_after programmes (entry ∷ entries) = programmes_after (with_programme programmes entry) entries
-
--- the seats of the steps of entries
-abbrev steps_of : List Entry → List ((List ℕ × ℕ) × Seating)
-steps_of entries = map (λ entry. ((entry.programme, step_number entry.step), entry.seating)) entries
 
 -- a home is found where the code is among the codes
 known_code : (code : List ℕ) (programmes : Homes) → is_some (find_home code programmes) ≡ list_any (bytes_eq code) (codes_in programmes)
@@ -105,44 +91,13 @@ programmes-found : (code : List ℕ) (programmes : Homes) (entries : List Entry)
 programmes-found code programmes [] = or_none (find_home code programmes)
 programmes-found code programmes (entry ∷ entries) = programmes-found code (with_programme programmes entry) entries ∙ with_programme-found code programmes entry (home_at code entries)
 
-steps-found : (code : List ℕ) (step : ℕ) (entries : List Entry) → find_seating code step (steps_of entries) ≡ seating_at code step entries
-steps-found code step [] = refl
-steps-found code step (entry ∷ entries) = ap (λ (o : Option Seating). cond (bytes_eq code entry.programme && step == step_number entry.step) (Some entry.seating) o) (steps-found code step entries)
-
 -- All entries have a matrix.
-matrix_of : (entries : List Entry) → IsMatrix entries (record { programmes = programmes_after [] entries; steps = steps_of entries })
+matrix_of : (entries : List Entry) → IsMatrix entries (record { programmes = programmes_after [] entries; steps = map (seatings_in entries) (codes_of entries) })
 matrix_of entries = record {
   programmes = programmes-codes [] entries;
   homes = λ code. programmes-found code [] entries;
-  seatings = λ code step. steps-found code step entries;
+  steps = refl;
 }
-
--- a code that is not among others is another one
-all_other : (first code : List ℕ) (codes : List (List ℕ)) → (first ≡ code → ⊥) → AllByRecursion (λ other. first ≡ other → ⊥) codes → AllByRecursion (λ other. first ≡ other → ⊥) (codes ++ code ∷ [])
-all_other first code [] other all = (other, tt)
-all_other first code (next ∷ codes) other all = (all.0, all_other first code codes other all.1)
-
-or_parts : (b c : Bool) → (b || c) ≡ false → (b ≡ false) × (c ≡ false)
-or_parts true c e = cc e
-or_parts false c e = (refl, e)
-
-distinct-push : (codes : List (List ℕ)) (code : List ℕ) → list_any (bytes_eq code) codes ≡ false → Distinct codes → Distinct (codes ++ code ∷ [])
-distinct-push [] code e distinct = (tt, tt)
-distinct-push (first ∷ codes) code e distinct =
-    let parts = or_parts (bytes_eq code first) (list_any (bytes_eq code) codes) e in
-    (all_other first code codes (λ same. cc (parts.0, (bytes_eq-Decides code first).1 (sym same))) distinct.0, distinct-push codes code parts.1 distinct.1)
-
-distinct-with : (codes : List (List ℕ)) (code : List ℕ) → Distinct codes → Distinct (with_code codes code)
-distinct-with codes code distinct = by (list_any (bytes_eq code) codes) refl
-  where
-    by : (b : Bool) → list_any (bytes_eq code) codes ≡ b → Distinct (cond b codes (codes ++ code ∷ []))
-    by true e = distinct
-    by false e = distinct-push codes code e distinct
-
--- The codes of entries are distinct.
-codes-distinct : (codes : List (List ℕ)) (entries : List Entry) → Distinct codes → Distinct (codes_after codes entries)
-codes-distinct codes [] distinct = distinct
-codes-distinct codes (entry ∷ entries) distinct = codes-distinct (with_code codes entry.programme) entries (distinct-with codes entry.programme distinct)
 
 -- a code that is not among those of programmes is not found
 not_found : (code : List ℕ) (programmes : Homes) → AllByRecursion (λ other. code ≡ other → ⊥) (codes_in programmes) → find_home code programmes ≡ None
@@ -187,17 +142,17 @@ same_programmes (first ∷ firsts) (second ∷ seconds) codes distinct e =
     cc (same, rest)
 
 -- Entries have one matrix at most.
-one_matrix : (entries : List Entry) (seats other : Seats) → IsMatrix entries seats → IsMatrix entries other → AreSame seats other
-one_matrix entries seats other a b = record {
-  programmes = same_programmes seats.programmes other.programmes (a.programmes ∙ sym b.programmes) (subst Distinct (sym a.programmes) (codes-distinct [] entries tt))
+one_matrix : (entries : List Entry) (table other : SeatTable) → IsMatrix entries table → IsMatrix entries other → AreSame table other
+one_matrix entries table other a b = record {
+  programmes = same_programmes table.programmes other.programmes (a.programmes ∙ sym b.programmes) (subst Distinct (sym a.programmes) (codes-distinct [] entries tt))
       (λ code. a.homes code ∙ sym (b.homes code));
-  seatings = λ code step. a.seatings code step ∙ sym (b.seatings code step);
+  steps = a.steps ∙ sym b.steps;
 }
 
 -- Rows give seats or have a fault.
-some_reading : (rows : List Row) → ((seats : Seats) × IsRead rows seats) ⊎ ((row : ℕ) × (kind : MatrixKind) × IsFault rows (Bad row kind))
+some_reading : (rows : List Row) → ((table : SeatTable) × IsRead rows table) ⊎ ((row : ℕ) × (kind : MatrixKind) × IsFault rows (Bad row kind))
 some_reading rows = elim (one_answer judge rows).some [
-  | inl none ↦ inl (record { programmes = programmes_after [] (entries_of reading rows); steps = steps_of (entries_of reading rows) }, (none, matrix_of (entries_of reading rows)))
+  | inl none ↦ inl (record { programmes = programmes_after [] (entries_of reading rows); steps = map (seatings_in (entries_of reading rows)) (codes_of (entries_of reading rows)) }, (none, matrix_of (entries_of reading rows)))
   | inr found ↦ inr (found.0 + 1, found.1, (found.0, refl, found.2))
 ]
 
@@ -205,8 +160,8 @@ some_reading rows = elim (one_answer judge rows).some [
 pub one_reading : (rows : List Row) → HaveOneReading rows
 one_reading rows = record {
   some = some_reading rows;
-  apart = λ seats row kind read fault. (one_answer judge rows).apart fault.0 kind read.0 fault.2;
-  one_value = λ seats other a b. one_matrix (entries_of reading rows) seats other a.1 b.1;
+  apart = λ table row kind read fault. (one_answer judge rows).apart fault.0 kind read.0 fault.2;
+  one_value = λ table other a b. one_matrix (entries_of reading rows) table other a.1 b.1;
   one_fault = λ row other kind next a b.
       let same = (one_answer judge rows).one a.0 b.0 kind next a.2 b.2 in
       (a.1 ∙ ap (λ (n : ℕ). n + 1) same.0 ∙ sym b.1, same.1);

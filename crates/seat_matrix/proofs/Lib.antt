@@ -1,2 +1,3 @@
+mod Codes
 mod LawsLemmas
 mod SeatsLemmas

@@ -1,30 +1,36 @@
 -- What one more entry adds.
-use Rattle.std.proofs.Common.{◌≡◌, inl, inr, ℕ, Bool, true, false, cond, List, [], ◌∷◌, ◌++◌, Option, Some, None, Result, Ok, length, map, refl, sym, ap, subst, ◌∙◌, length-append, arith}
+use Rattle.std.proofs.Common.{◌≡◌, ◌⊎◌, ◌≢◌, inl, inr, ℕ, zero, suc, Bool, true, false, cond, set, get_or, lit≤, length-set, get_or-set_same, get_or-set_other, take, add-one, List, [], ◌∷◌, ◌++◌, Option, Some, None, Result, Ok, length, map, refl, sym, ap, subst, ◌∙◌, length-append, arith}
 use Rattle.std.specs.Prelude.{◌==◌, ◌&&◌, ◌||◌, ◌<◌, ◌≤◌, ◌+◌, not, sum, nat_le, nat_lt, bytes_eq, is_some, option_map, slice_get, IfSome}
 use Rattle.std.specs.Bool.{one_answer}
 use Rattle.std.specs.Cmp.Lexicographic.{slice_cmp}
 use Rattle.std.specs.List.{list_any}
 use Rattle.std.specs.Map.{keys_of, lookup}
-use Rattle.std.specs.Option.{option_and_then}
+use Rattle.std.specs.Option.{option_and_then, unwrap_or}
 use Rattle.std.specs.Ordering.{is_eq, nat_cmp}
-use Rattle.std.proofs.lemmas.Bool.{and_parts, cond-false, eqb-true, leb-false, ltb-false}
+use Rattle.std.proofs.lemmas.Bool.{and_parts, cases_eq, cond-false, cond-true, eqb-true, false_from_ne_true, leb-false, ltb-false}
+use Rattle.std.proofs.lemmas.Grind.{get_or-set_at}
 use Rattle.std.proofs.lemmas.List.{length-map}
 use Rattle.std.proofs.lemmas.Map.Text.{is_eq-slice_cmp}
 use Rattle.std.proofs.lemmas.Slice.Eq.{bytes_eq-Decides}
 use Rattle.indexmap.specs.IndexMap.{insert_entry}
 use Rattle.office_base.specs.Person.{IsList}
 use Rattle.office_base.specs.declared.step.StepKind.{StepKind}
+use Rattle.office_base.specs.declared.step.StepKind.TheVariants.{Open, Ews, Obc, Sc, St, Dereserved}
+use Rattle.seat_matrix.proofs.Codes.{Distinct, code_apart, codes-distinct}
 use Rattle.office_text.specs.Number.{number_within}
 use Rattle.section_rows.specs.Rows.{Row, field}
 use Rattle.section_rows.specs.Steps.{after, needs, unless}
 use Rattle.section_rows.proofs.StepsLemmas.{after_ok, flip, found_cases, nat_at, needs_ok, none_from, number_decides, number_found, step, then_found, unless_ok, within_range}
 use Rattle.seat_matrix.specs.Fields.{code_of, count_of, protections_of, seating_of, step_number, step_of}
-use Rattle.seat_matrix.specs.Matrix.{AreEntries, AreSeats, IsMatrix, IsSeated, all_seats, codes_after, codes_of, find_home, find_seating, home_at, is_dereserved, seating_in, Seats, new_row, reading, seating_at, seats_after, settles, with_code}
-use Rattle.seat_matrix.specs.Table.{Keeps, step_cmp}
+use Rattle.seat_matrix.specs.Laws.{OneStepChanges}
+use Rattle.seat_matrix.specs.Matrix.{AreEntries, AreSeats, IsMatrix, SeatTable, all_seats, codes_after, codes_in, codes_of, find_home, first_list, given, home_at, matrix_with, new_row, reading, seating_at, seating_in, seatings_in, seats_after, settles, steps_in, with_code}
+use Rattle.seat_matrix.specs.Seats.{IsSeated, is_dereserved, no_seatings, of_step, with_seating}
+use Rattle.seat_matrix.specs.Builder.{Keeps, step_cmp}
 use Rattle.seat_matrix.specs.declared.entry.Entry.{Entry}
 use Rattle.seat_matrix.specs.declared.entry.Home.{Home}
-use Rattle.seat_matrix.specs.declared.entry.Seating.{Seating}
-use Rattle.seat_matrix.specs.declared.table.Table.{Table}
+use Rattle.seat_matrix.specs.declared.seats.Seating.{Seating}
+use Rattle.seat_matrix.specs.declared.seats.Seatings.{Seatings}
+use Rattle.seat_matrix.specs.declared.builder.MatrixBuilder.{MatrixBuilder}
 use Rattle.seat_matrix.specs.declared.fault.MatrixKind.{MatrixKind}
 use Rattle.seat_matrix.specs.declared.fault.MatrixKind.TheVariants.{BadCode, RepeatedRow, BadNumber, ProtectionsExceedSeats, UnknownList, TwoInstitutes, TwoLists, TooMany}
 
@@ -102,11 +108,11 @@ with_list entries row p seating list = after (settles (home_at p.0 entries) (len
 abbrev with_protections : List Entry → Row → List ℕ × List ℕ × StepKind → Seating → Result Entry MatrixKind
 with_protections entries row p seating = needs (number_within 1 4 (field row 2)) UnknownList (with_list entries row p seating)
 
-abbrev with_seating : List Entry → Row → List ℕ × List ℕ × StepKind → Seating → Result Entry MatrixKind
-with_seating entries row p seating = unless (nat_lt seating.seats (sum seating.protections.counts)) ProtectionsExceedSeats (with_protections entries row p seating)
+abbrev with_numbers : List Entry → Row → List ℕ × List ℕ × StepKind → Seating → Result Entry MatrixKind
+with_numbers entries row p seating = unless (nat_lt seating.seats (sum seating.protections.counts)) ProtectionsExceedSeats (with_protections entries row p seating)
 
 abbrev with_row : List Entry → Row → List ℕ × List ℕ × StepKind → Result Entry MatrixKind
-with_row entries row p = needs (seating_of row) BadNumber (with_seating entries row p)
+with_row entries row p = needs (seating_of row) BadNumber (with_numbers entries row p)
 
 -- a new row is new
 row_accepted : (entries : List Entry) (row : Row) (p : List ℕ × List ℕ × StepKind) → new_row entries row ≡ Ok p → seating_at p.0 (step_number p.2) entries ≡ None
@@ -148,7 +154,7 @@ pub accepted : (entries : List Entry) (row : Row) (entry : Entry) → reading en
 unfolding reading
 accepted entries row entry e =
     let (p, e1, r1) = after_ok (new_row entries row) (with_row entries row) entry e in
-    let (seating, e2, r2) = needs_ok (seating_of row) BadNumber (with_seating entries row p) entry r1 in
+    let (seating, e2, r2) = needs_ok (seating_of row) BadNumber (with_numbers entries row p) entry r1 in
     let (covered, r3) = unless_ok (nat_lt seating.seats (sum seating.protections.counts)) ProtectionsExceedSeats (with_protections entries row p seating) entry r2 in
     let (list, e4, r4) = needs_ok (number_within 1 4 (field row 2)) UnknownList (with_list entries row p seating) entry r3 in
     let (home, e5, r5) = after_ok (settles (home_at p.0 entries) (length (codes_of entries)) (record { institute = p.1; list = record { 0 = list } })) (with_home entries row p seating) entry r4 in
@@ -187,18 +193,6 @@ entries-step entries entry all accepted known = record {
   total = omega (arith, seats-push 0 entries entry, accepted.total);
 }
 
--- a seating is found by bytes as by the order of codes
-pub find-seating : (q : List ℕ) (t : ℕ) (es : List ((List ℕ × ℕ) × Seating)) → find_seating q t es ≡ lookup (λ k. is_eq (step_cmp (q, t) k)) es
-find-seating q t [] = refl
-find-seating q t (e ∷ es) =
-    let test : (bytes_eq q e.0.0 && t == e.0.1) ≡ is_eq (step_cmp (q, t) e.0) =
-    sym (then_found (slice_cmp nat_cmp q e.0.0) (nat_cmp t e.0.1)
-    ∙ ap (λ (b : Bool). b && is_eq (nat_cmp t e.0.1)) (is_eq-slice_cmp q e.0.0)
-    ∙ ap (λ (b : Bool). bytes_eq q e.0.0 && b) (one_answer _ _ (nat_at t e.0.1) (number_decides t e.0.1)))
-    in
-    ap (λ (b : Bool). cond b (Some e.1) (find_seating q t es)) test
-    ∙ ap (λ (o : Option Seating). cond (is_eq (step_cmp (q, t) e.0)) (Some e.1) o) (find-seating q t es)
-
 -- a home is found as the map finds it
 pub find-home : (q : List ℕ) (es : List (List ℕ × Home)) → find_home q es ≡ lookup (bytes_eq q) es
 find-home q [] = refl
@@ -208,40 +202,205 @@ keys-map : (es : List (List ℕ × Home)) → map (λ held. held.0) es ≡ keys_
 keys-map [] = refl
 keys-map (e ∷ es) = ap (λ (l : List (List ℕ)). e.0 ∷ l) (keys-map es)
 
--- The maps of a table are the matrix of its entries.
-pub made : (entries : List Entry) (table : Table) → Keeps entries table → IsMatrix entries (record { programmes = table.programmes.entries; steps = table.steps.entries })
-made entries table keeps = record {
+-- what the entries give for each step is seated
+given_seated : (entries : List Entry) → AreEntries entries → (code : List ℕ) (step : ℕ) → IsSeated (given (seating_at code step entries))
+given_seated entries sound code step = by (seating_at code step entries) refl
+  where
+    by : (o : Option Seating) → seating_at code step entries ≡ o → IsSeated (given o)
+    by None e = record { protections = omega arith; seats = omega arith }
+    by (Some seating) e = sound.seated code step seating e
+
+-- and so is what they give for a programme
+pub steps_seated : (entries : List Entry) → AreEntries entries → (code : List ℕ) (kind : StepKind) → IsSeated (of_step (seatings_in entries code) kind)
+steps_seated entries sound code Open = given_seated entries sound code 0
+steps_seated entries sound code Ews = given_seated entries sound code 1
+steps_seated entries sound code Obc = given_seated entries sound code 2
+steps_seated entries sound code Sc = given_seated entries sound code 3
+steps_seated entries sound code St = given_seated entries sound code 4
+steps_seated entries sound code Dereserved = record { protections = omega arith; seats = omega arith }
+
+-- what holds of each image holds at each place
+mapped_at : {X Y : Type 0} (f : X → Y) (P : Y → Type 0) (d : Y) → ((x : X) → P (f x)) → (xs : List X) (k : ℕ) → k < length xs → P (get_or (map f xs) k d)
+mapped_at f P d each [] k below = absurd (omega arith)
+mapped_at f P d each (x ∷ xs) zero below = each x
+mapped_at f P d each (x ∷ xs) (suc k) below = mapped_at f P d each xs k (omega arith)
+
+-- a programme of distinct ones is found by its code
+found_at : (programmes : List (List ℕ × Home)) → Distinct (codes_in programmes) → (prog : ℕ) (held : List ℕ × Home) → slice_get programmes prog ≡ Some held → find_home held.0 programmes ≡ Some held.1
+found_at [] distinct prog held e = cc e
+found_at (first ∷ programmes) distinct zero held e =
+    let same : first ≡ held = cc e in
+    cond-true (bytes_eq held.0 first.0) _ _ ((bytes_eq-Decides held.0 first.0).1 (ap (λ (h : List ℕ × Home). h.0) (sym same))) ∙ ap (λ (h : List ℕ × Home). Some h.1) same
+found_at (first ∷ programmes) distinct (suc prog) held e =
+    let other = code_apart first.0 programmes prog held distinct.0 e in
+    cond-false (bytes_eq held.0 first.0) _ _ (false_from_ne_true (bytes_eq held.0 first.0) (λ t. other (sym ((bytes_eq-Decides held.0 first.0).0 t)))) ∙ found_at programmes distinct.1 prog held e
+
+-- the list of a programme by its number
+pub list_sound : (programmes : List (List ℕ × Home)) (prog : ℕ) → prog < length programmes → ((held : List ℕ × Home) → slice_get programmes prog ≡ Some held → IsList held.1.list)
+    → IsList (unwrap_or (option_map (λ held. held.1.list) (slice_get programmes prog)) first_list)
+list_sound programmes prog below each = by (slice_get programmes prog) refl
+  where
+    by : (o : Option (List ℕ × Home)) → slice_get programmes prog ≡ o → IsList (unwrap_or (option_map (λ held. held.1.list) o) first_list)
+    by None e = (lit≤ tt, lit≤ tt)
+    by (Some held) e = each held e
+
+-- The map of a table, and what its entries give for each programme, are their matrix.
+pub made : (entries : List Entry) (table : MatrixBuilder) (steps : List Seatings) → Keeps entries table → steps ≡ map (seatings_in entries) (codes_of entries) → IsMatrix entries (record { programmes = table.programmes.entries; steps = steps })
+made entries table steps keeps same = record {
   programmes = keys-map table.programmes.entries ∙ keeps.programmes;
   homes = λ code. find-home code table.programmes.entries ∙ keeps.homes code;
-  seatings = λ code step. find-seating code step table.steps.entries ∙ keeps.seatings code step;
+  steps = same;
 }
 
 -- What is the matrix of sound entries is sound.
-pub made_sound : (entries : List Entry) (table : Table) → Keeps entries table → AreSeats (record { programmes = table.programmes.entries; steps = table.steps.entries })
-made_sound entries table keeps =
-    let matrix = made entries table keeps in
+pub made_sound : (entries : List Entry) (table : MatrixBuilder) (steps : List Seatings) → Keeps entries table → steps ≡ map (seatings_in entries) (codes_of entries) → AreSeats (record { programmes = table.programmes.entries; steps = steps })
+made_sound entries table steps keeps same =
+    let matrix = made entries table steps keeps same in
+    let codes : Distinct (codes_in table.programmes.entries) = subst Distinct (sym matrix.programmes) (codes-distinct [] entries tt) in
+    let count : length table.programmes.entries ≡ length (codes_of entries) = omega (arith, ap (λ (l : List (List ℕ)). length l) matrix.programmes, length-map table.programmes.entries (λ (held : List ℕ × Home). held.0)) in
+    let long : length steps ≡ length (codes_of entries) = ap (λ (l : List Seatings). length l) same ∙ length-map (codes_of entries) (seatings_in entries) in
     record {
-      seated = λ code step seating e. keeps.sound.seated code step seating (sym (matrix.seatings code step) ∙ e);
-      lists = λ code home e. keeps.sound.lists code home (sym (matrix.homes code) ∙ e);
-      few = omega (arith, keeps.sound.few, ap (λ (l : List (List ℕ)). length l) keeps.programmes, length-map table.programmes.entries (λ held. held.0));
+      codes = codes;
+      few = omega (arith, keeps.sound.few);
+      steps = omega arith;
+      sound = λ prog below. record {
+        list = list_sound table.programmes.entries prog below (λ held e. keeps.sound.lists held.0 held.1 (sym (matrix.homes held.0) ∙ found_at table.programmes.entries codes prog held e));
+        steps = λ kind. subst (λ (l : List Seatings). IsSeated (of_step (get_or l prog no_seatings) kind)) (sym same)
+            (mapped_at (seatings_in entries) (λ steps. IsSeated (of_step steps kind)) no_seatings (λ code. steps_seated entries keeps.sound code kind) (codes_of entries) prog (omega arith));
+      };
     }
 
--- the programme of a number, by its code
-by_code : (o : Option (List ℕ × Home)) (code : List ℕ) (k : ℕ) (steps : List ((List ℕ × ℕ) × Seating)) → option_map (λ held. held.0) o ≡ Some code
-    → option_and_then (λ held. find_seating held.0 k steps) o ≡ find_seating code k steps
-by_code None code k steps e = cc e
-by_code (Some held) code k steps e = let same : held.0 ≡ code = cc e in ap (λ (c : List ℕ). find_seating c k steps) same
+-- ---- other seats in one step
 
--- What the map has for a programme and a step is what the matrix has.
-pub seating-given : (seats : Seats) (n : ℕ) (step : StepKind) (code : List ℕ) (k : ℕ) (result : Option Seating) → is_dereserved step ≡ false
-    → option_map (λ held. held.0) (slice_get seats.programmes n) ≡ Some code → k ≡ step_number step → result ≡ lookup (λ q. is_eq (step_cmp (code, k) q)) seats.steps → result ≡ seating_in seats n step
-seating-given seats n step code k result plain e f g =
-    g ∙ sym (find-seating code k seats.steps) ∙ ap (λ (m : ℕ). find_seating code m seats.steps) f
-    ∙ sym (by_code (slice_get seats.programmes n) code (step_number step) seats.steps e)
-    ∙ sym (cond-false (is_dereserved step) None (option_and_then (λ held. find_seating held.0 (step_number step) seats.steps) (slice_get seats.programmes n)) plain)
+-- the step has the seats that it was given
+put_here : (steps : Seatings) (step : StepKind) (seating : Seating) → is_dereserved step ≡ false → of_step (with_seating steps step seating) step ≡ seating
+put_here steps Open seating e = refl
+put_here steps Ews seating e = refl
+put_here steps Obc seating e = refl
+put_here steps Sc seating e = refl
+put_here steps St seating e = refl
+put_here steps Dereserved seating e = cc e
 
--- What is found is seated.
-pub seated-given : (o : Option Seating) (code : List ℕ) (k : ℕ) (steps : List ((List ℕ × ℕ) × Seating)) → ((s : Seating) → find_seating code k steps ≡ Some s → IsSeated s)
-    → o ≡ lookup (λ q. is_eq (step_cmp (code, k) q)) steps → IfSome o IsSeated
-seated-given None code k steps h e = tt
-seated-given (Some s) code k steps h e = h s (find-seating code k steps ∙ sym e)
+-- each other step has its own
+put_elsewhere : (steps : Seatings) (step kind : StepKind) (seating : Seating) → (kind ≡ step → ⊥) → of_step (with_seating steps step seating) kind ≡ of_step steps kind
+put_elsewhere steps Open Open seating other = absurd (other refl)
+put_elsewhere steps Open Ews seating other = refl
+put_elsewhere steps Open Obc seating other = refl
+put_elsewhere steps Open Sc seating other = refl
+put_elsewhere steps Open St seating other = refl
+put_elsewhere steps Open Dereserved seating other = refl
+put_elsewhere steps Ews Open seating other = refl
+put_elsewhere steps Ews Ews seating other = absurd (other refl)
+put_elsewhere steps Ews Obc seating other = refl
+put_elsewhere steps Ews Sc seating other = refl
+put_elsewhere steps Ews St seating other = refl
+put_elsewhere steps Ews Dereserved seating other = refl
+put_elsewhere steps Obc Open seating other = refl
+put_elsewhere steps Obc Ews seating other = refl
+put_elsewhere steps Obc Obc seating other = absurd (other refl)
+put_elsewhere steps Obc Sc seating other = refl
+put_elsewhere steps Obc St seating other = refl
+put_elsewhere steps Obc Dereserved seating other = refl
+put_elsewhere steps Sc Open seating other = refl
+put_elsewhere steps Sc Ews seating other = refl
+put_elsewhere steps Sc Obc seating other = refl
+put_elsewhere steps Sc Sc seating other = absurd (other refl)
+put_elsewhere steps Sc St seating other = refl
+put_elsewhere steps Sc Dereserved seating other = refl
+put_elsewhere steps St Open seating other = refl
+put_elsewhere steps St Ews seating other = refl
+put_elsewhere steps St Obc seating other = refl
+put_elsewhere steps St Sc seating other = refl
+put_elsewhere steps St St seating other = absurd (other refl)
+put_elsewhere steps St Dereserved seating other = refl
+put_elsewhere steps Dereserved kind seating other = refl
+
+-- sound seats of each step stay sound where a step gets others
+put_seated : (steps : Seatings) (step kind : StepKind) (seating : Seating) → IsSeated seating → ((k : StepKind) → IsSeated (of_step steps k)) → IsSeated (of_step (with_seating steps step seating) kind)
+put_seated steps Open Open seating here each = here
+put_seated steps Ews Ews seating here each = here
+put_seated steps Obc Obc seating here each = here
+put_seated steps Sc Sc seating here each = here
+put_seated steps St St seating here each = here
+put_seated steps Dereserved kind seating here each = each kind
+put_seated steps Open Ews seating here each = each Ews
+put_seated steps Open Obc seating here each = each Obc
+put_seated steps Open Sc seating here each = each Sc
+put_seated steps Open St seating here each = each St
+put_seated steps Open Dereserved seating here each = each Dereserved
+put_seated steps Ews Open seating here each = each Open
+put_seated steps Ews Obc seating here each = each Obc
+put_seated steps Ews Sc seating here each = each Sc
+put_seated steps Ews St seating here each = each St
+put_seated steps Ews Dereserved seating here each = each Dereserved
+put_seated steps Obc Open seating here each = each Open
+put_seated steps Obc Ews seating here each = each Ews
+put_seated steps Obc Sc seating here each = each Sc
+put_seated steps Obc St seating here each = each St
+put_seated steps Obc Dereserved seating here each = each Dereserved
+put_seated steps Sc Open seating here each = each Open
+put_seated steps Sc Ews seating here each = each Ews
+put_seated steps Sc Obc seating here each = each Obc
+put_seated steps Sc St seating here each = each St
+put_seated steps Sc Dereserved seating here each = each Dereserved
+put_seated steps St Open seating here each = each Open
+put_seated steps St Ews seating here each = each Ews
+put_seated steps St Obc seating here each = each Obc
+put_seated steps St Sc seating here each = each Sc
+put_seated steps St Dereserved seating here each = each Dereserved
+
+-- one number is another, or is not
+cases_number : (a b : ℕ) → (a ≡ b) ⊎ (a ≢ b)
+cases_number a b = cases_eq a b
+
+-- A matrix with other seats in one step has them there, and is as before elsewhere.
+pub one_step_changes : OneStepChanges
+one_step_changes table prog step seating below plain =
+    let there : steps_in (matrix_with table prog step seating) prog ≡ with_seating (steps_in table prog) step seating =
+    get_or-set_same table.steps prog (with_seating (steps_in table prog) step seating) no_seatings below in
+    record {
+      programmes = refl;
+      here = ap (λ (steps : Seatings). of_step steps step) there ∙ put_here (steps_in table prog) step seating plain;
+      elsewhere = λ other kind apart. elim (cases_number other prog) [
+        | inl same ↦
+            subst (λ (n : ℕ). seating_in (matrix_with table prog step seating) n kind ≡ seating_in table n kind) (sym same)
+            (ap (λ (steps : Seatings). of_step steps kind) there ∙ put_elsewhere (steps_in table prog) step kind seating (apart same))
+        | inr differs ↦ ap (λ (steps : Seatings). of_step steps kind) (get_or-set_other table.steps prog other (with_seating (steps_in table prog) step seating) no_seatings differs)
+      ];
+    }
+
+-- A sound matrix with sound other seats in one step is sound.
+pub with_sound : (table : SeatTable) (prog : ℕ) (step : StepKind) (seating : Seating) → AreSeats table → prog < length table.programmes → IsSeated seating → AreSeats (matrix_with table prog step seating)
+with_sound table prog step seating sound below seated = record {
+  codes = sound.codes;
+  few = sound.few;
+  steps = length-set table.steps prog (with_seating (steps_in table prog) step seating) ∙ sound.steps;
+  sound = λ other within.
+      let old = sound.sound other within in
+      record {
+        list = old.list;
+        steps = λ kind. elim (cases_number other prog) [
+          | inl same ↦
+              let here : get_or (set table.steps prog (with_seating (steps_in table prog) step seating)) other no_seatings ≡ with_seating (steps_in table prog) step seating =
+              get_or-set_at table.steps prog other (with_seating (steps_in table prog) step seating) no_seatings same (omega (arith, sound.steps)) in
+              subst (λ (steps : Seatings). IsSeated (of_step steps kind)) (sym here) (put_seated (steps_in table prog) step kind seating seated (sound.sound prog below).steps)
+          | inr differs ↦
+              subst (λ (steps : Seatings). IsSeated (of_step steps kind)) (sym (get_or-set_other table.steps prog other (with_seating (steps_in table prog) step seating) no_seatings differs)) (old.steps kind)
+        ];
+      };
+}
+
+-- the images of one element more
+pub taken_more : {X Y : Type 0} (f : X → Y) (xs : List X) (n : ℕ) (x : X) → slice_get xs n ≡ Some x → map f (take (n + 1) xs) ≡ map f (take n xs) ++ f x ∷ []
+taken_more f xs n x e = ap (λ (k : ℕ). map f (take k xs)) (add-one n) ∙ by f xs n x e
+  where
+    by : {X Y : Type 0} (f : X → Y) (xs : List X) (n : ℕ) (x : X) → slice_get xs n ≡ Some x → map f (take (suc n) xs) ≡ map f (take n xs) ++ f x ∷ []
+    by f [] n x e = cc e
+    by f (y ∷ ys) zero x e = let same : y ≡ x = cc e in ap (λ z. f z ∷ []) same
+    by f (y ∷ ys) (suc n) x e = ap (λ zs. f y ∷ zs) (by f ys n x e)
+
+-- the key of a place
+pub key_at : (es : List (List ℕ × Home)) (n : ℕ) (held : List ℕ × Home) → slice_get es n ≡ Some held → slice_get (keys_of es) n ≡ Some held.0
+key_at [] n held e = cc e
+key_at (first ∷ es) zero held e = let same : first ≡ held = cc e in ap (λ (h : List ℕ × Home). Some h.0) same
+key_at (first ∷ es) (suc n) held e = key_at es n held e

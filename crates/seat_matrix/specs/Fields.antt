@@ -6,7 +6,7 @@ use Rattle.office_base.specs.declared.step.StepKind.{StepKind}
 use Rattle.office_base.specs.declared.step.StepKind.TheVariants.{Open, Ews, Obc, Sc, St, Dereserved}
 use Rattle.office_text.specs.Number.{number_within}
 use Rattle.section_rows.specs.Rows.{Row, field}
-use Rattle.seat_matrix.specs.declared.entry.Seating.{Seating}
+use Rattle.seat_matrix.specs.declared.seats.Seating.{Seating}
 
 -- the step that a text spells
 abbrev pub step_of : List ℕ → Option StepKind

@@ -1,18 +1,26 @@
--- That rows give one matrix or have one fault.
-use Rattle.std.specs.Prelude.{◌≡◌, ◌⊎◌, ℕ, List}
+-- That rows give one matrix or have one fault, and what a matrix with other seats in one step is.
+use Rattle.std.specs.Prelude.{◌≡◌, ◌<◌, ◌⊎◌, ℕ, List, false, length}
 use Rattle.section_rows.specs.Rows.{Row}
-use Rattle.seat_matrix.specs.Matrix.{IsFault, IsRead, Seats, find_seating}
-use Rattle.seat_matrix.specs.declared.fault.MatrixFault.TheVariants.{Bad}
+use Rattle.section_rows.specs.declared.fault.TableFault.TheVariants.{Bad}
+use Rattle.office_base.specs.declared.step.StepKind.{StepKind}
+use Rattle.seat_matrix.specs.Matrix.{HasSeating, IsFault, IsRead, SeatTable, matrix_with}
+use Rattle.seat_matrix.specs.Seats.{is_dereserved}
 use Rattle.seat_matrix.specs.declared.fault.MatrixKind.{MatrixKind}
+use Rattle.seat_matrix.specs.declared.seats.Seating.{Seating}
 
 -- two matrices with the same programmes, which have the same seats in their steps
-pub record AreSame (seats other : Seats) : Type 0 where
-  pub programmes : seats.programmes ≡ other.programmes
-  pub seatings : (code : List ℕ) (step : ℕ) → find_seating code step seats.steps ≡ find_seating code step other.steps
+pub record AreSame (table other : SeatTable) : Type 0 where
+  pub programmes : table.programmes ≡ other.programmes
+  pub steps : table.steps ≡ other.steps
 
--- Rows give seats or have a fault; never both, and never two that differ.
+-- Rows give a matrix or have a fault; never both, and never two that differ.
 pub record HaveOneReading (rows : List Row) : Type 0 where
-  pub some : ((seats : Seats) × IsRead rows seats) ⊎ ((row : ℕ) × (kind : MatrixKind) × IsFault rows (Bad row kind))
-  pub apart : (seats : Seats) (row : ℕ) (kind : MatrixKind) → IsRead rows seats → IsFault rows (Bad row kind) → ⊥
-  pub one_value : (seats other : Seats) → IsRead rows seats → IsRead rows other → AreSame seats other
+  pub some : ((table : SeatTable) × IsRead rows table) ⊎ ((row : ℕ) × (kind : MatrixKind) × IsFault rows (Bad row kind))
+  pub apart : (table : SeatTable) (row : ℕ) (kind : MatrixKind) → IsRead rows table → IsFault rows (Bad row kind) → ⊥
+  pub one_value : (table other : SeatTable) → IsRead rows table → IsRead rows other → AreSame table other
   pub one_fault : (row other : ℕ) (kind next : MatrixKind) → IsFault rows (Bad row kind) → IsFault rows (Bad other next) → (row ≡ other) × (kind ≡ next)
+
+-- a matrix with other seats in one step has them there, and is as before elsewhere
+abbrev pub OneStepChanges : Type 0
+OneStepChanges = (table : SeatTable) (prog : ℕ) (step : StepKind) (seating : Seating) → prog < length table.steps → is_dereserved step ≡ false
+    → HasSeating table prog step seating (matrix_with table prog step seating)

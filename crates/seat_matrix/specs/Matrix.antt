@@ -1,22 +1,26 @@
--- The grammar of the matrix: what a row gives behind the entries of the rows before it, or what is wrong with it.
-use Rattle.std.specs.Prelude.{◌≡◌, ◌≤◌, ◌+◌, ℕ, Bool, not, ◌==◌, ◌&&◌, nat_le, nat_lt, sum, List, [], ◌∷◌, ◌++◌, is_some, Option, Some, None, Result, Ok, length, map, slice_get, bytes_eq, codes, if◌then◌else◌}
+-- The grammar of the matrix: what a row gives after the entries of the rows before it, or what is wrong with it.
+use Rattle.std.specs.Prelude.{◌≡◌, ◌≢◌, ◌≤◌, ◌<◌, ◌+◌, ℕ, Bool, not, ◌==◌, ◌&&◌, nat_le, nat_lt, sum, List, [], ◌∷◌, ◌++◌, is_some, Option, Some, None, Result, Ok, length, map, slice_get, slice_index_or, slice_set, option_map, bytes_eq, codes, if◌then◌else◌}
 use Rattle.std.specs.List.{list_any}
-use Rattle.std.specs.Option.{option_and_then}
+use Rattle.std.specs.Option.{unwrap_or}
+use Rattle.office_base.specs.Lists.{Pairwise}
 use Rattle.office_base.specs.Person.{IsList}
-use Rattle.office_base.specs.declared.step.Protections.{Protections}
+use Rattle.office_base.specs.declared.person.ListId.{ListId}
 use Rattle.office_base.specs.declared.step.StepKind.{StepKind}
-use Rattle.office_text.specs.FirstFault.{Judge, IsFirstFault, IsFaultless}
+use Rattle.office_base.specs.declared.step.StepKind.TheVariants.{Open, Ews, Obc, Sc, St}
+use Rattle.office_text.specs.FirstFault.{Judge, IsFaultless}
 use Rattle.office_text.specs.Number.{number_within}
 use Rattle.section_rows.specs.Rows.{Row, field}
 use Rattle.section_rows.specs.Steps.{after, first_of, needs, unless}
-use Rattle.section_rows.specs.Table.{Reading, entries_of, table_judge}
+use Rattle.section_rows.specs.Table.{IsTableFault, Reading, entries_of, table_judge}
+use Rattle.section_rows.specs.declared.fault.TableFault.{TableFault}
 use Rattle.seat_matrix.specs.Fields.{code_of, seating_of, step_number, step_of}
 use Rattle.seat_matrix.specs.declared.entry.Entry.{Entry}
 use Rattle.seat_matrix.specs.declared.entry.Home.{Home}
-use Rattle.seat_matrix.specs.declared.entry.Seating.{Seating}
-use Rattle.seat_matrix.specs.declared.fault.MatrixFault.{MatrixFault}
-use Rattle.seat_matrix.specs.declared.fault.MatrixFault.TheVariants.{Bad, OutOfMemory}
 use Rattle.seat_matrix.specs.declared.fault.MatrixKind.{MatrixKind}
+use Rattle.seat_matrix.specs.declared.seats.ProgrammeSeats.{ProgrammeSeats}
+use Rattle.seat_matrix.specs.declared.seats.Seating.{Seating}
+use Rattle.seat_matrix.specs.declared.seats.Seatings.{Seatings}
+use Rattle.seat_matrix.specs.Seats.{AreProgrammeSeats, IsSeated, no_seating, no_seatings, of_step, with_seating}
 use Rattle.seat_matrix.specs.declared.fault.MatrixKind.TheVariants.{BadHeader, BadCode, RepeatedRow, BadNumber, ProtectionsExceedSeats, UnknownList, TwoInstitutes, TwoLists, TooMany}
 
 -- the fields of the header
@@ -62,7 +66,7 @@ new_row entries row =
     needs (code_of (field row 0)) BadCode (λ programme. needs (code_of (field row 1)) BadCode (λ institute. needs (step_of (field row 3)) BadCode
     (λ step. unless (is_some (seating_at programme (step_number step) entries)) RepeatedRow (Ok (programme, institute, step)))))
 
--- What a row gives behind these entries, or the first of its faults.
+-- What a row gives after these entries, or the first of its faults.
 unfoldable pub reading : Reading Entry MatrixKind
 reading entries row =
     after (new_row entries row) (λ p. needs (seating_of row) BadNumber (λ seating.
@@ -74,29 +78,39 @@ reading entries row =
 abbrev pub judge : Judge Row MatrixKind
 judge = table_judge BadHeader header reading
 
--- what a matrix knows: the programmes by their numbers, and the seats of their steps
-pub record Seats : Type 0 where
+-- what a row gave for a step, and no seats where no row was given
+abbrev pub given : Option Seating → Seating
+given None = no_seating
+given (Some seating) = seating
+
+-- what the entries give for the steps of a programme
+abbrev pub seatings_in : List Entry → List ℕ → Seatings
+seatings_in entries code = record {
+  open_step = given (seating_at code (step_number Open) entries);
+  ews = given (seating_at code (step_number Ews) entries);
+  obc = given (seating_at code (step_number Obc) entries);
+  sc = given (seating_at code (step_number Sc) entries);
+  st = given (seating_at code (step_number St) entries);
+}
+
+-- what a matrix knows: the programmes by their numbers, and the seats of the steps of each
+pub record SeatTable : Type 0 where
   pub programmes : List (List ℕ × Home)
-  pub steps : List ((List ℕ × ℕ) × Seating)
+  pub steps : List Seatings
 
 -- where a programme stands, and its list
 abbrev pub find_home : List ℕ → List (List ℕ × Home) → Option Home
 find_home code programmes = first_of (λ held. bytes_eq code held.0) (λ held. held.1) programmes
 
--- the seats of a programme in the step of this number
-abbrev pub find_seating : List ℕ → ℕ → List ((List ℕ × ℕ) × Seating) → Option Seating
-find_seating code step steps = first_of (λ held. bytes_eq code held.0.0 && step == held.0.1) (λ held. held.1) steps
+-- the codes of programmes
+abbrev pub codes_in : List (List ℕ × Home) → List (List ℕ)
+codes_in programmes = map (λ held. held.0) programmes
 
--- The matrix of these entries: their programmes in the order in which they first appear, and the seats of their steps.
-pub record IsMatrix (entries : List Entry) (seats : Seats) : Type 0 where
-  pub programmes : map (λ held. held.0) seats.programmes ≡ codes_of entries
-  pub homes : (code : List ℕ) → find_home code seats.programmes ≡ home_at code entries
-  pub seatings : (code : List ℕ) (step : ℕ) → find_seating code step seats.steps ≡ seating_at code step entries
-
--- the protections are among the seats, and these are at most 4,000
-pub record IsSeated (seating : Seating) : Type 0 where
-  pub protections : sum seating.protections.counts ≤ seating.seats
-  pub seats : seating.seats ≤ 4000
+-- The matrix of these entries: their programmes in the order in which they first appear, and the seats that they give to each.
+pub record IsMatrix (entries : List Entry) (table : SeatTable) : Type 0 where
+  pub programmes : codes_in table.programmes ≡ codes_of entries
+  pub homes : (code : List ℕ) → find_home code table.programmes ≡ home_at code entries
+  pub steps : table.steps ≡ map (seatings_in entries) (codes_of entries)
 
 -- What holds of the entries of every matrix.
 pub record AreEntries (entries : List Entry) : Type 0 where
@@ -105,35 +119,47 @@ pub record AreEntries (entries : List Entry) : Type 0 where
   pub few : length (codes_of entries) ≤ 2000
   pub total : all_seats entries ≤ 1000000
 
--- What holds of every matrix.
-pub record AreSeats (seats : Seats) : Type 0 where
-  pub seated : (code : List ℕ) (step : ℕ) (seating : Seating) → find_seating code step seats.steps ≡ Some seating → IsSeated seating
-  pub lists : (code : List ℕ) (home : Home) → find_home code seats.programmes ≡ Some home → IsList home.list
-  pub few : length seats.programmes ≤ 2000
+-- the first of the merit lists
+abbrev pub first_list : ListId
+first_list = record { 0 = 1 }
 
--- seats that a category left unfilled have no row
-abbrev pub is_dereserved : StepKind → Bool
-is_dereserved step = step_number step == 5
+-- the merit list of the programme of this number
+abbrev pub list_in : SeatTable → ℕ → ListId
+list_in table prog = unwrap_or (option_map (λ held. held.1.list) (slice_get table.programmes prog)) first_list
 
--- what a row gave for the programme of this number in a step
-abbrev pub seating_in : Seats → ℕ → StepKind → Option Seating
-seating_in seats n step = if is_dereserved step then None else option_and_then (λ held. find_seating held.0 (step_number step) seats.steps) (slice_get seats.programmes n)
+-- the seats of the programme of this number in its steps
+abbrev pub steps_in : SeatTable → ℕ → Seatings
+steps_in table prog = slice_index_or table.steps prog no_seatings
 
--- the seats where a row was given, and none elsewhere
-abbrev pub seats_given : Option Seating → ℕ
-seats_given None = 0
-seats_given (Some seating) = seating.seats
+-- all that a matrix has for the programme of this number
+abbrev pub seats_in : SeatTable → ℕ → ProgrammeSeats
+seats_in table prog = record { list = list_in table prog; steps = steps_in table prog }
 
--- the protections where a row was given, and none elsewhere
-abbrev pub protections_given : Option Seating → Protections
-protections_given None = record { counts = 0 ∷ 0 ∷ 0 ∷ 0 ∷ 0 ∷ 0 ∷ [] }
-protections_given (Some seating) = seating.protections
+-- the seats of the programme of this number in a step
+abbrev pub seating_in : SeatTable → ℕ → StepKind → Seating
+seating_in table prog step = of_step (steps_in table prog) step
 
--- a body's rows have no fault, and these are the seats of their entries
-abbrev pub IsRead : List Row → Seats → Type 0
-IsRead rows seats = IsFaultless judge rows × IsMatrix (entries_of reading rows) seats
+-- What holds of every matrix: no code stands twice, and the seats of each programme are sound.
+pub record AreSeats (table : SeatTable) : Type 0 where
+  pub codes : Pairwise (λ a b. a ≢ b) (codes_in table.programmes)
+  pub few : length table.programmes ≤ 2000
+  pub steps : length table.steps ≡ length table.programmes
+  pub sound : (prog : ℕ) → prog < length table.programmes → AreProgrammeSeats (seats_in table prog)
+
+-- the same matrix, but for the seats of one step
+abbrev pub matrix_with : SeatTable → ℕ → StepKind → Seating → SeatTable
+matrix_with table prog step seating = record { programmes = table.programmes; steps = slice_set table.steps prog (with_seating (steps_in table prog) step seating) }
+
+-- One step has these seats, and all else is as before.
+pub record HasSeating (before : SeatTable) (prog : ℕ) (step : StepKind) (seating : Seating) (after : SeatTable) : Type 0 where
+  pub programmes : after.programmes ≡ before.programmes
+  pub here : seating_in after prog step ≡ seating
+  pub elsewhere : (other : ℕ) (kind : StepKind) → (other ≡ prog → kind ≡ step → ⊥) → seating_in after other kind ≡ seating_in before other kind
+
+-- a body's rows have no fault, and this is the matrix of their entries
+abbrev pub IsRead : List Row → SeatTable → Type 0
+IsRead rows table = IsFaultless judge rows × IsMatrix (entries_of reading rows) table
 
 -- the first fault of a body's rows; want of memory tells nothing of them
-abbrev pub IsFault : List Row → MatrixFault → Type 0
-IsFault rows (Bad row kind) = (n : ℕ) × (row ≡ n + 1) × IsFirstFault judge rows n kind
-IsFault rows OutOfMemory = Unit {0}
+abbrev pub IsFault : List Row → TableFault MatrixKind → Type 0
+IsFault = IsTableFault judge

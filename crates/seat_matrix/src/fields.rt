@@ -2,7 +2,7 @@
 ghost use Rattle.std.specs.Prelude.{◌≡◌, ◌<◌, sum};
 ghost use Rattle.seat_matrix.specs.Fields.{step_of, step_number, count_of, protection_of, protections_of, seating_of};
 
-use crate::entry::Seating;
+use crate::seats::Seating;
 use office_base::{Protections, StepKind};
 use office_text::read_number;
 use section_rows::Rows;

@@ -1,18 +1,20 @@
 // The seat matrix: which seats each programme has in each step, and which of them are protected.
 //
 // The reader of the choices, the season and the programmes' choices stand on it. `specs/` says what a row of the matrix
-// gives or what is wrong with it, behind the rows before it; the matrix of a body is what its rows give, and its fault
-// is the first by rows. Programmes are numbered from 0 in the order in which they first appear. Every matrix keeps that a
-// step's protections are among its seats. It must never know of candidates, of choices or of rounds.
+// gives or what is wrong with it, after the rows before it; the matrix of a body is what its rows give, and its fault
+// is the first by rows. Programmes are numbered from 0 in the order in which they first appear. Every matrix keeps that no
+// code stands twice and that a step's protections are among its seats; the seats of a step may be changed, without memory. It must never know of candidates, of choices or of rounds.
 #![tactic(auto)]
 
+pub mod builder;
 pub mod entry;
 pub mod fault;
 pub mod fields;
 pub mod laws;
 pub mod matrix;
-pub mod table;
+pub mod seats;
 
-pub use entry::{Entry, Home, Seating};
+pub use entry::{Entry, Home};
 pub use fault::{MatrixFault, MatrixKind};
 pub use matrix::Matrix;
+pub use seats::{ProgrammeSeats, Seating, Seatings};

@@ -1,62 +1,35 @@
 // The seat matrix, as the layers above see it.
-ghost use Rattle.std.specs.Prelude.{◌≡◌, ◌<◌, ◌≤◌, Some, IfOk, IfErr, IfSome, length, map, option_map, position, slice_get, sum, bytes_eq};
+ghost use Rattle.std.specs.Prelude.{◌≡◌, ◌<◌, ◌≤◌, Some, IfOk, IfErr, length, map, option_map, position, slice_get, sum, bytes_eq, false};
 ghost use Rattle.office_base.specs.Person.{IsList};
-ghost use Rattle.section_rows.specs.Rows.{rows_of, same_fields};
-ghost use Rattle.seat_matrix.specs.Fields.{step_number};
-ghost use Rattle.seat_matrix.specs.Matrix.{header, is_dereserved, IsRead, IsFault, IsSeated, seating_in, seats_given, protections_given};
+ghost use Rattle.section_rows.specs.Rows.{rows_of};
+ghost use Rattle.seat_matrix.specs.Matrix.{IsRead, IsFault, HasSeating, list_in, matrix_with, seating_in, seats_in, steps_in};
+ghost use Rattle.seat_matrix.specs.Seats.{AreProgrammeSeats, IsSeated, is_dereserved};
 
-use crate::entry::{Home, Seating};
-use crate::fault::{MatrixFault, MatrixKind};
-use crate::fields::step_number;
-use crate::table::Table;
+use crate::builder::MatrixBuilder;
+use crate::entry::Home;
+use crate::fault::MatrixFault;
+use crate::seats::{ProgrammeSeats, Seating, Seatings};
 use indexmap::IndexMap;
-use office_base::{Code, ListId, ProgId, Protections, StepKind};
-use section_rows::Rows;
+use office_base::{Code, ListId, OutOfMemory, ProgId, Protections, StepKind};
+use section_rows::read_table;
 use std::alloc::Global;
-use std::collections::BTreeMap;
 use std::marker::Model;
 
-/// The programmes by their numbers, and the seats of their steps.
+/// The programmes by their numbers, and the seats of the steps of each.
 #[derive(Drop)]
 pub struct Matrix {
     pub(crate) programmes: IndexMap<Code, Home>,
-    pub(crate) steps: BTreeMap<(Code, u8), Seating>,
+    pub(crate) steps: Vec<Seatings>,
 }
 
 impl Model for Matrix {
-    ghost use Rattle.seat_matrix.specs.Matrix.{Seats, AreSeats};
+    ghost use Rattle.seat_matrix.specs.Matrix.{SeatTable, AreSeats};
 
-    ghost Value = { Seats };
+    ghost Value = { SeatTable };
 
-    ghost view = { λ a. record { programmes = a.programmes.entries; steps = a.steps.entries } };
+    ghost view = { λ a. record { programmes = a.programmes.entries; steps = a.steps.items } };
 
-    ghost invariant = { λ a. AreSeats (record { programmes = a.programmes.entries; steps = a.steps.entries }) };
-}
-
-/// Whether the row is the header.
-fn is_header(row: &Rows<'_>) -> bool
-    ensures { result ≡ same_fields row.now.row header }
-{
-    row.is(&[
-        b"programme".as_slice(),
-        b"institute".as_slice(),
-        b"list".as_slice(),
-        b"step".as_slice(),
-        b"seats".as_slice(),
-        b"W".as_slice(),
-        b"D".as_slice(),
-        b"X".as_slice(),
-        b"S".as_slice(),
-        b"F".as_slice(),
-        b"L".as_slice(),
-    ])
-}
-
-/// Whether the step is of seats that a category left unfilled.
-fn is_dereserved(step: StepKind) -> bool
-    ensures { result ≡ is_dereserved step }
-{
-    matches!(step, StepKind::Dereserved)
+    ghost invariant = { λ a. AreSeats (record { programmes = a.programmes.entries; steps = a.steps.items }) };
 }
 
 impl Matrix {
@@ -67,27 +40,9 @@ impl Matrix {
         ensures value { IfOk result (λ matrix. IsRead (rows_of body.now) matrix) }
         ensures fault { IfErr result (λ fault. IsFault (rows_of body.now) fault) }
     {
-        let mut rows = Rows::new(alloc, body);
-        if !rows.advance()? || !is_header(&rows) {
-            return Err(MatrixFault::Bad {
-                row: 1,
-                kind: MatrixKind::BadHeader,
-            });
-        }
-        let mut table = Table::new(alloc);
-        let mut number: u32 = 1;
-        'rows: while rows.advance()? {
-            // no memory holds so many rows: without a fault there are at most five for each programme
-            let Some(next) = number.checked_add(1) else {
-                return Err(MatrixFault::OutOfMemory);
-            };
-            number = next;
-            match table.read(&rows) {
-                Ok(entry) => table.add(entry)?,
-                Err(kind) => return Err(MatrixFault::Bad { row: number, kind }),
-            }
-        }
-        Ok(table.finish())
+        let mut builder = MatrixBuilder::new(alloc);
+        read_table(alloc, body, &mut builder)?;
+        Ok(builder.finish(alloc)?)
     }
 
     /// How many programmes there are: at most 2,000.
@@ -139,25 +94,67 @@ impl Matrix {
     /// The seats of a programme in a step: 0 where no row was given, and for seats that a category left unfilled.
     pub fn seats(&self, prog: ProgId, step: StepKind) -> u16
         requires { prog.0 < length self.now.programmes }
-        ensures seats { result ≡ seats_given (seating_in self.now prog.0 step) }
+        ensures seats { result ≡ (seating_in self.now prog.0 step).seats }
         ensures most { result ≤ 4000 }
     {
-        match self.seating(prog, step) {
-            Some(seating) => seating.seats,
-            None => 0,
-        }
+        self.seating(prog, step).seats
     }
 
     /// The protections of a programme in a step: 0 where no row was given, and for seats that a category left unfilled.
     pub fn protections(&self, prog: ProgId, step: StepKind) -> Protections
         requires { prog.0 < length self.now.programmes }
-        ensures protections { result ≡ protections_given (seating_in self.now prog.0 step) }
-        ensures within { sum result.counts ≤ seats_given (seating_in self.now prog.0 step) }
+        ensures protections { result ≡ (seating_in self.now prog.0 step).protections }
+        ensures within { sum result.counts ≤ (seating_in self.now prog.0 step).seats }
     {
-        match self.seating(prog, step) {
-            Some(seating) => seating.protections,
-            None => Protections { counts: [0; 6] },
+        self.seating(prog, step).protections
+    }
+
+    /// All that the matrix has for a programme: its list, and the seats and protections of its steps.
+    pub fn programme(&self, prog: ProgId) -> ProgrammeSeats
+        requires { prog.0 < length self.now.programmes }
+        ensures seats { result ≡ seats_in self.now prog.0 }
+        ensures list { result.list ≡ list_in self.now prog.0 }
+        ensures sound { AreProgrammeSeats result }
+    {
+        ProgrammeSeats {
+            list: self.list(prog),
+            steps: self.steps[usize::from(prog.0)],
         }
+    }
+
+    /// Raises the seats of a programme in a step to this number, with its protections as before. All else stays. It takes
+    /// no memory.
+    pub fn raise(&mut self, prog: ProgId, step: StepKind, seats: u16)
+        requires programme { prog.0 < length self.old.programmes }
+        requires step { is_dereserved step ≡ false }
+        requires more { (seating_in self.old prog.0 step).seats ≤ seats }
+        requires most { seats ≤ 4000 }
+        ensures whole { self.new ≡ matrix_with self.old prog.0 step (record { seats = seats; protections = (seating_in self.old prog.0 step).protections }) }
+        ensures seats { HasSeating self.old prog.0 step (record { seats = seats; protections = (seating_in self.old prog.0 step).protections }) self.new }
+    {
+        let protections = self.protections(prog, step);
+        self.set(prog, step, seats, protections);
+    }
+
+    /// Gives a programme these seats and protections in a step. All else stays. It takes no memory.
+    pub fn set(&mut self, prog: ProgId, step: StepKind, seats: u16, protections: Protections)
+        requires programme { prog.0 < length self.old.programmes }
+        requires step { is_dereserved step ≡ false }
+        requires protections { sum protections.counts ≤ seats }
+        requires most { seats ≤ 4000 }
+        ensures whole { self.new ≡ matrix_with self.old prog.0 step (record { seats = seats; protections = protections }) }
+        ensures seats { HasSeating self.old prog.0 step (record { seats = seats; protections = protections }) self.new }
+    {
+        self.steps[usize::from(prog.0)].put(step, Seating { seats, protections });
+    }
+
+    /// An equal matrix.
+    pub fn copy(&self, alloc: Global) -> Result<Matrix, OutOfMemory>
+        ensures { IfOk result (λ matrix. matrix ≡ self.now) }
+    {
+        let programmes = self.programmes.clone()?;
+        let steps = Vec::from_slice(alloc, &self.steps)?;
+        Ok(Matrix { programmes, steps })
     }
 
     /// Where a programme stands, and its list.
@@ -172,16 +169,12 @@ impl Matrix {
         *home
     }
 
-    /// What a row gave for a programme in a step.
-    fn seating(&self, prog: ProgId, step: StepKind) -> Option<Seating>
+    /// What the matrix has for a programme in a step.
+    fn seating(&self, prog: ProgId, step: StepKind) -> Seating
         requires { prog.0 < length self.now.programmes }
         ensures given { result ≡ seating_in self.now prog.0 step }
-        ensures within { IfSome result IsSeated }
+        ensures within { IsSeated result }
     {
-        if is_dereserved(step) {
-            return None;
-        }
-        let code = self.code(prog);
-        self.steps.get(&(code, step_number(step))).copied()
+        self.steps[usize::from(prog.0)].of(step)
     }
 }

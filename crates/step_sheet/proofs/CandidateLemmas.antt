@@ -60,7 +60,7 @@ cand_fault-same m n known other None e same = refl
 cand_fault-same m n known other (Some cand) e same = rw (e, same cand.0) refl
 
 -- What is wrong at the row after those read is what is wrong with its line.
-fault_at-read : (lines : List (List ℕ)) (people : List Person) (known : ℕ → Bool) (line : List ℕ) (rest : List (List ℕ)) → AreRead lines people known → drop (length people) lines ≡ line ∷ rest → fault_at cand_judge lines (length people) ≡ cand_fault (length people) known (cand_of line)
+pub fault_at-read : (lines : List (List ℕ)) (people : List Person) (known : ℕ → Bool) (line : List ℕ) (rest : List (List ℕ)) → AreRead lines people known → drop (length people) lines ≡ line ∷ rest → fault_at cand_judge lines (length people) ≡ cand_fault (length people) known (cand_of line)
 fault_at-read lines people known line rest read left =
     let n = length people in
     let row : slice_get lines n ≡ Some line = slice_get-at lines n line rest left in

@@ -112,7 +112,7 @@ protect_before : (seats : ℕ) (named : List (Option ℕ)) (line : List ℕ) (ro
 protect_before seats named line rows protect right zero below = rw (protect, right) refl
 protect_before seats named line rows protect right (suc m) below = absurd (omega arith)
 
-protect_after : (seats : ℕ) (named : List (Option ℕ)) (line : List ℕ) (rows : List (List ℕ)) → is_protect line ≡ true → (m n : ℕ) → n ≡ suc zero + m → fault_at (body_judge seats named) (line ∷ rows) n ≡ fault_at (body_judge seats (named_with named (protect_of line))) rows m
+pub protect_after : (seats : ℕ) (named : List (Option ℕ)) (line : List ℕ) (rows : List (List ℕ)) → is_protect line ≡ true → (m n : ℕ) → n ≡ suc zero + m → fault_at (body_judge seats named) (line ∷ rows) n ≡ fault_at (body_judge seats (named_with named (protect_of line))) rows m
 protect_after seats named line rows protect m zero e = absurd (omega arith)
 protect_after seats named line rows protect m (suc n) e =
     let same : m ≡ n = omega arith in
@@ -134,17 +134,17 @@ fault_protect seats left rows numbers named line others after fault so_far prote
     fault_next (body_judge seats none_named) (body_judge seats named) rows others numbers after line fault so_far.passed (rw protect here)
 
 -- Where no row protects seats next, the rows are those of candidates.
-judged_same : (seats : ℕ) (named : List (Option ℕ)) (rows : List (List ℕ)) → protects_next rows ≡ false → (m : ℕ) → fault_at (body_judge seats named) rows m ≡ fault_at cand_judge rows m
+pub judged_same : (seats : ℕ) (named : List (Option ℕ)) (rows : List (List ℕ)) → protects_next rows ≡ false → (m : ℕ) → fault_at (body_judge seats named) rows m ≡ fault_at cand_judge rows m
 judged_same seats named [] other zero = refl
 judged_same seats named [] other (suc m) = refl
 judged_same seats named (line ∷ rows) other zero = rw other refl
 judged_same seats named (line ∷ rows) other (suc m) = rw other refl
 
-named_end_same : (named : List (Option ℕ)) (rows : List (List ℕ)) → protects_next rows ≡ false → named_from named rows ≡ named
+pub named_end_same : (named : List (Option ℕ)) (rows : List (List ℕ)) → protects_next rows ≡ false → named_from named rows ≡ named
 named_end_same named [] other = refl
 named_end_same named (line ∷ rows) other = rw other refl
 
-cands_end_same : (rows : List (List ℕ)) → protects_next rows ≡ false → cand_lines rows ≡ rows
+pub cands_end_same : (rows : List (List ℕ)) → protects_next rows ≡ false → cand_lines rows ≡ rows
 cands_end_same [] other = refl
 cands_end_same (line ∷ rows) other = rw other refl
 
@@ -183,7 +183,7 @@ pub cands_named : (seats : ℕ) (rows : List (List ℕ)) (numbers : List ℕ) (n
 cands_named seats rows numbers named others after all other = all.cands_same ∙ cands_end_same others other
 
 -- The seats of a trait that was not named are protected beside the others.
-total-more : (named : List (Option ℕ)) (t n : ℕ) → t < length named → get_or named t None ≡ None → total (set named t (Some n)) ≡ total named + n
+pub total-more : (named : List (Option ℕ)) (t n : ℕ) → t < length named → get_or named t None ≡ None → total (set named t (Some n)) ≡ total named + n
 total-more named t n within new =
     let more : sum_by count_of (set named t (Some n)) + count_of (get_or named t None) ≡ sum_by count_of named + n = sum_by-set count_of named t (Some n) None within in
     let nought : count_of (get_or named t None) ≡ 0 = ap count_of new in

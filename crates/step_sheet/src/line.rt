@@ -105,7 +105,10 @@ fn protect_of(line: &[u8]) -> Option<(u8, u16)>
     let (number, more) = next_field(rest?);
     match more {
         Some(_) => None,
-        None => Some((trait_in(letter)?, read_number(number, 0, MOST_STEP_SEATS)? as u16)),
+        None => Some((
+            trait_in(letter)?,
+            read_number(number, 0, MOST_STEP_SEATS)? as u16,
+        )),
     }
 }
 

@@ -1,6 +1,6 @@
 use Rattle.std.proofs.Common.{◌≡◌, take}
 use Rattle.std.specs.List.{filter}
-use Rattle.dereserve.specs.Common.{is_common}
+use Rattle.office_base.specs.Person.{is_common}
 use Rattle.dereserve.proofs.people.commons.Given as goal
 
 abbrev pub invariant-loop-person : goal.invariant-loop-person

@@ -2,9 +2,10 @@ use Rattle.std.proofs.Common.{List, length, ap, sym, subst, arith}
 use Rattle.std.specs.List.{filter}
 use Rattle.office_base.specs.StepChoice.{IsStep}
 use Rattle.office_base.specs.declared.person.Person.{Person}
-use Rattle.office_base.proofs.Sublists.{length-sublist}
-use Rattle.open_then_category.specs.Programme.{seats_of, is_of, step_with}
-use Rattle.open_then_category.specs.declared.seats.StepSeats.{StepSeats}
+use Rattle.placements.proofs.Sublists.{length-sublist}
+use Rattle.programme_lists.specs.Programme.{is_of, step_with}
+use Rattle.seat_matrix.specs.Seats.{seats_of}
+use Rattle.seat_matrix.specs.declared.seats.Seating.{Seating}
 use Rattle.open_then_category.proofs.Lists.{filter-sublist}
 use Rattle.open_then_category.proofs.ProgrammeLaws.{filtered_step}
 use Rattle.open_then_category.proofs.choice.category_step.Goals as goal
@@ -12,7 +13,7 @@ use Rattle.open_then_category.proofs.choice.category_step.Goals as goal
 pub step_list-requires-clause-step : goal.step_list-requires-clause-step
 step_list-requires-clause-step c =
     let step = filtered_step c.args.seats.now.list (seats_of c.args.seats.now c.args.kind) (is_of c.args.category) c.args.rest.now c.requires.seats.list (c.requires.seats.steps c.args.kind) c.requires.ranked in
-    subst (λ (seats : StepSeats). IsStep (step_with c.args.seats.now.list seats c.in_ok-people.people)) (sym c.of-step_seats.ensures)
+    subst (λ (seats : Seating). IsStep (step_with c.args.seats.now.list seats c.in_ok-people.people)) (sym c.of-step_seats.ensures)
     (subst (λ (people : List Person). IsStep (step_with c.args.seats.now.list (seats_of c.args.seats.now c.args.kind) people)) (sym c.in_ok-people.ensures) step)
 
 pub step_list-requires-clause-few : goal.step_list-requires-clause-few

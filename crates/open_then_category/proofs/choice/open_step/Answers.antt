@@ -3,10 +3,11 @@ use Rattle.std.specs.List.{filter}
 use Rattle.office_base.specs.StepChoice.{IsStep}
 use Rattle.office_base.specs.declared.person.Person.{Person}
 use Rattle.office_base.specs.declared.step.StepKind.TheVariants.{Open}
-use Rattle.office_base.proofs.Sublists.{length-sublist}
-use Rattle.dereserve.specs.Common.{is_common}
-use Rattle.open_then_category.specs.Programme.{seats_of, step_with}
-use Rattle.open_then_category.specs.declared.seats.StepSeats.{StepSeats}
+use Rattle.placements.proofs.Sublists.{length-sublist}
+use Rattle.office_base.specs.Person.{is_common}
+use Rattle.programme_lists.specs.Programme.{step_with}
+use Rattle.seat_matrix.specs.Seats.{seats_of}
+use Rattle.seat_matrix.specs.declared.seats.Seating.{Seating}
 use Rattle.open_then_category.proofs.Lists.{filter-sublist}
 use Rattle.open_then_category.proofs.ProgrammeLaws.{filtered_step}
 use Rattle.open_then_category.proofs.choice.open_step.Goals as goal
@@ -14,7 +15,7 @@ use Rattle.open_then_category.proofs.choice.open_step.Goals as goal
 pub step_list-requires-clause-step : goal.step_list-requires-clause-step
 step_list-requires-clause-step c =
     let step = filtered_step c.args.seats.now.list (seats_of c.args.seats.now Open) (is_common c.args.seats.now.list) c.args.applicants.now c.requires.seats.list (c.requires.seats.steps Open) c.requires.ranked in
-    subst (λ (seats : StepSeats). IsStep (step_with c.args.seats.now.list seats c.in_ok-people.people)) (sym c.of-step_seats.ensures)
+    subst (λ (seats : Seating). IsStep (step_with c.args.seats.now.list seats c.in_ok-people.people)) (sym c.of-step_seats.ensures)
     (subst (λ (people : List Person). IsStep (step_with c.args.seats.now.list (seats_of c.args.seats.now Open) people)) (sym c.in_ok-people.ensures) step)
 
 pub step_list-requires-clause-few : goal.step_list-requires-clause-few

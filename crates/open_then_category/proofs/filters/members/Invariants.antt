@@ -1,6 +1,6 @@
 use Rattle.std.proofs.Common.{◌≡◌, take}
 use Rattle.std.specs.List.{filter}
-use Rattle.open_then_category.specs.Programme.{is_of}
+use Rattle.programme_lists.specs.Programme.{is_of}
 use Rattle.open_then_category.proofs.filters.members.Given as goal
 
 abbrev pub invariant-loop-person : goal.invariant-loop-person

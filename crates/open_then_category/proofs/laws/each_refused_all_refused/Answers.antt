@@ -1,5 +1,5 @@
-use Rattle.open_then_category.proofs.ProgrammeLaws
+use Rattle.open_then_category.proofs.SetLaws
 use Rattle.open_then_category.proofs.laws.each_refused_all_refused.Goals as goal
 
 pub returns : goal.returns
-returns c = ProgrammeLaws.each_refused_all_refused
+returns c = SetLaws.each_refused_all_refused c.step_laws.ensures

@@ -1,5 +1,5 @@
-use Rattle.open_then_category.proofs.ProgrammeLaws
+use Rattle.open_then_category.proofs.SetLaws
 use Rattle.open_then_category.proofs.laws.leaving_out_the_refused.Goals as goal
 
 pub returns : goal.returns
-returns c = ProgrammeLaws.leaving_out_the_refused
+returns c = SetLaws.leaving_out_the_refused c.step_laws.ensures

@@ -1,5 +1,5 @@
-use Rattle.open_then_category.proofs.ProgrammeLaws
+use Rattle.open_then_category.proofs.SetLaws
 use Rattle.open_then_category.proofs.laws.one_programme_choice.Goals as goal
 
 pub returns : goal.returns
-returns c = ProgrammeLaws.one_programme_choice
+returns c = SetLaws.one_programme_choice c.step_laws.ensures

@@ -1,5 +1,5 @@
-use Rattle.open_then_category.proofs.ProgrammeLaws
+use Rattle.open_then_category.proofs.SetLaws
 use Rattle.open_then_category.proofs.laws.refused_from_more.Goals as goal
 
 pub returns : goal.returns
-returns c = ProgrammeLaws.refused_from_more
+returns c = SetLaws.refused_from_more c.step_laws.ensures

@@ -1,16 +1,15 @@
-use Rattle.std.proofs.Common.{sym, ap, ◌∙◌}
-use Rattle.std.specs.Map.{lookup}
-use Rattle.std.specs.Ordering.{is_eq}
-use Rattle.seat_matrix.specs.Matrix.{Seats}
-use Rattle.seat_matrix.specs.Table.{step_cmp}
-use Rattle.seat_matrix.proofs.SeatsLemmas.{seated-given, seating-given}
+use Rattle.std.proofs.Common.{◌≡◌, ◌<◌, ◌∙◌, ℕ, ap, get_or, length, sym, subst, arith}
+use Rattle.std.proofs.lemmas.List.{get_or_read}
+use Rattle.seat_matrix.specs.Matrix.{SeatTable}
+use Rattle.seat_matrix.specs.Seats.{IsSeated, no_seatings, of_step}
+use Rattle.seat_matrix.specs.declared.seats.Seating.{Seating}
+use Rattle.seat_matrix.specs.declared.seats.Seatings.{Seatings}
 use Rattle.seat_matrix.proofs.matrix.Matrix.seating.Goals as goal
-
-pub returns-clause-given : goal.returns-clause-given
-returns-clause-given c =
-    seating-given c.args.self.now c.args.prog.0 c.args.step c.code-code.result c.step_number.result c.copied.result (sym c.is_dereserved.ensures ∙ c.if-is_dereserved.false) c.code-code.ensures c.step_number.ensures
-    (c.copied.ensures ∙ c.get.ensures.value ∙ ap (λ (s : Seats). lookup (λ q. is_eq (step_cmp (c.code-code.result, c.step_number.result) q)) s.steps) c.self.view_is)
 
 pub returns-clause-within : goal.returns-clause-within
 returns-clause-within c =
-    seated-given c.copied.result c.code-code.result c.step_number.result c.self.inside.steps.entries (c.self.invariant.seated c.code-code.result c.step_number.result) (c.copied.ensures ∙ c.get.ensures.value)
+    let count = ap (λ (table : SeatTable). length table.programmes) c.self.view_is in
+    let below : c.from.result < length c.self.inside.steps.items = omega (arith, count, c.requires, c.from.ensures, c.self.invariant.steps) in
+    let read : c.index.result.now ≡ get_or c.self.inside.steps.items c.from.result no_seatings = get_or_read c.self.inside.steps.items c.from.result c.index.result.now below c.index.ensures no_seatings in
+    let given = c.of.ensures ∙ ap (λ (steps : Seatings). of_step steps c.args.step) read in
+    subst IsSeated (sym given) ((c.self.invariant.sound c.from.result (omega (arith, below, c.self.invariant.steps))).steps c.args.step)

@@ -1,0 +1,5 @@
+use Rattle.merit_choice.proofs.InMerit
+use Rattle.merit_choice.proofs.laws.ranked_part.Goals as goal
+
+pub returns : goal.returns
+returns c = InMerit.ranked_part

@@ -1,0 +1,40 @@
+// The lists of a programme's six steps.
+ghost use Rattle.std.specs.Prelude.{◌≡◌, IfOk};
+
+use office_base::{OutOfMemory, People, StepKind};
+use slot_cert::Cert;
+use std::alloc::Global;
+
+/// One step of a programme, as it is shown: its seats, the number of people who stood for them, the persons admitted in
+/// merit order, and what shows which protections they fill.
+#[derive(Debug, Drop)]
+pub struct StepList {
+    pub kind: StepKind,
+    pub seats: u32,
+    pub candidates: u32,
+    pub admitted: People,
+    pub cert: Cert,
+}
+
+/// The six steps of a programme, in the order OPEN, EWS, OBC, SC, ST and the de-reserved seats.
+#[derive(Debug, Drop)]
+pub struct Programme {
+    pub steps: [StepList; 6],
+}
+
+impl StepList {
+    /// The same list.
+    pub fn copy(&self, alloc: Global) -> Result<StepList, OutOfMemory>
+        ensures { IfOk result (λ list. list ≡ self.now) }
+    {
+        Ok(StepList {
+            kind: self.kind,
+            seats: self.seats,
+            candidates: self.candidates,
+            admitted: self.admitted.copy(alloc)?,
+            cert: Cert {
+                pairs: self.cert.pairs.copy(alloc)?,
+            },
+        })
+    }
+}
