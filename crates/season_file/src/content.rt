@@ -20,12 +20,12 @@ use std::alloc::Global;
 
 /// What the first line and the four sections give.
 #[derive(Drop)]
-pub(crate) struct Content {
-    pub(crate) version: u8,
-    pub(crate) head: Head,
-    pub(crate) register: Register,
-    pub(crate) matrix: Matrix,
-    pub(crate) choices: Choices,
+pub struct Content {
+    pub version: u8,
+    pub head: Head,
+    pub register: Register,
+    pub matrix: Matrix,
+    pub choices: Choices,
 }
 
 /// What a bundle gives: what its sections give, its requests, and how many bytes stand before their section.

@@ -10,10 +10,10 @@ use std::alloc::Global;
 
 /// The number of rounds, from 1 to 10, the clerk's token, and the row of the section that gives the token.
 #[derive(Clone, Copy)]
-pub(crate) struct Head {
-    pub(crate) rounds: u16,
-    pub(crate) clerk: Token,
-    pub(crate) row: u32,
+pub struct Head {
+    pub rounds: u16,
+    pub clerk: Token,
+    pub row: u32,
 }
 
 /// What rows gave so far: the number of rounds, and the clerk's token with its row.

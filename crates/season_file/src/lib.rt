@@ -14,6 +14,8 @@ pub mod laws;
 pub mod script;
 pub mod season;
 
+pub use content::Content;
 pub use fault::SeasonFault;
+pub use head::Head;
 pub use script::{Script, read_script};
 pub use season::Season;
