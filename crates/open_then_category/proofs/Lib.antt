@@ -2,6 +2,7 @@ mod Assemble
 mod Decide
 mod Grows
 mod Once
+mod Passing
 mod RankedWords
 mod SetLaws
 mod Sorting

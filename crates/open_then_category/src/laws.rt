@@ -1,5 +1,6 @@
 // The laws of the choice of a programme, over its definition alone. Each is the contract of a function that does nothing.
 ghost use Rattle.open_then_category.specs.Laws.{OneProgrammeChoice, ProgrammeChoiceExists, RefusedFromMore, UnfilledFalls, NoFewerAdmitted, LeavingOutTheRefused, EachRefusedAllRefused, AdmittedOnce, OneStep, SlotsAreTraits, MoreSeatsKeepAll, RefusedBefore, Resumes, ChosenWell, GrowsWithSeats};
+ghost use Rattle.open_then_category.specs.State.{OffersKeepChoices};
 ghost use Rattle.open_then_category.specs.StepLaws.{AreLawful};
 
 /// The laws of the choice of a step and of the merit order on which these rest.
@@ -15,6 +16,10 @@ fn step_laws()
     merit_choice::laws::in_merit_ranks();
     merit_choice::laws::part_in_merit();
     merit_choice::laws::part_can_be_ranked();
+    merit_choice::laws::refused_before();
+    merit_choice::laws::one_merit_order();
+    merit_choice::laws::ranked_in_merit();
+    merit_choice::laws::with_person_ranks();
 }
 
 /// A programme has at most one choice.
@@ -121,6 +126,14 @@ pub fn chosen_well()
 /// And they admit everybody whom they admitted before where steps have more seats, with all protections as before.
 pub fn grows_with_seats()
     ensures { GrowsWithSeats }
+{
+    step_laws();
+}
+
+/// After a person came to the steps in their order, each handing on whom it leaves out, they admit the choice from those
+/// whom they admitted and the person.
+pub fn offers_keep_choices()
+    ensures { OffersKeepChoices }
 {
     step_laws();
 }

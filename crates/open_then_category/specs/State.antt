@@ -1,0 +1,82 @@
+-- What a programme keeps while applicants come one at a time, and what comes of one of them.
+use Rattle.std.specs.Prelude.{◌≡◌, ◌∷◌, ℕ, Bool, true, false, List, Option, Some, None, take, if◌then◌else◌}
+use Rattle.office_base.specs.Lists.{IsAmong}
+use Rattle.office_base.specs.Merit.{with_person}
+use Rattle.office_base.specs.StepChoice.{IsStepChoice}
+use Rattle.office_base.specs.Version.{IsVersion}
+use Rattle.office_base.specs.declared.person.Category.TheVariants.{Ews, Obc, Sc, St}
+use Rattle.office_base.specs.declared.person.ListId.{ListId}
+use Rattle.office_base.specs.declared.person.Person.{Person}
+use Rattle.office_base.specs.Person.{is_common}
+use Rattle.placements.specs.Ranks.{without}
+use Rattle.office_base.specs.declared.step.StepKind.TheVariants.{Open, Ews as EwsStep, Obc as ObcStep, Sc as ScStep, St as StStep}
+use Rattle.seat_matrix.specs.Seats.{AreProgrammeSeats, seats_of}
+use Rattle.seat_matrix.specs.declared.seats.ProgrammeSeats.{ProgrammeSeats}
+use Rattle.seat_matrix.specs.declared.seats.Seating.{Seating}
+use Rattle.programme_lists.specs.Chosen.{AreApplicants, ChoosesFrom, everybody}
+use Rattle.programme_lists.specs.Programme.{Admissions, is_of, step_with, unfilled}
+
+-- the version, the seats, and whom each step admits of all who were offered
+pub record ProgrammeKept : Type 0 where
+  pub version : ℕ
+  pub seats : ProgrammeSeats
+  pub admissions : Admissions
+
+-- The steps admit the choice from those whom they admit.
+pub record IsProgrammeKept (state : ProgrammeKept) : Type 0 where
+  pub is_version : IsVersion state.version
+  pub are_seats : AreProgrammeSeats state.seats
+  pub may : AreApplicants state.seats.list (everybody state.admissions)
+  pub choice : ChoosesFrom state.version state.seats (everybody state.admissions) state.admissions
+
+-- ---- within
+
+-- whoever came is held where nobody left; else one of those held or the one who came left
+abbrev pub HandsOn : ListId → List Person → Person → Option Person → List Person → Type 0
+HandsOn list before person None after = after ≡ with_person list person before
+HandsOn list before person (Some gone) after = IsAmong gone (with_person list person before) × (after ≡ without gone.id (with_person list person before))
+
+-- One step, offered a person, holds the choice from those it held and the person, and hands on who is left out.
+pub record IsHanded (list : ListId) (seats : Seating) (before : List Person) (person : Person) (gone : Option Person) (after : List Person) : Type 0 where
+  pub choice : IsStepChoice (step_with list seats (with_person list person before)) after
+  pub hands_on : HandsOn list before person gone after
+
+-- whoever does not pass the step's test goes on
+abbrev pub IsTried : Bool → ListId → Seating → List Person → Person → Option Person → List Person → Type 0
+IsTried true list seats before person gone after = IsHanded list seats before person gone after
+IsTried false list seats before person gone after = (gone ≡ Some person) × (after ≡ before)
+
+-- a step for those who pass a test is offered whoever comes and passes it
+abbrev pub IsPassed : (Person → Bool) → ListId → Seating → List Person → Option Person → Option Person → List Person → Type 0
+IsPassed test list seats before None gone after = (gone ≡ None) × (after ≡ before)
+IsPassed test list seats before (Some person) gone after = IsTried (test person) list seats before person gone after
+
+-- whoever comes, where the test is passed
+abbrev pub passing : (Person → Bool) → Option Person → Option Person
+passing test None = None
+passing test (Some person) = if test person then Some person else None
+
+-- the people with whoever comes
+abbrev pub entered : ListId → List Person → Option Person → List Person
+entered list people None = people
+entered list people (Some person) = with_person list person people
+
+-- A person comes to the steps in their order: whoever one leaves out goes on to the next. The de-reserved step keeps the best of those it had and
+-- whoever comes last, on the seats that are left to it now.
+pub record IsOffered (version : ℕ) (seats : ProgrammeSeats) (before : Admissions) (person : Person) (after : Admissions) : Type 0 where
+  pub left_by_open : Option Person
+  pub left_by_ews : Option Person
+  pub left_by_obc : Option Person
+  pub left_by_sc : Option Person
+  pub left_by_st : Option Person
+  pub open_step : IsPassed (is_common seats.list) seats.list (seats_of seats Open) before.open_step (Some person) left_by_open after.open_step
+  pub ews : IsPassed (is_of Ews) seats.list (seats_of seats EwsStep) before.ews left_by_open left_by_ews after.ews
+  pub obc : IsPassed (is_of Obc) seats.list (seats_of seats ObcStep) before.obc left_by_ews left_by_obc after.obc
+  pub sc : IsPassed (is_of Sc) seats.list (seats_of seats ScStep) before.sc left_by_obc left_by_sc after.sc
+  pub st : IsPassed (is_of St) seats.list (seats_of seats StStep) before.st left_by_sc left_by_st after.st
+  pub dereserved : after.dereserved ≡ take (unfilled version seats after) (entered seats.list before.dereserved (passing (is_common seats.list) left_by_st))
+
+-- What an offer keeps: the steps admit the choice from those whom they admitted and the person.
+abbrev pub OffersKeepChoices : Type 0
+OffersKeepChoices = (version : ℕ) (seats : ProgrammeSeats) (before after : Admissions) (person : Person) → AreProgrammeSeats seats → AreApplicants seats.list (person ∷ everybody before)
+    → ChoosesFrom version seats (everybody before) before → IsOffered version seats before person after → ChoosesFrom version seats (person ∷ everybody before) after
