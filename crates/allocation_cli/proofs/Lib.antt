@@ -1,2 +1,5 @@
+mod CheckFaults
+mod Ended
 mod OneAnswer
-mod Written
+mod Spelling
+mod StepFaults

@@ -2,6 +2,7 @@
 use Rattle.std.proofs.Common.{◌≡◌, ◌≢◌, ◌+◌, ℕ, List, [], ◌∷◌, length, refl, sym, ap, subst, ◌∙◌}
 use Rattle.std.specs.Prelude.{fold}
 use Rattle.office_base.specs.Certificate.{IsCanonical}
+use Rattle.office_base.specs.StepChoice.{IsStep}
 use Rattle.office_base.specs.declared.person.Person.{Person}
 use Rattle.office_base.specs.declared.step.Pair.{Pair}
 use Rattle.office_base.specs.declared.step.Step.{Step as StepOfSheet}
@@ -15,13 +16,17 @@ use Rattle.season_file.specs.Laws as season_laws
 use Rattle.season_file.specs.Season.{content_of}
 use Rattle.season_file.specs.declared.season.Season.{Season}
 use Rattle.season_texts.specs.Texts.{counts_line, fault_line, line_of_counts}
-use Rattle.allocation_cli.specs.Answer.{HaveOneAnswer, IsCheckOutput, IsStepOutput, IsStepText}
+use Rattle.allocation_cli.specs.Answers.{HaveOneAnswer}
+use Rattle.allocation_cli.specs.Check.{IsCheckOutput, check_answers}
+use Rattle.allocation_cli.specs.Program.{answers_of}
+use Rattle.allocation_cli.specs.Step.{IsStepOutput, IsStepText, step_answers}
 use Rattle.allocation_cli.specs.declared.words.Command.{Command}
 use Rattle.allocation_cli.specs.declared.words.Command.TheVariants.{Step, Check}
 
 -- the laws of sheets, choices, certificates and bundles
 pub record AreLawful : Type 0 where
   pub sheets : (bytes : List ℕ) → sheet.HaveOneReading bytes
+  pub steps : (bytes : List ℕ) (step : StepOfSheet) → sheet.SheetGives bytes step → IsStep step
   pub bundles : (bytes : List ℕ) → season_laws.HaveOneReading bytes
   pub choice : OneChoice
   pub certificate : OneCertificate
@@ -53,11 +58,11 @@ one_check laws bytes output other a b =
     let same = (laws.bundles bytes).one_content (content_of a.0 a.1.row) (content_of b.0 b.1.row) a.1.given b.1.given in
     a.2 ∙ same_counts a.0 b.0 a.1.row b.1.row same ∙ sym b.2
 
--- a step has one text
-one_text : AreLawful → (step : StepOfSheet) (output other : List ℕ) → IsStepText step output → IsStepText step other → output ≡ other
-one_text laws step output other a b =
-    let admitted = laws.choice step a.admitted b.admitted a.sound a.choice b.choice in
-    let distinct = pairwise_sublist (λ one next. one.id ≢ next.id) a.admitted step.people a.choice.may.people a.sound.people.distinct in
+-- a sound step has one text
+one_text : AreLawful → (step : StepOfSheet) (output other : List ℕ) → IsStep step → IsStepText step output → IsStepText step other → output ≡ other
+one_text laws step output other sound a b =
+    let admitted = laws.choice step a.admitted b.admitted sound a.choice b.choice in
+    let distinct = pairwise_sublist (λ one next. one.id ≢ next.id) a.admitted step.people a.choice.may.people sound.people.distinct in
     let certificate = subst (λ (people : List Person). IsCanonical step.protections people b.pairs) (sym admitted) b.certificate in
     let pairs = laws.certificate step.protections a.admitted a.pairs b.pairs distinct a.certificate certificate in
     a.text ∙ ap (λ (people : List Person). step_output step.seats (length step.people) people a.pairs) admitted
@@ -67,19 +72,31 @@ one_text laws step output other a b =
 one_step : AreLawful → (bytes output other : List ℕ) → IsStepOutput bytes output → IsStepOutput bytes other → output ≡ other
 one_step laws bytes output other a b =
     let same = (laws.sheets bytes).one_step a.0 b.0 a.1 b.1 in
-    one_text laws a.0 output other a.2 (subst (λ (step : StepOfSheet). IsStepText step other) (sym same) b.2)
+    one_text laws a.0 output other (laws.steps bytes a.0 a.1) a.2 (subst (λ (step : StepOfSheet). IsStepText step other) (sym same) b.2)
 
--- A command's input has one answer.
-pub one_answer : AreLawful → (command : Command) (bytes : List ℕ) → HaveOneAnswer command bytes
-one_answer laws Step bytes = record {
+-- a sheet has one answer under `step`
+one_step_answer : AreLawful → (bytes : List ℕ) → HaveOneAnswer step_answers bytes
+one_step_answer laws bytes = record {
   some = (laws.sheets bytes).some;
   apart = λ input faulty. (laws.sheets bytes).apart input.0 faulty.0 input.1 faulty.1;
+  of_input = λ output made. (made.0, made.1);
+  of_fault = λ line has. (has.0, has.1);
   one_output = one_step laws bytes;
   one_line = λ line other a b. a.2 ∙ ap fault_output ((laws.sheets bytes).one_fault a.0 b.0 a.1 b.1) ∙ sym b.2;
 }
-one_answer laws Check bytes = record {
+
+-- a bundle has one answer under `check`
+one_check_answer : AreLawful → (bytes : List ℕ) → HaveOneAnswer check_answers bytes
+one_check_answer laws bytes = record {
   some = (laws.bundles bytes).some;
   apart = λ input faulty. (laws.bundles bytes).apart input.0 faulty.0 input.1 faulty.1;
+  of_input = λ output made. (content_of made.0 made.1.row, made.1.given);
+  of_fault = λ line has. (has.0, has.1);
   one_output = one_check laws bytes;
   one_line = λ line other a b. a.2 ∙ ap fault_line ((laws.bundles bytes).one_fault a.0 b.0 a.1 b.1) ∙ sym b.2;
 }
+
+-- A command's input has one answer.
+pub one_answer : AreLawful → (command : Command) (bytes : List ℕ) → HaveOneAnswer (answers_of command) bytes
+one_answer laws Step bytes = one_step_answer laws bytes
+one_answer laws Check bytes = one_check_answer laws bytes

@@ -1,4 +1,6 @@
-pub mod Answer
+pub mod Answers
+pub mod Check
 pub mod Program
 pub mod Status
+pub mod Step
 pub mod Words

@@ -1,13 +1,21 @@
-// What holds of the inputs of commands, whoever reads them.
-ghost use Rattle.std.specs.Prelude.{ℕ, List};
-ghost use Rattle.allocation_cli.specs.Answer.{HaveOneAnswer};
+// What holds of words and of the inputs of commands, whoever reads them.
+ghost use Rattle.std.specs.Prelude.{◌≡◌, ℕ, List};
+ghost use Rattle.allocation_cli.specs.Answers.{HaveOneAnswer};
+ghost use Rattle.allocation_cli.specs.Program.{answers_of};
+ghost use Rattle.allocation_cli.specs.Words.{words_of};
 ghost use Rattle.allocation_cli.specs.declared.words.Command.{Command as AnyCommand};
 
-/// Bytes are a command's input without faults or have one, and never both; and there is one text that answers them.
+/// No two commands are spelled alike.
+pub fn one_spelling()
+    ensures { (command other : AnyCommand) → words_of command ≡ words_of other → command ≡ other }
+{}
+
+/// Bytes are a command's input without faults or have a fault, and never both; and at most one text answers them.
 pub fn one_answer()
-    ensures { (command : AnyCommand) (bytes : List ℕ) → HaveOneAnswer command bytes }
+    ensures { (command : AnyCommand) (bytes : List ℕ) → HaveOneAnswer (answers_of command) bytes }
 {
     step_sheet::laws::one_reading();
+    step_sheet::laws::sound_steps();
     season_file::laws::one_reading();
     merit_choice::laws::one_choice();
     slot_cert::laws::one_certificate();

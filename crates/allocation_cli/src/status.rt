@@ -13,7 +13,7 @@ pub enum Status {
     BadInput = 3,
     /// The source failed: its count of faults rose.
     ReadFault = 4,
-    /// The sink failed: its count of faults rose. A front of the output or of a fault's line was written.
+    /// The sink failed: its count of faults rose. A prefix of the output or of a fault's line was written.
     WriteFault = 5,
     /// There was no memory. It is the one answer that no cause is claimed for.
     OutOfMemory = 7,

@@ -1,8 +1,10 @@
 // The commands on worked inputs and on a failing outside, over objects in memory.
-use crate::command::allocate;
+use crate::program::allocate;
 use crate::status::Status;
+use crate::streams::{StandardInput, StandardOutput};
 use office_base::{MemSink, MemSource, SureSink, SureSource, Words};
 use std::alloc::Global;
+use std::io;
 use std::test::Fail;
 
 fn words_of(alloc: Global, text: &[&str]) -> Result<Words, Fail> {
@@ -28,28 +30,86 @@ fn writes(
     Ok(ended == status && sink.bytes() == output.as_bytes())
 }
 
+// Worked sheets, with what `step` writes for each.
+const SHEETS: [(&str, &str); 9] = [
+    // the best, where nothing is protected
+    (
+        "step sheet 1\nseats,3\ncand,11,-\ncand,12,W\ncand,13,-\ncand,14,-\ncand,15,D\n",
+        "step seats 3 candidates 5 admitted 3\nhonoured 0\n11 -\n12 -\n13 -\nend\n",
+    ),
+    // the same with a byte order mark and CR LF
+    (
+        "\u{FEFF}step sheet 1\r\nseats,3\r\ncand,11,-\r\ncand,12,W\r\ncand,13,-\r\ncand,14,-\r\ncand,15,D\r\n",
+        "step seats 3 candidates 5 admitted 3\nhonoured 0\n11 -\n12 -\n13 -\nend\n",
+    ),
+    (
+        "step sheet 1\nseats,0\ncand,1,W\n",
+        "step seats 0 candidates 1 admitted 0\nhonoured 0\nend\n",
+    ),
+    // nobody
+    (
+        "step sheet 1\nseats,2\nprotect,W,1\n",
+        "step seats 2 candidates 0 admitted 0\nhonoured 0\nend\n",
+    ),
+    // who holds both traits fills one position
+    (
+        "step sheet 1\nseats,2\nprotect,W,1\nprotect,D,1\ncand,1,-\ncand,2,-\ncand,3,WD\ncand,4,D\n",
+        "step seats 2 candidates 4 admitted 2\nhonoured 2\n3 W\n4 D\nend\n",
+    ),
+    // the second is moved from W to D
+    (
+        "step sheet 1\nseats,2\nprotect,W,1\nprotect,D,1\ncand,1,-\ncand,2,WD\ncand,3,W\ncand,4,D\n",
+        "step seats 2 candidates 4 admitted 2\nhonoured 2\n2 D\n3 W\nend\n",
+    ),
+    // one protection cannot be filled
+    (
+        "step sheet 1\nseats,3\nprotect,W,2\ncand,1,-\ncand,2,-\ncand,3,-\ncand,4,W\n",
+        "step seats 3 candidates 4 admitted 3\nhonoured 1\n1 -\n2 -\n4 W\nend\n",
+    ),
+    // three traits
+    (
+        "step sheet 1\nseats,3\nprotect,W,1\nprotect,D,1\nprotect,X,1\ncand,1,WD\ncand,2,DX\ncand,3,W\ncand,4,X\n",
+        "step seats 3 candidates 4 admitted 3\nhonoured 3\n1 D\n2 X\n3 W\nend\n",
+    ),
+    // commas at the ends of lines, and empty lines
+    (
+        "step sheet 1,,\n\nseats,1,\n,,\ncand,7,\ncand,8,W",
+        "step seats 1 candidates 2 admitted 1\nhonoured 0\n7 -\nend\n",
+    ),
+];
+
 #[test]
 fn the_best_are_admitted(rt: HostRuntime) -> Result<(), Fail> {
-    let sheet = "step sheet 1\nseats,3\ncand,11,-\ncand,12,W\ncand,13,-\ncand,14,-\ncand,15,D\n";
-    let list = "step seats 3 candidates 5 admitted 3\nhonoured 0\n11 -\n12 -\n13 -\nend\n";
-    assert!(rt; writes(rt.alloc(), "step", sheet, list, Status::Ok)?);
-    let sheet =
-        "step sheet 1\nseats,2\nprotect,W,1\nprotect,D,1\ncand,1\ncand,2,WD\ncand,3,W\ncand,4,D\n";
-    let list = "step seats 2 candidates 4 admitted 2\nhonoured 2\n2 D\n3 W\nend\n";
-    assert!(rt; writes(rt.alloc(), "step", sheet, list, Status::Ok)?);
-    let sheet = "step sheet 1\nseats,0\ncand,1,W\n";
-    let list = "step seats 0 candidates 1 admitted 0\nhonoured 0\nend\n";
-    assert!(rt; writes(rt.alloc(), "step", sheet, list, Status::Ok)?);
+    for (sheet, list) in SHEETS {
+        assert!(rt;
+            writes(rt.alloc(), "step", sheet, list, Status::Ok)?,
+            "{sheet}"
+        );
+    }
     Ok(())
 }
 
 #[test]
 fn a_fault_is_told(rt: HostRuntime) -> Result<(), Fail> {
-    let sheet = "step sheet 1\nseats,1\nprotect,W,2\ncand,1,W\n";
-    let line = "fault: sheet line 3 ProtectionsExceedSeats\n";
-    assert!(rt; writes(rt.alloc(), "step", sheet, line, Status::BadInput)?);
-    let line = "fault: sheet line 1 BadFirstLine\n";
-    assert!(rt; writes(rt.alloc(), "step", "", line, Status::BadInput)?);
+    let cases = [
+        ("", "fault: sheet line 1 BadFirstLine\n"),
+        (
+            "step sheet 2\nseats,1\n",
+            "fault: sheet line 1 BadFirstLine\n",
+        ),
+        ("step sheet 1\n", "fault: sheet line 2 BadLine\n"),
+        // the protections of two lines are more than the seats
+        (
+            "step sheet 1\nseats,2\nprotect,W,1\nprotect,D,2\ncand,1,-\n",
+            "fault: sheet line 4 ProtectionsExceedSeats\n",
+        ),
+    ];
+    for (sheet, line) in cases {
+        assert!(rt;
+            writes(rt.alloc(), "step", sheet, line, Status::BadInput)?,
+            "{sheet}"
+        );
+    }
     Ok(())
 }
 
@@ -198,5 +258,92 @@ fn the_outside_fails(rt: HostRuntime) -> Result<(), Fail> {
         allocate(alloc, &words, &mut source, &mut SureSink::new()),
         Status::Ok
     );
+    Ok(())
+}
+
+// A reader of bytes in pieces of two, whose call of this number fails, once.
+#[derive(Drop)]
+struct Pieces {
+    bytes: &'static [u8],
+    calls: u64,
+    fail_at: u64,
+}
+
+impl io::Read for Pieces {
+    fn read(&mut self, buf: &mut [u8]) -> io::Result<usize> {
+        self.calls = self.calls.saturating_add(1);
+        if self.calls == self.fail_at {
+            return Err(io::Error::from(io::ErrorKind::TimedOut));
+        }
+        let count = buf.len().min(self.bytes.len()).min(2);
+        buf[..count].copy_from_slice(&self.bytes[..count]);
+        self.bytes = &self.bytes[count..];
+        Ok(count)
+    }
+}
+
+// A writer that takes three bytes at a time, and whose call of this number fails, once: with an error, or by taking nothing.
+#[derive(Drop)]
+struct Slow {
+    bytes: Vec<u8>,
+    calls: u64,
+    fail_at: u64,
+    nothing_at: u64,
+}
+
+impl io::Write for Slow {
+    fn write(&mut self, buf: &[u8]) -> io::Result<usize> {
+        self.calls = self.calls.saturating_add(1);
+        if self.calls == self.fail_at {
+            return Err(io::Error::from(io::ErrorKind::BrokenPipe));
+        }
+        if self.calls == self.nothing_at {
+            return Ok(0);
+        }
+        let count = buf.len().min(3);
+        self.bytes.extend_from_slice(&buf[..count])?;
+        Ok(count)
+    }
+
+    fn flush(&mut self) -> io::Result<()> {
+        Ok(())
+    }
+}
+
+#[test]
+fn the_real_streams_fail_once(rt: HostRuntime) -> Result<(), Fail> {
+    let alloc = rt.alloc();
+    let words = words_of(alloc, &["step"])?;
+    let list = "step seats 0 candidates 0 admitted 0\nhonoured 0\nend\n";
+    // the numbers of the calls that fail, 0 for none; the status; and how much is written of what
+    let cases = [
+        (0, 0, 0, Status::Ok, list, list.len()),
+        (1, 0, 0, Status::ReadFault, "fault: read\n", 12),
+        (5, 0, 0, Status::ReadFault, "fault: read\n", 12),
+        // the read that finds the end
+        (12, 0, 0, Status::ReadFault, "fault: read\n", 12),
+        (0, 1, 0, Status::WriteFault, list, 0),
+        (0, 4, 0, Status::WriteFault, list, 9),
+        (0, 0, 4, Status::WriteFault, list, 9),
+        (0, 17, 0, Status::WriteFault, list, 48),
+        (5, 3, 0, Status::WriteFault, "fault: read\n", 6),
+    ];
+    for (read, write, nothing, status, text, count) in cases {
+        let mut source = StandardInput::new(Pieces {
+            bytes: b"step sheet 1\nseats,0\n",
+            calls: 0,
+            fail_at: read,
+        });
+        let mut writer = Slow {
+            bytes: Vec::new(alloc),
+            calls: 0,
+            fail_at: write,
+            nothing_at: nothing,
+        };
+        let mut sink = StandardOutput::new(&mut writer);
+        let ended = allocate(alloc, &words, &mut source, &mut sink);
+        assert_eq!(rt; ended, status);
+        assert!(rt; Some(writer.bytes.as_slice()) == text.as_bytes().get(..count));
+    }
     Ok(())
 }

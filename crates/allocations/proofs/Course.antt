@@ -59,7 +59,7 @@ begins rule MayApply count seekers next market well full none =
 
 -- ---- one offer
 
-get_set_same : {X : Type 0} (xs : List X) (i : ℕ) (x y : X) → slice_get xs i ≡ Some y → slice_get (slice_set xs i x) i ≡ Some x
+pub get_set_same : {X : Type 0} (xs : List X) (i : ℕ) (x y : X) → slice_get xs i ≡ Some y → slice_get (slice_set xs i x) i ≡ Some x
 get_set_same [] i x y at = absurd (cc)
 get_set_same (z ∷ xs) zero x y at = refl
 get_set_same (z ∷ xs) (suc i) x y at = get_set_same xs i x y at
@@ -72,7 +72,7 @@ get_set_other (y ∷ xs) (suc i) zero x other = refl
 get_set_other (y ∷ xs) (suc i) (suc j) x other = get_set_other xs i j x (λ e. other (ap suc e))
 
 -- the number at a place after one was set: the new one there, else the old one
-at_set : (next : List ℕ) (i j m n k : ℕ) → slice_get next i ≡ Some m → slice_get (slice_set next i n) j ≡ Some k → ((j ≡ i) × (k ≡ n)) ⊎ ((j ≢ i) × (slice_get next j ≡ Some k))
+pub at_set : (next : List ℕ) (i j m n k : ℕ) → slice_get next i ≡ Some m → slice_get (slice_set next i n) j ≡ Some k → ((j ≡ i) × (k ≡ n)) ⊎ ((j ≢ i) × (slice_get next j ≡ Some k))
 at_set next i j m n k old at = elim (eqb_tells j i) [
   | inl h ↦
       let here : slice_get (slice_set next i n) i ≡ Some k = subst (λ z. slice_get (slice_set next i n) z ≡ Some k) h.1 at in

@@ -5,7 +5,7 @@ use Rattle.std.specs.List.{AllByRecursion}
 use Rattle.office_base.specs.Lists.{IsAmong, AnyByRecursion, Pairwise, IsSublist}
 use Rattle.office_base.specs.declared.person.CandId.{CandId}
 use Rattle.office_base.specs.declared.person.Person.{Person}
-use Rattle.office_base.proofs.Sublists.{IsSublist-nil}
+use Rattle.placements.proofs.Sublists.{IsSublist-nil}
 use Rattle.allocations.specs.Market.{Seeker, those}
 
 sublist_if : (b c : Bool) (x y : Person) (xs ys : List Person) → x ≡ y → (b ≡ true → c ≡ true) → IsSublist xs ys → IsSublist (if b then x ∷ xs else xs) (if c then y ∷ ys else ys)

@@ -1,6 +1,6 @@
 -- The course of the applications: each seeker tries the programmes of the own list, one after another.
 use Rattle.office_base.specs.Lists.{IsAmong, IsSublist}
-use Rattle.std.specs.Prelude.{◌≡◌, ◌<◌, ◌≤◌, ◌+◌, ◌-◌, ◌↔◌, ◌⊎◌, ℕ, suc, List, [], ◌∷◌, Option, Some, None, slice_get, length, nat_lt}
+use Rattle.std.specs.Prelude.{◌≡◌, ◌≢◌, ◌<◌, ◌≤◌, ◌+◌, ◌-◌, ◌↔◌, ◌⊎◌, ℕ, suc, List, [], ◌∷◌, Option, Some, None, slice_get, length, nat_lt}
 use Rattle.office_base.specs.declared.person.Person.{Person}
 use Rattle.office_base.specs.declared.asks.Seat.{Seat}
 use Rattle.office_base.specs.declared.step.StepKind.{StepKind}
@@ -65,3 +65,21 @@ pub record MayTry (rule : Rule) (count : ℕ) (seekers : List Seeker) (next : Li
   pub place : place_of s.list p ≡ n
   pub less : n < length s.list
   pub free : IsHeld rule count seekers next s n → ⊥
+
+-- all seekers before this place are settled, but for the one at another place
+abbrev pub AreSettledBut : Rule → ℕ → List Seeker → List ℕ → ℕ → ℕ → Type 0
+AreSettledBut rule count seekers next i cur = (j n : ℕ) (s : Seeker) → j < i → j ≢ cur → slice_get seekers j ≡ Some s → slice_get next j ≡ Some n
+    → IsSettled rule count seekers next s n
+
+-- all seekers before this place are settled
+abbrev pub AreSettled : Rule → ℕ → List Seeker → List ℕ → ℕ → Type 0
+AreSettled rule count seekers next i = (j n : ℕ) (s : Seeker) → j < i → slice_get seekers j ≡ Some s → slice_get next j ≡ Some n → IsSettled rule count seekers next s n
+
+-- from this place on nobody tried anything yet
+abbrev pub HaveNotBegun : List ℕ → ℕ → Type 0
+HaveNotBegun next i = (j n : ℕ) → i ≤ j → slice_get next j ≡ Some n → n ≡ 0
+
+-- after an offer the programme admits whom it admitted before, but for the one at this place
+abbrev pub KeepsAllBut : Rule → ℕ → List Seeker → List ℕ → List ℕ → ℕ → Type 0
+KeepsAllBut rule p seekers next after out = (j : ℕ) (t : Seeker) → slice_get seekers j ≡ Some t → j ≢ out
+    → ((kind : StepKind) × rule p (tried p seekers next) t.person kind) → (kind : StepKind) × rule p (tried p seekers after) t.person kind

@@ -8,7 +8,7 @@ use Rattle.office_base.specs.Person.{IsAhead, IsBetter, IsTraitSet, number_in}
 use Rattle.office_base.specs.StepChoice.{AreRanked}
 use Rattle.office_base.specs.declared.person.ListId.{ListId}
 use Rattle.office_base.specs.declared.person.Person.{Person}
-use Rattle.office_base.proofs.Sublists.{IsSublist-nil, IsSublist-same, length-sublist}
+use Rattle.placements.proofs.Sublists.{IsSublist-nil, IsSublist-same, length-sublist}
 use Rattle.placements.specs.Ranks.{AreAmong, AreDistinct}
 use Rattle.placements.proofs.Exchange.{all_weaker}
 use Rattle.placements.proofs.Ranks.{any_all, all_both, any_among, among_longer, among_itself, among_again}

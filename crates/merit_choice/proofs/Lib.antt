@@ -7,5 +7,4 @@ mod Marks
 pub mod Members
 mod OneByOne
 mod Raises
-mod Slots
 pub mod StepLaws

@@ -131,12 +131,12 @@ member_last members person = ((among_back members (person ∷ [])).0, among_fron
 -- whether the person joined
 abbrev pub joined : Augment → Bool
 joined Raised = true
-joined Held = false
+joined (Held worst) = false
 
 -- a person who did not join is not marked
 pub joined_not : (augment : Augment) → (augment ≡ Raised → ⊥) → joined augment ≡ false
 joined_not Raised other = absurd (other refl)
-joined_not Held other = refl
+joined_not (Held worst) other = refl
 
 -- then the person is marked too
 pub marked_next : (step : Step) (front back : List Person) (person : Person) (before after : Kept) (marks : List Bool) (augment : Augment) → IsStep step → step.people ≡ front ++ person ∷ back
@@ -161,7 +161,7 @@ marked_next step front back person before after marks Raised ok split so_far don
       raises = raises-snoc step.protections [] front marks person true so_far.raises (raise_from step.protections (onto front []) person (length members) so_far.honoured honoured);
       count = omega (arith, marked-snoc marks, so_far.count);
     })
-marked_next step front back person before after marks Held ok split so_far done =
+marked_next step front back person before after marks (Held worst) ok split so_far done =
     let members = before.members in
     let many = length-append members (person ∷ []) in
     let distinct = new_middle front [] back person (new-from_nobody (front ++ person ∷ back) (subst AreDistinct split ok.people.distinct)) in

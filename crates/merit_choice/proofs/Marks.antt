@@ -1,7 +1,7 @@
 -- Marks alone: how many are set, which cover which, and which are ahead of which.
 use Rattle.std.proofs.Common.{◌≡◌, ◌≤◌, ◌+◌, ℕ, zero, suc, min, Bool, true, false, List, [], ◌∷◌, length, refl, ap, ◌∙◌, inl, inr, arith}
 use Rattle.office_base.specs.Lists.{IsSublist}
-use Rattle.office_base.proofs.Sublists.{IsSublist-nil}
+use Rattle.placements.proofs.Sublists.{IsSublist-nil}
 use Rattle.merit_choice.specs.Marks.{marked, kept, filled_up}
 
 -- ---- the marks of a sublist

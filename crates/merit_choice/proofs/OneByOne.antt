@@ -10,7 +10,7 @@ use Rattle.office_base.specs.declared.person.ListId.{ListId}
 use Rattle.office_base.specs.declared.person.Person.{Person}
 use Rattle.office_base.specs.declared.step.Protections.{Protections}
 use Rattle.office_base.specs.declared.step.Step.{Step}
-use Rattle.office_base.proofs.Sublists.{AllByRecursion-sublist}
+use Rattle.placements.proofs.Sublists.{AllByRecursion-sublist}
 use Rattle.placements.specs.Ranks.{AreAmong, AreDistinct, without}
 use Rattle.placements.proofs.Greatest.{honoured-exists}
 use Rattle.placements.proofs.Ranks.{any_all, any_among, among_itself, among_sublist, monotone, pairwise_sublist}

@@ -1,4 +1,2 @@
-pub mod CodesLemmas
 pub mod People
 mod Streams
-pub mod Sublists

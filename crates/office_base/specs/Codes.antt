@@ -2,6 +2,7 @@
 use Rattle.std.specs.Prelude.{◌≡◌, ◌≤◌, ◌++◌, ◌-◌, ℕ, Bool, ◌==◌, ◌&&◌, ◌||◌, nat_le, List, length, replicate}
 use Rattle.std.specs.Char.{is_ascii_alphanumeric}
 use Rattle.std.specs.List.{list_all}
+use Rattle.office_base.specs.Limits.{shortest_code, longest_code, shortest_token, longest_token}
 
 -- a letter A to Z or a to z, a digit, or a dash
 abbrev pub is_code_byte : ℕ → Bool
@@ -9,11 +10,11 @@ is_code_byte byte = is_ascii_alphanumeric byte || byte == 45
 
 -- the code of a programme or an institute: 1 to 16 letters, digits and dashes
 abbrev pub is_code : List ℕ → Bool
-is_code text = nat_le 1 (length text) && nat_le (length text) 16 && list_all is_code_byte text
+is_code text = nat_le shortest_code (length text) && nat_le (length text) longest_code && list_all is_code_byte text
 
 -- a token: 8 to 32 letters and digits
 abbrev pub is_token : List ℕ → Bool
-is_token text = nat_le 8 (length text) && nat_le (length text) 32 && list_all is_ascii_alphanumeric text
+is_token text = nat_le shortest_token (length text) && nat_le (length text) longest_token && list_all is_ascii_alphanumeric text
 
 -- bytes and then zeros, up to n in all
 abbrev pub padded : ℕ → List ℕ → List ℕ

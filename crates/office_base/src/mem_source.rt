@@ -84,8 +84,8 @@ impl Source for MemSource {
     }
 }
 
-/// Whether the call of this number is among those that fail.
-pub(crate) fn fails_at(fail_at: &[u32], call: u64) -> bool
+/// Whether the call of this number, from 1, is among those that an object in memory is told to fail.
+pub fn fails_at(fail_at: &[u32], call: u64) -> bool
     ensures { IsTrue result ↔ Contains fail_at.now call }
 {
     fail_at.iter().any(|at| u64::from(*at) == call)

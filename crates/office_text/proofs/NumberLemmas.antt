@@ -9,7 +9,7 @@ use Rattle.std.proofs.lemmas.Option.{cond_some}
 use Rattle.std.specs.Char.{is_ascii_digit}
 use Rattle.office_text.specs.Number.{are_digits, is_number, value_after, value_of, number_of, AreInverse}
 
--- Digits behind digits never make the value less.
+-- Digits after digits never make the value less.
 pub value_after-ge : (n : ℕ) (bytes : List ℕ) → n ≤ value_after n bytes
 value_after-ge n [] = omega arith
 value_after-ge n (b ∷ bytes) = omega (arith, value_after-ge (n * 10 + (b - 48)) bytes)

@@ -1,7 +1,7 @@
 -- Which fault of some rows is the first.
 use Rattle.std.specs.Prelude.{◌≡◌, ◌<◌, ◌≤◌, ◌⊎◌, ℕ, List, Option, Some, None, length, take, slice_get}
 
--- What is wrong with a row, behind the rows before it. None in place of the row stands for the end of the rows.
+-- What is wrong with a row, given the rows before it. None in place of the row stands for the end of the rows.
 abbrev pub Judge : Type 0 → Type 0 → Type 0
 Judge Row Kind = List Row → Option Row → Option Kind
 

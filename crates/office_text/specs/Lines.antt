@@ -1,7 +1,7 @@
 -- How bytes are cut into lines, and a line into fields.
 use Rattle.std.specs.Prelude.{ℕ, ◌==◌, ◌&&◌, List, [], ◌∷◌, map, if◌then◌else◌}
 
--- the byte at the front of the first piece
+-- the byte before the first piece
 abbrev pub onto_first : ℕ → List (List ℕ) → List (List ℕ)
 onto_first byte [] = (byte ∷ []) ∷ []
 onto_first byte (piece ∷ pieces) = (byte ∷ piece) ∷ pieces
@@ -38,12 +38,12 @@ without_empty_last ([] ∷ []) = []
 without_empty_last ((byte ∷ piece) ∷ []) = (byte ∷ piece) ∷ []
 without_empty_last (piece ∷ next ∷ pieces) = piece ∷ without_empty_last (next ∷ pieces)
 
--- The lines of bytes that no mark begins: they end with LF or CR LF. What stands behind the last LF is a line too, where
+-- The lines of bytes that no mark begins: they end with LF or CR LF. What stands after the last LF is a line too, where
 -- it is not empty; a CR at its end is no part of it.
 abbrev pub lines_of : List ℕ → List (List ℕ)
 lines_of bytes = without_empty_last (map drop_cr (cut_at 10 bytes))
 
--- the bytes behind a byte order mark, or all where none begins them
+-- the bytes after a byte order mark, or all where none begins them
 abbrev pub skip_mark : List ℕ → List ℕ
 skip_mark [] = []
 skip_mark (a ∷ []) = a ∷ []

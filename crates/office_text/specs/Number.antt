@@ -14,7 +14,7 @@ is_number [] = false
 is_number (byte ∷ []) = is_ascii_digit byte
 is_number (byte ∷ next ∷ bytes) = nat_le 49 byte && nat_le byte 57 && are_digits (next ∷ bytes)
 
--- the value of the digits, the highest first, behind digits of the value n
+-- the value of the digits, the highest first, after digits of the value n
 abbrev pub value_after : ℕ → List ℕ → ℕ
 value_after n [] = n
 value_after n (byte ∷ bytes) = value_after (n * 10 + (byte - 48)) bytes

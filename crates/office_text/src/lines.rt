@@ -4,7 +4,7 @@ ghost use Rattle.office_text.specs.Lines.{lines_of, fields_of, drop_cr, skip_mar
 
 use memchr::memchr;
 
-/// The bytes of a text behind its byte order mark, where it begins with one, and else all of them.
+/// The bytes of a text after its byte order mark, where it begins with one, and else all of them.
 pub fn skip_mark(bytes: &[u8]) -> &[u8]
     ensures value { result.now ≡ skip_mark bytes.now }
     ensures within { length result.now ≤ length bytes.now }
@@ -15,7 +15,7 @@ pub fn skip_mark(bytes: &[u8]) -> &[u8]
     }
 }
 
-/// The first line of bytes behind the mark, without its LF or CR LF, and the bytes behind it. None where there is no
+/// The first line of bytes after the mark, without its LF or CR LF, and the bytes after it. None where there is no
 /// line.
 pub fn next_text_line(bytes: &[u8]) -> Option<(&[u8], &[u8])>
     ensures none { IfNone result (lines_of bytes.now ≡ []) }
@@ -43,12 +43,12 @@ fn last_line(bytes: &[u8]) -> Option<(&[u8], &[u8])>
 }
 
 /// A line without one CR at its end.
-fn drop_cr(line: &[u8]) -> &[u8]
+pub fn drop_cr(line: &[u8]) -> &[u8]
     ensures value { result.now ≡ drop_cr line.now }
     ensures within { length result.now ≤ length line.now }
 {
     match line {
-        [front @ .., b'\r'] => front,
+        [prefix @ .., b'\r'] => prefix,
         _ => line,
     }
 }
@@ -59,13 +59,13 @@ pub fn trim_commas(line: &[u8]) -> &[u8]
     ensures within { length result.now ≤ length line.now }
 {
     let mut kept = line;
-    while let [front @ .., b','] = kept {
-        kept = front;
+    while let [prefix @ .., b','] = kept {
+        kept = prefix;
     }
     kept
 }
 
-/// The first field of a line, and what stands behind its comma, where there is one.
+/// The first field of a line, and what stands after its comma, where there is one.
 pub fn next_field(line: &[u8]) -> (&[u8], Option<&[u8]>)
     ensures last { IfNone result.1 (fields_of line.now ≡ result.0.now ∷ []) }
     ensures more { IfSome result.1 (λ rest. fields_of line.now ≡ result.0.now ∷ fields_of rest.now) }

@@ -8,7 +8,7 @@ use Rattle.office_base.specs.declared.person.ListId.{ListId}
 use Rattle.office_base.specs.declared.person.Person.{Person}
 use Rattle.office_base.specs.declared.step.StepKind.{StepKind}
 use Rattle.office_base.specs.declared.step.StepKind.TheVariants.{Open, Ews as EwsStep, Obc as ObcStep, Sc as ScStep, St as StStep, Dereserved}
-use Rattle.office_base.proofs.Sublists.{length-sublist}
+use Rattle.placements.proofs.Sublists.{length-sublist}
 use Rattle.programme_lists.specs.Listing.{Shows, ShowsChoice}
 use Rattle.seat_matrix.specs.Unfilled.{left_unfilled}
 use Rattle.office_base.specs.Person.{is_common}

@@ -10,7 +10,7 @@ use Rattle.office_base.specs.declared.person.ListId.{ListId}
 use Rattle.office_base.specs.declared.person.Person.{Person}
 use Rattle.office_base.specs.declared.step.StepKind.{StepKind}
 use Rattle.office_base.specs.declared.step.StepKind.TheVariants.{Open, Ews as EwsStep, Obc as ObcStep, Sc as ScStep, St as StStep, Dereserved}
-use Rattle.office_base.proofs.Sublists.{IsSublist-same, IsSublist-take, length-sublist}
+use Rattle.placements.proofs.Sublists.{IsSublist-same, IsSublist-take, length-sublist}
 use Rattle.placements.specs.Ranks.{AreAmong, AreDistinct}
 use Rattle.placements.proofs.Ranks.{any_among, among_sublist, among_again, among_itself}
 use Rattle.seat_matrix.specs.Seats.{AreProgrammeSeats, HaveMoreSeats, IsSeated, of_step, seats_of}

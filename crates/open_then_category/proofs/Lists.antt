@@ -7,7 +7,7 @@ use Rattle.office_base.specs.StepChoice.{AreRanked}
 use Rattle.office_base.specs.declared.person.CandId.{CandId}
 use Rattle.office_base.specs.declared.person.ListId.{ListId}
 use Rattle.office_base.specs.declared.person.Person.{Person}
-use Rattle.office_base.proofs.Sublists.{IsSublist-take, AllByRecursion-sublist}
+use Rattle.placements.proofs.Sublists.{IsSublist-take, AllByRecursion-sublist}
 use Rattle.placements.specs.Ranks.{AreAmong, AreDistinct}
 use Rattle.placements.proofs.Ranks.{any_all, any_among, among_sublist, among_itself, one_person, pairwise_sublist}
 use Rattle.merit_choice.specs.Laws.{IsAmong}

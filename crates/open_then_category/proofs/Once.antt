@@ -12,7 +12,7 @@ use Rattle.office_base.specs.declared.person.Person.{Person}
 use Rattle.office_base.specs.declared.step.Pair.{Pair}
 use Rattle.office_base.specs.declared.step.StepKind.{StepKind}
 use Rattle.office_base.specs.declared.step.StepKind.TheVariants.{Open, Ews as EwsStep, Obc as ObcStep, Sc as ScStep, St as StStep, Dereserved}
-use Rattle.office_base.proofs.Sublists.{IsSublist-same, IsSublist-take}
+use Rattle.placements.proofs.Sublists.{IsSublist-same, IsSublist-take}
 use Rattle.placements.specs.Ranks.{AreAmong, AreDistinct}
 use Rattle.placements.proofs.Hall.{small_trait}
 use Rattle.placements.proofs.Ranks.{among_again, among_back, among_front, among_itself, among_joined, among_sublist, any_all, any_among, any_append, one_person, pairwise_sublist}

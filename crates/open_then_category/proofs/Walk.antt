@@ -8,7 +8,7 @@ use Rattle.office_base.specs.declared.person.Category.TheVariants.{Gen, Ews, Obc
 use Rattle.office_base.specs.StepChoice.{AreRanked}
 use Rattle.office_base.specs.declared.person.ListId.{ListId}
 use Rattle.office_base.specs.declared.person.Person.{Person}
-use Rattle.office_base.proofs.Sublists.{IsSublist-nil}
+use Rattle.placements.proofs.Sublists.{IsSublist-nil}
 use Rattle.placements.specs.Ranks.{AreAmong, AreDistinct}
 use Rattle.placements.proofs.Convert.{same_cand}
 use Rattle.placements.proofs.Ranks.{any_all, any_among, among_again, among_sublist}

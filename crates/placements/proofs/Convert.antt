@@ -9,7 +9,7 @@ use Rattle.office_base.specs.declared.person.CandId.{CandId}
 use Rattle.office_base.specs.declared.person.Person.{Person}
 use Rattle.office_base.specs.declared.step.Pair.{Pair}
 use Rattle.office_base.specs.declared.step.Protections.{Protections}
-use Rattle.office_base.proofs.Sublists.{IsSublist-nil}
+use Rattle.placements.proofs.Sublists.{IsSublist-nil}
 use Rattle.placements.specs.Ranks.{AreDistinct}
 use Rattle.placements.specs.Slots.{MayStand, used, filled, AreSlots, pairs_of}
 

@@ -1,5 +1,5 @@
 -- People can all be placed exactly where no set of traits is asked for, and nothing else, by more of them than it has positions.
-use Rattle.std.proofs.Common.{◌≡◌, ◌∙◌, ◌≢◌, ◌<◌, ◌≤◌, ◌+◌, ◌-◌, ◌*◌, ◌^◌, ◌⊎◌, ◌&&◌, ℕ, zero, suc, min, max, List, [], ◌∷◌, length, leb, cond, not, Bool, true, false, refl, ap, sym, subst, inl, inr, arith, set, get_or, get_or-set_same, get_or-set_other, take, sum, add-one, lit<, bit_and, bit_or}
+use Rattle.std.proofs.Common.{◌≡◌, ◌∙◌, ◌≢◌, ◌<◌, ◌≤◌, ◌+◌, ◌-◌, ◌*◌, ◌^◌, ◌⊎◌, ◌&&◌, ℕ, zero, suc, min, max, List, [], ◌∷◌, length, leb, cond, not, Bool, true, false, refl, ap, sym, subst, inl, inr, arith, get_or, get_or-set_same, get_or-set_other, take, sum, add-one, lit<, bit_and, bit_or}
 use Rattle.std.proofs.lemmas.Bool.{eqb-true, eqb-false, cases_Bool, cases_lt, cases_eq, leb-true, leb-false, eq-eqb, and_parts, and_cases, not-true, not-false, both_ways}
 use Rattle.std.proofs.lemmas.Nat.{pow_pos, or_lt, and_le_l}
 use Rattle.std.proofs.lemmas.List.{get_or_past, take_all}
@@ -17,6 +17,7 @@ use Rattle.office_base.specs.declared.person.Person.{Person}
 use Rattle.office_base.specs.declared.step.Pair.{Pair}
 use Rattle.office_base.specs.declared.step.Protections.{Protections}
 use Rattle.placements.specs.Demand.{is_within, asking, positions_below, positions}
+use Rattle.placements.specs.Greatest.{one_less}
 use Rattle.placements.specs.Ranks.{CanBePlaced}
 use Rattle.placements.proofs.Exchange.{Apart, joined, finds, fewer, all_leaves, length_leaves, placed_on_leaves, stands_same, pairwise_leaves, apart_back}
 use Rattle.placements.proofs.Ranks.{widened, among_longer, among_itself, nowhere, no_more_than_people, left_out, any_all}
@@ -74,6 +75,21 @@ bits_within some all h i =
 pub within_bits : (some all : TraitSet) → BitsWithin some all → is_within some all ≡ true
 within_bits some all h = eq-eqb (bit_and some.0 all.0) some.0
     (same_from_bits (bit_and some.0 all.0) some.0 (λ i. let bits = bit_at_and some.0 all.0 i in let here = h i in omega arith))
+
+-- a set is within another that has each of its traits, which are some of the six
+pub within_six : (some all : TraitSet) → IsTraitSet some → ((t : ℕ) → t < 6 → has_trait some t ≡ true → has_trait all t ≡ true) → is_within some all ≡ true
+within_six some all small each = within_bits some all (λ i. elim (cases_lt i 6) [
+  | inl low ↦ elim (cases_eq (bit_at some.0 i) 1) [
+    | inl one ↦ (let e = bit_one all i (each i low (has_one some i one)) in omega arith)
+    | inr other ↦ (let e = bit_at-lt some.0 i in omega arith)
+  ]
+  | inr high ↦ (let e = bit_at_above some.0 6 i small high in omega arith)
+])
+
+-- and has each of its traits
+pub has_within : (some all : TraitSet) (t : ℕ) → is_within some all ≡ true → has_trait some t ≡ true → has_trait all t ≡ true
+has_within some all t inside has = has_one all t
+    (let b = bits_within some all inside t in let c = bit_one some t has in let d = bit_at-lt all.0 t in omega arith)
 
 -- the traits of either set, and those of both
 abbrev pub either : TraitSet → TraitSet → TraitSet
@@ -287,20 +303,10 @@ stands_on_trait : (protections : Protections) (person : Person) (people : List P
     × ((m : ℕ) → m < 64 → is_full protections person.traits (person ∷ people) s (record { 0 = m }) ≡ false)
 stands_on_trait protections person people small short = elim (stand_or_tight protections person people 6 short) [
   | inl found ↦ found
-  | inr tight ↦ absurd (both_ways (is_within person.traits tight.0) tight.1.1 (within_bits person.traits tight.0 (λ i. elim (cases_lt i 6) [
-    | inl low ↦ elim (cases_eq (bit_at person.traits.0 i) 1) [
-      | inl one ↦ (let e = bit_one tight.0 i (tight.1.3 i low (has_one person.traits i one)) in omega arith)
-      | inr other ↦ (let e = bit_at-lt person.traits.0 i in omega arith)
-    ]
-    | inr high ↦ (let e = bit_at_above person.traits.0 6 i small high in omega arith)
-  ])))
+  | inr tight ↦ absurd (both_ways (is_within person.traits tight.0) tight.1.1 (within_six person.traits tight.0 small tight.1.3))
 ]
 
 -- ---- one position fewer
-
--- one position of a trait is given away
-abbrev pub without_one : Protections → ℕ → Protections
-without_one protections s = record { counts = set protections.counts s (protected protections s - 1) }
 
 -- a trait with a position has a number among the counts
 pub counted_trait : (protections : Protections) (s : ℕ) → 0 < protected protections s → s < length protections.counts
@@ -309,26 +315,26 @@ counted_trait protections s some = elim (cases_lt s (length protections.counts))
   | inr past ↦ absurd (let e = get_or_past protections.counts s 0 past in omega arith)
 ]
 
-pub protected_same : (protections : Protections) (s : ℕ) → 0 < protected protections s → suc (protected (without_one protections s) s) ≡ protected protections s
+pub protected_same : (protections : Protections) (s : ℕ) → 0 < protected protections s → suc (protected (one_less protections s) s) ≡ protected protections s
 protected_same protections s some =
     let e = get_or-set_same protections.counts s (protected protections s - 1) 0 (counted_trait protections s some) in omega arith
 
-pub protected_other : (protections : Protections) (s t : ℕ) → t ≢ s → protected (without_one protections s) t ≡ protected protections t
+pub protected_other : (protections : Protections) (s t : ℕ) → t ≢ s → protected (one_less protections s) t ≡ protected protections t
 protected_other protections s t other = get_or-set_other protections.counts s t (protected protections s - 1) 0 other
 
 -- above the trait nothing changes, and below it neither
 positions_below_same : (n : ℕ) (protections : Protections) (s : ℕ) (set : TraitSet) → (has_trait set s ≡ false) ⊎ (n ≤ s)
-    → positions_below n (without_one protections s) set ≡ positions_below n protections set
+    → positions_below n (one_less protections s) set ≡ positions_below n protections set
 positions_below_same zero protections s set h = refl
 positions_below_same (suc n) protections s set h =
-    let deeper : positions_below n (without_one protections s) set ≡ positions_below n protections set =
+    let deeper : positions_below n (one_less protections s) set ≡ positions_below n protections set =
     positions_below_same n protections s set (elim h [ inl none ↦ inl none | inr below ↦ inr (omega arith) ]) in
-    let one = counted set n (protected (without_one protections s) n) in
+    let one = counted set n (protected (one_less protections s) n) in
     let two = counted set n (protected protections n) in
-    let here : bit_at set.0 n * protected (without_one protections s) n ≡ bit_at set.0 n * protected protections n = (elim (cases_eq n s) [
+    let here : bit_at set.0 n * protected (one_less protections s) n ≡ bit_at set.0 n * protected protections n = (elim (cases_eq n s) [
       | inl same ↦ elim h [
         | inl none ↦ (let e : bit_at set.0 n ≡ 0 = subst (λ k. bit_at set.0 k ≡ 0) (sym same) (bit_zero set s none) in
-            let f = ap (λ k. k * protected (without_one protections s) n) e in let g = ap (λ k. k * protected protections n) e in omega arith)
+            let f = ap (λ k. k * protected (one_less protections s) n) e in let g = ap (λ k. k * protected protections n) e in omega arith)
         | inr below ↦ absurd (omega arith)
       ]
       | inr other ↦ ap (λ k. bit_at set.0 n * k) (protected_other protections s n other)
@@ -337,19 +343,19 @@ positions_below_same (suc n) protections s set h =
 
 -- a set with the trait has one position fewer
 positions_below_fewer : (n : ℕ) (protections : Protections) (s : ℕ) (set : TraitSet) → has_trait set s ≡ true → s < n → 0 < protected protections s
-    → positions_below n protections set ≡ suc (positions_below n (without_one protections s) set)
+    → positions_below n protections set ≡ suc (positions_below n (one_less protections s) set)
 positions_below_fewer zero protections s set has less some = absurd (omega arith)
 positions_below_fewer (suc n) protections s set has less some =
-    let one = counted set n (protected (without_one protections s) n) in
+    let one = counted set n (protected (one_less protections s) n) in
     let two = counted set n (protected protections n) in
     elim (cases_eq n s) [
       | inl same ↦
           let deeper = positions_below_same n protections s set (inr (omega arith)) in
           let e : bit_at set.0 n ≡ 1 = subst (λ k. bit_at set.0 k ≡ 1) (sym same) (bit_one set s has) in
-          let f = ap (λ k. k * protected (without_one protections s) n) e in
+          let f = ap (λ k. k * protected (one_less protections s) n) e in
           let g = ap (λ k. k * protected protections n) e in
-          let change : suc (protected (without_one protections s) n) ≡ protected protections n =
-          subst (λ k. suc (protected (without_one protections s) k) ≡ protected protections k) (sym same) (protected_same protections s some) in
+          let change : suc (protected (one_less protections s) n) ≡ protected protections n =
+          subst (λ k. suc (protected (one_less protections s) k) ≡ protected protections k) (sym same) (protected_same protections s some) in
           omega arith
       | inr other ↦
           let deeper = positions_below_fewer n protections s set has (omega arith) some in
@@ -357,11 +363,11 @@ positions_below_fewer (suc n) protections s set has less some =
           omega arith
     ]
 
-pub positions_same : (protections : Protections) (s : ℕ) (set : TraitSet) → has_trait set s ≡ false → positions (without_one protections s) set ≡ positions protections set
+pub positions_same : (protections : Protections) (s : ℕ) (set : TraitSet) → has_trait set s ≡ false → positions (one_less protections s) set ≡ positions protections set
 positions_same protections s set none = positions_below_same 6 protections s set (inl none)
 
 pub positions_fewer : (protections : Protections) (s : ℕ) (set : TraitSet) → has_trait set s ≡ true → s < 6 → 0 < protected protections s
-    → positions protections set ≡ suc (positions (without_one protections s) set)
+    → positions protections set ≡ suc (positions (one_less protections s) set)
 positions_fewer protections s set has less some = positions_below_fewer 6 protections s set has less some
 
 -- a set of small traits has no trait from 6 on
@@ -375,8 +381,14 @@ small_trait traits s small has = elim (cases_lt s 6) [
 abbrev pub alone : ℕ → TraitSet
 alone s = record { 0 = 2 ^ s }
 
+-- one of the 64 sets
+pub alone_small : (s : ℕ) → s < 6 → 2 ^ s < 64
+alone_small s less =
+    let two : 0 < 2 = omega arith in
+    let below : s ≤ 5 = omega arith in let p : 2 ^ s ≤ 2 ^ 5 = pow-le-pow_right {n = 2} two {i = s} {j = 5} below in omega arith
+
 -- where a trait has no positions, its set has none
-none_alone : (n : ℕ) (protections : Protections) (s : ℕ) → protected protections s ≡ 0 → positions_below n protections (alone s) ≡ 0
+pub none_alone : (n : ℕ) (protections : Protections) (s : ℕ) → protected protections s ≡ 0 → positions_below n protections (alone s) ≡ 0
 none_alone zero protections s none = refl
 none_alone (suc n) protections s none =
     let deeper = none_alone n protections s none in
@@ -417,8 +429,7 @@ some_position protections person people s less short open' =
       | inr some ↦ omega arith
       | inl none ↦ absurd (
           let nothing = none_alone 6 protections s none in
-          let two : 0 < 2 = omega arith in
-          let small : 2 ^ s < 64 = (let below : s ≤ 5 = omega arith in let p : 2 ^ s ≤ 2 ^ 5 = pow-le-pow_right {n = 2} two {i = s} {j = 5} below in omega arith) in
+          let small = alone_small s less in
           elim (cases_Bool (is_within person.traits (alone s))) [
             | inl inside ↦ (let e = asks (alone s) person people inside in let enough = short (2 ^ s) small in omega arith)
             | inr outside ↦
@@ -430,7 +441,7 @@ some_position protections person people s less short open' =
 short_of_none : (protections : Protections) (person : Person) (people : List Person) (s : ℕ) → s < 6 → NoneShort protections (person ∷ people)
     → has_trait person.traits s ≡ true → 0 < protected protections s
     → ((m : ℕ) → m < 64 → is_full protections person.traits (person ∷ people) s (record { 0 = m }) ≡ false)
-    → NoneShort (without_one protections s) people
+    → NoneShort (one_less protections s) people
 short_of_none protections person people s less short has some open' m small =
     let set : TraitSet = record { 0 = m } in
     let enough = short m small in
@@ -453,20 +464,20 @@ placed_where_none_short protections (person ∷ people) distinct small short =
     let s : ℕ = trait.0 in
     let less = small_trait person.traits s small.0 trait.1 in
     let some = some_position protections person people s less short trait.2 in
-    let others = placed_where_none_short (without_one protections s) people distinct.1 small.1
+    let others = placed_where_none_short (one_less protections s) people distinct.1 small.1
     (short_of_none protections person people s less short trait.1 some trait.2) in
     let placed : IsPlacement protections (person ∷ people) others.0 = record {
-      held = (widened (without_one protections s) people (person ∷ people) others.0 (among_longer person people people (among_itself people)) others.1).held;
+      held = (widened (one_less protections s) people (person ∷ people) others.0 (among_longer person people people (among_itself people)) others.1).held;
       once = others.1.once;
       within = λ t. let w = others.1.within t in (elim (cases_eq t s) [
-        | inl same ↦ (let e = protected_same protections s some in let f = ap (λ k. protected (without_one protections s) k) same in let g = ap (λ k. protected protections k) same in omega arith)
+        | inl same ↦ (let e = protected_same protections s some in let f = ap (λ k. protected (one_less protections s) k) same in let g = ap (λ k. protected protections k) same in omega arith)
         | inr other ↦ (let e = protected_other protections s t other in omega arith)
       ]);
     } in
     let pair : Pair = record { cand = person.id; slot = s } in
     let room : placed_on s others.0 < protected protections s = (let w = others.1.within s in let e = protected_same protections s some in omega arith) in (
       pair ∷ others.0,
-      joined protections (person ∷ people) pair others.0 placed (inl (refl, trait.1)) (nowhere (without_one protections s) person people others.0 distinct.0 others.1) room,
+      joined protections (person ∷ people) pair others.0 placed (inl (refl, trait.1)) (nowhere (one_less protections s) person people others.0 distinct.0 others.1) room,
       ap suc others.2,
     )
 
@@ -491,21 +502,21 @@ none_short_where_placed protections (person ∷ people) set distinct small can =
           subst (λ cand. AllByRecursion (λ (p : Pair). cand ≢ p.cand) rest) found.3
           (pairwise_leaves Apart apart_back pair can.0 rest found.2 can.1.once).0 in
           let others = left_out protections person people rest away (fewer protections (person ∷ people) pair can.0 rest found.2 can.1) in
-          let placed : IsPlacement (without_one protections s) people rest = record {
+          let placed : IsPlacement (one_less protections s) people rest = record {
             held = others.held;
             once = others.once;
             within = λ t. let w = can.1.within t in let count = placed_on_leaves t pair can.0 rest found.2 in (elim (cases_eq t s) [
-              | inl same ↦ (let e = protected_same protections s some in let f = ap (λ k. protected (without_one protections s) k) same in
+              | inl same ↦ (let e = protected_same protections s some in let f = ap (λ k. protected (one_less protections s) k) same in
                   let g = ap (λ k. protected protections k) same in let h = stands_same t pair (sym same) in omega arith)
               | inr other ↦ (let e = protected_other protections s t other in omega arith)
             ]);
           } in
           let size = length_leaves pair can.0 rest found.2 in
-          let deeper = none_short_where_placed (without_one protections s) people set distinct.1 small.1 (rest, placed, omega (arith, can.2)) in
+          let deeper = none_short_where_placed (one_less protections s) people set distinct.1 small.1 (rest, placed, omega (arith, can.2)) in
           elim (cases_Bool (is_within person.traits set)) [
             | inl inside ↦
                 (let e = asks set person people inside in
-                let f = positions_fewer protections s set (has_one set s (let b = bits_within person.traits set inside s in let c = bit_one person.traits s own in let d = bit_at-lt set.0 s in omega arith)) less some in
+                let f = positions_fewer protections s set (has_within person.traits set s inside own) less some in
                 omega arith)
             | inr outside ↦
                 (let e = asks_not set person people outside in

@@ -2,6 +2,9 @@ pub mod Convert
 pub mod Exchange
 pub mod Greatest
 pub mod Hall
+pub mod Outside
 pub mod Ranks
 pub mod Replace
+pub mod Slots
+pub mod Sublists
 pub mod Without

@@ -8,7 +8,7 @@ use Rattle.office_base.specs.declared.person.CandId.{CandId}
 use Rattle.office_base.specs.declared.person.Person.{Person}
 use Rattle.office_base.specs.declared.step.Pair.{Pair}
 use Rattle.office_base.specs.declared.step.Protections.{Protections}
-use Rattle.office_base.proofs.Sublists.{AllByRecursion-sublist}
+use Rattle.placements.proofs.Sublists.{AllByRecursion-sublist}
 use Rattle.placements.specs.Ranks.{CanBePlaced, AreAmong}
 use Rattle.placements.proofs.Exchange.{Leaves, Apart, Stands, AllStand, Joins, all_weaker, apart_back, pairwise_leaves, length_leaves, fewer, finds, stands_at, stands_or, stands_still, at_standing, all_front, all_joined, all_stand_same, exchange_pairs}
 

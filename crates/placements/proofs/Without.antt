@@ -8,7 +8,7 @@ use Rattle.office_base.specs.declared.person.Person.{Person}
 use Rattle.placements.specs.Ranks.{AreDistinct, AreAmong, without}
 use Rattle.placements.proofs.Exchange.{Leaves, length_leaves, pairwise_leaves, all_leaves}
 use Rattle.placements.proofs.Ranks.{among_itself, among_longer, among_sublist}
-use Rattle.office_base.proofs.Sublists.{IsSublist-same}
+use Rattle.placements.proofs.Sublists.{IsSublist-same}
 
 -- equal numbers are one candidate
 numbered : (a b : CandId) → a.0 ≡ b.0 → a ≡ b

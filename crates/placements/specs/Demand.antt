@@ -15,6 +15,11 @@ abbrev pub asking : TraitSet → List Person → ℕ
 asking set [] = 0
 asking set (person ∷ people) = (if is_within person.traits set then 1 else 0) + asking set people
 
+-- how many of the people hold a trait outside the set
+abbrev pub asking_outside : TraitSet → List Person → ℕ
+asking_outside set [] = 0
+asking_outside set (person ∷ people) = (if is_within person.traits set then 0 else 1) + asking_outside set people
+
 -- how many positions are protected for the traits of the set with numbers below n
 abbrev pub positions_below : ℕ → Protections → TraitSet → ℕ
 positions_below zero protections set = 0

@@ -10,7 +10,7 @@ use Rattle.office_base.specs.declared.person.Place.{Place}
 use Rattle.rank_lists.specs.Register.{AreEntries, IsRegistered, any_repeats, holder_at, is_number, is_taken, person_at, place_at, repeats}
 use Rattle.rank_lists.specs.declared.entry.Entry.{Entry}
 use Rattle.section_rows.proofs.StepsLemmas.{found_cases}
-use Rattle.rank_lists.proofs.RankingLemmas.{IsAccepted}
+use Rattle.rank_lists.proofs.BuilderLemmas.{IsAccepted}
 
 or_first : (b c : Bool) → b ≡ true → (b || c) ≡ true
 or_first b c h = rw h refl

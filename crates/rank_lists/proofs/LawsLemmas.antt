@@ -9,10 +9,10 @@ use Rattle.office_base.specs.declared.person.Person.{Person}
 use Rattle.office_text.proofs.FirstFaultLemmas.{one_answer}
 use Rattle.section_rows.specs.Rows.{Row}
 use Rattle.section_rows.specs.Table.{entries_of}
+use Rattle.section_rows.specs.declared.fault.TableFault.TheVariants.{Bad}
 use Rattle.rank_lists.specs.Laws.{AreSame, HaveOneReading}
 use Rattle.rank_lists.specs.Register.{IsFault, IsRead, IsRegister, Ranks, find_holder, find_person, holder_at, judge, person_at, reading}
 use Rattle.rank_lists.specs.declared.entry.Entry.{Entry}
-use Rattle.rank_lists.specs.declared.fault.RankFault.TheVariants.{Bad}
 use Rattle.rank_lists.specs.declared.fault.RankKind.{RankKind}
 
 -- people rise by id

@@ -1,4 +1,4 @@
+mod BuilderLemmas
 mod EntriesLemmas
 mod LawsLemmas
 mod MadeLemmas
-mod RankingLemmas

@@ -1,6 +1,7 @@
--- The register that is made of a ranking, and what is found in it.
-use Rattle.std.proofs.Common.{◌≡◌, ◌<◌, ◌≤◌, ℕ, zero, suc, Bool, true, false, cond, List, [], ◌∷◌, Option, Some, None, Result, Ok, Err, length, get_or, refl, sym, ap, inl, inr, ◌∙◌, arith}
-use Rattle.std.specs.Prelude.{◌==◌, is_some, IsSome, MatchResult}
+-- The register that is made of a builder, and what is found in it.
+use Rattle.std.proofs.Common.{◌≡◌, ◌<◌, ◌≤◌, ℕ, zero, suc, Bool, true, false, cond, List, [], ◌∷◌, Option, Some, None, Result, Ok, Err, length, get_or, refl, sym, ap, inl, inr, ◌∙◌, add-one, arith}
+use Rattle.std.specs.Prelude.{◌==◌, ◌+◌, is_some, IsSome, MatchResult, option_map, slice_get}
+use Rattle.std.specs.Option.{option_and_then}
 use Rattle.std.specs.Bool.{one_answer}
 use Rattle.std.specs.BTreeMap as tree
 use Rattle.std.specs.Cmp.Lexicographic.{slice_cmp}
@@ -17,10 +18,10 @@ use Rattle.std.proofs.lemmas.Map.Text.{is_eq-slice_cmp}
 use Rattle.office_base.specs.Lists.{Pairwise}
 use Rattle.office_base.specs.declared.person.CandId.{CandId}
 use Rattle.office_base.specs.declared.person.Person.{Person}
-use Rattle.rank_lists.specs.Ranking.{Keeps}
-use Rattle.rank_lists.specs.Register.{AreRanks, IsRegister, find_holder, find_person}
+use Rattle.rank_lists.specs.Builder.{Keeps}
+use Rattle.rank_lists.specs.Register.{AreRanks, IsRegister, find_holder, find_person, row_of}
 use Rattle.rank_lists.specs.declared.entry.Entry.{Entry}
-use Rattle.rank_lists.specs.declared.ranking.Ranking.{Ranking}
+use Rattle.rank_lists.specs.declared.builder.RegisterBuilder.{RegisterBuilder}
 use Rattle.section_rows.proofs.StepsLemmas.{nat_at, number_decides}
 
 -- people rise by id
@@ -63,22 +64,22 @@ unfolding IsStrictlySortedBy
 rising_values [] keyed sorted = tt
 rising_values (e ∷ es) keyed sorted = (above_same e.0 e.1.id.0 (values_of es) keyed.0 (all_above e.0 es keyed.1 sorted.0), rising_values es keyed.1 sorted.1)
 
--- The values of a ranking are the register of its entries.
-pub made : (entries : List Entry) (ranking : Ranking) (people : List Person) → Keeps entries ranking → people ≡ tree.values ranking.people → tree.IsOrdered nat_cmp ranking.people
-    → IsRegister entries (record { people = people; holders = ranking.holders.entries })
-made entries ranking people keeps e ordered = record {
-  rising = rw e (rising_values ranking.people.entries keeps.keyed ordered);
-  people = λ id. ap (find_person id) e ∙ find-value id ranking.people.entries keeps.keyed ∙ keeps.people id;
-  holders = λ token. find-holder token ranking.holders.entries ∙ keeps.holders token;
+-- The values of a builder are the register of its entries.
+pub made : (entries : List Entry) (builder : RegisterBuilder) (people : List Person) → Keeps entries builder → people ≡ tree.values builder.people → tree.IsOrdered nat_cmp builder.people
+    → IsRegister entries (record { people = people; holders = builder.holders.entries })
+made entries builder people keeps e ordered = record {
+  rising = rw e (rising_values builder.people.entries keeps.keyed ordered);
+  people = λ id. ap (find_person id) e ∙ find-value id builder.people.entries keeps.keyed ∙ keeps.people id;
+  holders = λ token. find-holder token builder.holders.entries ∙ keeps.holders token;
 }
 
 -- What is the register of sound entries is sound.
-pub made_sound : (entries : List Entry) (ranking : Ranking) (people : List Person) → Keeps entries ranking → people ≡ tree.values ranking.people → tree.IsOrdered nat_cmp ranking.people
-    → AreRanks (record { people = people; holders = ranking.holders.entries })
-made_sound entries ranking people keeps e ordered =
-    let register = made entries ranking people keeps e ordered in
+pub made_sound : (entries : List Entry) (builder : RegisterBuilder) (people : List Person) → Keeps entries builder → people ≡ tree.values builder.people → tree.IsOrdered nat_cmp builder.people
+    → AreRanks (record { people = people; holders = builder.holders.entries })
+made_sound entries builder people keeps e ordered =
+    let register = made entries builder people keeps e ordered in
     record {
-      few = omega (arith, ap (λ (l : List Person). length l) e, length-values_of ranking.people.entries, keeps.count, keeps.sound.few);
+      few = omega (arith, ap (λ (l : List Person). length l) e, length-values_of builder.people.entries, keeps.count, keeps.sound.few);
       rising = register.rising;
       apart = λ i j list n a b ha hb na nb. keeps.sound.apart i j list n a b (sym (register.people i) ∙ ha) (sym (register.people j) ∙ hb) na nb;
       registered = λ id person h. keeps.sound.registered id person (sym (register.people id) ∙ h);
@@ -96,20 +97,6 @@ rising_at (p ∷ people) i zero d rising less within = absurd (omega arith)
 rising_at (p ∷ people) zero (suc j) d rising less within = all_at (λ b. p.id.0 < b.id.0) people j d rising.0 (omega arith)
 rising_at (p ∷ people) (suc i) (suc j) d rising less within = rising_at people i j d rising.1 (omega arith) (omega arith)
 
--- the person at a place is found by the own id
-found_here : (people : List Person) (q i : ℕ) (d : Person) → Rising people → i < length people → (get_or people i d).id.0 ≡ q → find_person q people ≡ Some (get_or people i d)
-found_here [] q i d rising within e = absurd (omega arith)
-found_here (p ∷ people) q zero d rising within e = cond-true (q == p.id.0) _ _ (eq-eqb q p.id.0 (sym e))
-found_here (p ∷ people) q (suc i) d rising within e =
-    let less : p.id.0 < (get_or people i d).id.0 = all_at (λ b. p.id.0 < b.id.0) people i d rising.0 (omega arith) in
-    cond-false (q == p.id.0) _ _ (ne_eqb q p.id.0 (λ same. absurd (omega arith))) ∙ found_here people q i d rising.1 (omega arith) e
-
--- an id that nobody has is not found
-found_nowhere : (people : List Person) (q : ℕ) → ((i : ℕ) (d : Person) → i < length people → (get_or people i d).id.0 ≡ q → ⊥) → find_person q people ≡ None
-found_nowhere [] q none = refl
-found_nowhere (p ∷ people) q none =
-    cond-false (q == p.id.0) _ _ (ne_eqb q p.id.0 (λ same. none 0 p (omega arith) (sym same))) ∙ found_nowhere people q (λ i d within e. none (suc i) d (omega arith) e)
-
 -- the comparisons with an id rise along the people, as a binary search asks
 comparisons_rise : (people : List Person) (q : ℕ) → Rising people → IsNonDecreasingBy (λ p. ordering_index (nat_cmp p.id.0 q)) people
 comparisons_rise people q rising i j d le within =
@@ -124,12 +111,49 @@ comparisons_rise people q rising i j d le within =
     ] in
     grind (arith, nat_tests)
 
--- A binary search by id finds the person, or nobody has the id.
+-- the position of a person is found by the own id
+row_here : (people : List Person) (q i : ℕ) (d : Person) → Rising people → i < length people → (get_or people i d).id.0 ≡ q → row_of q people ≡ Some i
+row_here [] q i d rising within e = absurd (omega arith)
+row_here (p ∷ people) q zero d rising within e = cond-true (q == p.id.0) _ _ (eq-eqb q p.id.0 (sym e))
+row_here (p ∷ people) q (suc i) d rising within e =
+    let less : p.id.0 < (get_or people i d).id.0 = all_at (λ b. p.id.0 < b.id.0) people i d rising.0 (omega arith) in
+    cond-false (q == p.id.0) _ _ (ne_eqb q p.id.0 (λ same. absurd (omega arith)))
+    ∙ ap (λ (o : Option ℕ). option_map (λ n. n + 1) o) (row_here people q i d rising.1 (omega arith) e) ∙ ap (λ (n : ℕ). Some n) (add-one i)
+
+-- an id that nobody has has no position
+row_nowhere : (people : List Person) (q : ℕ) → ((i : ℕ) (d : Person) → i < length people → (get_or people i d).id.0 ≡ q → ⊥) → row_of q people ≡ None
+row_nowhere [] q none = refl
+row_nowhere (p ∷ people) q none =
+    cond-false (q == p.id.0) _ _ (ne_eqb q p.id.0 (λ same. none 0 p (omega arith) (sym same)))
+    ∙ ap (λ (o : Option ℕ). option_map (λ n. n + 1) o) (row_nowhere people q (λ i d within e. none (suc i) d (omega arith) e))
+
+-- one further on is found behind one more
+further : (p : Person) (people : List Person) (o : Option ℕ) → option_and_then (λ at. slice_get (p ∷ people) at) (option_map (λ n. n + 1) o) ≡ option_and_then (λ at. slice_get people at) o
+further p people None = refl
+further p people (Some n) = ap (λ (k : ℕ). slice_get (p ∷ people) k) (add-one n)
+
+-- The person of an id is the one at the position of the id.
+pub person_there : (people : List Person) (q : ℕ) → option_and_then (λ at. slice_get people at) (row_of q people) ≡ find_person q people
+person_there [] q = refl
+person_there (p ∷ people) q = by (q == p.id.0) (further p people (row_of q people) ∙ person_there people q)
+  where
+    by : (b : Bool) → option_and_then (λ at. slice_get (p ∷ people) at) (option_map (λ n. n + 1) (row_of q people)) ≡ find_person q people
+        → option_and_then (λ at. slice_get (p ∷ people) at) (cond b (Some 0) (option_map (λ n. n + 1) (row_of q people))) ≡ cond b (Some p) (find_person q people)
+    by true e = refl
+    by false e = e
+
+some_person : (people : List Person) (at : ℕ) → at < length people → Person
+some_person [] at within = absurd (omega arith)
+some_person (p ∷ people) at within = p
+
+-- A binary search by id finds the position of the person, or nobody has the id.
 pub searched : (people : List Person) (q : ℕ) (r : Result ℕ ℕ) → Rising people → IsSearchInRange r (length people) → IsBinarySearchResult (λ p. nat_cmp p.id.0 q) people r
-    → MatchResult r (λ at. (d : Person) → Some (get_or people at d) ≡ find_person q people) (λ at. None ≡ find_person q people)
-searched people q (Ok at) rising within equal = λ d. sym (found_here people q at d rising within (ranked _ q _ (sym (equal d))))
+    → MatchResult r (λ at. Some at ≡ row_of q people) (λ at. None ≡ row_of q people)
+searched people q (Ok at) rising within equal =
+    let d = some_person people at within in
+    sym (row_here people q at d rising within (ranked _ q _ (sym (equal d))))
 searched people q (Err at) rising within parted =
-    sym (found_nowhere people q (λ j d inside same. elim (cases_order j at) [
+    sym (row_nowhere people q (λ j d inside same. elim (cases_order j at) [
       | inl e ↦ (let above : q < (get_or people j d).id.0 = ranked _ q _ (sym ((parted (comparisons_rise people q rising)).1 j d (omega arith) inside)) in omega arith)
       | inr other ↦ elim other [
         | inl less ↦ (let below : (get_or people j d).id.0 < q = ranked _ q _ (sym ((parted (comparisons_rise people q rising)).0 j d (omega arith) less)) in omega arith)

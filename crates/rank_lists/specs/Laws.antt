@@ -1,8 +1,8 @@
 -- That rows give one register or have one fault.
 use Rattle.std.specs.Prelude.{◌≡◌, ◌⊎◌, ℕ, List}
 use Rattle.section_rows.specs.Rows.{Row}
+use Rattle.section_rows.specs.declared.fault.TableFault.TheVariants.{Bad}
 use Rattle.rank_lists.specs.Register.{IsFault, IsRead, Ranks, find_holder}
-use Rattle.rank_lists.specs.declared.fault.RankFault.TheVariants.{Bad}
 use Rattle.rank_lists.specs.declared.fault.RankKind.{RankKind}
 
 -- two registers with the same people, who hold the same tokens

@@ -1,6 +1,6 @@
+pub mod Builder
 pub mod Fields
 pub mod Kinds
 pub mod Laws
 pub mod Places
-pub mod Ranking
 pub mod Register

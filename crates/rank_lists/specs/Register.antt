@@ -1,5 +1,5 @@
 -- The grammar of the register: what a row gives behind the entries of the rows before it, or what is wrong with it.
-use Rattle.std.specs.Prelude.{◌≡◌, ◌<◌, ◌≤◌, ◌+◌, ℕ, Bool, true, false, ◌==◌, ◌&&◌, ◌||◌, nat_le, List, [], ◌∷◌, is_some, IsSome, IsTrue, Option, Some, None, Result, Ok, length, slice_index_or, bytes_eq, codes, if◌then◌else◌}
+use Rattle.std.specs.Prelude.{◌≡◌, ◌<◌, ◌≤◌, ◌+◌, ℕ, Bool, true, false, ◌==◌, ◌&&◌, ◌||◌, nat_le, List, [], ◌∷◌, is_some, IsSome, IsTrue, Option, Some, None, Result, Ok, length, slice_index_or, bytes_eq, codes, option_map, if◌then◌else◌}
 use Rattle.office_base.specs.Codes.{is_token}
 use Rattle.office_base.specs.Lists.{Pairwise}
 use Rattle.office_base.specs.Person.{number_of, place_in, IsBetter, IsTraitSet}
@@ -10,16 +10,15 @@ use Rattle.office_base.specs.declared.person.ListId.{ListId}
 use Rattle.office_base.specs.declared.person.Person.{Person}
 use Rattle.office_base.specs.declared.person.Place.{Place}
 use Rattle.office_base.specs.declared.person.Place.TheVariants.{Absent, Common, Relaxed}
-use Rattle.office_text.specs.FirstFault.{Judge, IsFirstFault, IsFaultless}
+use Rattle.office_text.specs.FirstFault.{Judge, IsFaultless}
 use Rattle.office_text.specs.Number.{number_within}
 use Rattle.office_text.specs.Traits.{traits_of}
 use Rattle.section_rows.specs.Rows.{Row, field}
 use Rattle.section_rows.specs.Steps.{after, first_of, needs, unless}
-use Rattle.section_rows.specs.Table.{Reading, entries_of, table_judge}
+use Rattle.section_rows.specs.Table.{IsTableFault, Reading, entries_of, table_judge}
+use Rattle.section_rows.specs.declared.fault.TableFault.{TableFault}
 use Rattle.rank_lists.specs.Fields.{category_of, place_of}
 use Rattle.rank_lists.specs.declared.entry.Entry.{Entry}
-use Rattle.rank_lists.specs.declared.fault.RankFault.{RankFault}
-use Rattle.rank_lists.specs.declared.fault.RankFault.TheVariants.{Bad, OutOfMemory}
 use Rattle.rank_lists.specs.declared.fault.RankKind.{RankKind}
 use Rattle.rank_lists.specs.declared.fault.RankKind.TheVariants.{BadHeader, BadId, RepeatedId, BadCategory, BadTrait, BadPlace, RepeatedPlace, RelaxedGeneral, BadToken, TooMany}
 
@@ -119,6 +118,11 @@ pub record Ranks : Type 0 where
 abbrev pub find_person : ℕ → List Person → Option Person
 find_person id people = first_of (λ person. id == person.id.0) (λ person. person) people
 
+-- the position of the person of this id among the people, from 0
+abbrev pub row_of : ℕ → List Person → Option ℕ
+row_of id [] = None
+row_of id (person ∷ people) = if id == person.id.0 then Some 0 else option_map (λ n. n + 1) (row_of id people)
+
 -- the candidate of this token
 abbrev pub find_holder : List ℕ → List (List ℕ × CandId) → Option CandId
 find_holder token holders = first_of (λ held. bytes_eq token held.0) (λ held. held.1) holders
@@ -161,9 +165,8 @@ abbrev pub IsRead : List Row → Ranks → Type 0
 IsRead rows ranks = IsFaultless judge rows × IsRegister (entries_of reading rows) ranks
 
 -- the first fault of a body's rows; want of memory tells nothing of them
-abbrev pub IsFault : List Row → RankFault → Type 0
-IsFault rows (Bad row kind) = (n : ℕ) × (row ≡ n + 1) × IsFirstFault judge rows n kind
-IsFault rows OutOfMemory = Unit {0}
+abbrev pub IsFault : List Row → TableFault RankKind → Type 0
+IsFault = IsTableFault judge
 
 -- the place of a person in a list; an unknown person has none
 abbrev pub place_of_person : ListId → Option Person → Place

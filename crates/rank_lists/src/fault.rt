@@ -1,9 +1,8 @@
 // What can be wrong with a register.
 ghost use Rattle.std.specs.Prelude.{◌≡◌};
 ghost use Rattle.rank_lists.specs.Kinds.{kind_name};
-ghost use Rattle.rank_lists.specs.declared.fault.RankFault.TheVariants.{OutOfMemory as NoMemory};
 
-use office_base::OutOfMemory;
+use section_rows::TableFault;
 
 /// What is wrong with a row of the register. On one row `TooMany` comes first and the others by rising number.
 #[derive(Clone, Copy, Debug, PartialEq, Eq)]
@@ -50,21 +49,5 @@ impl RankKind {
     }
 }
 
-/// Why a register was not read. Nothing is left behind.
-#[derive(Clone, Copy, Debug, PartialEq, Eq, thiserror::Error)]
-pub enum RankFault {
-    /// The first fault by rows. Rows are counted from 1, the header included.
-    #[error("row {row}: {kind:?}")]
-    Bad { row: u32, kind: RankKind },
-    /// There was no memory for the register.
-    #[error("out of memory")]
-    OutOfMemory,
-}
-
-impl From<OutOfMemory> for RankFault {
-    ghost from_gives = { λ _ fault. fault ≡ NoMemory };
-
-    fn from(_: OutOfMemory) -> Self {
-        RankFault::OutOfMemory
-    }
-}
+/// Why a register was not read: its first fault by rows, or want of memory. Nothing is left behind.
+pub type RankFault = TableFault<RankKind>;

@@ -6,11 +6,11 @@
 // never by a hash with a fixed seed. It must never know of programmes, of seats or of rounds.
 #![tactic(auto)]
 
+pub mod builder;
 pub mod entry;
 pub mod fault;
 pub mod fields;
 pub mod laws;
-pub mod ranking;
 pub mod register;
 
 pub use entry::Entry;

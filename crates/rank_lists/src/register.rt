@@ -1,13 +1,14 @@
 // The merit register, as the layers above see it.
-ghost use Rattle.std.specs.Prelude.{◌≡◌, List, IfOk, IfErr, IsTrue, ◌↔◌, option_copied};
+ghost use Rattle.std.specs.Prelude.{◌≡◌, ◌<◌, List, IfOk, IfErr, IfSome, IsTrue, ◌↔◌, length, option_copied, slice_get};
+ghost use Rattle.std.specs.Option.{option_and_then};
 ghost use Rattle.office_base.specs.Person.{IsList};
-ghost use Rattle.section_rows.specs.Rows.{rows_of, same_fields};
-ghost use Rattle.rank_lists.specs.Register.{header, find_person, find_holder, place_of_person, IsBefore, IsRead, IsFault};
+ghost use Rattle.section_rows.specs.Rows.{rows_of};
+ghost use Rattle.rank_lists.specs.Register.{find_person, find_holder, place_of_person, row_of, IsBefore, IsRead, IsFault};
 
-use crate::fault::{RankFault, RankKind};
-use crate::ranking::Ranking;
+use crate::builder::RegisterBuilder;
+use crate::fault::RankFault;
 use office_base::{CandId, ListId, Person, Place, Token, better};
-use section_rows::Rows;
+use section_rows::read_table;
 use std::alloc::Global;
 use std::collections::BTreeMap;
 use std::marker::Model;
@@ -29,22 +30,6 @@ impl Model for Register {
     ghost invariant = { λ a. AreRanks (record { people = a.people.items; holders = a.holders.entries }) };
 }
 
-/// Whether the row is the header.
-fn is_header(row: &Rows<'_>) -> bool
-    ensures { result ≡ same_fields row.now.row header }
-{
-    row.is(&[
-        b"id".as_slice(),
-        b"category".as_slice(),
-        b"traits".as_slice(),
-        b"token".as_slice(),
-        b"m1".as_slice(),
-        b"m2".as_slice(),
-        b"m3".as_slice(),
-        b"m4".as_slice(),
-    ])
-}
-
 impl Register {
     ghost use Rattle.rank_lists.specs.Register.{AreRanks};
 
@@ -53,35 +38,34 @@ impl Register {
         ensures value { IfOk result (λ register. IsRead (rows_of body.now) register) }
         ensures fault { IfErr result (λ fault. IsFault (rows_of body.now) fault) }
     {
-        let mut rows = Rows::new(alloc, body);
-        if !rows.advance()? || !is_header(&rows) {
-            return Err(RankFault::Bad {
-                row: 1,
-                kind: RankKind::BadHeader,
-            });
-        }
-        let mut ranking = Ranking::new(alloc);
-        let mut number = 1;
-        'rows: while rows.advance()? {
-            number += 1;
-            match ranking.read(&rows) {
-                Ok(entry) => ranking.add(entry)?,
-                Err(kind) => return Err(RankFault::Bad { row: number, kind }),
-            }
-        }
-        Ok(ranking.finish(alloc)?)
+        let mut builder = RegisterBuilder::new(alloc);
+        read_table(alloc, body, &mut builder)?;
+        Ok(builder.finish(alloc)?)
     }
 
-    /// The person of this id. None exactly where no row has the id.
-    pub fn person(&self, id: CandId) -> Option<&Person>
-        ensures { option_copied result ≡ find_person id.0 self.now.people }
+    /// The position of the candidate of this id among all, in rising order of id and counted from 0. None exactly where no row
+    /// has the id. It takes no memory.
+    pub fn position(&self, id: CandId) -> Option<u32>
+        ensures row { result ≡ row_of id.0 self.now.people }
+        ensures within { IfSome result (λ at. at < length self.now.people) }
+        ensures person { option_and_then (λ at. slice_get self.now.people at) result ≡ find_person id.0 self.now.people }
     {
         match self
             .people
             .binary_search_by_key(&id.0, |person| person.id.0)
         {
-            Ok(at) => Some(&self.people[at]),
+            Ok(at) => Some(at as u32),
             Err(_) => None,
+        }
+    }
+
+    /// The person of this id. None exactly where no row has the id. It takes no memory.
+    pub fn person(&self, id: CandId) -> Option<&Person>
+        ensures { option_copied result ≡ find_person id.0 self.now.people }
+    {
+        match self.position(id) {
+            Some(at) => Some(&self.people[at as usize]),
+            None => None,
         }
     }
 

@@ -130,6 +130,7 @@ pub(crate) fn read_bytes<S: Source>(alloc: Global, source: &mut S) -> Result<Tex
     ensures fault { IfErr result (λ fault. IsSourceFault (S.left source.old) (S.left source.new) fault) }
     ensures cause { IsErrOf result SeasonFault.ReadFault → Rose (S.faults source.old) (S.faults source.new) }
     ensures count { S.faults source.old ≤ S.faults source.new }
+    ensures steady { ¬ IsErrOf result SeasonFault.ReadFault → S.faults source.new ≡ S.faults source.old }
 {
     match read_whole(alloc, source, MOST_BYTES) {
         Ok(bytes) => Ok(bytes),

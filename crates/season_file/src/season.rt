@@ -49,7 +49,7 @@ impl Season {
     }
 
     /// The season of the bytes that a source gives up to its end, or their first fault. A section of requests is a fault of the
-    /// sections.
+    /// sections. Unless it answers `ReadFault`, the source did not fail.
     pub fn read<S: Source>(
         alloc: Global,
         source: &mut S,
@@ -62,6 +62,7 @@ impl Season {
         ensures fault { IfErr result (λ fault. IsSourceFault (S.left source.old) (S.left source.new) fault) }
         ensures cause { IsErrOf result SeasonFault.ReadFault → Rose (S.faults source.old) (S.faults source.new) }
         ensures count { S.faults source.old ≤ S.faults source.new }
+        ensures steady { ¬ IsErrOf result SeasonFault.ReadFault → S.faults source.new ≡ S.faults source.old }
     {
         let text = read_bytes(alloc, source)?;
         match read_content(alloc, text.as_slice()) {

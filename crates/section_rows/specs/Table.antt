@@ -1,7 +1,9 @@
 -- A table: a header row, and then rows of which each gives an entry or a fault, behind the entries of the rows before it.
-use Rattle.std.specs.Prelude.{List, [], ◌∷◌, ◌++◌, Option, Some, None, Result, Ok, Err, if◌then◌else◌}
-use Rattle.office_text.specs.FirstFault.{Judge}
+use Rattle.std.specs.Prelude.{◌≡◌, ◌+◌, ℕ, List, [], ◌∷◌, ◌++◌, Option, Some, None, Result, Ok, Err, if◌then◌else◌}
+use Rattle.office_text.specs.FirstFault.{Judge, IsFirstFault}
 use Rattle.section_rows.specs.Rows.{Row, same_fields}
+use Rattle.section_rows.specs.declared.fault.TableFault.{TableFault}
+use Rattle.section_rows.specs.declared.fault.TableFault.TheVariants.{Bad, OutOfMemory}
 
 -- what a row gives, behind these entries
 abbrev pub Reading : Type 0 → Type 0 → Type 0
@@ -41,3 +43,13 @@ row_fault reading entries (Some row) = fault_of (reading entries row)
 abbrev pub table_judge : {Entry Kind : Type 0} → Kind → Row → Reading Entry Kind → Judge Row Kind
 table_judge bad names reading [] row = header_fault bad names row
 table_judge bad names reading (header ∷ rows) row = row_fault reading (entries_after reading [] rows) row
+
+-- the first fault of a table's rows, which are counted from 1; want of memory tells nothing of them
+abbrev pub IsTableFault : {Kind : Type 0} → Judge Row Kind → List Row → TableFault Kind → Type 0
+IsTableFault judge rows (Bad row kind) = (n : ℕ) × (row ≡ n + 1) × IsFirstFault judge rows n kind
+IsTableFault judge rows OutOfMemory = Unit {0}
+
+-- a row gave an entry, which is kept behind these, or it has this fault
+abbrev pub IsPut : {Entry Kind : Type 0} → Result Entry Kind → List Entry → (List Entry → Type 0) → Option Kind → Type 0
+IsPut {Entry} given entries kept None = (entry : Entry) × (given ≡ Ok entry) × kept (entries ++ entry ∷ [])
+IsPut given entries kept (Some kind) = given ≡ Err kind

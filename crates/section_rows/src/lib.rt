@@ -6,6 +6,10 @@
 // and which fault of a table is the first. It must never know what a row means: a table's own crate says that.
 #![tactic(auto)]
 
+pub mod fault;
 pub mod rows;
+pub mod table;
 
+pub use fault::TableFault;
 pub use rows::Rows;
+pub use table::{TableBuilder, read_table};

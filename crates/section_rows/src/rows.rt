@@ -66,23 +66,24 @@ fn is_empty_at(raw: &ByteRecord, at: usize) -> bool
     }
 }
 
-/// The rows of a section's body, read one by one.
+/// The rows of a section's body, read one by one: the row at hand, and whether the end was met.
 #[derive(Drop)]
 pub struct Rows<'a> {
     reader: Reader<&'a [u8]>,
     raw: ByteRecord,
     fields: usize,
+    ended: bool,
 }
 
 impl<'a> Model for Rows<'a> {
-    ghost use Rattle.std.specs.Prelude.{◌≤◌, length, take};
+    ghost use Rattle.std.specs.Prelude.{◌≤◌, [], length, take, if◌then◌else◌};
     ghost use Rattle.csv.specs.Records.{fields_of};
     ghost use Rattle.section_rows.specs.Rows.{Told, rows_among};
     ghost use Rattle.section_rows.specs.Reading.{IsReading, records_left};
 
     ghost Value = { Told };
 
-    ghost view = { λ a. record { row = take a.fields (fields_of a.raw); left = rows_among (records_left a.reader) } };
+    ghost view = { λ a. record { row = take a.fields (fields_of a.raw); left = if a.ended then [] else rows_among (records_left a.reader) } };
 
     ghost invariant = { λ a. IsReading a.reader × (a.fields ≤ length (fields_of a.raw)) };
 }
@@ -99,21 +100,30 @@ impl<'a> Rows<'a> {
                 .from_reader(alloc, body),
             raw: ByteRecord::new(alloc),
             fields: 0,
+            ended: false,
         }
     }
 
-    /// Goes to the next row, and says whether there is one. Where there is no memory for it, no row is left.
+    /// Goes to the next row, and says whether there is one. At the end the row is empty and none is left, and so it is where
+    /// there is no memory for a row.
     pub fn advance(&mut self) -> Result<bool, OutOfMemory>
         ensures more { IfOk result (λ more. MatchBool more (self.old.left ≡ self.new.row ∷ self.new.left) (self.old.left ≡ [])) }
-        ensures none { OnErr result (self.new.left ≡ []) }
+        ensures end { IfOk result (λ more. MatchBool more (Unit {0}) (self.new ≡ record { row = []; left = [] })) }
+        ensures none { OnErr result (self.new ≡ record { row = []; left = [] }) }
     {
         self.fields = 0;
+        if self.ended {
+            return Ok(false);
+        }
         match read_row(&mut self.reader, &mut self.raw)? {
             Some(count) => {
                 self.fields = count;
                 Ok(true)
             }
-            None => Ok(false),
+            None => {
+                self.ended = true;
+                Ok(false)
+            }
         }
     }
 

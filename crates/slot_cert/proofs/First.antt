@@ -2,9 +2,10 @@
 use Rattle.std.proofs.Common.{◌≡◌, ◌≢◌, ◌<◌, ◌-◌, ℕ, suc, List, [], ◌∷◌, length, Option, Some, None, refl, sym, ◌∙◌, ap, subst, inl, inr, ⊎_elim, arith}
 use Rattle.std.proofs.lemmas.Bool.{cases_order, both_ways}
 use Rattle.std.proofs.lemmas.List.{length-set}
+use Rattle.std.specs.List.{AllByRecursion}
 use Rattle.office_base.specs.Certificate.{slots_of, AreNoLater, IsCanonical}
 use Rattle.office_base.specs.Lists.{Pairwise}
-use Rattle.office_base.specs.Person.{has_trait}
+use Rattle.office_base.specs.Person.{has_trait, IsTraitSet}
 use Rattle.office_base.specs.Placement.{protected}
 use Rattle.office_base.specs.declared.person.Person.{Person}
 use Rattle.office_base.specs.declared.person.TraitSet.{TraitSet}
@@ -12,10 +13,10 @@ use Rattle.office_base.specs.declared.step.Protections.{Protections}
 use Rattle.placements.specs.Greatest.{one_less}
 use Rattle.placements.specs.Slots.{filled, AreSlots, pairs_of}
 use Rattle.placements.proofs.Convert.{slots-from_placement, placement-from_slots, length-pairs_of, slots_of-pairs_of, pairs_of-in_order}
+use Rattle.placements.proofs.Hall.{one_if_true}
 use Rattle.placements.proofs.Greatest.{AreSlots-nowhere, AreSlots-from_nowhere, AreSlots-somewhere, AreSlots-from_somewhere}
 use Rattle.slot_cert.specs.Bounds.{IsLeastBound}
 use Rattle.slot_cert.specs.First.{MayTake, MustPass, AreFirstSlots}
-use Rattle.slot_cert.proofs.Outside.{counts_one}
 use Rattle.slot_cert.proofs.Least.{trait-left, bound-one_less, filled-le_bound, IsLeastBound-passed, IsLeastBound-taken, IsLeastBound-nobody}
 
 -- the six counts stay six
@@ -24,17 +25,18 @@ six-one_less protections t six = length-set protections.counts t (protected prot
 
 -- the first slots are slots of a placement that fills as many as the least bound
 pub AreSlots-first : (people : List Person) (protections : Protections) (most : ℕ) (slots : List (Option ℕ)) → length protections.counts ≡ 6
-    → IsLeastBound protections people most → AreFirstSlots protections people most slots → AreSlots protections people slots × (filled slots ≡ most)
-AreSlots-first [] protections most [] six least first = (record { held = tt; within = λ t. omega arith }, sym (IsLeastBound-nobody protections most least))
-AreSlots-first [] protections most (slot ∷ slots) six least first = absurd first
-AreSlots-first (person ∷ people) protections most [] six least first = absurd first
-AreSlots-first (person ∷ people) protections most (None ∷ slots) six least first =
-    let rest = AreSlots-first people protections most slots six (IsLeastBound-passed protections person people most first.0 least) first.1 in
+    → AllByRecursion (λ person. IsTraitSet person.traits) people → IsLeastBound protections people most → AreFirstSlots protections people most slots
+    → AreSlots protections people slots × (filled slots ≡ most)
+AreSlots-first [] protections most [] six traits least first = (record { held = tt; within = λ t. omega arith }, sym (IsLeastBound-nobody protections most least))
+AreSlots-first [] protections most (slot ∷ slots) six traits least first = absurd first
+AreSlots-first (person ∷ people) protections most [] six traits least first = absurd first
+AreSlots-first (person ∷ people) protections most (None ∷ slots) six traits least first =
+    let rest = AreSlots-first people protections most slots six traits.1 (IsLeastBound-passed protections person people most traits.0 first.0 least) first.1 in
     (AreSlots-nowhere protections person people slots rest.0, rest.1)
-AreSlots-first (person ∷ people) protections most (Some t ∷ slots) six least first =
+AreSlots-first (person ∷ people) protections most (Some t ∷ slots) six traits least first =
     let take = first.0.1 in
     let less = IsLeastBound-taken protections person people most t six take least in
-    let rest = AreSlots-first people (one_less protections t) (most - 1) slots (six-one_less protections t six) less.1 first.1 in
+    let rest = AreSlots-first people (one_less protections t) (most - 1) slots (six-one_less protections t six) traits.1 less.1 first.1 in
     (AreSlots-somewhere protections person people t slots take.held take.left rest.0, omega (arith, less.0, rest.1))
 
 -- a slot of a placement that fills as many is one that the person may take
@@ -45,10 +47,10 @@ MayTake-from_slots person people protections most t slots six h all =
     record {
       held = parts.0;
       left = parts.1;
-      keeps = λ set e.
+      keeps = λ set small e.
           let le = filled-le_bound set people (one_less protections t) slots (six-one_less protections t six) parts.2 in
           let b = bound-one_less set protections people t six parts.1 in
-          let one = counts_one (set t) e in
+          let one = one_if_true (has_trait set t) e in
           omega arith;
     }
 
@@ -57,7 +59,7 @@ not-both : (protections : Protections) (people : List Person) (most : ℕ) (trai
     → MustPass protections people most traits t → MayTake protections people most traits t → ⊥
 not-both protections people most traits t pass take = ⊎_elim
     (λ e. both_ways (has_trait traits t) e take.held)
-    (λ rest. ⊎_elim (λ (none : protected protections t ≡ 0). let left = take.left in omega arith) (λ loses. let kept = take.keeps loses.0 loses.1 in omega (arith, loses.2)) rest)
+    (λ rest. ⊎_elim (λ (none : protected protections t ≡ 0). let left = take.left in omega arith) (λ loses. let kept = take.keeps loses.0 loses.1 loses.2 in omega (arith, loses.3)) rest)
     pass
 
 -- the first slots are no later than those of any placement that fills as many
@@ -88,10 +90,10 @@ AreNoLater-first (person ∷ people) protections most (Some t ∷ slots) (Some s
 
 -- the pairs of the first slots are the certificate
 pub IsCanonical-first : (protections : Protections) (people : List Person) (most : ℕ) (slots : List (Option ℕ)) → length protections.counts ≡ 6
-    → Pairwise (λ a b. a.id ≢ b.id) people → IsLeastBound protections people most → AreFirstSlots protections people most slots
-    → IsCanonical protections people (pairs_of people slots)
-IsCanonical-first protections people most slots six apart least first =
-    let stand = AreSlots-first people protections most slots six least first in
+    → Pairwise (λ a b. a.id ≢ b.id) people → AllByRecursion (λ person. IsTraitSet person.traits) people → IsLeastBound protections people most
+    → AreFirstSlots protections people most slots → IsCanonical protections people (pairs_of people slots)
+IsCanonical-first protections people most slots six apart traits least first =
+    let stand = AreSlots-first people protections most slots six traits least first in
     let len = length-pairs_of people slots stand.0.held in
     let es = slots_of-pairs_of people slots apart stand.0.held in
     record {
@@ -100,7 +102,7 @@ IsCanonical-first protections people most slots six apart least first =
       longest = λ other placement.
           let os = slots-from_placement protections people other apart placement in
           let le = filled-le_bound least.met.0 people protections (slots_of other people) six os.0 in
-          omega (arith, len, stand.1, os.1, least.met.1);
+          omega (arith, len, stand.1, os.1, least.met.2);
       first = λ other placement e.
           let os = slots-from_placement protections people other apart placement in
           rw es (AreNoLater-first people protections most slots (slots_of other people) six first os.0 (omega (arith, len, stand.1, os.1, e)));

@@ -1,10 +1,7 @@
 mod First
 mod Least
-mod Numbers
 mod OneCertificate
-mod Outside
 mod Pairs
-mod Positions
 mod Steps
 mod Traits
 mod Walks

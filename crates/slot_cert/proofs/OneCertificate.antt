@@ -6,7 +6,7 @@ use Rattle.office_base.specs.Lists.{IsSublist}
 use Rattle.office_base.specs.declared.person.CandId.{CandId}
 use Rattle.office_base.specs.declared.person.Person.{Person}
 use Rattle.office_base.specs.declared.step.Pair.{Pair}
-use Rattle.office_base.proofs.Sublists.{AllByRecursion-sublist}
+use Rattle.placements.proofs.Sublists.{AllByRecursion-sublist}
 use Rattle.placements.specs.Ranks.{AreDistinct}
 use Rattle.placements.specs.Slots.{pairs_of}
 use Rattle.placements.proofs.Convert.{slot_of-own, slots_of-others, from_same, slot_of-none}

@@ -2,7 +2,9 @@
 use Rattle.std.proofs.Common.{◌≡◌, ◌≢◌, ◌-◌, ℕ, List, [], ◌∷◌, ◌++◌, length, Option, Some, None, refl, sym, ◌∙◌, subst, append_assoc}
 use Rattle.std.proofs.lemmas.List.{append-nil}
 use Rattle.office_base.specs.Certificate.{IsCanonical}
+use Rattle.std.specs.List.{AllByRecursion}
 use Rattle.office_base.specs.Lists.{Pairwise}
+use Rattle.office_base.specs.Person.{IsTraitSet}
 use Rattle.office_base.specs.declared.person.Person.{Person}
 use Rattle.office_base.specs.declared.step.Pair.{Pair}
 use Rattle.office_base.specs.declared.step.Protections.{Protections}
@@ -52,10 +54,11 @@ IsOnTheWay-placed protections people pairs room person rest most t choice on = r
 
 -- nobody is left
 pub IsCanonical-at_end : (protections : Protections) (people : List Person) (pairs : List Pair) (room : Protections) (most : ℕ) → length protections.counts ≡ 6
-    → Pairwise (λ a b. a.id ≢ b.id) people → IsOnTheWay protections people pairs room [] most → IsCanonical protections people pairs
-IsCanonical-at_end protections people pairs room most six apart on =
+    → Pairwise (λ a b. a.id ≢ b.id) people → AllByRecursion (λ person. IsTraitSet person.traits) people → IsOnTheWay protections people pairs room [] most
+    → IsCanonical protections people pairs
+IsCanonical-at_end protections people pairs room most six apart traits on =
     let all = on.way [] tt in
-    subst (IsCanonical protections people) (all.2 ∙ append-nil pairs) (IsCanonical-first protections people on.start all.0 six apart on.least all.1)
+    subst (IsCanonical protections people) (all.2 ∙ append-nil pairs) (IsCanonical-first protections people on.start all.0 six apart traits on.least all.1)
 
 -- the pair of the next one, if placed
 abbrev pub pair_of : Person → Option ℕ → List Pair

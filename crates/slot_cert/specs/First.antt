@@ -1,6 +1,6 @@
 -- The first of the longest placements, down the people: each stands on the first trait that leaves as many to be placed
 -- as before.
-use Rattle.std.specs.Prelude.{◌≡◌, ◌<◌, ◌≤◌, ◌-◌, ◌⊎◌, ℕ, Bool, true, false, List, [], ◌∷◌, Option, Some, None, IsTrue}
+use Rattle.std.specs.Prelude.{◌≡◌, ◌<◌, ◌≤◌, ◌-◌, ◌⊎◌, ℕ, true, false, List, [], ◌∷◌, Option, Some, None, IsTrue}
 use Rattle.office_base.specs.Person.{has_trait}
 use Rattle.office_base.specs.Placement.{protected}
 use Rattle.office_base.specs.declared.person.Person.{Person}
@@ -11,11 +11,11 @@ use Rattle.slot_cert.specs.Bounds.{bound}
 
 -- no bound of a set with the trait is below the number that is to be placed
 abbrev pub Keeps : Protections → List Person → ℕ → ℕ → Type 0
-Keeps protections people most t = (set : ℕ → Bool) → set t ≡ true → most ≤ bound set protections people
+Keeps protections people most t = (set : TraitSet) → set.0 < 64 → has_trait set t ≡ true → most ≤ bound set protections people
 
 -- one of those bounds is
 abbrev pub Loses : Protections → List Person → ℕ → ℕ → Type 0
-Loses protections people most t = (set : ℕ → Bool) × (set t ≡ true) × (bound set protections people < most)
+Loses protections people most t = (set : TraitSet) × (set.0 < 64) × (has_trait set t ≡ true) × (bound set protections people < most)
 
 -- a person with these traits stands on this one without loss: it is held, and a position of it is left
 pub record MayTake (protections : Protections) (people : List Person) (most : ℕ) (traits : TraitSet) (t : ℕ) : Type 0 where

@@ -53,7 +53,6 @@ impl Search {
 
     /// The search in front of all of the people.
     fn new(protections: &Protections, people: &[Person]) -> Search
-        requires { AllByRecursion (λ person. IsTraitSet person.traits) people.now }
         ensures room { result.room ≡ protections.now }
         ensures search { IsSearch result people.now }
     {

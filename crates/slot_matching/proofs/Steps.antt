@@ -15,23 +15,8 @@ use Rattle.placements.specs.Demand.{is_within, asking, positions}
 use Rattle.placements.specs.Ranks.{CanBePlaced}
 use Rattle.placements.proofs.Hall.{NoneShort, one_if, one_if_true, one_if_false, placed_where_none_short, none_short_where_placed}
 use Rattle.placements.proofs.Ranks.{no_more_than_people}
+use Rattle.placements.proofs.Replace.{asking_push, all_push, pairwise_push}
 use Rattle.slot_matching.specs.Kept.{Kept, with_member, MayJoin, IsKept, IsSpare, IsCounted, all_traits}
-
--- what holds of each and of one more at the end holds of each
-pub all_push : {X : Type 0} (P : X → Type 0) (xs : List X) (y : X) → AllByRecursion P xs → P y → AllByRecursion P (xs ++ y ∷ [])
-all_push P [] y all here = (here, tt)
-all_push P (x ∷ xs) y all here = (all.0, all_push P xs y all.1 here)
-
--- what holds between each two, and both ways between each and one more at the end, holds between each two
-pub pairwise_push : {X : Type 0} (R : X → X → Type 0) → ((a b : X) → R a b → R b a) → (xs : List X) (y : X) → Pairwise R xs → AllByRecursion (R y) xs → Pairwise R (xs ++ y ∷ [])
-pairwise_push R both [] y pairs all = (tt, tt)
-pairwise_push R both (x ∷ xs) y pairs all = (all_push (R x) xs y pairs.0 (both y x all.0), pairwise_push R both xs y pairs.1 all.1)
-
--- a person at the end asks too
-pub asking_push : (set : TraitSet) (people : List Person) (person : Person)
-    → asking set (people ++ person ∷ []) ≡ asking set people + one_if (is_within person.traits set)
-asking_push set [] person = omega arith
-asking_push set (other ∷ people) person = let deeper = asking_push set people person in omega arith
 
 -- whoever holds some of the six traits asks within all of them
 pub within_all : (traits : TraitSet) → IsTraitSet traits → is_within traits all_traits ≡ true

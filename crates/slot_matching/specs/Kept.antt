@@ -1,14 +1,15 @@
 -- What a matching keeps, as contracts see it, and what one person more makes of it.
-use Rattle.std.specs.Prelude.{◌≡◌, ◌≢◌, ◌≤◌, ◌<◌, ◌+◌, ℕ, List, [], ◌∷◌, ◌++◌, length, slice_index, IsSome}
+use Rattle.std.specs.Prelude.{◌≡◌, ◌≢◌, ◌≤◌, ◌<◌, ◌+◌, ℕ, List, [], ◌∷◌, ◌++◌, length, sum, slice_index, IsSome}
 use Rattle.std.specs.List.{AllByRecursion}
 use Rattle.office_base.specs.Lists.{Pairwise}
 use Rattle.office_base.specs.Person.{IsList, IsTraitSet, number_in}
+use Rattle.office_base.specs.declared.person.CandId.{CandId}
 use Rattle.office_base.specs.declared.person.ListId.{ListId}
 use Rattle.office_base.specs.declared.person.Person.{Person}
 use Rattle.office_base.specs.declared.person.TraitSet.{TraitSet}
 use Rattle.office_base.specs.declared.step.Protections.{Protections}
 use Rattle.placements.specs.Demand.{asking, positions}
-use Rattle.placements.specs.Ranks.{CanBePlaced}
+use Rattle.placements.specs.Ranks.{CanBePlaced, without}
 
 -- the positions that are protected, the merit list, and the members in the order in which they came
 pub record Kept : Type 0 where
@@ -36,6 +37,10 @@ pub record IsKept (kept : Kept) : Type 0 where
 abbrev pub with_member : Kept → Person → Kept
 with_member kept person = record { protections = kept.protections; list = kept.list; members = kept.members ++ person ∷ [] }
 
+-- the matching without the member of this number
+abbrev pub without_member : Kept → CandId → Kept
+without_member kept out = record { protections = kept.protections; list = kept.list; members = without out kept.members }
+
 -- What each set of traits has to spare, with the members who hold no trait outside it, makes up its positions.
 pub record IsSpare (protections : Protections) (members : List Person) (spare : List ℕ) : Type 0 where
   pub sets : length spare ≡ 64
@@ -53,5 +58,5 @@ pub record IsCounted (kept : Kept) (spare : List ℕ) (size : ℕ) : Type 0 wher
   pub distinct : Pairwise (λ a b. a.id ≢ b.id) kept.members
   pub apart : Pairwise (λ a b. number_in kept.list a ≢ number_in kept.list b) kept.members
   pub left : IsSpare kept.protections kept.members spare
-  pub few : positions kept.protections all_traits ≤ 65535
+  pub few : sum kept.protections.counts ≤ 65535
   pub room : positions kept.protections all_traits ≤ size

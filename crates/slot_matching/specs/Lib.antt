@@ -1,3 +1,5 @@
 pub mod Augmented
+pub mod Full
 pub mod Kept
 pub mod Laws
+pub mod Members

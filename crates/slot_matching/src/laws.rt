@@ -1,17 +1,22 @@
 // Laws over the definitions alone, for the layers above: each is the contract of a function that does nothing.
-ghost use Rattle.slot_matching.specs.Laws.{ExchangeLaw, ExtensionLaw, MonotoneLaw, OneStepLaw, OutsideLaw, DiminishingLaw, OneByOneLaw, TraitSetLaw};
+ghost use Rattle.slot_matching.specs.Laws.{ExchangeLaw, ExtensionLaw, AnyOrderLaw, MonotoneLaw, OneStepLaw, OutsideLaw, DiminishingLaw, OneByOneLaw, TraitSetLaw};
 
-/// Of two parts of some people who can all be placed, the longer one has a person who joins the shorter one.
+/// Of two lists of people who can all be placed, the longer one has a person who joins the shorter one.
 pub fn exchange()
     ensures { ExchangeLaw }
 {}
 
-/// A part of some people who can all be placed is inside a largest such part.
+/// Some people who can all be placed are inside a largest such part of all.
 pub fn extension()
     ensures { ExtensionLaw }
 {}
 
-/// A part of some people honours at most as much as all of them.
+/// The order in which people stand does not matter.
+pub fn any_order()
+    ensures { AnyOrderLaw }
+{}
+
+/// Some of the people honour at most as much as all of them.
 pub fn monotone()
     ensures { MonotoneLaw }
 {}
@@ -26,7 +31,7 @@ pub fn outside()
     ensures { OutsideLaw }
 {}
 
-/// Who raises the number of more people raises that of a part of them.
+/// Who raises the number of more people raises that of some of them.
 pub fn diminishing_returns()
     ensures { DiminishingLaw }
 {}

@@ -8,6 +8,7 @@
 
 pub mod laws;
 pub mod matching;
+mod members;
 mod spare;
 
 pub use matching::{Augment, Matching};

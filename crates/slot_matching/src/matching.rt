@@ -1,12 +1,15 @@
 // The matching and its members.
-ghost use Rattle.std.specs.Prelude.{◌≡◌, ◌≤◌, [], length, sum, IfOk};
+ghost use Rattle.std.specs.Prelude.{◌≡◌, ◌≤◌, [], ◌∷◌, ◌++◌, ◌↔◌, length, sum, IsTrue, IfOk};
+ghost use Rattle.office_base.specs.Lists.{AnyByRecursion};
 ghost use Rattle.office_base.specs.Person.{IsList};
 ghost use Rattle.office_base.specs.Placement.{IsHonoured};
+ghost use Rattle.placements.specs.Ranks.{CanBePlaced, without};
 ghost use Rattle.slot_matching.specs.Augmented.{IsAugmented};
-ghost use Rattle.slot_matching.specs.Kept.{IsKept, MayJoin};
+ghost use Rattle.slot_matching.specs.Kept.{IsKept, MayJoin, with_member, without_member};
 
-use crate::spare::{all_spare, has_spare, positions, take_spare};
-use office_base::{ListId, OutOfMemory, Person, Protections, TraitSet};
+use crate::members::{id_of, place_of, worst_within};
+use crate::spare::{all_spare, give_spare, has_spare, least_full, positions, take_spare};
+use office_base::{CandId, ListId, OutOfMemory, Person, Protections, TraitSet};
 use std::alloc::Global;
 use std::marker::Model;
 
@@ -16,7 +19,10 @@ pub enum Augment {
     /// The person is a member now: one protection more is honoured.
     Raised,
     /// The members stay as they were: the person cannot be placed with all of them.
-    Held,
+    Held {
+        /// the worst in merit of the members in whose place the person can be placed with the others, if there is any
+        worst: Option<CandId>,
+    },
 }
 
 /// Persons who can all be placed on protected positions at once, kept as they come.
@@ -60,21 +66,51 @@ impl Matching {
         })
     }
 
+    /// Whether the members can all be placed with the person, so that `augment` would answer `Raised`. It takes no
+    /// memory, looks at no member, and stops at the first set of traits that shows that they cannot.
+    pub fn raises(&self, person: &Person) -> bool
+        requires { MayJoin self.now person.now }
+        ensures { IsTrue result ↔ CanBePlaced self.now.protections (with_member self.now person.now).members }
+    {
+        has_spare(&self.spare, person.traits)
+    }
+
     /// Keeps the person too, where all members can then still be placed. Whoever stands on a position may be moved to
-    /// another; nobody leaves. It takes no memory, and looks at no member.
+    /// another; nobody leaves. Else it tells the worst member whom the person can replace. It takes no memory.
     pub fn augment(&mut self, person: &Person) -> Augment
         requires { MayJoin self.old person.now }
         ensures done { IsAugmented self.old person.now result self.new }
         ensures kept { IsKept self.new }
     {
-        if !has_spare(&self.spare, person.traits) {
-            return Augment::Held;
+        if let Some(set) = least_full(&self.spare, person.traits) {
+            let worst = id_of(worst_within(self.members.as_slice(), self.list, set));
+            return Augment::Held { worst };
         }
         take_spare(&mut self.spare, person.traits);
         if self.members.push(*person).is_err() {
             unreachable!("the room was taken when the matching was made")
         }
         Augment::Raised
+    }
+
+    /// Keeps the person in the place of a member, where the person can be placed with the other members. It takes no
+    /// memory.
+    pub fn exchange(&mut self, out: CandId, person: &Person)
+        requires may { MayJoin self.old person.now }
+        requires member { AnyByRecursion (λ member. member.id ≡ out) self.old.members }
+        requires placed { CanBePlaced self.old.protections (without out self.old.members ++ person.now ∷ []) }
+        ensures done { self.new ≡ with_member (without_member self.old out) person.now }
+        ensures kept { IsKept self.new }
+    {
+        let Some(at) = place_of(self.members.as_slice(), out) else {
+            unreachable!("the one who leaves is a member")
+        };
+        let left = self.members.remove(at);
+        give_spare(&mut self.spare, left.traits);
+        take_spare(&mut self.spare, person.traits);
+        if self.members.push(*person).is_err() {
+            unreachable!("a member has left")
+        }
     }
 
     /// How many protections the members honour: the number of members.

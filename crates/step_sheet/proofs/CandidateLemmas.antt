@@ -14,13 +14,13 @@ use Rattle.office_base.specs.StepChoice.{AreRanked}
 use Rattle.office_base.specs.declared.person.CandId.{CandId}
 use Rattle.office_base.specs.declared.person.Person.{Person}
 use Rattle.office_text.specs.FirstFault.{fault_at, IsFirstFault, IsFaultless}
-use Rattle.step_sheet.specs.declared.TheConstants.{MAX_CANDIDATES}
+use Rattle.office_base.specs.Limits.{most_candidates}
 use Rattle.step_sheet.specs.declared.fault.SheetFault.{SheetFault}
 use Rattle.step_sheet.specs.declared.fault.SheetKind.{SheetKind}
 use Rattle.step_sheet.specs.Reading.{AreRead}
 use Rattle.step_sheet.specs.Sheet.{cand_of, id_of, ids_of, cand_fault, cand_judge, person_of, persons_at, people_from, IsFaultOfRows}
 
--- A row that stands at n, behind the first n and before the others.
+-- A row that stands at n, after the first n and before the others.
 pub take-at : {X : Type 0} (xs : List X) (n : ℕ) (x : X) (rest : List X) → drop n xs ≡ x ∷ rest → take (suc n) xs ≡ take n xs ++ x ∷ []
 take-at [] zero x rest e = absurd cc
 take-at [] (suc n) x rest e = absurd cc
@@ -34,7 +34,7 @@ slice_get-at [] (suc n) x rest e = absurd cc
 slice_get-at (y ∷ xs) zero x rest e = cc
 slice_get-at (y ∷ xs) (suc n) x rest e = slice_get-at xs n x rest e
 
--- The others stand behind it.
+-- The others stand after it.
 pub drop-at : {X : Type 0} (xs : List X) (n : ℕ) (x : X) (rest : List X) → drop n xs ≡ x ∷ rest → drop (suc n) xs ≡ rest
 drop-at [] zero x rest e = absurd cc
 drop-at [] (suc n) x rest e = absurd cc
@@ -59,8 +59,8 @@ cand_fault-same : (m n : ℕ) (known other : ℕ → Bool) (cand : Option (ℕ �
 cand_fault-same m n known other None e same = refl
 cand_fault-same m n known other (Some cand) e same = rw (e, same cand.0) refl
 
--- What is wrong at the row behind those read is what is wrong with its line.
-fault_at-read : (lines : List (List ℕ)) (people : List Person) (known : ℕ → Bool) (line : List ℕ) (rest : List (List ℕ)) → AreRead lines people known → drop (length people) lines ≡ line ∷ rest → fault_at cand_judge lines (length people) ≡ cand_fault (length people) known (cand_of line)
+-- What is wrong at the row after those read is what is wrong with its line.
+pub fault_at-read : (lines : List (List ℕ)) (people : List Person) (known : ℕ → Bool) (line : List ℕ) (rest : List (List ℕ)) → AreRead lines people known → drop (length people) lines ≡ line ∷ rest → fault_at cand_judge lines (length people) ≡ cand_fault (length people) known (cand_of line)
 fault_at-read lines people known line rest read left =
     let n = length people in
     let row : slice_get lines n ≡ Some line = slice_get-at lines n line rest left in
@@ -68,7 +68,7 @@ fault_at-read lines people known line rest read left =
     ap (λ (o : Option (List ℕ)). cand_judge (take n lines) o) row
     ∙ cand_fault-same (length (take n lines)) n (λ id. list_any (λ other. eqb other id) (ids_of (take n lines))) known (cand_of line) count (λ id. sym (read.told id))
 
--- A fault at the row behind those read is the first one.
+-- A fault at the row after those read is the first one.
 first_at-read : (lines : List (List ℕ)) (people : List Person) (known : ℕ → Bool) (line : List ℕ) (rest : List (List ℕ)) (kind : SheetKind) → AreRead lines people known → drop (length people) lines ≡ line ∷ rest → cand_fault (length people) known (cand_of line) ≡ Some kind → IsFirstFault cand_judge lines (length people) kind
 first_at-read lines people known line rest kind read left fault = record {
   here = fault_at-read lines people known line rest read left ∙ fault;
@@ -77,10 +77,10 @@ first_at-read lines people known line rest kind read left fault = record {
 }
 
 -- It is told with the number of its row.
-pub fault-read : (rows : List (List ℕ)) (numbers : List ℕ) (people : List Person) (known : ℕ → Bool) (line : List ℕ) (rest : List (List ℕ)) (fault : SheetFault) (behind : List ℕ) → AreRead rows people known → drop (length people) rows ≡ line ∷ rest → drop (length people) numbers ≡ fault.line ∷ behind → cand_fault (length people) known (cand_of line) ≡ Some fault.kind → IsFaultOfRows cand_judge rows numbers fault
-fault-read rows numbers people known line rest fault behind read left told wrong = record {
+pub fault-read : (rows : List (List ℕ)) (numbers : List ℕ) (people : List Person) (known : ℕ → Bool) (line : List ℕ) (rest : List (List ℕ)) (fault : SheetFault) (after : List ℕ) → AreRead rows people known → drop (length people) rows ≡ line ∷ rest → drop (length people) numbers ≡ fault.line ∷ after → cand_fault (length people) known (cand_of line) ≡ Some fault.kind → IsFaultOfRows cand_judge rows numbers fault
+fault-read rows numbers people known line rest fault after read left told wrong = record {
   row = length people;
-  line = slice_get-at numbers (length people) fault.line behind told;
+  line = slice_get-at numbers (length people) fault.line after told;
   first = first_at-read rows people known line rest fault.kind read left wrong;
 }
 
@@ -114,7 +114,7 @@ known-put x id known = elim (cases_order x id) [
   | inr other ↦ known-put_other x id known (λ same. elim other [ inl less ↦ omega arith | inr more ↦ omega arith ])
 ]
 
--- The numbers and the people of a line are not this number, and neither are those of the lines behind it.
+-- The numbers and the people of a line are not this number, and neither are those of the lines after it.
 apart_at : (place : ℕ) (o : Option (ℕ × ℕ)) (people : List Person) (ids : List ℕ) (id : CandId) → (list_any (λ other. eqb other id.0) ids ≡ false → AllByRecursion (λ (p : Person). p.id ≢ id) people) → list_any (λ other. eqb other id.0) (id_of o ++ ids) ≡ false → AllByRecursion (λ (p : Person). p.id ≢ id) (persons_at place o ++ people)
 apart_at place None people ids id more none = more none
 apart_at place (Some cand) people ids id more none =
@@ -162,7 +162,7 @@ read_below lines people known line rest read left right row below =
     ]
 
 -- One line more is read.
-pub read_more : (lines : List (List ℕ)) (people : List Person) (known next : ℕ → Bool) (line : List ℕ) (rest : List (List ℕ)) (cand : ℕ × ℕ) → AreRead lines people known → drop (length people) lines ≡ line ∷ rest → cand_of line ≡ Some cand → cand_fault (length people) known (cand_of line) ≡ None → length people < MAX_CANDIDATES → cand.1 < 64 → known cand.0 ≡ false → ((q : ℕ) → next q ≡ cond (is_eq (nat_cmp cand.0 q)) true (known q)) → AreRead lines (people ++ person_of (length people + 1) cand ∷ []) next
+pub read_more : (lines : List (List ℕ)) (people : List Person) (known next : ℕ → Bool) (line : List ℕ) (rest : List (List ℕ)) (cand : ℕ × ℕ) → AreRead lines people known → drop (length people) lines ≡ line ∷ rest → cand_of line ≡ Some cand → cand_fault (length people) known (cand_of line) ≡ None → length people < most_candidates → cand.1 < 64 → known cand.0 ≡ false → ((q : ℕ) → next q ≡ cond (is_eq (nat_cmp cand.0 q)) true (known q)) → AreRead lines (people ++ person_of (length people + 1) cand ∷ []) next
 read_more lines people known next line rest cand read left given right few set new put =
     let n = length people in
     let person = person_of (n + 1) cand in
@@ -193,7 +193,7 @@ read_more lines people known next line rest cand read left given right few set n
           (omega arith));
     }
 
--- What stands behind it is left.
+-- What stands after it is left.
 pub left_more : {X : Type 0} (rows : List X) (people : List Person) (person : Person) (row : X) (rest : List X) → drop (length people) rows ≡ row ∷ rest → drop (length (people ++ person ∷ [])) rows ≡ rest
 left_more rows people person row rest left =
     let size : length (people ++ person ∷ []) ≡ suc (length people) = length_push people person ∙ add-one (length people) in

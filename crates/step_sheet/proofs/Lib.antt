@@ -2,3 +2,4 @@ mod CandidateLemmas
 mod LineLemmas
 mod RowLemmas
 mod SheetLemmas
+mod SoundLemmas

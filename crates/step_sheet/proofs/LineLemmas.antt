@@ -12,6 +12,6 @@ seats_in-more word number line = let filled = cut_at-filled 44 line in rw filled
 pub protect_in-more : (word letter number line : List ℕ) → protect_in (word ∷ letter ∷ number ∷ fields_of line) ≡ None
 protect_in-more word letter number line = let filled = cut_at-filled 44 line in rw filled.2 refl
 
--- A second field behind a candidate's number makes a line no candidate line.
+-- A second field after a candidate's number makes a line no candidate line.
 pub traits_in-more : (traits line : List ℕ) → traits_in (traits ∷ fields_of line) ≡ None
 traits_in-more traits line = let filled = cut_at-filled 44 line in rw filled.2 refl

@@ -7,7 +7,7 @@ use Rattle.office_base.specs.declared.step.Step.{Step}
 use Rattle.office_text.specs.FirstFault.{IsFaultless}
 use Rattle.office_text.specs.Lines.{lines_of, skip_mark, text_lines, trimmed}
 use Rattle.office_text.proofs.FirstFaultLemmas.{one_answer}
-use Rattle.step_sheet.specs.declared.TheConstants.{MAX_BYTES}
+use Rattle.office_base.specs.Limits.{most_sheet_bytes}
 use Rattle.step_sheet.specs.declared.fault.SheetFault.{SheetFault}
 use Rattle.step_sheet.specs.declared.fault.SheetKind.{SheetKind}
 use Rattle.step_sheet.specs.declared.fault.SheetKind.TheVariants.{TooLong}
@@ -22,7 +22,7 @@ passed : (bytes rest : List ℕ) (seats next : ℕ) → HasHead bytes seats next
 passed bytes rest seats next head =
     rw (head.rows, head.numbers) (passed_head head.first head.second (rest_rows rest) 1 head.number (rest_numbers next rest) seats head.sheet head.given)
 
--- The first line and the seats behind it are the head of a sheet.
+-- The first line and the seats after it are the head of a sheet.
 pub head_from : (bytes rest line : List ℕ) (seats next : ℕ) (after : List ℕ) → lines_of bytes ≡ line ∷ lines_of rest → first_fault (trimmed line) ≡ None → HasSeats rest 2 seats next after → HasHead bytes seats next after
 head_from bytes rest line seats next after e sheet h = record {
   first = trimmed line;
@@ -34,24 +34,24 @@ head_from bytes rest line seats next after e sheet h = record {
   given = h.given;
 }
 
--- An error of the rows behind the head is one of the sheet.
-pub error_behind : (bytes rest : List ℕ) (seats next : ℕ) (e : SheetError) → length bytes ≤ MAX_BYTES → HasHead (skip_mark bytes) seats next rest → IsErrorOfRows (body_judge seats none_named) (rest_rows rest) (rest_numbers next rest) e → IsErrorOf bytes e
-error_behind bytes rest seats next (Bad fault) short head f = inr (short, error_passed sheet_judge (body_judge seats none_named) (rows_of bytes) (rest_rows rest) (row_numbers bytes) (rest_numbers next rest) (Bad fault) (passed (skip_mark bytes) rest seats next head) f)
-error_behind bytes rest seats next OutOfMemory short head f = tt
+-- An error of the rows after the head is one of the sheet.
+pub error_after : (bytes rest : List ℕ) (seats next : ℕ) (e : SheetError) → length bytes ≤ most_sheet_bytes → HasHead (skip_mark bytes) seats next rest → IsErrorOfRows (body_judge seats none_named) (rest_rows rest) (rest_numbers next rest) e → IsErrorOf bytes e
+error_after bytes rest seats next (Bad fault) short head f = inr (short, error_passed sheet_judge (body_judge seats none_named) (rows_of bytes) (rest_rows rest) (row_numbers bytes) (rest_numbers next rest) (Bad fault) (passed (skip_mark bytes) rest seats next head) f)
+error_after bytes rest seats next OutOfMemory short head f = tt
 
 -- Behind the head of a sheet rows without faults make a sheet without faults.
-pub faultless_behind : (bytes rest : List ℕ) (seats next : ℕ) → HasHead (skip_mark bytes) seats next rest → IsFaultless (body_judge seats none_named) (rest_rows rest) → IsFaultless sheet_judge (rows_of bytes)
-faultless_behind bytes rest seats next head none =
+pub faultless_after : (bytes rest : List ℕ) (seats next : ℕ) → HasHead (skip_mark bytes) seats next rest → IsFaultless (body_judge seats none_named) (rest_rows rest) → IsFaultless sheet_judge (rows_of bytes)
+faultless_after bytes rest seats next head none =
     faultless_passed sheet_judge (body_judge seats none_named) (rows_of bytes) (rest_rows rest) (row_numbers bytes) (rest_numbers next rest) (passed (skip_mark bytes) rest seats next head) none
 
--- The step of a sheet is that of its seats and the rows behind them.
-pub step_behind : (bytes rest : List ℕ) (seats next : ℕ) → HasHead (skip_mark bytes) seats next rest → step_of (rows_of bytes) ≡ body_step seats (rest_rows rest)
-step_behind bytes rest seats next head = rw (head.rows, head.given) refl
+-- The step of a sheet is that of its seats and the rows after them.
+pub step_after : (bytes rest : List ℕ) (seats next : ℕ) → HasHead (skip_mark bytes) seats next rest → step_of (rows_of bytes) ≡ body_step seats (rest_rows rest)
+step_after bytes rest seats next head = rw (head.rows, head.given) refl
 
 -- Bytes give a step or have a fault.
 some_reading : (bytes : List ℕ) → ((step : Step) × SheetGives bytes step) ⊎ ((fault : SheetFault) × HasFault bytes fault)
 some_reading bytes =
-    elim (cases_lt MAX_BYTES (length bytes)) [
+    elim (cases_lt most_sheet_bytes (length bytes)) [
       | inl long ↦ inr (record { line = 0; kind = TooLong }, inl (long, refl))
       | inr short ↦ elim (one_answer sheet_judge (rows_of bytes)).some [
         | inl none ↦ inl (step_of (rows_of bytes), record { short = short; faultless = none; given = refl })

@@ -3,6 +3,7 @@ use Rattle.std.specs.Prelude.{◌≡◌, ◌≤◌, ◌<◌, ◌+◌, ◌⊎◌,
 use Rattle.std.specs.List.{list_any, flat_map}
 use Rattle.std.specs.Option.{option_map, option_and_then, option_map_or, unwrap_or}
 use Rattle.std.specs.Str.{bytes_eq}
+use Rattle.office_base.specs.Limits.{last_id, most_candidates, most_sheet_bytes, most_step_seats}
 use Rattle.office_base.specs.declared.person.Category.TheVariants.{Gen}
 use Rattle.office_base.specs.declared.person.Person.{Person}
 use Rattle.office_base.specs.declared.person.Place.TheVariants.{Absent, Common}
@@ -11,7 +12,6 @@ use Rattle.office_text.specs.FirstFault.{Judge, IsFirstFault, IsFaultless}
 use Rattle.office_text.specs.Lines.{fields_of, text_lines, trimmed}
 use Rattle.office_text.specs.Number.{number_within}
 use Rattle.office_text.specs.Traits.{trait_of, traits_of}
-use Rattle.step_sheet.specs.declared.TheConstants.{MAX_BYTES, MAX_CANDIDATES, MAX_ID, MAX_SEATS}
 use Rattle.step_sheet.specs.declared.fault.SheetError.{SheetError}
 use Rattle.step_sheet.specs.declared.fault.SheetError.TheVariants.{Bad, OutOfMemory}
 use Rattle.step_sheet.specs.declared.fault.SheetFault.{SheetFault}
@@ -24,7 +24,7 @@ filled [] = []
 filled ([] ∷ lines) = filled lines
 filled ((byte ∷ line) ∷ lines) = (byte ∷ line) ∷ filled lines
 
--- the numbers of the lines that are not empty, and that of the line behind the last, where the first line has this number
+-- the numbers of the lines that are not empty, and that of the line after the last, where the first line has this number
 abbrev pub numbers_from : ℕ → List (List ℕ) → List ℕ
 numbers_from n [] = n ∷ []
 numbers_from n ([] ∷ lines) = numbers_from (n + 1) lines
@@ -35,7 +35,7 @@ abbrev pub texts_of : List (List ℕ) → List (List ℕ)
 texts_of [] = []
 texts_of (first ∷ lines) = first ∷ filled lines
 
--- the numbers of the rows, counted from 1 with the empty lines, and that of the line behind the last
+-- the numbers of the rows, counted from 1 with the empty lines, and that of the line after the last
 abbrev pub numbers_of : List (List ℕ) → List ℕ
 numbers_of [] = 1 ∷ []
 numbers_of (first ∷ lines) = 1 ∷ numbers_from 2 lines
@@ -57,7 +57,7 @@ begins_with word (field ∷ fields) = bytes_eq field word
 abbrev pub seats_in : List (List ℕ) → Option ℕ
 seats_in [] = None
 seats_in (word ∷ []) = None
-seats_in (word ∷ number ∷ []) = if bytes_eq word (codes "seats") then number_within 0 MAX_SEATS number else None
+seats_in (word ∷ number ∷ []) = if bytes_eq word (codes "seats") then number_within 0 most_step_seats number else None
 seats_in (word ∷ number ∷ more ∷ fields) = None
 
 -- the number of seats that a line gives
@@ -83,7 +83,7 @@ abbrev pub protect_in : List (List ℕ) → Option (ℕ × ℕ)
 protect_in [] = None
 protect_in (word ∷ []) = None
 protect_in (word ∷ letter ∷ []) = None
-protect_in (word ∷ letter ∷ number ∷ []) = both (trait_in letter) (number_within 0 MAX_SEATS number)
+protect_in (word ∷ letter ∷ number ∷ []) = both (trait_in letter) (number_within 0 most_step_seats number)
 protect_in (word ∷ letter ∷ number ∷ more ∷ fields) = None
 
 -- the trait for which a line protects seats, and how many
@@ -107,12 +107,12 @@ abbrev pub named_with : List (Option ℕ) → Option (ℕ × ℕ) → List (Opti
 named_with named None = named
 named_with named (Some pair) = set named pair.0 (Some pair.1)
 
--- what is wrong with the trait and the seats of a line, among this many seats and behind lines that named these
+-- what is wrong with the trait and the seats of a line, among this many seats and after lines that named these
 abbrev pub protect_fault : ℕ → List (Option ℕ) → Option (ℕ × ℕ) → Option SheetKind
 protect_fault seats named None = Some BadLine
 protect_fault seats named (Some pair) = if is_some (slice_index_or named pair.0 None) then Some RepeatedProtect else if nat_le (total named + pair.1) seats then None else Some ProtectionsExceedSeats
 
--- the set of traits in the fields behind a candidate's number
+-- the set of traits in the fields after a candidate's number
 abbrev pub traits_in : List (List ℕ) → Option ℕ
 traits_in [] = Some 0
 traits_in (traits ∷ []) = traits_of traits
@@ -122,7 +122,7 @@ traits_in (traits ∷ more ∷ fields) = None
 abbrev pub cand_in : List (List ℕ) → Option (ℕ × ℕ)
 cand_in [] = None
 cand_in (word ∷ []) = None
-cand_in (word ∷ number ∷ fields) = if bytes_eq word (codes "cand") then both (number_within 1 MAX_ID number) (traits_in fields) else None
+cand_in (word ∷ number ∷ fields) = if bytes_eq word (codes "cand") then both (number_within 1 last_id number) (traits_in fields) else None
 
 -- the number and the traits of the candidate that a line gives
 abbrev pub cand_of : List ℕ → Option (ℕ × ℕ)
@@ -137,17 +137,17 @@ id_of (Some cand) = cand.0 ∷ []
 abbrev pub ids_of : List (List ℕ) → List ℕ
 ids_of lines = flat_map (λ line. id_of (cand_of line)) lines
 
--- what is wrong with the candidate of a line, behind this many candidates of whom these numbers are known
+-- what is wrong with the candidate of a line, after this many candidates of whom these numbers are known
 abbrev pub cand_fault : ℕ → (ℕ → Bool) → Option (ℕ × ℕ) → Option SheetKind
 cand_fault before known None = Some BadLine
-cand_fault before known (Some cand) = if known cand.0 then Some RepeatedCandidate else if nat_le MAX_CANDIDATES before then Some TooMany else None
+cand_fault before known (Some cand) = if known cand.0 then Some RepeatedCandidate else if nat_le most_candidates before then Some TooMany else None
 
--- what is wrong with a row behind these candidate lines
+-- what is wrong with a row after these candidate lines
 abbrev pub cand_judge : List (List ℕ) → Option (List ℕ) → Option SheetKind
 cand_judge before None = None
 cand_judge before (Some line) = cand_fault (length before) (λ id. list_any (λ other. other == id) (ids_of before)) (cand_of line)
 
--- what is wrong with a row behind the seats, lines that named these, and then the rows before it: at first they
+-- what is wrong with a row after the seats, lines that named these, and then the rows before it: at first they
 -- protect seats, and from the first that does not they give candidates
 abbrev pub body_judge : ℕ → List (Option ℕ) → List (List ℕ) → Option (List ℕ) → Option SheetKind
 body_judge seats named [] None = None
@@ -166,7 +166,7 @@ seats_fault line = option_map_or (λ seats. None) (seats_of line) (Some BadLine)
 abbrev pub seats_from : List ℕ → ℕ
 seats_from line = option_map_or (λ seats. seats) (seats_of line) 0
 
--- what is wrong with a row of the sheet behind the rows before it, or with the end of the sheet
+-- what is wrong with a row of the sheet after the rows before it, or with the end of the sheet
 abbrev pub sheet_judge : List (List ℕ) → Option (List ℕ) → Option SheetKind
 sheet_judge [] None = Some BadFirstLine
 sheet_judge [] (Some line) = first_fault line
@@ -174,7 +174,7 @@ sheet_judge (first ∷ []) None = Some BadLine
 sheet_judge (first ∷ []) (Some line) = seats_fault line
 sheet_judge (first ∷ second ∷ before) row = body_judge (seats_from second) none_named before row
 
--- what the rows behind the seats name for each trait, after lines that named these
+-- what the rows after the seats name for each trait, after lines that named these
 abbrev pub named_from : List (Option ℕ) → List (List ℕ) → List (Option ℕ)
 named_from named [] = named
 named_from named (line ∷ lines) = if is_protect line then named_from (named_with named (protect_of line)) lines else named
@@ -198,7 +198,7 @@ abbrev pub people_from : ℕ → List (List ℕ) → List Person
 people_from place [] = []
 people_from place (line ∷ lines) = persons_at place (cand_of line) ++ people_from (suc place) lines
 
--- the step of this many seats that the rows behind them give: list 1, the protections, and the people in their order
+-- the step of this many seats that the rows after them give: list 1, the protections, and the people in their order
 abbrev pub body_step : ℕ → List (List ℕ) → Step
 body_step seats lines = record { list = record { 0 = 1 }; seats = seats; protections = record { counts = map count_of (named_from none_named lines) }; people = people_from 1 (cand_lines lines) }
 
@@ -210,7 +210,7 @@ step_of (first ∷ second ∷ lines) = body_step (seats_from second) lines
 
 -- The bytes are a sheet without faults, and this is its step.
 pub record SheetGives (bytes : List ℕ) (step : Step) : Type 0 where
-  pub short : length bytes ≤ MAX_BYTES
+  pub short : length bytes ≤ most_sheet_bytes
   pub faultless : IsFaultless sheet_judge (rows_of bytes)
   pub given : step ≡ step_of (rows_of bytes)
 
@@ -222,7 +222,7 @@ pub record IsFaultOfRows (judge : Judge (List ℕ) SheetKind) (rows : List (List
 
 -- Too many bytes are the one fault, at line 0. Otherwise it is the first one of the rows.
 abbrev pub HasFault : List ℕ → SheetFault → Type 0
-HasFault bytes fault = ((MAX_BYTES < length bytes) × (fault ≡ record { line = 0; kind = TooLong })) ⊎ ((length bytes ≤ MAX_BYTES) × IsFaultOfRows sheet_judge (rows_of bytes) (row_numbers bytes) fault)
+HasFault bytes fault = ((most_sheet_bytes < length bytes) × (fault ≡ record { line = 0; kind = TooLong })) ⊎ ((length bytes ≤ most_sheet_bytes) × IsFaultOfRows sheet_judge (rows_of bytes) (row_numbers bytes) fault)
 
 -- An error that is a fault is the one of the bytes. Nothing is claimed of memory.
 abbrev pub IsErrorOf : List ℕ → SheetError → Type 0

@@ -20,7 +20,7 @@ pub enum SheetKind {
     RepeatedCandidate,
     /// A line with which more seats are protected than there are.
     ProtectionsExceedSeats,
-    /// A candidate line behind 250,000 others.
+    /// A candidate line after 250,000 others.
     TooMany,
     /// More than 16,777,216 bytes.
     TooLong,

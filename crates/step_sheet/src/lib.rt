@@ -16,15 +16,3 @@ pub mod text;
 pub use fault::{SheetError, SheetFault, SheetKind};
 pub use sheet::read_sheet;
 pub use text::{fault_text, step_text};
-
-/// The most bytes of a sheet.
-pub const MAX_BYTES: usize = 16_777_216;
-
-/// The most candidate lines of a sheet.
-pub const MAX_CANDIDATES: usize = 250_000;
-
-/// The greatest number of a candidate. The least is 1.
-pub const MAX_ID: u32 = 999_999_999;
-
-/// The most seats of a step.
-pub const MAX_SEATS: u32 = 4_000;

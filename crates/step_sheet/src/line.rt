@@ -3,11 +3,13 @@ ghost use Rattle.std.specs.Prelude.{◌≡◌, ◌≤◌, ◌<◌, ◌+◌, leng
 ghost use Rattle.std.specs.Ordering.{nat_cmp};
 ghost use Rattle.std.specs.BTreeSet.{contains};
 ghost use Rattle.std.specs.Option.{option_copied, option_map};
+ghost use Rattle.office_base.specs.Limits.{most_candidates};
 ghost use Rattle.office_base.specs.Person.{IsTraitSet};
-ghost use Rattle.step_sheet.specs.Reading.{fields_behind};
+ghost use Rattle.step_sheet.specs.Reading.{fields_after};
 ghost use Rattle.step_sheet.specs.Sheet.{is_protect, first_fault, seats_of, trait_in, protect_of, protect_fault, total, traits_in, cand_of, cand_fault};
 
-use crate::{MAX_CANDIDATES, MAX_ID, MAX_SEATS, SheetKind};
+use crate::SheetKind;
+use office_base::limits::{LAST_ID, MOST_CANDIDATES, MOST_STEP_SEATS};
 use office_base::{CandId, TraitSet};
 use office_text::{next_field, read_number, read_traits, trait_number};
 use std::collections::BTreeSet;
@@ -34,7 +36,7 @@ pub(crate) fn seats_of(line: &[u8]) -> Option<u16>
     }
     match more {
         Some(_) => None,
-        None => Some(read_number(number, 0, MAX_SEATS)? as u16),
+        None => Some(read_number(number, 0, MOST_STEP_SEATS)? as u16),
     }
 }
 
@@ -45,7 +47,7 @@ pub(crate) fn is_protect(line: &[u8]) -> bool
     next_field(line).0 == b"protect".as_slice()
 }
 
-/// The trait and the number of seats of a line that protects seats, behind lines that named these and left this many
+/// The trait and the number of seats of a line that protects seats, after lines that named these and left this many
 /// seats without protection; or what is wrong with the line.
 pub(crate) fn next_protection(
     line: &[u8],
@@ -71,7 +73,7 @@ pub(crate) fn next_protection(
     }
 }
 
-/// The candidate of a line behind `before` candidate lines, of whose candidates these are the numbers; or what is
+/// The candidate of a line after `before` candidate lines, of whose candidates these are the numbers; or what is
 /// wrong with the line.
 pub(crate) fn next_candidate(
     line: &[u8],
@@ -82,13 +84,13 @@ pub(crate) fn next_candidate(
     ensures set { IfOk result (λ cand. IsTraitSet cand.1) }
     ensures right { IfOk result (λ _. cand_fault before (contains nat_cmp known.now) (cand_of line.now) ≡ None) }
     ensures new { IfOk result (λ cand. contains nat_cmp known.now cand.0.0 ≡ false) }
-    ensures few { IfOk result (λ _. before < MAX_CANDIDATES) }
+    ensures few { IfOk result (λ _. before < most_candidates) }
     ensures fault { IfErr result (λ kind. cand_fault before (contains nat_cmp known.now) (cand_of line.now) ≡ Some kind) }
 {
     match candidate_of(line) {
         None => Err(SheetKind::BadLine),
         Some((id, _)) if known.contains(&id.0) => Err(SheetKind::RepeatedCandidate),
-        Some(_) if before >= MAX_CANDIDATES => Err(SheetKind::TooMany),
+        Some(_) if before >= MOST_CANDIDATES => Err(SheetKind::TooMany),
         Some(candidate) => Ok(candidate),
     }
 }
@@ -103,7 +105,10 @@ fn protect_of(line: &[u8]) -> Option<(u8, u16)>
     let (number, more) = next_field(rest?);
     match more {
         Some(_) => None,
-        None => Some((trait_in(letter)?, read_number(number, 0, MAX_SEATS)? as u16)),
+        None => Some((
+            trait_in(letter)?,
+            read_number(number, 0, MOST_STEP_SEATS)? as u16,
+        )),
     }
 }
 
@@ -128,13 +133,13 @@ fn candidate_of(line: &[u8]) -> Option<(CandId, TraitSet)>
     if word != b"cand".as_slice() {
         return None;
     }
-    let id = read_number(number, 1, MAX_ID)?;
-    Some((CandId(id), traits_behind(rest)?))
+    let id = read_number(number, 1, LAST_ID)?;
+    Some((CandId(id), traits_after(rest)?))
 }
 
-/// The set of traits behind the comma of a candidate's number: none without a comma.
-fn traits_behind(rest: Option<&[u8]>) -> Option<TraitSet>
-    ensures value { option_map (λ traits. traits.0) result ≡ traits_in (fields_behind (option_copied rest.entry)) }
+/// The set of traits after the comma of a candidate's number: none without a comma.
+fn traits_after(rest: Option<&[u8]>) -> Option<TraitSet>
+    ensures value { option_map (λ traits. traits.0) result ≡ traits_in (fields_after (option_copied rest.entry)) }
     ensures set { IfSome result IsTraitSet }
 {
     let Some(rest) = rest else {

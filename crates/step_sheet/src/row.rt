@@ -6,7 +6,7 @@ ghost use Rattle.step_sheet.specs.Sheet.{is_protect};
 use crate::line::is_protect;
 use office_text::{next_text_line, trim_commas};
 
-/// The number of the next row, and the row with the bytes behind it; or the number of the line behind the last where
+/// The number of the next row, and the row with the bytes after it; or the number of the line after the last where
 /// there is no row. `number` is that of the first line of the bytes.
 pub(crate) fn row_or_end(bytes: &[u8], number: u32) -> (u32, Option<(&[u8], &[u8])>)
     requires { number + length bytes.now < 2 ^ 32 }
@@ -30,7 +30,7 @@ pub(crate) fn row_or_end(bytes: &[u8], number: u32) -> (u32, Option<(&[u8], &[u8
     (at, None)
 }
 
-/// The number of the next row, the row and the bytes behind it. None where there is no row.
+/// The number of the next row, the row and the bytes after it. None where there is no row.
 pub(crate) fn next_row(bytes: &[u8], number: u32) -> Option<(u32, &[u8], &[u8])>
     requires { number + length bytes.now < 2 ^ 32 }
     ensures none { IfNone result (rest_rows bytes.now ≡ []) }
@@ -45,7 +45,7 @@ pub(crate) fn next_row(bytes: &[u8], number: u32) -> Option<(u32, &[u8], &[u8])>
     }
 }
 
-/// The number of the next row, the row and the bytes behind it, where it is one that protects seats.
+/// The number of the next row, the row and the bytes after it, where it is one that protects seats.
 pub(crate) fn next_protect(bytes: &[u8], number: u32) -> Option<(u32, &[u8], &[u8])>
     requires { number + length bytes.now < 2 ^ 32 }
     ensures none { IfNone result (protects_next (rest_rows bytes.now) ≡ false) }

@@ -1,5 +1,6 @@
 // A whole sheet.
 ghost use Rattle.std.specs.Prelude.{length, ◌≡◌, ◌<◌, ◌≤◌, ◌+◌, ◌^◌, ◌∷◌, map, sum, IfOk, IfErr, List, Option, ℕ};
+ghost use Rattle.office_base.specs.Limits.{most_candidates, most_sheet_bytes};
 ghost use Rattle.office_base.specs.StepChoice.{AreRanked, IsStep};
 ghost use Rattle.office_text.specs.FirstFault.{IsFaultless};
 ghost use Rattle.office_text.specs.Lines.{lines_of, trimmed};
@@ -8,7 +9,8 @@ ghost use Rattle.step_sheet.specs.Sheet.{SheetGives, IsErrorOf, IsFaultOfRows, b
 
 use crate::line::{first_fault, next_candidate, next_protection, seats_of};
 use crate::row::{next_protect, next_row, row_or_end};
-use crate::{MAX_BYTES, MAX_CANDIDATES, SheetError, SheetFault, SheetKind};
+use crate::{SheetError, SheetFault, SheetKind};
+use office_base::limits::MOST_SHEET_BYTES;
 use office_base::{CandId, Category, ListId, People, Person, Place, Protections, Step, TraitSet};
 use office_text::{next_text_line, skip_mark, trim_commas};
 use std::alloc::Global;
@@ -19,9 +21,9 @@ pub fn read_sheet(alloc: Global, bytes: &[u8]) -> Result<Step, SheetError>
     ensures value { IfOk result (SheetGives bytes.now) }
     ensures fault { IfErr result (IsErrorOf bytes.now) }
     ensures step { IfOk result IsStep }
-    ensures few { IfOk result (λ step. length step.people ≤ MAX_CANDIDATES) }
+    ensures few { IfOk result (λ step. length step.people ≤ most_candidates) }
 {
-    if bytes.len() > MAX_BYTES {
+    if bytes.len() > MOST_SHEET_BYTES {
         return Err(SheetError::Bad(SheetFault {
             line: 0,
             kind: SheetKind::TooLong,
@@ -36,9 +38,9 @@ pub fn read_sheet(alloc: Global, bytes: &[u8]) -> Result<Step, SheetError>
 /// The seats of the first two rows, and the number of the next line and the bytes from there; or the first fault
 /// where it is there.
 fn head(bytes: &[u8]) -> Result<(u16, u32, &[u8]), SheetFault>
-    requires { length bytes.now ≤ MAX_BYTES }
+    requires { length bytes.now ≤ most_sheet_bytes }
     ensures head { IfOk result (λ head. HasHead bytes.now head.0 head.1 head.2.now) }
-    ensures few { IfOk result (λ head. head.1 + length head.2.now ≤ MAX_BYTES + 2) }
+    ensures few { IfOk result (λ head. head.1 + length head.2.now ≤ most_sheet_bytes + 2) }
     ensures fault { IfErr result (IsFaultOfRows sheet_judge (texts_of (map trimmed (lines_of bytes.now))) (numbers_of (map trimmed (lines_of bytes.now)))) }
 {
     let Some((line, rest)) = next_text_line(bytes) else {
@@ -76,14 +78,14 @@ fn seats_row(bytes: &[u8], number: u32) -> Result<(u16, u32, &[u8]), SheetFault>
     }
 }
 
-/// The step of this many seats whose protections and people the rows behind them give, or their first fault. `number`
+/// The step of this many seats whose protections and people the rows after them give, or their first fault. `number`
 /// is that of the first line of the bytes.
 fn body(alloc: Global, seats: u16, bytes: &[u8], number: u32) -> Result<Step, SheetError>
     requires { number + length bytes.now < 2 ^ 32 }
     ensures faultless { IfOk result (λ _. IsFaultless (body_judge seats none_named) (rest_rows bytes.now)) }
     ensures value { IfOk result (λ step. step ≡ body_step seats (rest_rows bytes.now)) }
     ensures step { IfOk result IsStep }
-    ensures few { IfOk result (λ step. length step.people ≤ MAX_CANDIDATES) }
+    ensures few { IfOk result (λ step. length step.people ≤ most_candidates) }
     ensures fault { IfErr result (IsErrorOfRows (body_judge seats none_named) (rest_rows bytes.now) (rest_numbers number bytes.now)) }
 {
     match protections(seats, bytes, number) {
@@ -97,7 +99,7 @@ fn body(alloc: Global, seats: u16, bytes: &[u8], number: u32) -> Result<Step, Sh
     }
 }
 
-/// The protections of the rows behind the seats, and the number of the next line and the bytes from there, which
+/// The protections of the rows after the seats, and the number of the next line and the bytes from there, which
 /// protect nothing next; or the first fault where it is in those rows.
 fn protections(
     seats: u16,
@@ -145,7 +147,7 @@ fn candidates(alloc: Global, bytes: &[u8], number: u32) -> Result<People, SheetE
     ensures faultless { IfOk result (λ _. IsFaultless cand_judge (rest_rows bytes.now)) }
     ensures people { IfOk result (λ people. people ≡ people_from 1 (rest_rows bytes.now)) }
     ensures ranked { IfOk result (AreRanked (record { 0 = 1 })) }
-    ensures few { IfOk result (λ people. length people ≤ MAX_CANDIDATES) }
+    ensures few { IfOk result (λ people. length people ≤ most_candidates) }
     ensures fault { IfErr result (IsErrorOfRows cand_judge (rest_rows bytes.now) (rest_numbers number bytes.now)) }
 {
     let mut people = People::new(alloc);

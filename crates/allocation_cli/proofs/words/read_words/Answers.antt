@@ -1,5 +1,5 @@
 use Rattle.std.proofs.Common.{List, ℕ, ap, [], ◌∷◌, ◌∙◌, sym}
-use Rattle.allocation_cli.proofs.Written.{only_word}
+use Rattle.allocation_cli.proofs.Spelling.{only_word}
 use Rattle.allocation_cli.proofs.words.read_words.Goals as goal
 
 pub returns-in-step-clause-command : goal.returns-in-step-clause-command

@@ -2,10 +2,10 @@ use Rattle.std.proofs.Common.{◌≢◌, List, length, sym, ap, subst, arith}
 use Rattle.office_base.specs.Lists.{Pairwise}
 use Rattle.office_base.specs.Person.{IsTraitSet}
 use Rattle.office_base.specs.declared.person.Person.{Person}
-use Rattle.office_base.proofs.Sublists.{AllByRecursion-sublist}
+use Rattle.placements.proofs.Sublists.{AllByRecursion-sublist}
 use Rattle.placements.proofs.Ranks.{pairwise_sublist, no_more_than_people}
 use Rattle.std.specs.List.{AllByRecursion}
-use Rattle.merit_choice.proofs.Slots.{small_slots}
+use Rattle.placements.proofs.Slots.{small_slots}
 use Rattle.merit_choice.proofs.choice.choose.Goals as goal
 
 pub canonical_pairs-requires-clause-distinct : goal.canonical_pairs-requires-clause-distinct

@@ -3,7 +3,7 @@ use Rattle.std.specs.List.{filter}
 use Rattle.office_base.specs.StepChoice.{AreRanked}
 use Rattle.office_base.specs.declared.person.ListId.{ListId}
 use Rattle.office_base.specs.declared.person.Person.{Person}
-use Rattle.office_base.proofs.Sublists.{IsSublist-take, length-sublist}
+use Rattle.placements.proofs.Sublists.{IsSublist-take, length-sublist}
 use Rattle.office_base.specs.Person.{is_common}
 use Rattle.open_then_category.proofs.Lists.{filter-sublist, ranked_sublist}
 use Rattle.open_then_category.proofs.choice.dereserved_step.Goals as goal

@@ -3,7 +3,7 @@ use Rattle.std.specs.List.{filter}
 use Rattle.office_base.specs.StepChoice.{IsStep}
 use Rattle.office_base.specs.declared.person.Person.{Person}
 use Rattle.office_base.specs.declared.step.StepKind.TheVariants.{Open}
-use Rattle.office_base.proofs.Sublists.{length-sublist}
+use Rattle.placements.proofs.Sublists.{length-sublist}
 use Rattle.office_base.specs.Person.{is_common}
 use Rattle.programme_lists.specs.Programme.{step_with}
 use Rattle.seat_matrix.specs.Seats.{seats_of}

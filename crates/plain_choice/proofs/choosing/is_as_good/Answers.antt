@@ -1,5 +1,5 @@
 use Rattle.std.proofs.Common.{arith, eqb-true}
-use Rattle.office_base.proofs.Sublists.{AllByRecursion-sublist}
+use Rattle.placements.proofs.Sublists.{AllByRecursion-sublist}
 use Rattle.placements.proofs.Ranks.{pairwise_sublist}
 use Rattle.plain_choice.proofs.Against.{IsAsGood-from_no_worse, IsNoWorse-from_as_good, honours_no_fewer}
 use Rattle.plain_choice.proofs.choosing.is_as_good.Goals as goal

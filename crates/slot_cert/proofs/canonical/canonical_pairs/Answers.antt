@@ -39,5 +39,5 @@ returns c =
     let search = c.loop-person.search in
     let six = subst (λ (p : Protections). length p.counts ≡ 6) c.new-search.ensures.room c.new-search.ensures.search.six in
     let none = drop_all i admitted c.loop-person-test.false in
-    IsCanonical-at_end protections admitted c.loop-person.pairs search.room search.most six c.requires.distinct
+    IsCanonical-at_end protections admitted c.loop-person.pairs search.room search.most six c.requires.distinct c.requires.traits
     (subst (λ (rest : List Person). IsOnTheWay protections admitted c.loop-person.pairs search.room rest search.most) none c.loop-person.invariant.way)

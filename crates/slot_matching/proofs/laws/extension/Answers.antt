@@ -1,5 +1,5 @@
-use Rattle.placements.proofs.Ranks.{extension, among_sublist}
+use Rattle.placements.proofs.Ranks.{extension}
 use Rattle.slot_matching.proofs.laws.extension.Goals as goal
 
 pub returns : goal.returns
-returns c = λ protections people some n distinct in_some can h. extension protections some people n distinct (among_sublist some people in_some) can h
+returns c = λ protections people some n distinct in_some can h. extension protections some people n distinct in_some can h

@@ -1,6 +1,5 @@
-use Rattle.placements.proofs.Ranks.{outside, among_joined, among_front, among_back}
+use Rattle.placements.proofs.Ranks.{outside}
 use Rattle.slot_matching.proofs.laws.outside.Goals as goal
 
 pub returns : goal.returns
-returns c = λ protections people others m n h h'.
-    outside protections others people _ m n (among_joined people others _ (among_back others people) (among_front others people)) h h'
+returns c = λ protections people others all m n among h h'. outside protections others people all m n among h h'

@@ -3,7 +3,7 @@ use Rattle.std.proofs.lemmas.Grind.{common_steps}
 use Rattle.std.proofs.lemmas.Result.{IfOk-weaker, IfErr-weaker}
 use Rattle.office_text.specs.Lines.{lines_of, trimmed}
 use Rattle.step_sheet.specs.Sheet.{first_fault}
-use Rattle.step_sheet.proofs.RowLemmas.{fault_behind_first}
+use Rattle.step_sheet.proofs.RowLemmas.{fault_after_first}
 use Rattle.step_sheet.proofs.SheetLemmas.{head_from}
 use Rattle.step_sheet.proofs.sheet.head.Goals as goal
 
@@ -16,4 +16,4 @@ pub returns-clause-fault : goal.returns-clause-fault
 returns-clause-fault c =
     let right : first_fault (trimmed c.in-Some.line.now) ≡ None = grind (arith, common_steps) in
     let lines : map trimmed (lines_of c.args.bytes.now) ≡ trimmed c.in-Some.line.now ∷ map trimmed (lines_of c.in-Some.rest.now) = ap (map trimmed) c.in-Some.ensures.some in
-    IfErr-weaker c.seats_row.result _ _ (λ fault second. fault_behind_first (map trimmed (lines_of c.args.bytes.now)) (trimmed c.in-Some.line.now) (map trimmed (lines_of c.in-Some.rest.now)) fault lines right second) c.seats_row.ensures.fault
+    IfErr-weaker c.seats_row.result _ _ (λ fault second. fault_after_first (map trimmed (lines_of c.args.bytes.now)) (trimmed c.in-Some.line.now) (map trimmed (lines_of c.in-Some.rest.now)) fault lines right second) c.seats_row.ensures.fault

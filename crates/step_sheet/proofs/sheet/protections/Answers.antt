@@ -25,9 +25,9 @@ returns-clause-read c =
     let rows = rest_rows c.args.bytes.now in
     let numbers = rest_numbers c.args.number c.args.bytes.now in
     let others = rest_rows c.loop-at.rest.now in
-    let behind = rest_numbers c.loop-at.next c.loop-at.rest.now in
+    let after = rest_numbers c.loop-at.next c.loop-at.rest.now in
     record {
-      passed = passed_named c.args.seats rows numbers c.loop-at.named others behind c.loop-at.invariant.read c.in_default.ensures.none;
-      counts_given = c.protections_of.ensures ∙ all_named c.args.seats rows numbers c.loop-at.named others behind c.loop-at.invariant.read c.in_default.ensures.none;
-      cands_left = cands_named c.args.seats rows numbers c.loop-at.named others behind c.loop-at.invariant.read c.in_default.ensures.none;
+      passed = passed_named c.args.seats rows numbers c.loop-at.named others after c.loop-at.invariant.read c.in_default.ensures.none;
+      counts_given = c.protections_of.ensures ∙ all_named c.args.seats rows numbers c.loop-at.named others after c.loop-at.invariant.read c.in_default.ensures.none;
+      cands_left = cands_named c.args.seats rows numbers c.loop-at.named others after c.loop-at.invariant.read c.in_default.ensures.none;
     }

@@ -72,7 +72,7 @@ pub returns-in_default-clause-search : goal.returns-in_default-clause-search
 returns-in_default-clause-search c = λ rest before.
     let search = c.args.self.now in
     let are = AreBounds-left search.bounds c.leave.new.bounds search.room c.args.person.now rest before.bounds c.leave.ensures in
-    IsSearch-passed search c.args.person.now rest c.leave.new.bounds before are (c.in_default.ensures rest are)
+    IsSearch-passed search c.args.person.now rest c.leave.new.bounds c.requires.traits before are (c.in_default.ensures rest are)
 
 pub returns-in_default-clause-moves : goal.returns-in_default-clause-moves
 returns-in_default-clause-moves c = rw c.in_default.is (refl, refl)

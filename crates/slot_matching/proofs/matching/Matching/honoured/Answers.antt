@@ -1,6 +1,7 @@
 use Rattle.std.proofs.Common.{◌≡◌, ◌∙◌, subst, sym, length, arith}
 use Rattle.office_base.specs.Placement.{IsHonoured}
-use Rattle.slot_matching.specs.Kept.{Kept, IsKept}
+use Rattle.placements.proofs.Hall.{positions_below_few}
+use Rattle.slot_matching.specs.Kept.{Kept, IsKept, all_traits}
 use Rattle.slot_matching.proofs.Steps.{kept_where, members_few, honoured_all}
 use Rattle.slot_matching.proofs.matching.Matching.honoured.Goals as goal
 
@@ -9,6 +10,7 @@ overflow_cast-result c =
     let kept : Kept = record { protections = c.self.inside.protections; list = c.self.inside.list; members = c.self.inside.members.items } in
     let few = members_few kept c.self.inside.spare _ c.self.invariant in
     let small = c.self.invariant.few in
+    let within = positions_below_few 6 kept.protections all_traits in
     let len = c.len.ensures in
     let items = c.self.inside.members.ok.0 in omega arith
 

@@ -1,0 +1,43 @@
+-- The command `check`: its input is a season bundle without requests, its output how much the season has.
+use Rattle.std.specs.Prelude.{◌≡◌, ℕ, List, Option}
+use Rattle.office_base.specs.Outside.{AreLeft}
+use Rattle.season_file.specs.Laws.{HasFault}
+use Rattle.season_file.specs.Season.{Gives, IsSeason}
+use Rattle.season_file.specs.declared.content.Content.{Content}
+use Rattle.season_file.specs.declared.fault.SeasonFault.{SeasonFault}
+use Rattle.season_file.specs.declared.fault.SeasonFault.TheVariants.{ReadFault, OutOfMemory}
+use Rattle.season_file.specs.declared.season.Season.{Season}
+use Rattle.season_texts.specs.Texts.{counts_line, fault_line}
+use Rattle.allocation_cli.specs.Answers.{Answers}
+use Rattle.allocation_cli.specs.declared.failure.Failure.{Failure}
+use Rattle.allocation_cli.specs.declared.failure.Failure.TheVariants.{Read, Bad, NoMemory}
+
+-- the bytes are a season bundle without faults
+abbrev pub IsBundle : List ℕ → Type 0
+IsBundle bytes = (content : Content) × Gives bytes content
+
+-- the bytes that were left are a season bundle without faults, and this is its season
+abbrev pub IsLeftSeason : Option (List ℕ) → Season → Type 0
+IsLeftSeason left season = (bytes : List ℕ) × AreLeft bytes left × IsSeason bytes season
+
+-- the bytes have a fault as a season bundle
+abbrev pub IsFaultyBundle : List ℕ → Type 0
+IsFaultyBundle bytes = (fault : SeasonFault) × HasFault bytes fault
+
+-- the bytes are a season bundle, and this is what `check` writes for its season
+abbrev pub IsCheckOutput : List ℕ → List ℕ → Type 0
+IsCheckOutput bytes output = (season : Season) × IsSeason bytes season × (output ≡ counts_line season)
+
+-- the bytes have a fault as a season bundle, and this is its line
+abbrev pub IsBundleFaultLine : List ℕ → List ℕ → Type 0
+IsBundleFaultLine bytes line = (fault : SeasonFault) × HasFault bytes fault × (line ≡ fault_line fault)
+
+-- what `check` answers
+abbrev pub check_answers : Answers
+check_answers = record { IsInput = IsBundle; IsFaulty = IsFaultyBundle; IsOutput = IsCheckOutput; IsFaultLine = IsBundleFaultLine }
+
+-- The failure tells this fault of a season by its line, or that the source failed. Of memory it is claimed that the source did not fail.
+abbrev pub TellsSeasonFault : SeasonFault → Failure → Type 0
+TellsSeasonFault fault Read = fault ≡ ReadFault
+TellsSeasonFault fault (Bad line) = (fault ≡ ReadFault → ⊥) × (fault ≡ OutOfMemory → ⊥) × (line ≡ fault_line fault)
+TellsSeasonFault fault NoMemory = fault ≡ ReadFault → ⊥

@@ -1,0 +1,99 @@
+// The command `step`: it reads a step sheet and answers whom the step admits.
+ghost use Rattle.std.specs.Prelude.{◌≡◌, ◌≤◌, ◌<◌, ◌^◌, ℕ, List, length, IfOk, IfErr, OnOk, IsErrOf};
+ghost use Rattle.office_base.specs.Limits.{most_sheet_bytes};
+ghost use Rattle.office_base.specs.Outside.{Rose, IsAtEnd};
+ghost use Rattle.office_base.specs.StepChoice.{IsStep};
+ghost use Rattle.step_sheet.specs.Output.{fault_output};
+ghost use Rattle.allocation_cli.specs.Answers.{HasLeft, IsFailureOf, IsInputFailure, TellsLine};
+ghost use Rattle.step_sheet.specs.Sheet.{SheetGives};
+ghost use Rattle.allocation_cli.specs.Step.{IsLeftSheet, IsStepText, step_answers};
+
+use crate::failure::Failure;
+use merit_choice::choose;
+use office_base::limits::MOST_SHEET_BYTES;
+use office_base::{OutOfMemory, ReadFault, Source, Step, Text, read_whole};
+use std::alloc::Global;
+use step_sheet::{SheetError, SheetFault, SheetKind, fault_text, read_sheet, step_text};
+
+/// The output of `step` for the sheet that the source gives.
+pub fn step_answer<S: Source>(alloc: Global, source: &mut S) -> Result<Text, Failure>
+    ensures output { IfOk result (HasLeft step_answers.IsOutput (S.left source.old)) }
+    ensures ended { OnOk result (IsAtEnd (S.left source.new)) }
+    ensures failure { IfErr result (IsFailureOf step_answers (S.left source.old) (Rose (S.faults source.old) (S.faults source.new))) }
+    ensures count { S.faults source.old ≤ S.faults source.new }
+    ensures steady { ¬ IsErrOf result Failure.Read → S.faults source.new ≡ S.faults source.old }
+{
+    let step = step_input(alloc, source)?;
+    Ok(list_of(alloc, &step)?)
+}
+
+/// The input of `step`: the step of the sheet that the source gives.
+fn step_input<S: Source>(alloc: Global, source: &mut S) -> Result<Step, Failure>
+    ensures sheet { IfOk result (IsLeftSheet (S.left source.old)) }
+    ensures step { IfOk result IsStep }
+    ensures few { IfOk result (λ step. length step.people < 2 ^ 32) }
+    ensures ended { OnOk result (IsAtEnd (S.left source.new)) }
+    ensures failure { IfErr result (IsFailureOf step_answers (S.left source.old) (Rose (S.faults source.old) (S.faults source.new))) }
+    ensures count { S.faults source.old ≤ S.faults source.new }
+    ensures steady { ¬ IsErrOf result Failure.Read → S.faults source.new ≡ S.faults source.old }
+{
+    match read_whole(alloc, source, MOST_SHEET_BYTES) {
+        Ok(bytes) => sheet_step(alloc, bytes.as_slice()),
+        Err(ReadFault::TooLong) => Err(too_long(alloc)),
+        Err(ReadFault::Failed) => Err(Failure::Read),
+        Err(ReadFault::OutOfMemory) => Err(Failure::NoMemory),
+    }
+}
+
+/// The step of the bytes of a sheet.
+fn sheet_step(alloc: Global, bytes: &[u8]) -> Result<Step, Failure>
+    ensures sheet { IfOk result (SheetGives bytes.now) }
+    ensures step { IfOk result IsStep }
+    ensures few { IfOk result (λ step. length step.people < 2 ^ 32) }
+    ensures failure { IfErr result (IsInputFailure step_answers bytes.now) }
+{
+    match read_sheet(alloc, bytes) {
+        Ok(step) => Ok(step),
+        Err(SheetError::Bad(fault)) => Err(sheet_failure(alloc, &fault)),
+        Err(SheetError::OutOfMemory) => Err(Failure::NoMemory),
+    }
+}
+
+/// The output of `step`: whom a step admits.
+fn list_of(alloc: Global, step: &Step) -> Result<Text, OutOfMemory>
+    requires step { IsStep step.now }
+    requires few { length step.now.people < 2 ^ 32 }
+    ensures { IfOk result (IsStepText step.now) }
+{
+    let chosen = choose(alloc, step)?;
+    step_text(
+        alloc,
+        step.seats,
+        step.people.len(),
+        chosen.admitted.as_slice(),
+        chosen.cert.pairs.as_slice(),
+    )
+}
+
+/// The failure that tells a fault of a sheet.
+fn sheet_failure(alloc: Global, fault: &SheetFault) -> Failure
+    ensures { TellsLine (fault_output fault.now) result }
+{
+    match fault_text(alloc, fault) {
+        Ok(line) => Failure::Bad(line),
+        Err(OutOfMemory) => Failure::NoMemory,
+    }
+}
+
+/// The failure that tells of too many bytes of a sheet.
+fn too_long(alloc: Global) -> Failure
+    ensures { (bytes : List ℕ) → most_sheet_bytes < length bytes → IsInputFailure step_answers bytes result }
+{
+    sheet_failure(
+        alloc,
+        &SheetFault {
+            line: 0,
+            kind: SheetKind::TooLong,
+        },
+    )
+}

@@ -1,0 +1,24 @@
+// Why a command that answers with one text has no output.
+ghost use Rattle.std.specs.Prelude.{◌≡◌};
+ghost use Rattle.allocation_cli.specs.declared.failure.Failure.TheVariants.{NoMemory};
+
+use office_base::{OutOfMemory, Text};
+
+/// Why a command has no output.
+#[derive(Debug, Drop)]
+pub enum Failure {
+    /// The source failed.
+    Read,
+    /// The input has a fault; this is the line that tells it.
+    Bad(Text),
+    /// There was no memory.
+    NoMemory,
+}
+
+impl From<OutOfMemory> for Failure {
+    ghost from_gives = { λ _ failure. failure ≡ NoMemory };
+
+    fn from(_: OutOfMemory) -> Self {
+        Failure::NoMemory
+    }
+}

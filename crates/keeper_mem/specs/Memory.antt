@@ -1,0 +1,23 @@
+-- The keepers in memory, as contracts see them.
+use Rattle.std.specs.Prelude.{ℕ, List, Option, Some, None}
+use Rattle.keeper_mem.specs.declared.rows.AnswerRow.{AnswerRow}
+use Rattle.keeper_mem.specs.declared.rows.AllotRow.{AllotRow}
+use Rattle.keeper_mem.specs.declared.rows.RaiseRow.{RaiseRow}
+use Rattle.keeper_mem.specs.Tables.{Tables, NoSeason, Records}
+
+-- the tables, and how many answers can be put without memory
+pub record Memory : Type 0 where
+  pub tables : Tables
+  pub spare : ℕ
+
+-- the tables of a season's text, or none, and its rows
+abbrev pub tables_of : Option (List ℕ) → List AnswerRow → List RaiseRow → List AllotRow → ℕ → Tables
+tables_of None answers raises allots cuts = NoSeason
+tables_of (Some text) answers raises allots cuts = Records (record { season = text; answers = answers; raises = raises; allots = allots; cuts = cuts })
+
+-- a keeper of which some calls fail: its memory, the calls so far, those that fail, and the faults
+pub record FailingMemory : Type 0 where
+  pub memory : Memory
+  pub calls : ℕ
+  pub fail_at : List ℕ
+  pub faults : ℕ

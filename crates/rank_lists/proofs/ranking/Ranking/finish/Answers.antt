@@ -1,8 +1,0 @@
-use Rattle.rank_lists.proofs.MadeLemmas.{made, made_sound}
-use Rattle.rank_lists.proofs.ranking.Ranking.finish.Goals as goal
-
-pub invariant_of-result : goal.invariant_of-result
-invariant_of-result c = made_sound c.requires.0 c.args.self _ c.requires.1 c.in_ok-in_order.ensures.all c.in_ok-in_order.ensures.ordered
-
-pub returns : goal.returns
-returns c = λ entries keeps. made entries c.args.self _ keeps c.in_ok-in_order.ensures.all c.in_ok-in_order.ensures.ordered

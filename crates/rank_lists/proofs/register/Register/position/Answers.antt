@@ -1,0 +1,29 @@
+use Rattle.std.proofs.Common.{ℕ, Ok, Err, Option, ap, ◌∙◌, rules}
+use Rattle.std.proofs.lemmas.List.Sorted.{answers_always}
+use Rattle.std.specs.Prelude.{slice_get}
+use Rattle.std.specs.Option.{option_and_then}
+use Rattle.rank_lists.specs.Register.{Ranks, row_of}
+use Rattle.rank_lists.proofs.MadeLemmas.{person_there, searched}
+use Rattle.rank_lists.proofs.register.Register.position.Goals as goal
+
+pub returns-in-Ok-clause-row : goal.returns-in-Ok-clause-row
+returns-in-Ok-clause-row c =
+    let facts = c.in-Ok.ensures in
+    let by_key = facts.position (λ person. person.id.0) (answers_always _ _ _ (λ f a r g called. search rules)) in
+    let found = searched c.self.inside.people.items c.args.id.0 (Ok c.in-Ok.at) c.self.invariant.rising (rw c.deref.ensures.value at facts.bound) (rw c.deref.ensures.value at by_key) in
+    found ∙ ap (λ (r : Ranks). row_of c.args.id.0 r.people) c.self.view_is
+
+pub returns-in-Err-clause-row : goal.returns-in-Err-clause-row
+returns-in-Err-clause-row c =
+    let facts = c.in-Err.ensures in
+    let by_key = facts.position (λ person. person.id.0) (answers_always _ _ _ (λ f a r g called. search rules)) in
+    let found = searched c.self.inside.people.items c.args.id.0 (Err c.in-Err.field-0) c.self.invariant.rising (rw c.deref.ensures.value at facts.bound) (rw c.deref.ensures.value at by_key) in
+    found ∙ ap (λ (r : Ranks). row_of c.args.id.0 r.people) c.self.view_is
+
+pub returns-in-Ok-clause-person : goal.returns-in-Ok-clause-person
+returns-in-Ok-clause-person c =
+    ap (λ (o : Option ℕ). option_and_then (λ at. slice_get c.args.self.now.people at) o) (returns-in-Ok-clause-row c) ∙ person_there c.args.self.now.people c.args.id.0
+
+pub returns-in-Err-clause-person : goal.returns-in-Err-clause-person
+returns-in-Err-clause-person c =
+    ap (λ (o : Option ℕ). option_and_then (λ at. slice_get c.args.self.now.people at) o) (returns-in-Err-clause-row c) ∙ person_there c.args.self.now.people c.args.id.0

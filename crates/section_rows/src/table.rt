@@ -1,0 +1,78 @@
+// The reader of tables: a header row, and then one row after another, up to the first fault.
+ghost use Rattle.std.specs.Prelude.{◌≡◌, [], List, IfOk, IfErr, OnOk};
+ghost use Rattle.office_text.specs.FirstFault.{IsFaultless};
+ghost use Rattle.section_rows.specs.Rows.{Row, rows_of, same_fields};
+ghost use Rattle.section_rows.specs.Table.{Reading, IsPut, IsTableFault, entries_of, table_judge};
+
+use crate::fault::TableFault;
+use crate::rows::Rows;
+use office_base::OutOfMemory;
+use std::alloc::Global;
+
+/// What a table is read into, one row after another.
+pub trait TableBuilder {
+    /// What can be wrong with a row.
+    type Kind;
+
+    /// What a row gives.
+    ghost Entry: { Type 0 };
+
+    /// The fields of the header.
+    ghost names: { Row };
+
+    /// The fault of a header that is missing or another one.
+    ghost bad: { Self.Kind };
+
+    /// What a row gives behind the entries of the rows before it, beside what the builder looks up.
+    ghost reading: { Self → Reading Entry Self.Kind };
+
+    /// The builder has these entries.
+    ghost keeps: { Self → List Entry → Type 0 };
+
+    /// Whether the row is the header.
+    fn is_header(row: &Rows<'_>) -> bool
+        ensures { result ≡ same_fields row.now.row names };
+
+    /// The fault of a header that is missing or another one.
+    fn bad_header() -> Self::Kind
+        ensures { result ≡ bad };
+
+    /// Puts in what a row gives, or tells the first of its faults. After a fault, and where there is no memory, the builder is
+    /// of no use any more.
+    fn put(&mut self, row: &Rows<'_>) -> Result<Option<Self::Kind>, OutOfMemory>
+        ensures put { IfOk result (λ fault. (entries : List Entry) → keeps self.old entries → IsPut (reading self.old entries row.now.row) entries (keeps self.new) fault) }
+        ensures same { OnOk result (reading self.new ≡ reading self.old) };
+}
+
+/// Reads the table that the body of a section spells into an empty builder, or tells the first fault by rows. After a fault
+/// the builder is of no use any more.
+pub fn read_table<B: TableBuilder>(
+    alloc: Global,
+    body: &[u8],
+    builder: &mut B,
+) -> Result<(), TableFault<B::Kind>>
+    requires { B.keeps builder.old [] }
+    ensures clean { OnOk result (IsFaultless (table_judge B.bad B.names (B.reading builder.old)) (rows_of body.now)) }
+    ensures entries { OnOk result (B.keeps builder.new (entries_of (B.reading builder.old) (rows_of body.now))) }
+    ensures fault { IfErr result (λ fault. IsTableFault (table_judge B.bad B.names (B.reading builder.old)) (rows_of body.now) fault) }
+{
+    let mut rows = Rows::new(alloc, body);
+    if !rows.advance()? || !B::is_header(&rows) {
+        return Err(TableFault::Bad {
+            row: 1,
+            kind: B::bad_header(),
+        });
+    }
+    let mut number: u32 = 1;
+    'rows: while rows.advance()? {
+        // no builder of the office takes so many rows without a fault
+        let Some(next) = number.checked_add(1) else {
+            return Err(TableFault::OutOfMemory);
+        };
+        number = next;
+        if let Some(kind) = builder.put(&rows)? {
+            return Err(TableFault::Bad { row: number, kind });
+        }
+    }
+    Ok(())
+}
