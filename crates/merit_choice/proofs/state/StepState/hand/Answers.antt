@@ -1,16 +1,11 @@
-use Rattle.std.proofs.Common.{◌≡◌, ◌≢◌, ◌≤◌, ◌<◌, ◌∙◌, ℕ, true, length, sym, ap, subst, arith}
-use Rattle.std.proofs.lemmas.Bool.{eqb-true, eqb-false}
+use Rattle.std.proofs.Common.{◌≡◌, ◌≢◌, ◌≤◌, ◌<◌, ◌∙◌, ℕ, Some, length, sym, ap, subst, arith}
 use Rattle.office_base.specs.StepChoice.{IsStepChoice}
-use Rattle.office_base.specs.declared.person.CandId.{CandId}
 use Rattle.merit_choice.specs.InMerit.{with_person}
 use Rattle.merit_choice.specs.Needed.{Tells}
-use Rattle.merit_choice.specs.State.{StepKept, step_with, IsAnswered}
-use Rattle.merit_choice.specs.declared.state.Offered.{Offered}
-use Rattle.merit_choice.specs.declared.state.Offered.TheVariants.{Displaced, Refused}
+use Rattle.merit_choice.specs.State.{HandsOn, StepKept, step_with}
 use Rattle.merit_choice.proofs.Offering.{comes, state_of, taken_choice, taken_fewer, taken_now, not_all_needed, has_left, left_now}
 use Rattle.merit_choice.proofs.Places.{zip_length}
-use Rattle.merit_choice.proofs.state.StepState.offer.Goals as goal
-use Rattle.merit_choice.proofs.state.StepState.offer.Goals.{then-eq, else-eq}
+use Rattle.merit_choice.proofs.state.StepState.hand.Goals as goal
 
 pub enter-requires-clause-marks_room : goal.enter-requires-clause-marks_room
 enter-requires-clause-marks_room c =
@@ -58,8 +53,8 @@ returns-then-len-from-clause-choice c =
     let room : length people ≤ state.seats = omega arith in
     subst (λ (s : StepKept). IsStepChoice (step_with s person) people) c.self.view_is (taken_choice state person kept people marks come room)
 
-pub returns-then-len-from-clause-answer : goal.returns-then-len-from-clause-answer
-returns-then-len-from-clause-answer c =
+pub returns-then-len-from-clause-hands_on : goal.returns-then-len-from-clause-hands_on
+returns-then-len-from-clause-hands_on c =
     let state = state_of c.self.inside.list c.self.inside.seats c.self.inside.matching.protections c.self.inside.held.items in
     let person = c.args.person.now in
     let kept = c.enter.new.matching in
@@ -155,8 +150,8 @@ returns-clause-choice c =
     let left = has_left state person kept people marks gone rest rest_marks come many c.leave-gone.ensures.left in
     subst (λ (s : StepKept). IsStepChoice (step_with s person) rest) c.self.view_is left.choice
 
-pub returns-clause-answer : goal.returns-clause-answer
-returns-clause-answer c =
+pub returns-clause-hands_on : goal.returns-clause-hands_on
+returns-clause-hands_on c =
     let state = state_of c.self.inside.list c.self.inside.seats c.self.inside.matching.protections c.self.inside.held.items in
     let person = c.args.person.now in
     let kept = c.enter.new.matching in
@@ -172,17 +167,7 @@ returns-clause-answer c =
     let rest_marks = c.leave-gone.new.marks.items in
     let left = has_left state person kept people marks gone rest rest_marks come many c.leave-gone.ensures.left in
     let after = state_of c.self.inside.list c.self.inside.seats kept.protections rest in
-    let answers : Offered → Type 0 = λ result. IsAnswered c.args.self.now person result after in
-    elim c.if-eq.branch [
-      | then-eq w ↦
-          let equal : c.eq.result ≡ true = w.if-eq.true in
-          let same : gone.id ≡ person.id = ap (λ (n : ℕ). let cand : CandId = record { 0 = n } in cand) (eqb-true gone.id.0 person.id.0 (sym c.eq.ensures ∙ equal)) in
-          subst answers (sym w.result-is) (subst (λ (s : StepKept). IsAnswered s person Refused after) c.self.view_is (left.full, left.refused same))
-      | else-eq w ↦
-          let apart : gone.id ≢ person.id = λ same. eqb-false gone.id.0 person.id.0 (sym c.eq.ensures ∙ w.if-eq.false) (ap (λ (cand : CandId). cand.0) same) in
-          let told = left.displaced apart in
-          subst answers (sym w.result-is) (subst (λ (s : StepKept). IsAnswered s person (Displaced gone.id) after) c.self.view_is (left.full, told.0, told.1))
-    ]
+    subst (λ (s : StepKept). HandsOn s person (Some gone) after) c.self.view_is (left.full, left.left.0, left.left.1)
 
 pub returns-clause-kept : goal.returns-clause-kept
 returns-clause-kept c =
