@@ -1,7 +1,7 @@
 -- What the matching tells of a person who comes, and what it makes of the needed and of the marks.
-use Rattle.std.proofs.Common.{◌≡◌, ◌≢◌, ◌<◌, ◌⊎◌, ℕ, Bool, true, false, Option, Some, None, List, [], ◌∷◌, ◌++◌, length, get_or, set, refl, sym, ap, ◌∙◌, subst, inl, inr}
+use Rattle.std.proofs.Common.{◌≡◌, ◌≢◌, ◌<◌, ◌⊎◌, ℕ, Bool, true, false, Some, None, List, [], ◌∷◌, ◌++◌, length, get_or, set, sym, ◌∙◌, subst, inl, inr}
 use Rattle.std.specs.Prelude.{IsSome}
-use Rattle.std.specs.List.{AllByRecursion, AllZip}
+use Rattle.std.specs.List.{AllByRecursion}
 use Rattle.office_base.specs.Lists.{AnyByRecursion}
 use Rattle.office_base.specs.Person.{IsBetter, number_in}
 use Rattle.office_base.specs.StepChoice.{AreRanked}
@@ -9,18 +9,18 @@ use Rattle.office_base.specs.declared.person.CandId.{CandId}
 use Rattle.office_base.specs.declared.person.ListId.{ListId}
 use Rattle.office_base.specs.declared.person.Person.{Person}
 use Rattle.office_base.specs.declared.step.Protections.{Protections}
-use Rattle.placements.specs.Ranks.{AreAmong, AreDistinct, CanBePlaced, without}
+use Rattle.placements.specs.Ranks.{AreDistinct, CanBePlaced, without}
 use Rattle.placements.proofs.Ranks.{any_all, any_append, among_again, among_back, among_front, among_itself, one_person, front_among_end, end_among_front, placed_end, placed_front}
 use Rattle.placements.proofs.Replace.{distinct_push}
-use Rattle.placements.proofs.Without.{without_among, without_apart, among_without, distinct_without}
+use Rattle.placements.proofs.Without.{without_among, without_apart, among_without}
 use Rattle.slot_matching.specs.Augmented.{CanReplace, IsWorstFor}
 use Rattle.slot_matching.specs.Kept.{Kept, MayJoin, with_member, without_member}
 use Rattle.merit_choice.specs.InMerit.{IsNewTo}
 use Rattle.merit_choice.specs.Laws.{IsAmong}
-use Rattle.merit_choice.specs.Needed.{AreNeeded, Tells}
+use Rattle.merit_choice.specs.Needed.{AreNeeded}
 use Rattle.merit_choice.specs.State.{IsMatched}
 use Rattle.merit_choice.proofs.Exchanged.{Replaces, needed_exchanged}
-use Rattle.merit_choice.proofs.InMerit.{all_among, not_ahead, ahead_again}
+use Rattle.merit_choice.proofs.InMerit.{all_among, ahead_again}
 use Rattle.merit_choice.proofs.Needed.{among_more, apart_some, nobody_of, other_number, needed_again, needed_joined, needed_kept}
 use Rattle.merit_choice.proofs.OneByOne.{has_number}
 use Rattle.merit_choice.proofs.Places.{among_at, told_again, told_without}

@@ -1,11 +1,11 @@
 -- The needed while people come one by one: a person joins them, takes the place of the worst whom the person can replace, or leaves them as they are;
 -- and the best of the others, with them, are the choice.
-use Rattle.std.proofs.Common.{◌≡◌, ◌≢◌, ◌≤◌, ◌<◌, ◌⊎◌, ℕ, suc, List, [], ◌∷◌, ◌++◌, length, refl, sym, ap, ◌∙◌, subst, inl, inr, arith}
+use Rattle.std.proofs.Common.{◌≡◌, ◌≢◌, ◌<◌, ◌⊎◌, ℕ, suc, List, [], ◌∷◌, length, refl, sym, ap, ◌∙◌, subst, inl, inr, arith}
 use Rattle.std.proofs.lemmas.Bool.{cases_lt}
 use Rattle.std.specs.List.{AllByRecursion}
-use Rattle.office_base.specs.Lists.{AnyByRecursion, IsSublist, Pairwise}
+use Rattle.office_base.specs.Lists.{AnyByRecursion}
 use Rattle.office_base.specs.Person.{IsBetter, number_in}
-use Rattle.office_base.specs.Placement.{IsHonoured, IsPlacement, Fills}
+use Rattle.office_base.specs.Placement.{IsHonoured}
 use Rattle.office_base.specs.StepChoice.{IsStep, IsStepChoice}
 use Rattle.office_base.specs.declared.person.CandId.{CandId}
 use Rattle.office_base.specs.declared.person.ListId.{ListId}
@@ -16,13 +16,13 @@ use Rattle.office_base.specs.declared.step.Step.{Step}
 use Rattle.placements.specs.Ranks.{AreAmong, AreDistinct, CanBePlaced, without}
 use Rattle.placements.proofs.Exchange.{Stands, all_weaker}
 use Rattle.placements.proofs.Greatest.{honoured-exists}
-use Rattle.placements.proofs.Ranks.{any_all, any_weaker, all_both, any_among, among_longer, among_itself, among_again, among_sublist, one_person, finds_person, everybody_stands, chosen_pairs, narrowed, no_more_than_people, no_more_than_pairs, monotone, exchange, extension, pairwise_sublist}
-use Rattle.placements.proofs.Without.{is_numbered, without_first, without_later, without_sublist, without_among, without_apart, among_without, length_without, distinct_without}
+use Rattle.placements.proofs.Ranks.{any_all, all_both, any_among, among_longer, among_itself, among_again, among_sublist, one_person, finds_person, everybody_stands, chosen_pairs, narrowed, no_more_than_people, no_more_than_pairs, monotone, exchange, extension}
+use Rattle.placements.proofs.Without.{is_numbered, without_first, without_later, without_among, without_apart, among_without, length_without, distinct_without}
 use Rattle.merit_choice.specs.Laws.{IsAmong}
 use Rattle.merit_choice.specs.Needed.{AreNeeded}
 use Rattle.merit_choice.proofs.ByHand.{honoured_placed, placed_nobody}
 use Rattle.merit_choice.proofs.InMerit.{not_ahead, ahead_again, are_among}
-use Rattle.merit_choice.proofs.OneByOne.{better_or_worse, has_number, one_too_many}
+use Rattle.merit_choice.proofs.OneByOne.{has_number, one_too_many}
 
 -- ---- who is who
 

@@ -1,18 +1,18 @@
 -- One person comes to a step: what it holds then.
-use Rattle.std.proofs.Common.{◌≡◌, ◌≢◌, ◌≤◌, ◌<◌, ◌⊎◌, ℕ, suc, sum, Bool, true, false, cond, List, [], ◌∷◌, length, get_or, refl, sym, ap, ◌∙◌, subst, inl, inr, arith, Some}
+use Rattle.std.proofs.Common.{◌≡◌, ◌≢◌, ◌≤◌, ◌<◌, ◌⊎◌, ℕ, zero, suc, sum, Bool, true, false, cond, List, [], ◌∷◌, ◌++◌, length, take, drop, refl, sym, ap, ◌∙◌, subst, inl, inr, arith, Some}
 use Rattle.std.specs.List.{AllByRecursion, AllZip, insert, remove}
-use Rattle.office_base.specs.Lists.{AnyByRecursion, IsSublist}
-use Rattle.office_base.specs.Person.{IsBetter}
+use Rattle.office_base.specs.Lists.{AnyByRecursion, IsSublist, Pairwise}
+use Rattle.office_base.specs.Person.{IsBetter, number_in}
 use Rattle.office_base.specs.StepChoice.{AreRanked, IsStep, IsStepChoice}
 use Rattle.office_base.specs.declared.person.ListId.{ListId}
 use Rattle.office_base.specs.declared.person.Person.{Person}
 use Rattle.office_base.specs.declared.step.Protections.{Protections}
 use Rattle.office_base.specs.declared.step.Step.{Step}
-use Rattle.placements.specs.Ranks.{AreAmong, AreDistinct, without}
-use Rattle.placements.proofs.Ranks.{among_itself, among_again}
-use Rattle.placements.proofs.Without.{without_first, without_later, without_none, without_sublist, without_among, among_without, length_without}
+use Rattle.placements.specs.Ranks.{AreAmong, AreDistinct, CanBePlaced, without}
+use Rattle.placements.proofs.Ranks.{any_all, among_itself, among_again, placed_end}
+use Rattle.placements.proofs.Without.{without_first, without_later, without_sublist, without_among, among_without, length_without}
 use Rattle.slot_matching.specs.Kept.{Kept}
-use Rattle.merit_choice.specs.Held.{IsLastFree, AreAllSet, IsLeft}
+use Rattle.merit_choice.specs.Held.{AreAllSet, IsLeft}
 use Rattle.merit_choice.specs.InMerit.{is_better, IsNewTo, with_person}
 use Rattle.merit_choice.specs.Laws.{IsAmong}
 use Rattle.merit_choice.specs.Needed.{AreNeeded, Tells}
@@ -20,8 +20,8 @@ use Rattle.merit_choice.specs.State.{HandsOn, IsAnswered, IsMatched, IsStepKept,
 use Rattle.merit_choice.specs.declared.state.Offered.TheVariants.{Displaced, Refused}
 use Rattle.merit_choice.proofs.ByHand.{honoured_placed}
 use Rattle.merit_choice.proofs.Filled.{honoured_within}
-use Rattle.merit_choice.proofs.InMerit.{among_with, with_among, with_any, are_among, length-with_person, ranked_with}
-use Rattle.merit_choice.proofs.Needed.{among_more, other_number, nobody_of, apart_of, needed_again, needed_choice, needed_left, placed_part}
+use Rattle.merit_choice.proofs.InMerit.{ahead_again, not_ahead, among_with, with_among, with_any, are_among, length-with_person, ranked_with}
+use Rattle.merit_choice.proofs.Needed.{among_more, other_number, nobody_of, apart_of, needed_again, needed_choice, needed_kept, needed_left, placed_part}
 use Rattle.merit_choice.proofs.OneByOne.{has_number, ranked_sublist, seats_for_all}
 use Rattle.merit_choice.proofs.Places.{among_at, zip_insert, zip_remove, zip_length, free_at, all_needed, last_is_worst, free_inside, remove-without}
 
@@ -177,6 +177,59 @@ hands_displaced state person gone after hands other =
       | inr theirs ↦ theirs
     ] in
     (hands.0, has_number gone state.held before, hands.2)
+
+-- a person after all whom the seats hold is left, where the person is not needed
+pub hands_itself : (state old : StepKept) (person : Person) (at : ℕ) → IsStepKept state → state ≡ old → IsNewTo old.list old.held person → at ≤ length state.held → at ≡ state.seats → HandsOn old person (Some person) old
+hands_itself state old person at ok same told inside full =
+    let few = ok.few in
+    let new : IsNewTo state.list state.held person = subst (λ (s : StepKept). IsNewTo s.list s.held person) (sym same) told in
+    let all : length state.held ≡ state.seats = omega arith in
+    subst (λ (s : StepKept). HandsOn s person (Some person) s) same (all, (among_with state.list person state.held).0, sym (without_with state person state.held new.distinct))
+
+-- ---- a person after all whom the seats hold
+
+-- what holds of each of some, with one more among them, holds of that one
+at_middle : {X : Type 0} (P : X → Type 0) (front back : List X) (x : X) → AllByRecursion P (front ++ x ∷ back) → P x
+at_middle P [] back x all = all.0
+at_middle P (y ∷ front) back x all = at_middle P front back x all.1
+
+-- one put in last is after all
+all_before : {X : Type 0} (R : X → X → Type 0) (xs : List X) (at : ℕ) (x : X) → length xs ≤ at → Pairwise R (insert xs at x) → AllByRecursion (λ y. R y x) xs
+all_before R [] at x past each = tt
+all_before R (y ∷ xs) zero x past each = absurd (omega arith)
+all_before R (y ∷ xs) (suc at) x past each = (at_middle (R y) (take at xs) (drop at xs) x each.0, all_before R xs at x (omega arith) each.1)
+
+-- Whoever comes after all whom the seats hold, and cannot be placed with the needed, is not chosen.
+pub refused_choice : (state old : StepKept) (person : Person) (kept : Kept) (marks : List Bool) (at : ℕ) → IsStepKept state → state ≡ old → IsNewTo old.list old.held person
+    → IsMatched state.list state.held marks kept → kept.protections ≡ state.protections → at ≤ length state.held → at ≡ state.seats
+    → insert state.held at person ≡ with_person state.list person state.held → ¬ CanBePlaced kept.protections (kept.members ++ person ∷ [])
+    → IsStepChoice (step_with old person) old.held
+refused_choice state old person kept marks at ok same told matched protections inside full place cannot =
+    let list = state.list in
+    let held = state.held in
+    let members = kept.members in
+    let all = with_person list person held in
+    let few = ok.few in
+    let new : IsNewTo list held person = subst (λ (s : StepKept). IsNewTo s.list s.held person) (sym same) told in
+    let distinct : AreDistinct (person ∷ held) = (new.distinct, ok.ranked.distinct) in
+    let is_step = come_step state person ok new in
+    let order : Pairwise (IsBetter list) (insert held at person) = subst (Pairwise (IsBetter list)) (sym place) is_step.people.in_order in
+    let better = all_before (IsBetter list) held at person (omega arith) order in
+    let above : (one : Person) → IsAmong one held → IsBetter list one person = λ one there.
+    (let found = any_all (λ other. one ≡ other) (λ other. IsBetter list other person) held there better in
+    subst (λ other. IsBetter list other person) (sym found.1) found.2) in
+    let needs = needed_kept list kept.protections held members person matched.needs (λ can. cannot (placed_end kept.protections person members can))
+    (λ one his worse can. not_ahead (number_in list person) (ahead_again (number_in list person) (number_in list one) (number_in list person) worse
+    (above one (among_more one members held matched.needs.among his)))) in
+    let needs_all : AreNeeded list kept.protections all members = needed_again list kept.protections (person ∷ held) all members members distinct (with_among list person held)
+    (among_again members (person ∷ held) all needs.among (among_with list person held)) (among_itself members) (among_itself members) matched.needs.distinct needs in
+    let needs_step : AreNeeded list state.protections all members = subst (λ (p : Protections). AreNeeded list p all members) protections needs_all in
+    let size = length-with_person list person held in
+    let choice = needed_choice (step_with state person) members person is_step needs_step (omega arith) (among_with list person held).0
+    (λ his. nobody_of person held new.distinct (among_more person members held matched.needs.among his))
+    (λ other there out. elim (with_any (λ one. other ≡ one) list person held there) [ inl equal ↦ inl equal | inr theirs ↦ inr (above other theirs) ]) in
+    let stays = subst (IsStepChoice (step_with state person)) (without_with state person held new.distinct) choice in
+    subst (λ (s : StepKept). IsStepChoice (step_with s person) s.held) same stays
 
 -- ---- told by the fields
 

@@ -1,5 +1,5 @@
 -- The places of people in merit order, and marks at places.
-use Rattle.std.proofs.Common.{◌≡◌, ◌≢◌, ◌≤◌, ◌<◌, ◌+◌, ◌-◌, ◌⊎◌, ℕ, zero, suc, Option, Bool, true, false, cond, List, [], ◌∷◌, ◌++◌, length, take, drop, get_or, set, take_all, append_assoc, refl, sym, ap, ◌∙◌, subst, inl, inr, arith}
+use Rattle.std.proofs.Common.{◌≡◌, ◌≢◌, ◌≤◌, ◌<◌, ◌⊎◌, ℕ, zero, suc, Option, Bool, true, false, cond, List, [], ◌∷◌, ◌++◌, length, take, drop, get_or, set, take_all, append_assoc, refl, sym, ap, ◌∙◌, subst, inl, inr, arith}
 use Rattle.std.specs.Prelude.{IsSome}
 use Rattle.std.specs.List.{AllByRecursion, AllZip, insert, remove}
 use Rattle.std.proofs.lemmas.Bool.{cases_Bool}

@@ -1,5 +1,5 @@
 -- What a step keeps while people come one at a time, and what comes of one of them.
-use Rattle.std.specs.Prelude.{◌≡◌, ◌≤◌, ◌<◌, ℕ, List, [], ◌∷◌, Bool, Option, Some, None, length, sum}
+use Rattle.std.specs.Prelude.{◌≡◌, ◌≤◌, ◌<◌, ℕ, List, Bool, Option, Some, None, length, sum}
 use Rattle.std.specs.List.{AllZip}
 use Rattle.office_base.specs.Lists.{AnyByRecursion, IsAmong}
 use Rattle.office_base.specs.Person.{IsList}

@@ -1,5 +1,6 @@
 // The choice of a step from people who come one at a time.
-ghost use Rattle.std.specs.Prelude.{◌≡◌, ◌≤◌, ◌<◌, [], ◌∷◌, sum, vec_len, vec_capacity, IfOk};
+ghost use Rattle.std.specs.Prelude.{◌≡◌, ◌≤◌, ◌<◌, [], ◌∷◌, length, sum, vec_len, vec_capacity, IfOk};
+ghost use Rattle.std.specs.List.{insert};
 ghost use Rattle.office_base.specs.Person.{IsList};
 ghost use Rattle.office_base.specs.StepChoice.{AreRanked, IsStepChoice};
 ghost use Rattle.placements.specs.Ranks.{CanBePlaced};
@@ -69,7 +70,8 @@ impl StepState {
     }
 
     /// Offers the person to the step, which then holds the choice from those whom it held and the person. So after any
-    /// offers it holds the choice from all who were offered. It takes no memory, and moves at most the seats.
+    /// offers it holds the choice from all who were offered. It takes no memory, and moves at most the seats;
+    /// a person after all whom it holds, who is not needed, costs a few comparisons.
     pub fn offer(&mut self, person: &Person) -> Offered
         requires { IsNewTo self.old.list self.old.held person.now }
         // the list, the seats and the protections stay
@@ -98,12 +100,18 @@ impl StepState {
         ensures hands_on { HandsOn self.old person.now result self.new }
         ensures kept { IsStepKept self.new }
     {
+        let at = place_for(self.held.as_slice(), person, self.list);
+        // after all whom the seats hold, and not needed
+        if at == usize::from(self.seats) && !self.matching.raises(person) {
+            return Some(*person);
+        }
         enter(
             &mut self.matching,
             &mut self.held,
             &mut self.marks,
             person,
             self.list,
+            at,
         );
         if self.held.len() <= usize::from(self.seats) {
             return None;
@@ -121,17 +129,20 @@ impl StepState {
     }
 }
 
-/// Puts a person at the merit place among those held, with a mark.
+/// Puts a person at this merit place among those held, with a mark.
 fn enter(
     matching: &mut Matching,
     held: &mut Vec<Person>,
     marks: &mut Vec<bool>,
     person: &Person,
     list: ListId,
+    at: usize,
 )
     requires list { IsList list }
     requires ranked { AreRanked list held.old.items }
     requires new { IsNewTo list held.old.items person.now }
+    requires within { at ≤ length held.old.items }
+    requires place { insert held.old.items at person.now ≡ with_person list person.now held.old.items }
     requires matched { IsMatched list held.old.items marks.old.items matching.old }
     requires room { vec_len held.old < vec_capacity held.old }
     requires marks_room { vec_len marks.old < vec_capacity marks.old }
@@ -141,7 +152,6 @@ fn enter(
     ensures room { vec_capacity held.old ≤ vec_capacity held.new }
     ensures marks_room { vec_capacity marks.old ≤ vec_capacity marks.new }
 {
-    let at = place_for(held.as_slice(), person, list);
     let needed = join(
         matching,
         held.as_slice(),

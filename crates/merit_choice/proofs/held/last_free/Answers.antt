@@ -1,4 +1,4 @@
-use Rattle.std.proofs.Common.{◌≡◌, ◌-◌, ◌∙◌, suc, true, false, inl, inr, arith}
+use Rattle.std.proofs.Common.{◌-◌, ◌∙◌, true, false, arith}
 use Rattle.std.proofs.lemmas.List.{get_or_default}
 use Rattle.merit_choice.proofs.held.last_free.Goals as goal
 

@@ -1,4 +1,4 @@
-use Rattle.std.proofs.Common.{length, arith}
+use Rattle.std.proofs.Common.{arith}
 use Rattle.std.proofs.lemmas.Bool.{both_ways}
 use Rattle.merit_choice.specs.Needed.{Tells}
 use Rattle.merit_choice.proofs.Joining.{may_join, joined_worse, joined_exchanged, worst_member, worst_held}

@@ -1,9 +1,13 @@
-use Rattle.std.proofs.Common.{◌≡◌, ◌≢◌, ◌≤◌, ◌<◌, ◌∙◌, ℕ, Some, length, sym, ap, subst, arith}
+use Rattle.std.proofs.Common.{◌≡◌, ◌≢◌, ◌≤◌, ◌<◌, ◌∙◌, ℕ, Some, List, length, refl, sym, ap, subst, arith}
+use Rattle.std.specs.List.{insert}
+use Rattle.std.proofs.lemmas.Bool.{both_ways}
 use Rattle.office_base.specs.StepChoice.{IsStepChoice}
-use Rattle.merit_choice.specs.InMerit.{with_person}
+use Rattle.office_base.specs.declared.person.Person.{Person}
+use Rattle.merit_choice.specs.InMerit.{IsNewTo, with_person}
 use Rattle.merit_choice.specs.Needed.{Tells}
 use Rattle.merit_choice.specs.State.{HandsOn, StepKept, step_with}
-use Rattle.merit_choice.proofs.Offering.{comes, state_of, taken_choice, taken_fewer, taken_now, not_all_needed, has_left, left_now}
+use Rattle.merit_choice.proofs.Offering.{comes, state_of, taken_choice, taken_fewer, taken_now, not_all_needed, has_left, left_now, refused_choice, hands_itself}
+use Rattle.merit_choice.proofs.Joining.{may_join}
 use Rattle.merit_choice.proofs.Places.{zip_length}
 use Rattle.merit_choice.proofs.state.StepState.hand.Goals as goal
 
@@ -13,6 +17,37 @@ enter-requires-clause-marks_room c =
     let few = c.self.invariant.is_kept.few in
     let room = c.self.invariant.marks_room in
     omega arith
+
+-- ---- the person comes after all, and is not needed
+
+pub raises-requires : goal.raises-requires
+raises-requires c =
+    let old = c.args.self.now in
+    let person = c.args.person.now in
+    let state = state_of c.self.inside.list c.self.inside.seats c.self.inside.matching.protections c.self.inside.held.items in
+    let same : state ≡ old = c.self.view_is in
+    may_join c.self.inside.list c.self.inside.held.items c.self.inside.marks.items c.self.inside.matching person
+    (subst (λ (s : StepKept). IsNewTo s.list s.held person) (sym same) c.requires) c.self.invariant.matched
+
+pub returns-then-not-raises-clause-choice : goal.returns-then-not-raises-clause-choice
+returns-then-not-raises-clause-choice c =
+    let person = c.args.person.now in
+    let held = c.self.inside.held.items in
+    let at = c.place_for-at.result in
+    let state = state_of c.self.inside.list c.self.inside.seats c.self.inside.matching.protections held in
+    let place : insert held at person ≡ with_person c.self.inside.list person held =
+    subst (λ (people : List Person). insert people at person ≡ with_person c.self.inside.list person people) c.as_slice.ensures.value c.place_for-at.ensures.place in
+    let within = c.place_for-at.ensures.within in
+    let here = ap length c.as_slice.ensures.value in
+    refused_choice state c.args.self.now person c.self.inside.matching c.self.inside.marks.items at c.self.invariant.is_kept c.self.view_is c.requires c.self.invariant.matched refl
+    (omega arith) (c.if-at-from.true ∙ c.from.ensures) place (λ can. both_ways c.raises.result c.if-not-raises.true (c.raises.ensures.1 can))
+
+pub returns-then-not-raises-clause-hands_on : goal.returns-then-not-raises-clause-hands_on
+returns-then-not-raises-clause-hands_on c =
+    let state = state_of c.self.inside.list c.self.inside.seats c.self.inside.matching.protections c.self.inside.held.items in
+    let within = c.place_for-at.ensures.within in
+    let here = ap length c.as_slice.ensures.value in
+    hands_itself state c.args.self.now c.args.person.now c.place_for-at.result c.self.invariant.is_kept c.self.view_is c.requires (omega arith) (c.if-at-from.true ∙ c.from.ensures)
 
 -- ---- a seat is free
 
