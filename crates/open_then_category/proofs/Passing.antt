@@ -13,7 +13,7 @@ use Rattle.office_base.specs.declared.person.ListId.{ListId}
 use Rattle.office_base.specs.declared.person.Person.{Person}
 use Rattle.office_base.specs.declared.step.StepKind.{StepKind}
 use Rattle.office_base.specs.declared.step.StepKind.TheVariants.{Open, Ews as EwsStep, Obc as ObcStep, Sc as ScStep, St as StStep, Dereserved}
-use Rattle.office_base.proofs.Sublists.{IsSublist-take}
+use Rattle.placements.proofs.Sublists.{IsSublist-take}
 use Rattle.placements.specs.Ranks.{AreAmong, AreDistinct}
 use Rattle.placements.specs.Ranks as words
 use Rattle.placements.proofs.Ranks.{among_again, among_itself, among_sublist, any_all, any_among}
@@ -53,11 +53,11 @@ none_passing test (Some person) fails = cond-false (test person) (Some person) N
 
 -- ---- sets of people
 
-from_each : (some all : List Person) → ((person : Person) → IsAmong person some → IsAmong person all) → AreAmong some all
+pub from_each : (some all : List Person) → ((person : Person) → IsAmong person some → IsAmong person all) → AreAmong some all
 from_each [] all each = tt
 from_each (person ∷ some) all each = (each person (inl refl), from_each some all (λ other here. each other (inr here)))
 
-widen : (person : Person) (some all : List Person) → AreAmong some all → IsAmong person some → IsAmong person all
+pub widen : (person : Person) (some all : List Person) → AreAmong some all → IsAmong person some → IsAmong person all
 widen person some all within here = any_among (λ one. person ≡ one) some all within here
 
 -- nobody of distinct people without one of a number is that one
@@ -67,7 +67,7 @@ gone_apart leaver people distinct here =
     found.2 (ap (λ (p : Person). p.id) found.1)
 
 -- one of the people has another number than another of them, where keys differ in pairs
-key_apart : {K : Type 0} (key : Person → K) (all : List Person) (a b : Person) → Pairwise (λ x y. key x ≢ key y) all → IsAmong a all → IsAmong b all → (a ≡ b → ⊥) → key a ≢ key b
+pub key_apart : {K : Type 0} (key : Person → K) (all : List Person) (a b : Person) → Pairwise (λ x y. key x ≢ key y) all → IsAmong a all → IsAmong b all → (a ≡ b → ⊥) → key a ≢ key b
 key_apart key [] a b pairs in_a in_b differ = absurd in_a
 key_apart key (person ∷ all) a b pairs in_a in_b differ = elim in_a [
   | inl a_here ↦ elim in_b [
@@ -173,6 +173,16 @@ passed_choice test list seats old (Some person) leaver new p = by (test person) 
     by true h = h.choice
     by false h = h.1
 
+-- what each step does in its turn, and the people who are left after the open step and after all categories
+pub record Course (version : ℕ) (seats : ProgrammeSeats) (people more : List Person) (before after : Admissions) (person : Person) (offered : IsOffered version seats before person after) : Type 0 where
+  pub open_passes : Passes before.open_step (Some person) offered.left_by_open after.open_step
+  pub ews_passes : Passes before.ews offered.left_by_open offered.left_by_ews after.ews
+  pub obc_passes : Passes before.obc offered.left_by_ews offered.left_by_obc after.obc
+  pub sc_passes : Passes before.sc offered.left_by_obc offered.left_by_sc after.sc
+  pub st_passes : Passes before.st offered.left_by_sc offered.left_by_st after.st
+  pub rest : Joins seats.list (rest_of people before) (rest_of more after) offered.left_by_open
+  pub last : Joins seats.list (left_over people before) (left_over more after) offered.left_by_st
+
 module _ (laws : AreLawful) where
   -- ranked people who are the same persons are one list
   ranked_same : (list : ListId) (some others : List Person) → AreRanked list some → AreRanked list others → AreAmong some others → AreAmong others some → some ≡ others
@@ -228,9 +238,9 @@ module _ (laws : AreLawful) where
           | inr left ↦ (let same : leaver ≡ other = cc left in back_to other (subst (λ (one : Person). IsAmong one joined) same hands.0))
         ];
         out = λ other e held. (
-          let same : leaver ≡ other = cc e in
-          gone_apart leaver joined with_one.0.distinct (subst (IsAmong leaver) hands.1 (subst (λ (one : Person). IsAmong one new) (sym same) held))
-        );
+            let same : leaver ≡ other = cc e in
+            gone_apart leaver joined with_one.0.distinct (subst (IsAmong leaver) hands.1 (subst (λ (one : Person). IsAmong one new) (sym same) held))
+            );
       }
 
   -- and so it is of each step, whether it was offered or not
@@ -343,9 +353,10 @@ module _ (laws : AreLawful) where
         | Dereserved ↦ λ there. there
       ] found.1))
 
-  pub ranked_offer : (version : ℕ) (seats : ProgrammeSeats) (people more : List Person) (before after : Admissions) (person : Person) → AreProgrammeSeats seats → Joins seats.list people more (Some person)
-      → AreAmong people (everybody before) → IsProgrammeChoice version seats people before → IsOffered version seats before person after → IsProgrammeChoice version seats more after
-  ranked_offer version seats people more before after person ok j all choice offered =
+  -- what each step does in its turn, and the people who are left after it
+  pub course : (version : ℕ) (seats : ProgrammeSeats) (people more : List Person) (before after : Admissions) (person : Person) → Joins seats.list people more (Some person)
+      → IsProgrammeChoice version seats people before → (offered : IsOffered version seats before person after) → Course version seats people more before after person offered
+  course version seats people more before after person j choice offered =
       let list = seats.list in
       let open_sub = sublist_again before.open_step (filter (is_common list) people) people choice.open_step.may.people (filter-sublist (is_common list) people) in
       let open_passes = passes (is_common list) list (seats_of seats Open) people more before.open_step after.open_step (Some person) offered.left_by_open j (among_sublist before.open_step people open_sub)
@@ -376,6 +387,40 @@ module _ (laws : AreLawful) where
       let st_passes = passes (is_of St) list (seats_of seats StStep) old3 new3 before.st after.st offered.left_by_sc offered.left_by_st rest3 (among_sublist before.st old3 st_sub)
       (ranked_sublist list before.st old3 rest3.ranked st_sub) offered.st in
       let rest4 = without_joins list old3 new3 before.st after.st offered.left_by_sc offered.left_by_st rest3 (among_sublist before.st old3 st_sub) st_passes in
+      record {
+        open_passes = open_passes;
+        ews_passes = ews_passes;
+        obc_passes = obc_passes;
+        sc_passes = sc_passes;
+        st_passes = st_passes;
+        rest = rest;
+        last = rest4;
+      }
+
+  -- whoever comes to the de-reserved step joins those it has
+  pub last_joins : (version : ℕ) (seats : ProgrammeSeats) (people more : List Person) (before after : Admissions) (person : Person) → Joins seats.list people more (Some person)
+      → AreAmong people (everybody before) → IsProgrammeChoice version seats people before → (offered : IsOffered version seats before person after) → Course version seats people more before after person offered
+      → Joins seats.list before.dereserved (entered seats.list before.dereserved (passing (is_common seats.list) offered.left_by_st)) (passing (is_common seats.list) offered.left_by_st)
+  last_joins version seats people more before after person j all choice offered course =
+      let list = seats.list in
+      let coming = passing (is_common list) offered.left_by_st in
+      let joined = filter_joins list (is_common list) (left_over people before) (left_over more after) offered.left_by_st course.last in
+      let whole = last_whole version seats people before j.ranked all choice in
+      let there : Joins list before.dereserved (people_of list more after Dereserved) coming = subst (λ (some : List Person). Joins list some (people_of list more after Dereserved) coming) (sym whole) joined in
+      subst (λ (some : List Person). Joins list before.dereserved some coming) (joined_people list before.dereserved (people_of list more after Dereserved) coming there) there
+
+  pub ranked_offer : (version : ℕ) (seats : ProgrammeSeats) (people more : List Person) (before after : Admissions) (person : Person) → AreProgrammeSeats seats → Joins seats.list people more (Some person)
+      → AreAmong people (everybody before) → IsProgrammeChoice version seats people before → IsOffered version seats before person after → IsProgrammeChoice version seats more after
+  ranked_offer version seats people more before after person ok j all choice offered =
+      let list = seats.list in
+      let way = course version seats people more before after person j choice offered in
+      let rest = way.rest in
+      let rest4 = way.last in
+      let ews_passes = way.ews_passes in
+      let obc_passes = way.obc_passes in
+      let sc_passes = way.sc_passes in
+      let old = rest_of people before in
+      let new = rest_of more after in
       let to_obc : passing (is_of Obc) offered.left_by_ews ≡ passing (is_of Obc) offered.left_by_open =
       passing_later Ews Obc list (seats_of seats EwsStep) old before.ews after.ews offered.left_by_open offered.left_by_ews (λ e. cc e) choice.ews.may.people ews_passes offered.ews in
       let to_sc : passing (is_of Sc) offered.left_by_obc ≡ passing (is_of Sc) offered.left_by_open =
@@ -411,14 +456,13 @@ module _ (laws : AreLawful) where
         dereserved = offered.dereserved ∙ ap (λ (some : List Person). take (unfilled version seats after) some) (sym last);
       }
 
-  pub offers_keep_choices : OffersKeepChoices
-  offers_keep_choices version seats before after person ok may choice offered =
-      let list = seats.list in
-      let held = everybody before in
+  -- one applicant more, by merit
+  pub starts : (list : ListId) (held : List Person) (person : Person) → AreApplicants list (person ∷ held) → Joins list (in_merit list held) (in_merit list (person ∷ held)) (Some person)
+  starts list held person may =
       let ranks = laws.in_merit_ranks list (person ∷ held) may in
       let held_may = laws.part_can_be_ranked list held (person ∷ held) may.distinct.1 may (from_each held (person ∷ held) (λ other here. inr here)) in
       let held_ranks = laws.in_merit_ranks list held held_may in
-      let j : Joins list (in_merit list held) (in_merit list (person ∷ held)) (Some person) = record {
+      record {
         ranked = held_ranks.0;
         more_ranked = ranks.0;
         part = from_each (in_merit list held) (in_merit list (person ∷ held)) (λ other here. widen other (person ∷ held) (in_merit list (person ∷ held)) ranks.1 (inr (widen other (in_merit list held) held held_ranks.2 here)));
@@ -428,10 +472,18 @@ module _ (laws : AreLawful) where
           | inr there ↦ inl (widen other held (in_merit list held) held_ranks.1 there)
         ];
         fresh = λ other e here. (
-          let is : person ≡ other = cc e in
-          let there = widen other (in_merit list held) held held_ranks.2 here in
-          let found = any_all (λ one. other ≡ one) (λ one. person.id ≢ one.id) held there may.distinct.0 in
-          found.2 (ap (λ (p : Person). p.id) (is ∙ found.1))
-        );
-      } in
+            let is : person ≡ other = cc e in
+            let there = widen other (in_merit list held) held held_ranks.2 here in
+            let found = any_all (λ one. other ≡ one) (λ one. person.id ≢ one.id) held there may.distinct.0 in
+            found.2 (ap (λ (p : Person). p.id) (is ∙ found.1))
+            );
+      }
+
+  pub offers_keep_choices : OffersKeepChoices
+  offers_keep_choices version seats before after person ok may choice offered =
+      let list = seats.list in
+      let held = everybody before in
+      let held_may = laws.part_can_be_ranked list held (person ∷ held) may.distinct.1 may (from_each held (person ∷ held) (λ other here. inr here)) in
+      let held_ranks = laws.in_merit_ranks list held held_may in
+      let j = starts list held person may in
       ranked_offer version seats (in_merit list held) (in_merit list (person ∷ held)) before after person ok j held_ranks.2 choice offered

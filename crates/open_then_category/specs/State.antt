@@ -1,5 +1,5 @@
 -- What a programme keeps while applicants come one at a time, and what comes of one of them.
-use Rattle.std.specs.Prelude.{◌≡◌, ◌∷◌, ℕ, Bool, true, false, List, Option, Some, None, take, if◌then◌else◌}
+use Rattle.std.specs.Prelude.{◌≡◌, ◌↔◌, [], ◌∷◌, ℕ, Bool, true, false, List, Option, Some, None, slice_get, take, if◌then◌else◌}
 use Rattle.office_base.specs.Lists.{IsAmong}
 use Rattle.office_base.specs.Merit.{with_person}
 use Rattle.office_base.specs.StepChoice.{IsStepChoice}
@@ -29,7 +29,27 @@ pub record IsProgrammeKept (state : ProgrammeKept) : Type 0 where
   pub may : AreApplicants state.seats.list (everybody state.admissions)
   pub choice : ChoosesFrom state.version state.seats (everybody state.admissions) state.admissions
 
+-- nobody is admitted by any step
+abbrev pub nobody : Admissions
+nobody = record { open_step = []; ews = []; obc = []; sc = []; st = []; dereserved = [] }
+
+-- Whoever is left without a seat after a person came: nobody, so that all are held, or one of those held or the person, and all others are held.
+abbrev pub LeavesOut : Admissions → Person → Option Person → Admissions → Type 0
+LeavesOut before person None after = (other : Person) → IsAmong other (everybody after) ↔ IsAmong other (person ∷ everybody before)
+LeavesOut before person (Some gone) after = IsAmong gone (person ∷ everybody before)
+    × ((other : Person) → IsAmong other (everybody after) ↔ (IsAmong other (person ∷ everybody before) × (other ≡ gone → ⊥)))
+
 -- ---- within
+
+-- one where somebody comes
+abbrev pub count : Option Person → ℕ
+count None = 0
+count (Some person) = 1
+
+-- whoever is left where one is too many: whoever has no common place, or the last
+abbrev pub left_last : ℕ → ListId → List Person → Option Person → Option Person
+left_last seats list people None = slice_get people seats
+left_last seats list people (Some person) = if is_common list person then slice_get (with_person list person people) seats else Some person
 
 -- whoever came is held where nobody left; else one of those held or the one who came left
 abbrev pub HandsOn : ListId → List Person → Person → Option Person → List Person → Type 0
@@ -80,3 +100,9 @@ pub record IsOffered (version : ℕ) (seats : ProgrammeSeats) (before : Admissio
 abbrev pub OffersKeepChoices : Type 0
 OffersKeepChoices = (version : ℕ) (seats : ProgrammeSeats) (before after : Admissions) (person : Person) → AreProgrammeSeats seats → AreApplicants seats.list (person ∷ everybody before)
     → ChoosesFrom version seats (everybody before) before → IsOffered version seats before person after → ChoosesFrom version seats (person ∷ everybody before) after
+
+-- At most one is left without a seat by an offer, and all others are held.
+abbrev pub OffersLeaveOne : Type 0
+OffersLeaveOne = (version : ℕ) (seats : ProgrammeSeats) (before after : Admissions) (person : Person) → AreProgrammeSeats seats → AreApplicants seats.list (person ∷ everybody before)
+    → ChoosesFrom version seats (everybody before) before → (offered : IsOffered version seats before person after)
+    → LeavesOut before person (left_last (unfilled version seats after) seats.list before.dereserved offered.left_by_st) after

@@ -1,6 +1,6 @@
 // The laws of the choice of a programme, over its definition alone. Each is the contract of a function that does nothing.
 ghost use Rattle.open_then_category.specs.Laws.{OneProgrammeChoice, ProgrammeChoiceExists, RefusedFromMore, UnfilledFalls, NoFewerAdmitted, LeavingOutTheRefused, EachRefusedAllRefused, AdmittedOnce, OneStep, SlotsAreTraits, MoreSeatsKeepAll, RefusedBefore, Resumes, ChosenWell, GrowsWithSeats};
-ghost use Rattle.open_then_category.specs.State.{OffersKeepChoices};
+ghost use Rattle.open_then_category.specs.State.{OffersKeepChoices, OffersLeaveOne};
 ghost use Rattle.open_then_category.specs.StepLaws.{AreLawful};
 
 /// The laws of the choice of a step and of the merit order on which these rest.
@@ -20,6 +20,7 @@ fn step_laws()
     merit_choice::laws::one_merit_order();
     merit_choice::laws::ranked_in_merit();
     merit_choice::laws::with_person_ranks();
+    merit_choice::laws::seats_for_all();
 }
 
 /// A programme has at most one choice.
@@ -134,6 +135,13 @@ pub fn grows_with_seats()
 /// whom they admitted and the person.
 pub fn offers_keep_choices()
     ensures { OffersKeepChoices }
+{
+    step_laws();
+}
+
+/// At most one is left without a seat then: one of those whom the steps admitted, or the person. All others are admitted.
+pub fn offers_leave_one()
+    ensures { OffersLeaveOne }
 {
     step_laws();
 }

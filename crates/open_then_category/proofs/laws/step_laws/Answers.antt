@@ -15,4 +15,5 @@ returns c = record {
   one_merit_order = c.one_merit_order.ensures;
   ranked_in_merit = c.ranked_in_merit.ensures;
   with_person_ranks = c.with_person_ranks.ensures;
+  seats_for_all = c.seats_for_all.ensures;
 }
