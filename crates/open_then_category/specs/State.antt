@@ -1,6 +1,6 @@
 -- What a programme keeps while applicants come one at a time, and what comes of one of them.
-use Rattle.std.specs.Prelude.{◌≡◌, ◌↔◌, [], ◌∷◌, ℕ, Bool, true, false, List, Option, Some, None, slice_get, take, if◌then◌else◌}
-use Rattle.office_base.specs.Lists.{IsAmong}
+use Rattle.std.specs.Prelude.{◌≡◌, ◌<◌, ◌+◌, ◌↔◌, [], ◌∷◌, ℕ, Bool, true, false, List, Option, Some, None, slice_get, take, if◌then◌else◌}
+use Rattle.office_base.specs.Lists.{AnyByRecursion, IsAmong}
 use Rattle.office_base.specs.Merit.{with_person}
 use Rattle.office_base.specs.StepChoice.{IsStepChoice}
 use Rattle.office_base.specs.Version.{IsVersion}
@@ -9,6 +9,10 @@ use Rattle.office_base.specs.declared.person.ListId.{ListId}
 use Rattle.office_base.specs.declared.person.Person.{Person}
 use Rattle.office_base.specs.Person.{is_common}
 use Rattle.placements.specs.Ranks.{without}
+use Rattle.office_base.specs.declared.step.StepKind.{StepKind}
+use Rattle.merit_choice.specs.State.{StepKept}
+use Rattle.merit_choice.specs.declared.state.Offered.{Offered}
+use Rattle.merit_choice.specs.declared.state.Offered.TheVariants.{Taken, Displaced, Refused}
 use Rattle.office_base.specs.declared.step.StepKind.TheVariants.{Open, Ews as EwsStep, Obc as ObcStep, Sc as ScStep, St as StStep}
 use Rattle.seat_matrix.specs.Seats.{AreProgrammeSeats, seats_of}
 use Rattle.seat_matrix.specs.declared.seats.ProgrammeSeats.{ProgrammeSeats}
@@ -33,11 +37,32 @@ pub record IsProgrammeKept (state : ProgrammeKept) : Type 0 where
 abbrev pub nobody : Admissions
 nobody = record { open_step = []; ews = []; obc = []; sc = []; st = []; dereserved = [] }
 
+-- what a step keeps for a programme
+abbrev pub step_kept : ProgrammeSeats → StepKind → List Person → StepKept
+step_kept seats kind held = record { list = seats.list; seats = (seats_of seats kind).seats; protections = (seats_of seats kind).protections; held = held }
+
+-- Each step keeps its own, and there is room for all who may hold de-reserved seats and one more.
+pub record IsStateKept (state : ProgrammeKept) (open_step ews obc sc st : StepKept) (size : ℕ) : Type 0 where
+  pub kept : IsProgrammeKept state
+  pub of_open : open_step ≡ step_kept state.seats Open state.admissions.open_step
+  pub of_ews : ews ≡ step_kept state.seats EwsStep state.admissions.ews
+  pub of_obc : obc ≡ step_kept state.seats ObcStep state.admissions.obc
+  pub of_sc : sc ≡ step_kept state.seats ScStep state.admissions.sc
+  pub of_st : st ≡ step_kept state.seats StStep state.admissions.st
+  pub room : (seats_of state.seats EwsStep).seats + (seats_of state.seats ObcStep).seats < size
+
 -- Whoever is left without a seat after a person came: nobody, so that all are held, or one of those held or the person, and all others are held.
 abbrev pub LeavesOut : Admissions → Person → Option Person → Admissions → Type 0
 LeavesOut before person None after = (other : Person) → IsAmong other (everybody after) ↔ IsAmong other (person ∷ everybody before)
 LeavesOut before person (Some gone) after = IsAmong gone (person ∷ everybody before)
     × ((other : Person) → IsAmong other (everybody after) ↔ (IsAmong other (person ∷ everybody before) × (other ≡ gone → ⊥)))
+
+-- What comes of a person who is offered: all are held then; or one of those held has left; or all is as it was.
+abbrev pub IsAnswered : ProgrammeKept → Person → Offered → ProgrammeKept → Type 0
+IsAnswered before person Taken after = (other : Person) → IsAmong other (everybody after.admissions) ↔ IsAmong other (person ∷ everybody before.admissions)
+IsAnswered before person (Displaced cand) after = AnyByRecursion (λ one. one.id ≡ cand) (everybody before.admissions)
+    × ((other : Person) → IsAmong other (everybody after.admissions) ↔ (IsAmong other (person ∷ everybody before.admissions) × (other.id ≡ cand → ⊥)))
+IsAnswered before person Refused after = after ≡ before
 
 -- ---- within
 

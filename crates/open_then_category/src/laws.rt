@@ -4,7 +4,7 @@ ghost use Rattle.open_then_category.specs.State.{OffersKeepChoices, OffersLeaveO
 ghost use Rattle.open_then_category.specs.StepLaws.{AreLawful};
 
 /// The laws of the choice of a step and of the merit order on which these rest.
-fn step_laws()
+pub(crate) fn step_laws()
     ensures { AreLawful }
 {
     merit_choice::laws::choice_exists();

@@ -10,6 +10,9 @@ pub mod choice;
 mod filters;
 pub mod laws;
 mod order;
+pub mod state;
 
 pub use choice::programme_choice;
+pub use merit_choice::Offered;
 pub use programme_lists::{Programme, ProgrammeSeats, Seating, Seatings, StepList};
+pub use state::ProgrammeState;
