@@ -29,7 +29,7 @@ use Rattle.open_then_category.proofs.Passing.{Course, Joins, course, from_each, 
 
 -- ---- lengths
 
-length_with : (list : ListId) (person : Person) (people : List Person) → length (with_person list person people) ≡ suc (length people)
+pub length_with : (list : ListId) (person : Person) (people : List Person) → length (with_person list person people) ≡ suc (length people)
 length_with list person [] = refl
 length_with list person (other ∷ people) =
     elim (is_better list person other) as (λ b. length (cond b (person ∷ other ∷ people) (other ∷ with_person list person people)) ≡ suc (suc (length people))) [
@@ -37,7 +37,7 @@ length_with list person (other ∷ people) =
       | false ↦ ap suc (length_with list person people)
     ]
 
-has_number : (person : Person) (people : List Person) → IsAmong person people → AnyByRecursion (λ (member : Person). member.id ≡ person.id) people
+pub has_number : (person : Person) (people : List Person) → IsAmong person people → AnyByRecursion (λ (member : Person). member.id ≡ person.id) people
 has_number person [] there = absurd there
 has_number person (other ∷ people) there = elim there [ inl here ↦ inl (ap (λ (p : Person). p.id) (sym here)) | inr later ↦ inr (has_number person people later) ]
 
@@ -49,7 +49,7 @@ handed_size list before person (Some leaver) after hands =
     omega (arith, size, whole, length_with list person before)
 
 -- those held and whoever goes are as many as those held before and whoever comes
-passed_size : (test : Person → Bool) (list : ListId) (seats : Seating) (before : List Person) (coming leaver : Option Person) (after : List Person) → IsPassed test list seats before coming leaver after
+pub passed_size : (test : Person → Bool) (list : ListId) (seats : Seating) (before : List Person) (coming leaver : Option Person) (after : List Person) → IsPassed test list seats before coming leaver after
     → length after + count leaver ≡ length before + count coming
 passed_size test list seats before None leaver after p = let size = ap length p.1 in let none = ap count p.0 in omega arith
 passed_size test list seats before (Some person) leaver after p = by (test person) p
@@ -59,14 +59,14 @@ passed_size test list seats before (Some person) leaver after p = by (test perso
     by false h = let size = ap length h.1 in let one = ap count h.0 in omega arith
 
 -- nobody goes where nobody comes
-passed_count : (test : Person → Bool) (list : ListId) (seats : Seating) (before : List Person) (coming leaver : Option Person) (after : List Person) → IsPassed test list seats before coming leaver after
+pub passed_count : (test : Person → Bool) (list : ListId) (seats : Seating) (before : List Person) (coming leaver : Option Person) (after : List Person) → IsPassed test list seats before coming leaver after
     → count leaver ≤ count coming
 passed_count test list seats before None leaver after p = let none = ap count p.0 in omega arith
 passed_count test list seats before (Some person) None after p = omega arith
 passed_count test list seats before (Some person) (Some leaver) after p = omega arith
 
 -- the seats that are left to the de-reserved step fall by at most one, and by none where somebody comes there
-falls_by_one : (b : Bool) (ews_seats ews ews_now obc_seats obc obc_now c0 c1 c2 c4 held : ℕ) → ews_now + c1 ≡ ews + c0 → obc_now + c2 ≡ obc + c1 → c0 ≤ 1 → c1 ≤ c0 → c2 ≤ c1 → c4 ≤ c2
+pub falls_by_one : (b : Bool) (ews_seats ews ews_now obc_seats obc obc_now c0 c1 c2 c4 held : ℕ) → ews_now + c1 ≡ ews + c0 → obc_now + c2 ≡ obc + c1 → c0 ≤ 1 → c1 ≤ c0 → c2 ≤ c1 → c4 ≤ c2
     → ews ≤ ews_seats → ews_now ≤ ews_seats → obc ≤ obc_seats → obc_now ≤ obc_seats
     → held ≤ (obc_seats - obc) + cond b (ews_seats - ews) 0 → held + c4 ≤ ((obc_seats - obc_now) + cond b (ews_seats - ews_now) 0) + 1
 falls_by_one true ews_seats ews ews_now obc_seats obc obc_now c0 c1 c2 c4 held e o z1 z2 z3 z4 le1 le2 le3 le4 few = omega arith

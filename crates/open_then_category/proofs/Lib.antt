@@ -1,6 +1,7 @@
 mod Assemble
 mod Decide
 mod Grows
+mod Keeping
 mod Leaving
 mod Once
 mod Passing

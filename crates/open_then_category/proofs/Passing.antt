@@ -125,7 +125,7 @@ filter_joins list test before after coming j = record {
 }
 
 -- the people who are left, joined by whoever goes
-without_joins : (list : ListId) (before after old new : List Person) (coming leaver : Option Person) → Joins list before after coming → AreAmong old before → Passes old coming leaver new
+pub without_joins : (list : ListId) (before after old new : List Person) (coming leaver : Option Person) → Joins list before after coming → AreAmong old before → Passes old coming leaver new
     → Joins list (without before old) (without after new) leaver
 without_joins list before after old new coming leaver j within p =
     let new_within : AreAmong new after = from_each new after (λ person here. elim (p.back person (inl here)) [
@@ -191,7 +191,7 @@ module _ (laws : AreLawful) where
       sym can.1 ∙ sym (laws.one_merit_order list some others can.0 two part back)
 
   -- whoever joins people is new to those of them
-  new_to : (list : ListId) (all some : List Person) (person : Person) → AreRanked list all → AreAmong some all → IsAmong person all → (IsAmong person some → ⊥) → IsNewTo list some person
+  pub new_to : (list : ListId) (all some : List Person) (person : Person) → AreRanked list all → AreAmong some all → IsAmong person all → (IsAmong person some → ⊥) → IsNewTo list some person
   new_to list all some person ranked within here leaver =
       let can = (laws.ranked_in_merit list all ranked).0 in
       let traits = any_all (λ one. person ≡ one) (λ one. IsTraitSet one.traits) all here can.traits in
@@ -244,7 +244,7 @@ module _ (laws : AreLawful) where
       }
 
   -- and so it is of each step, whether it was offered or not
-  passes : (test : Person → Bool) (list : ListId) (seats : Seating) (before after old new : List Person) (coming leaver : Option Person) → Joins list before after coming → AreAmong old before → AreRanked list old
+  pub passes : (test : Person → Bool) (list : ListId) (seats : Seating) (before after old new : List Person) (coming leaver : Option Person) → Joins list before after coming → AreAmong old before → AreRanked list old
       → IsPassed test list seats old coming leaver new → Passes old coming leaver new
   passes test list seats before after old new None leaver j within old_ranked p = record {
     stay = λ other h. elim h [ inl held ↦ inl (subst (IsAmong other) (sym p.1) held) | inr came ↦ cc came ];
@@ -333,7 +333,7 @@ module _ (laws : AreLawful) where
   -- ---- the whole programme
 
   -- where all applicants are admitted, the de-reserved step has all who are left to it
-  last_whole : (version : ℕ) (seats : ProgrammeSeats) (people : List Person) (admissions : Admissions) → AreRanked seats.list people → AreAmong people (everybody admissions)
+  pub last_whole : (version : ℕ) (seats : ProgrammeSeats) (people : List Person) (admissions : Admissions) → AreRanked seats.list people → AreAmong people (everybody admissions)
       → IsProgrammeChoice version seats people admissions → admissions.dereserved ≡ people_of seats.list people admissions Dereserved
   last_whole version seats people admissions ranked all choice =
       let whole = people_of seats.list people admissions Dereserved in

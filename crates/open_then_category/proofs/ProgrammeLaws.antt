@@ -191,11 +191,11 @@ among_left person applicants admissions distinct within l =
     let at3 = among_without_from applicants left2 admissions.sc person distinct in2 within.sc at2 l.not_sc in
     among_without_from applicants left3 admissions.st person distinct in3 within.st at3 l.not_st
 
-abbrev made_of : List Person → List Person → List Person → List Person → List Person → List Person → Admissions
+abbrev pub made_of : List Person → List Person → List Person → List Person → List Person → List Person → Admissions
 made_of open_step ews obc sc st dereserved = record { open_step = open_step; ews = ews; obc = obc; sc = sc; st = st; dereserved = dereserved }
 
 -- admissions with the same persons at each step are the same
-same_admissions : (first second : Admissions) → first.open_step ≡ second.open_step → first.ews ≡ second.ews → first.obc ≡ second.obc → first.sc ≡ second.sc → first.st ≡ second.st
+pub same_admissions : (first second : Admissions) → first.open_step ≡ second.open_step → first.ews ≡ second.ews → first.obc ≡ second.obc → first.sc ≡ second.sc → first.st ≡ second.st
     → first.dereserved ≡ second.dereserved → first ≡ second
 same_admissions first second open_step ews obc sc st dereserved =
     ap (λ (people : List Person). made_of people first.ews first.obc first.sc first.st first.dereserved) open_step
