@@ -158,8 +158,8 @@ module _ (laws : AreLawful) (version : ℕ) (seats : ProgrammeSeats) (before : A
       let z4 = passed_count (is_of St) list (seats_of seats StStep) before.st d.0 e.0 e.1 e.2 in
       let z24 : count e.0 ≤ count c.0 = omega arith in
       let held_last : length before.dereserved ≤ unfilled version seats before = (
-        let size = ap length choice.dereserved in
-        omega (arith, size, length-take (unfilled version seats before) (people_of list (old_people seats before) before Dereserved))
+      let size = ap length choice.dereserved in
+      omega (arith, size, length-take (unfilled version seats before) (people_of list (old_people seats before) before Dereserved))
       ) in
       falls_by_one (version == 2) (seats_of seats EwsStep).seats (length before.ews) (length b.1) (seats_of seats ObcStep).seats (length before.obc) (length c.1)
       (count a.0) (count b.0) (count c.0) (count e.0) (length before.dereserved) s1 s2 z0 z1 z2 z24 choice.ews.may.seats ews_few choice.obc.may.seats obc_few held_last
@@ -228,7 +228,7 @@ answer_refused laws before after person gone leaver stays kept may choice e same
           let both = (left.1 other).0 now in
           let apart : other.id ≡ gone.id → ⊥ = key_apart (λ (p : Person). p.id) all other gone may.distinct (inl is) left.0 both.1 in
           absurd (apart (ap (λ (p : Person). p.id) is ∙ sym same))
-        )
+          )
       | inr held_too ↦ absurd (gone_too held_too)
     ]) in
     stays ∙ ap (λ (a : Admissions). let kept : ProgrammeKept = record before { admissions = a } in kept) (sym equal)

@@ -173,9 +173,9 @@ module _ (laws : AreLawful) where
       let leaver = left_last n list before.dereserved offered.left_by_st in
       let joins = last_joins laws version seats people more before after person j held_ranks.2 choice offered way in
       let held_last : length before.dereserved ≤ unfilled version seats before = (
-        let size = ap length choice.dereserved in
-        let whole = people_of list people before Dereserved in
-        omega (arith, size, length-take (unfilled version seats before) whole)
+      let size = ap length choice.dereserved in
+      let whole = people_of list people before Dereserved in
+      omega (arith, size, length-take (unfilled version seats before) whole)
       ) in
       let s0 = passed_size (is_common list) list (seats_of seats Open) before.open_step (Some person) offered.left_by_open after.open_step offered.open_step in
       let s1 = passed_size (is_of Ews) list (seats_of seats EwsStep) before.ews offered.left_by_open offered.left_by_ews after.ews offered.ews in

@@ -1,18 +1,20 @@
 // The choice of a programme from applicants who come one at a time.
-ghost use Rattle.std.specs.Prelude.{◌≡◌, ◌≤◌, ◌<◌, ◌+◌, [], ◌∷◌, Some, length, take, slice_get, vec_len, vec_capacity, IfOk};
+ghost use Rattle.std.specs.Prelude.{◌≡◌, ◌≤◌, ◌<◌, ◌+◌, [], ◌∷◌, List, Some, length, take, slice_get, vec_len, vec_capacity, IfOk};
+ghost use Rattle.office_base.specs.Lists.{IsAmong};
 ghost use Rattle.office_base.specs.Merit.{IsNewTo};
 ghost use Rattle.office_base.specs.Person.{IsList, is_common};
 ghost use Rattle.office_base.specs.StepChoice.{AreRanked};
 ghost use Rattle.office_base.specs.Version.{IsVersion};
 ghost use Rattle.office_base.specs.declared.person.Person.{Person as AnyPerson};
+ghost use Rattle.placements.specs.Ranks.{AreDistinct};
 ghost use Rattle.seat_matrix.specs.Matrix.{seats_in};
 ghost use Rattle.seat_matrix.specs.Seats.{IsSeated};
-ghost use Rattle.programme_lists.specs.Chosen.{AreApplicants, ChoosesFrom, everybody};
+ghost use Rattle.programme_lists.specs.Chosen.{AreApplicants, ChoosesFrom, IsWith, everybody};
 ghost use Rattle.programme_lists.specs.Programme.{is_of};
 ghost use Rattle.open_then_category.specs.State.{IsAnswered, IsPassed, count, entered, left_last, nobody, passing};
 
 use crate::filters::is_of;
-use crate::laws::{leaving_out_the_refused, offers_keep_choices, offers_leave_one, step_laws};
+use crate::laws::{offers_keep_choices, offers_leave_one, resumes, step_laws};
 use dereserve::{is_common, left_unfilled};
 use merit_choice::{Offered, StepState, put_in_order};
 use office_base::{Category, ListId, OutOfMemory, Person, ProgId, StepKind, Steps};
@@ -80,13 +82,15 @@ impl ProgrammeState {
         // the version and the seats stay
         ensures stays { self.new ≡ record self.old { admissions = self.new.admissions } }
         ensures choice { ChoosesFrom self.old.version self.old.seats (person.now ∷ everybody self.old.admissions) self.new.admissions }
+        ensures all { (some all : List AnyPerson) → AreDistinct some → AreApplicants self.old.seats.list all → IsWith person.now some all → (IsAmong person.now some → ⊥)
+            → ChoosesFrom self.old.version self.old.seats some self.old.admissions → ChoosesFrom self.old.version self.old.seats all self.new.admissions }
         ensures answer { IsAnswered self.old person.now result self.new }
         ensures cost { steps.new ≡ steps.old + 1 }
     {
         step_laws();
         offers_keep_choices();
         offers_leave_one();
-        leaving_out_the_refused();
+        resumes();
         steps.tick();
         let list = self.seats.list;
         let by_open = hand_common(&mut self.open_step, list, person);

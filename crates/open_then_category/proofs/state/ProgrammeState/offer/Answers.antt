@@ -1,6 +1,8 @@
 use Rattle.std.proofs.Common.{◌≡◌, ◌≤◌, ◌+◌, ◌∙◌, ℕ, List, ◌∷◌, Option, Some, None, take, length, ap, sym, subst, refl, arith}
 use Rattle.std.proofs.lemmas.Bool.{eqb-true, eqb-false}
+use Rattle.office_base.specs.Lists.{IsAmong}
 use Rattle.office_base.specs.Merit.{IsNewTo}
+use Rattle.placements.specs.Ranks.{AreDistinct}
 use Rattle.office_base.specs.Person.{is_common}
 use Rattle.office_base.specs.StepChoice.{AreRanked}
 use Rattle.office_base.specs.declared.person.CandId.{CandId}
@@ -12,7 +14,7 @@ use Rattle.merit_choice.specs.declared.state.Offered.{Offered}
 use Rattle.merit_choice.specs.declared.state.Offered.TheVariants.{Displaced, Refused, Taken}
 use Rattle.seat_matrix.specs.Seats.{seats_of}
 use Rattle.seat_matrix.specs.Unfilled.{left_unfilled}
-use Rattle.programme_lists.specs.Chosen.{AreApplicants, ChoosesFrom, everybody}
+use Rattle.programme_lists.specs.Chosen.{AreApplicants, ChoosesFrom, IsWith, everybody}
 use Rattle.programme_lists.specs.Programme.{Admissions, is_of, unfilled}
 use Rattle.open_then_category.specs.State.{IsAnswered, IsOffered, IsPassed, IsProgrammeKept, LeavesOut, ProgrammeKept, count, entered, left_last, passing, step_kept}
 use Rattle.open_then_category.proofs.Keeping.{Out, answer_displaced, answer_refused, answer_taken, few_last, last_ranked, new_ews, new_last, new_obc, new_open, new_sc, new_st, settled}
@@ -39,8 +41,11 @@ hand_member-by_ews-requires g c =
     let seats = inside.seats in
     let kept = c.self.invariant.kept in
     let may : AreApplicants seats.list (person ∷ everybody before) = subst (λ (s : ProgrammeKept). AreApplicants s.seats.list (person ∷ everybody s.admissions)) (sym c.self.view_is) c.requires in
-    let a : Out seats (is_common seats.list) Open before.open_step (Some person) = (c.hand_common-by_open.result, c.hand_common-by_open.new.step.held,
-        subst (λ (k : StepKept). IsPassed (is_common seats.list) k.list (record { seats = k.seats; protections = k.protections }) k.held (Some person) c.hand_common-by_open.result c.hand_common-by_open.new.step.held) c.self.invariant.of_open c.hand_common-by_open.ensures.passed) in
+    let a : Out seats (is_common seats.list) Open before.open_step (Some person) = (
+      c.hand_common-by_open.result,
+      c.hand_common-by_open.new.step.held,
+      subst (λ (k : StepKept). IsPassed (is_common seats.list) k.list (record { seats = k.seats; protections = k.protections }) k.held (Some person) c.hand_common-by_open.result c.hand_common-by_open.new.step.held) c.self.invariant.of_open c.hand_common-by_open.ensures.passed,
+    ) in
     λ other h. subst (λ (k : StepKept). IsNewTo k.list k.held other) (sym c.self.invariant.of_ews) (new_ews laws inside.version seats before person may kept.choice a other h)
 
 pub hand_member-by_obc-requires : goal.hand_member-by_obc-requires
@@ -52,10 +57,16 @@ hand_member-by_obc-requires g c =
     let seats = inside.seats in
     let kept = c.self.invariant.kept in
     let may : AreApplicants seats.list (person ∷ everybody before) = subst (λ (s : ProgrammeKept). AreApplicants s.seats.list (person ∷ everybody s.admissions)) (sym c.self.view_is) c.requires in
-    let a : Out seats (is_common seats.list) Open before.open_step (Some person) = (c.hand_common-by_open.result, c.hand_common-by_open.new.step.held,
-        subst (λ (k : StepKept). IsPassed (is_common seats.list) k.list (record { seats = k.seats; protections = k.protections }) k.held (Some person) c.hand_common-by_open.result c.hand_common-by_open.new.step.held) c.self.invariant.of_open c.hand_common-by_open.ensures.passed) in
-    let b : Out seats (is_of Ews) EwsStep before.ews (c.hand_common-by_open.result) = (c.hand_member-by_ews.result, c.hand_member-by_ews.new.step.held,
-        subst (λ (k : StepKept). IsPassed (is_of Ews) k.list (record { seats = k.seats; protections = k.protections }) k.held (c.hand_common-by_open.result) c.hand_member-by_ews.result c.hand_member-by_ews.new.step.held) c.self.invariant.of_ews c.hand_member-by_ews.ensures.passed) in
+    let a : Out seats (is_common seats.list) Open before.open_step (Some person) = (
+      c.hand_common-by_open.result,
+      c.hand_common-by_open.new.step.held,
+      subst (λ (k : StepKept). IsPassed (is_common seats.list) k.list (record { seats = k.seats; protections = k.protections }) k.held (Some person) c.hand_common-by_open.result c.hand_common-by_open.new.step.held) c.self.invariant.of_open c.hand_common-by_open.ensures.passed,
+    ) in
+    let b : Out seats (is_of Ews) EwsStep before.ews (c.hand_common-by_open.result) = (
+      c.hand_member-by_ews.result,
+      c.hand_member-by_ews.new.step.held,
+      subst (λ (k : StepKept). IsPassed (is_of Ews) k.list (record { seats = k.seats; protections = k.protections }) k.held (c.hand_common-by_open.result) c.hand_member-by_ews.result c.hand_member-by_ews.new.step.held) c.self.invariant.of_ews c.hand_member-by_ews.ensures.passed,
+    ) in
     λ other h. subst (λ (k : StepKept). IsNewTo k.list k.held other) (sym c.self.invariant.of_obc) (new_obc laws inside.version seats before person may kept.choice a b other h)
 
 pub hand_member-by_sc-requires : goal.hand_member-by_sc-requires
@@ -67,12 +78,21 @@ hand_member-by_sc-requires g c =
     let seats = inside.seats in
     let kept = c.self.invariant.kept in
     let may : AreApplicants seats.list (person ∷ everybody before) = subst (λ (s : ProgrammeKept). AreApplicants s.seats.list (person ∷ everybody s.admissions)) (sym c.self.view_is) c.requires in
-    let a : Out seats (is_common seats.list) Open before.open_step (Some person) = (c.hand_common-by_open.result, c.hand_common-by_open.new.step.held,
-        subst (λ (k : StepKept). IsPassed (is_common seats.list) k.list (record { seats = k.seats; protections = k.protections }) k.held (Some person) c.hand_common-by_open.result c.hand_common-by_open.new.step.held) c.self.invariant.of_open c.hand_common-by_open.ensures.passed) in
-    let b : Out seats (is_of Ews) EwsStep before.ews (c.hand_common-by_open.result) = (c.hand_member-by_ews.result, c.hand_member-by_ews.new.step.held,
-        subst (λ (k : StepKept). IsPassed (is_of Ews) k.list (record { seats = k.seats; protections = k.protections }) k.held (c.hand_common-by_open.result) c.hand_member-by_ews.result c.hand_member-by_ews.new.step.held) c.self.invariant.of_ews c.hand_member-by_ews.ensures.passed) in
-    let d : Out seats (is_of Obc) ObcStep before.obc (c.hand_member-by_ews.result) = (c.hand_member-by_obc.result, c.hand_member-by_obc.new.step.held,
-        subst (λ (k : StepKept). IsPassed (is_of Obc) k.list (record { seats = k.seats; protections = k.protections }) k.held (c.hand_member-by_ews.result) c.hand_member-by_obc.result c.hand_member-by_obc.new.step.held) c.self.invariant.of_obc c.hand_member-by_obc.ensures.passed) in
+    let a : Out seats (is_common seats.list) Open before.open_step (Some person) = (
+      c.hand_common-by_open.result,
+      c.hand_common-by_open.new.step.held,
+      subst (λ (k : StepKept). IsPassed (is_common seats.list) k.list (record { seats = k.seats; protections = k.protections }) k.held (Some person) c.hand_common-by_open.result c.hand_common-by_open.new.step.held) c.self.invariant.of_open c.hand_common-by_open.ensures.passed,
+    ) in
+    let b : Out seats (is_of Ews) EwsStep before.ews (c.hand_common-by_open.result) = (
+      c.hand_member-by_ews.result,
+      c.hand_member-by_ews.new.step.held,
+      subst (λ (k : StepKept). IsPassed (is_of Ews) k.list (record { seats = k.seats; protections = k.protections }) k.held (c.hand_common-by_open.result) c.hand_member-by_ews.result c.hand_member-by_ews.new.step.held) c.self.invariant.of_ews c.hand_member-by_ews.ensures.passed,
+    ) in
+    let d : Out seats (is_of Obc) ObcStep before.obc (c.hand_member-by_ews.result) = (
+      c.hand_member-by_obc.result,
+      c.hand_member-by_obc.new.step.held,
+      subst (λ (k : StepKept). IsPassed (is_of Obc) k.list (record { seats = k.seats; protections = k.protections }) k.held (c.hand_member-by_ews.result) c.hand_member-by_obc.result c.hand_member-by_obc.new.step.held) c.self.invariant.of_obc c.hand_member-by_obc.ensures.passed,
+    ) in
     λ other h. subst (λ (k : StepKept). IsNewTo k.list k.held other) (sym c.self.invariant.of_sc) (new_sc laws inside.version seats before person may kept.choice a b d other h)
 
 pub hand_member-by_st-requires : goal.hand_member-by_st-requires
@@ -84,14 +104,26 @@ hand_member-by_st-requires g c =
     let seats = inside.seats in
     let kept = c.self.invariant.kept in
     let may : AreApplicants seats.list (person ∷ everybody before) = subst (λ (s : ProgrammeKept). AreApplicants s.seats.list (person ∷ everybody s.admissions)) (sym c.self.view_is) c.requires in
-    let a : Out seats (is_common seats.list) Open before.open_step (Some person) = (c.hand_common-by_open.result, c.hand_common-by_open.new.step.held,
-        subst (λ (k : StepKept). IsPassed (is_common seats.list) k.list (record { seats = k.seats; protections = k.protections }) k.held (Some person) c.hand_common-by_open.result c.hand_common-by_open.new.step.held) c.self.invariant.of_open c.hand_common-by_open.ensures.passed) in
-    let b : Out seats (is_of Ews) EwsStep before.ews (c.hand_common-by_open.result) = (c.hand_member-by_ews.result, c.hand_member-by_ews.new.step.held,
-        subst (λ (k : StepKept). IsPassed (is_of Ews) k.list (record { seats = k.seats; protections = k.protections }) k.held (c.hand_common-by_open.result) c.hand_member-by_ews.result c.hand_member-by_ews.new.step.held) c.self.invariant.of_ews c.hand_member-by_ews.ensures.passed) in
-    let d : Out seats (is_of Obc) ObcStep before.obc (c.hand_member-by_ews.result) = (c.hand_member-by_obc.result, c.hand_member-by_obc.new.step.held,
-        subst (λ (k : StepKept). IsPassed (is_of Obc) k.list (record { seats = k.seats; protections = k.protections }) k.held (c.hand_member-by_ews.result) c.hand_member-by_obc.result c.hand_member-by_obc.new.step.held) c.self.invariant.of_obc c.hand_member-by_obc.ensures.passed) in
-    let e : Out seats (is_of Sc) ScStep before.sc (c.hand_member-by_obc.result) = (c.hand_member-by_sc.result, c.hand_member-by_sc.new.step.held,
-        subst (λ (k : StepKept). IsPassed (is_of Sc) k.list (record { seats = k.seats; protections = k.protections }) k.held (c.hand_member-by_obc.result) c.hand_member-by_sc.result c.hand_member-by_sc.new.step.held) c.self.invariant.of_sc c.hand_member-by_sc.ensures.passed) in
+    let a : Out seats (is_common seats.list) Open before.open_step (Some person) = (
+      c.hand_common-by_open.result,
+      c.hand_common-by_open.new.step.held,
+      subst (λ (k : StepKept). IsPassed (is_common seats.list) k.list (record { seats = k.seats; protections = k.protections }) k.held (Some person) c.hand_common-by_open.result c.hand_common-by_open.new.step.held) c.self.invariant.of_open c.hand_common-by_open.ensures.passed,
+    ) in
+    let b : Out seats (is_of Ews) EwsStep before.ews (c.hand_common-by_open.result) = (
+      c.hand_member-by_ews.result,
+      c.hand_member-by_ews.new.step.held,
+      subst (λ (k : StepKept). IsPassed (is_of Ews) k.list (record { seats = k.seats; protections = k.protections }) k.held (c.hand_common-by_open.result) c.hand_member-by_ews.result c.hand_member-by_ews.new.step.held) c.self.invariant.of_ews c.hand_member-by_ews.ensures.passed,
+    ) in
+    let d : Out seats (is_of Obc) ObcStep before.obc (c.hand_member-by_ews.result) = (
+      c.hand_member-by_obc.result,
+      c.hand_member-by_obc.new.step.held,
+      subst (λ (k : StepKept). IsPassed (is_of Obc) k.list (record { seats = k.seats; protections = k.protections }) k.held (c.hand_member-by_ews.result) c.hand_member-by_obc.result c.hand_member-by_obc.new.step.held) c.self.invariant.of_obc c.hand_member-by_obc.ensures.passed,
+    ) in
+    let e : Out seats (is_of Sc) ScStep before.sc (c.hand_member-by_obc.result) = (
+      c.hand_member-by_sc.result,
+      c.hand_member-by_sc.new.step.held,
+      subst (λ (k : StepKept). IsPassed (is_of Sc) k.list (record { seats = k.seats; protections = k.protections }) k.held (c.hand_member-by_obc.result) c.hand_member-by_sc.result c.hand_member-by_sc.new.step.held) c.self.invariant.of_sc c.hand_member-by_sc.ensures.passed,
+    ) in
     λ other h. subst (λ (k : StepKept). IsNewTo k.list k.held other) (sym c.self.invariant.of_st) (new_st laws inside.version seats before person may kept.choice a b d e other h)
 
 pub held_by-requires : goal.held_by-requires
@@ -128,16 +160,31 @@ keep_best-requires-clause-new g c =
     let seats = inside.seats in
     let kept = c.self.invariant.kept in
     let may : AreApplicants seats.list (person ∷ everybody before) = subst (λ (s : ProgrammeKept). AreApplicants s.seats.list (person ∷ everybody s.admissions)) (sym c.self.view_is) c.requires in
-    let a : Out seats (is_common seats.list) Open before.open_step (Some person) = (c.hand_common-by_open.result, c.hand_common-by_open.new.step.held,
-        subst (λ (k : StepKept). IsPassed (is_common seats.list) k.list (record { seats = k.seats; protections = k.protections }) k.held (Some person) c.hand_common-by_open.result c.hand_common-by_open.new.step.held) c.self.invariant.of_open c.hand_common-by_open.ensures.passed) in
-    let b : Out seats (is_of Ews) EwsStep before.ews (c.hand_common-by_open.result) = (c.hand_member-by_ews.result, c.hand_member-by_ews.new.step.held,
-        subst (λ (k : StepKept). IsPassed (is_of Ews) k.list (record { seats = k.seats; protections = k.protections }) k.held (c.hand_common-by_open.result) c.hand_member-by_ews.result c.hand_member-by_ews.new.step.held) c.self.invariant.of_ews c.hand_member-by_ews.ensures.passed) in
-    let d : Out seats (is_of Obc) ObcStep before.obc (c.hand_member-by_ews.result) = (c.hand_member-by_obc.result, c.hand_member-by_obc.new.step.held,
-        subst (λ (k : StepKept). IsPassed (is_of Obc) k.list (record { seats = k.seats; protections = k.protections }) k.held (c.hand_member-by_ews.result) c.hand_member-by_obc.result c.hand_member-by_obc.new.step.held) c.self.invariant.of_obc c.hand_member-by_obc.ensures.passed) in
-    let e : Out seats (is_of Sc) ScStep before.sc (c.hand_member-by_obc.result) = (c.hand_member-by_sc.result, c.hand_member-by_sc.new.step.held,
-        subst (λ (k : StepKept). IsPassed (is_of Sc) k.list (record { seats = k.seats; protections = k.protections }) k.held (c.hand_member-by_obc.result) c.hand_member-by_sc.result c.hand_member-by_sc.new.step.held) c.self.invariant.of_sc c.hand_member-by_sc.ensures.passed) in
-    let f : Out seats (is_of St) StStep before.st (c.hand_member-by_sc.result) = (c.hand_member-by_st.result, c.hand_member-by_st.new.step.held,
-        subst (λ (k : StepKept). IsPassed (is_of St) k.list (record { seats = k.seats; protections = k.protections }) k.held (c.hand_member-by_sc.result) c.hand_member-by_st.result c.hand_member-by_st.new.step.held) c.self.invariant.of_st c.hand_member-by_st.ensures.passed) in
+    let a : Out seats (is_common seats.list) Open before.open_step (Some person) = (
+      c.hand_common-by_open.result,
+      c.hand_common-by_open.new.step.held,
+      subst (λ (k : StepKept). IsPassed (is_common seats.list) k.list (record { seats = k.seats; protections = k.protections }) k.held (Some person) c.hand_common-by_open.result c.hand_common-by_open.new.step.held) c.self.invariant.of_open c.hand_common-by_open.ensures.passed,
+    ) in
+    let b : Out seats (is_of Ews) EwsStep before.ews (c.hand_common-by_open.result) = (
+      c.hand_member-by_ews.result,
+      c.hand_member-by_ews.new.step.held,
+      subst (λ (k : StepKept). IsPassed (is_of Ews) k.list (record { seats = k.seats; protections = k.protections }) k.held (c.hand_common-by_open.result) c.hand_member-by_ews.result c.hand_member-by_ews.new.step.held) c.self.invariant.of_ews c.hand_member-by_ews.ensures.passed,
+    ) in
+    let d : Out seats (is_of Obc) ObcStep before.obc (c.hand_member-by_ews.result) = (
+      c.hand_member-by_obc.result,
+      c.hand_member-by_obc.new.step.held,
+      subst (λ (k : StepKept). IsPassed (is_of Obc) k.list (record { seats = k.seats; protections = k.protections }) k.held (c.hand_member-by_ews.result) c.hand_member-by_obc.result c.hand_member-by_obc.new.step.held) c.self.invariant.of_obc c.hand_member-by_obc.ensures.passed,
+    ) in
+    let e : Out seats (is_of Sc) ScStep before.sc (c.hand_member-by_obc.result) = (
+      c.hand_member-by_sc.result,
+      c.hand_member-by_sc.new.step.held,
+      subst (λ (k : StepKept). IsPassed (is_of Sc) k.list (record { seats = k.seats; protections = k.protections }) k.held (c.hand_member-by_obc.result) c.hand_member-by_sc.result c.hand_member-by_sc.new.step.held) c.self.invariant.of_sc c.hand_member-by_sc.ensures.passed,
+    ) in
+    let f : Out seats (is_of St) StStep before.st (c.hand_member-by_sc.result) = (
+      c.hand_member-by_st.result,
+      c.hand_member-by_st.new.step.held,
+      subst (λ (k : StepKept). IsPassed (is_of St) k.list (record { seats = k.seats; protections = k.protections }) k.held (c.hand_member-by_sc.result) c.hand_member-by_st.result c.hand_member-by_st.new.step.held) c.self.invariant.of_st c.hand_member-by_st.ensures.passed,
+    ) in
     new_last laws inside.version seats before person may kept.choice a b d e f
 
 pub keep_best-requires-clause-few : goal.keep_best-requires-clause-few
@@ -149,16 +196,31 @@ keep_best-requires-clause-few g c =
     let seats = inside.seats in
     let kept = c.self.invariant.kept in
     let may : AreApplicants seats.list (person ∷ everybody before) = subst (λ (s : ProgrammeKept). AreApplicants s.seats.list (person ∷ everybody s.admissions)) (sym c.self.view_is) c.requires in
-    let a : Out seats (is_common seats.list) Open before.open_step (Some person) = (c.hand_common-by_open.result, c.hand_common-by_open.new.step.held,
-        subst (λ (k : StepKept). IsPassed (is_common seats.list) k.list (record { seats = k.seats; protections = k.protections }) k.held (Some person) c.hand_common-by_open.result c.hand_common-by_open.new.step.held) c.self.invariant.of_open c.hand_common-by_open.ensures.passed) in
-    let b : Out seats (is_of Ews) EwsStep before.ews (c.hand_common-by_open.result) = (c.hand_member-by_ews.result, c.hand_member-by_ews.new.step.held,
-        subst (λ (k : StepKept). IsPassed (is_of Ews) k.list (record { seats = k.seats; protections = k.protections }) k.held (c.hand_common-by_open.result) c.hand_member-by_ews.result c.hand_member-by_ews.new.step.held) c.self.invariant.of_ews c.hand_member-by_ews.ensures.passed) in
-    let d : Out seats (is_of Obc) ObcStep before.obc (c.hand_member-by_ews.result) = (c.hand_member-by_obc.result, c.hand_member-by_obc.new.step.held,
-        subst (λ (k : StepKept). IsPassed (is_of Obc) k.list (record { seats = k.seats; protections = k.protections }) k.held (c.hand_member-by_ews.result) c.hand_member-by_obc.result c.hand_member-by_obc.new.step.held) c.self.invariant.of_obc c.hand_member-by_obc.ensures.passed) in
-    let e : Out seats (is_of Sc) ScStep before.sc (c.hand_member-by_obc.result) = (c.hand_member-by_sc.result, c.hand_member-by_sc.new.step.held,
-        subst (λ (k : StepKept). IsPassed (is_of Sc) k.list (record { seats = k.seats; protections = k.protections }) k.held (c.hand_member-by_obc.result) c.hand_member-by_sc.result c.hand_member-by_sc.new.step.held) c.self.invariant.of_sc c.hand_member-by_sc.ensures.passed) in
-    let f : Out seats (is_of St) StStep before.st (c.hand_member-by_sc.result) = (c.hand_member-by_st.result, c.hand_member-by_st.new.step.held,
-        subst (λ (k : StepKept). IsPassed (is_of St) k.list (record { seats = k.seats; protections = k.protections }) k.held (c.hand_member-by_sc.result) c.hand_member-by_st.result c.hand_member-by_st.new.step.held) c.self.invariant.of_st c.hand_member-by_st.ensures.passed) in
+    let a : Out seats (is_common seats.list) Open before.open_step (Some person) = (
+      c.hand_common-by_open.result,
+      c.hand_common-by_open.new.step.held,
+      subst (λ (k : StepKept). IsPassed (is_common seats.list) k.list (record { seats = k.seats; protections = k.protections }) k.held (Some person) c.hand_common-by_open.result c.hand_common-by_open.new.step.held) c.self.invariant.of_open c.hand_common-by_open.ensures.passed,
+    ) in
+    let b : Out seats (is_of Ews) EwsStep before.ews (c.hand_common-by_open.result) = (
+      c.hand_member-by_ews.result,
+      c.hand_member-by_ews.new.step.held,
+      subst (λ (k : StepKept). IsPassed (is_of Ews) k.list (record { seats = k.seats; protections = k.protections }) k.held (c.hand_common-by_open.result) c.hand_member-by_ews.result c.hand_member-by_ews.new.step.held) c.self.invariant.of_ews c.hand_member-by_ews.ensures.passed,
+    ) in
+    let d : Out seats (is_of Obc) ObcStep before.obc (c.hand_member-by_ews.result) = (
+      c.hand_member-by_obc.result,
+      c.hand_member-by_obc.new.step.held,
+      subst (λ (k : StepKept). IsPassed (is_of Obc) k.list (record { seats = k.seats; protections = k.protections }) k.held (c.hand_member-by_ews.result) c.hand_member-by_obc.result c.hand_member-by_obc.new.step.held) c.self.invariant.of_obc c.hand_member-by_obc.ensures.passed,
+    ) in
+    let e : Out seats (is_of Sc) ScStep before.sc (c.hand_member-by_obc.result) = (
+      c.hand_member-by_sc.result,
+      c.hand_member-by_sc.new.step.held,
+      subst (λ (k : StepKept). IsPassed (is_of Sc) k.list (record { seats = k.seats; protections = k.protections }) k.held (c.hand_member-by_obc.result) c.hand_member-by_sc.result c.hand_member-by_sc.new.step.held) c.self.invariant.of_sc c.hand_member-by_sc.ensures.passed,
+    ) in
+    let f : Out seats (is_of St) StStep before.st (c.hand_member-by_sc.result) = (
+      c.hand_member-by_st.result,
+      c.hand_member-by_st.new.step.held,
+      subst (λ (k : StepKept). IsPassed (is_of St) k.list (record { seats = k.seats; protections = k.protections }) k.held (c.hand_member-by_sc.result) c.hand_member-by_st.result c.hand_member-by_st.new.step.held) c.self.invariant.of_st c.hand_member-by_st.ensures.passed,
+    ) in
     let ews_stays = ap (λ (k : StepKept). k.seats) c.hand_member-by_ews.ensures.stays in
     let ews_was = ap (λ (k : StepKept). k.seats) c.self.invariant.of_ews in
     let obc_stays = ap (λ (k : StepKept). k.seats) c.hand_member-by_obc.ensures.stays in
@@ -180,16 +242,31 @@ invariant_of-self g c =
     let seats = inside.seats in
     let kept = c.self.invariant.kept in
     let may : AreApplicants seats.list (person ∷ everybody before) = subst (λ (s : ProgrammeKept). AreApplicants s.seats.list (person ∷ everybody s.admissions)) (sym c.self.view_is) c.requires in
-    let a : Out seats (is_common seats.list) Open before.open_step (Some person) = (c.hand_common-by_open.result, c.hand_common-by_open.new.step.held,
-        subst (λ (k : StepKept). IsPassed (is_common seats.list) k.list (record { seats = k.seats; protections = k.protections }) k.held (Some person) c.hand_common-by_open.result c.hand_common-by_open.new.step.held) c.self.invariant.of_open c.hand_common-by_open.ensures.passed) in
-    let b : Out seats (is_of Ews) EwsStep before.ews (c.hand_common-by_open.result) = (c.hand_member-by_ews.result, c.hand_member-by_ews.new.step.held,
-        subst (λ (k : StepKept). IsPassed (is_of Ews) k.list (record { seats = k.seats; protections = k.protections }) k.held (c.hand_common-by_open.result) c.hand_member-by_ews.result c.hand_member-by_ews.new.step.held) c.self.invariant.of_ews c.hand_member-by_ews.ensures.passed) in
-    let d : Out seats (is_of Obc) ObcStep before.obc (c.hand_member-by_ews.result) = (c.hand_member-by_obc.result, c.hand_member-by_obc.new.step.held,
-        subst (λ (k : StepKept). IsPassed (is_of Obc) k.list (record { seats = k.seats; protections = k.protections }) k.held (c.hand_member-by_ews.result) c.hand_member-by_obc.result c.hand_member-by_obc.new.step.held) c.self.invariant.of_obc c.hand_member-by_obc.ensures.passed) in
-    let e : Out seats (is_of Sc) ScStep before.sc (c.hand_member-by_obc.result) = (c.hand_member-by_sc.result, c.hand_member-by_sc.new.step.held,
-        subst (λ (k : StepKept). IsPassed (is_of Sc) k.list (record { seats = k.seats; protections = k.protections }) k.held (c.hand_member-by_obc.result) c.hand_member-by_sc.result c.hand_member-by_sc.new.step.held) c.self.invariant.of_sc c.hand_member-by_sc.ensures.passed) in
-    let f : Out seats (is_of St) StStep before.st (c.hand_member-by_sc.result) = (c.hand_member-by_st.result, c.hand_member-by_st.new.step.held,
-        subst (λ (k : StepKept). IsPassed (is_of St) k.list (record { seats = k.seats; protections = k.protections }) k.held (c.hand_member-by_sc.result) c.hand_member-by_st.result c.hand_member-by_st.new.step.held) c.self.invariant.of_st c.hand_member-by_st.ensures.passed) in
+    let a : Out seats (is_common seats.list) Open before.open_step (Some person) = (
+      c.hand_common-by_open.result,
+      c.hand_common-by_open.new.step.held,
+      subst (λ (k : StepKept). IsPassed (is_common seats.list) k.list (record { seats = k.seats; protections = k.protections }) k.held (Some person) c.hand_common-by_open.result c.hand_common-by_open.new.step.held) c.self.invariant.of_open c.hand_common-by_open.ensures.passed,
+    ) in
+    let b : Out seats (is_of Ews) EwsStep before.ews (c.hand_common-by_open.result) = (
+      c.hand_member-by_ews.result,
+      c.hand_member-by_ews.new.step.held,
+      subst (λ (k : StepKept). IsPassed (is_of Ews) k.list (record { seats = k.seats; protections = k.protections }) k.held (c.hand_common-by_open.result) c.hand_member-by_ews.result c.hand_member-by_ews.new.step.held) c.self.invariant.of_ews c.hand_member-by_ews.ensures.passed,
+    ) in
+    let d : Out seats (is_of Obc) ObcStep before.obc (c.hand_member-by_ews.result) = (
+      c.hand_member-by_obc.result,
+      c.hand_member-by_obc.new.step.held,
+      subst (λ (k : StepKept). IsPassed (is_of Obc) k.list (record { seats = k.seats; protections = k.protections }) k.held (c.hand_member-by_ews.result) c.hand_member-by_obc.result c.hand_member-by_obc.new.step.held) c.self.invariant.of_obc c.hand_member-by_obc.ensures.passed,
+    ) in
+    let e : Out seats (is_of Sc) ScStep before.sc (c.hand_member-by_obc.result) = (
+      c.hand_member-by_sc.result,
+      c.hand_member-by_sc.new.step.held,
+      subst (λ (k : StepKept). IsPassed (is_of Sc) k.list (record { seats = k.seats; protections = k.protections }) k.held (c.hand_member-by_obc.result) c.hand_member-by_sc.result c.hand_member-by_sc.new.step.held) c.self.invariant.of_sc c.hand_member-by_sc.ensures.passed,
+    ) in
+    let f : Out seats (is_of St) StStep before.st (c.hand_member-by_sc.result) = (
+      c.hand_member-by_st.result,
+      c.hand_member-by_st.new.step.held,
+      subst (λ (k : StepKept). IsPassed (is_of St) k.list (record { seats = k.seats; protections = k.protections }) k.held (c.hand_member-by_sc.result) c.hand_member-by_st.result c.hand_member-by_st.new.step.held) c.self.invariant.of_st c.hand_member-by_st.ensures.passed,
+    ) in
     let ews_stays = ap (λ (k : StepKept). k.seats) c.hand_member-by_ews.ensures.stays in
     let ews_was = ap (λ (k : StepKept). k.seats) c.self.invariant.of_ews in
     let obc_stays = ap (λ (k : StepKept). k.seats) c.hand_member-by_obc.ensures.stays in
@@ -243,16 +320,31 @@ returns-clause-choice g c =
     let seats = inside.seats in
     let kept = c.self.invariant.kept in
     let may : AreApplicants seats.list (person ∷ everybody before) = subst (λ (s : ProgrammeKept). AreApplicants s.seats.list (person ∷ everybody s.admissions)) (sym c.self.view_is) c.requires in
-    let a : Out seats (is_common seats.list) Open before.open_step (Some person) = (c.hand_common-by_open.result, c.hand_common-by_open.new.step.held,
-        subst (λ (k : StepKept). IsPassed (is_common seats.list) k.list (record { seats = k.seats; protections = k.protections }) k.held (Some person) c.hand_common-by_open.result c.hand_common-by_open.new.step.held) c.self.invariant.of_open c.hand_common-by_open.ensures.passed) in
-    let b : Out seats (is_of Ews) EwsStep before.ews (c.hand_common-by_open.result) = (c.hand_member-by_ews.result, c.hand_member-by_ews.new.step.held,
-        subst (λ (k : StepKept). IsPassed (is_of Ews) k.list (record { seats = k.seats; protections = k.protections }) k.held (c.hand_common-by_open.result) c.hand_member-by_ews.result c.hand_member-by_ews.new.step.held) c.self.invariant.of_ews c.hand_member-by_ews.ensures.passed) in
-    let d : Out seats (is_of Obc) ObcStep before.obc (c.hand_member-by_ews.result) = (c.hand_member-by_obc.result, c.hand_member-by_obc.new.step.held,
-        subst (λ (k : StepKept). IsPassed (is_of Obc) k.list (record { seats = k.seats; protections = k.protections }) k.held (c.hand_member-by_ews.result) c.hand_member-by_obc.result c.hand_member-by_obc.new.step.held) c.self.invariant.of_obc c.hand_member-by_obc.ensures.passed) in
-    let e : Out seats (is_of Sc) ScStep before.sc (c.hand_member-by_obc.result) = (c.hand_member-by_sc.result, c.hand_member-by_sc.new.step.held,
-        subst (λ (k : StepKept). IsPassed (is_of Sc) k.list (record { seats = k.seats; protections = k.protections }) k.held (c.hand_member-by_obc.result) c.hand_member-by_sc.result c.hand_member-by_sc.new.step.held) c.self.invariant.of_sc c.hand_member-by_sc.ensures.passed) in
-    let f : Out seats (is_of St) StStep before.st (c.hand_member-by_sc.result) = (c.hand_member-by_st.result, c.hand_member-by_st.new.step.held,
-        subst (λ (k : StepKept). IsPassed (is_of St) k.list (record { seats = k.seats; protections = k.protections }) k.held (c.hand_member-by_sc.result) c.hand_member-by_st.result c.hand_member-by_st.new.step.held) c.self.invariant.of_st c.hand_member-by_st.ensures.passed) in
+    let a : Out seats (is_common seats.list) Open before.open_step (Some person) = (
+      c.hand_common-by_open.result,
+      c.hand_common-by_open.new.step.held,
+      subst (λ (k : StepKept). IsPassed (is_common seats.list) k.list (record { seats = k.seats; protections = k.protections }) k.held (Some person) c.hand_common-by_open.result c.hand_common-by_open.new.step.held) c.self.invariant.of_open c.hand_common-by_open.ensures.passed,
+    ) in
+    let b : Out seats (is_of Ews) EwsStep before.ews (c.hand_common-by_open.result) = (
+      c.hand_member-by_ews.result,
+      c.hand_member-by_ews.new.step.held,
+      subst (λ (k : StepKept). IsPassed (is_of Ews) k.list (record { seats = k.seats; protections = k.protections }) k.held (c.hand_common-by_open.result) c.hand_member-by_ews.result c.hand_member-by_ews.new.step.held) c.self.invariant.of_ews c.hand_member-by_ews.ensures.passed,
+    ) in
+    let d : Out seats (is_of Obc) ObcStep before.obc (c.hand_member-by_ews.result) = (
+      c.hand_member-by_obc.result,
+      c.hand_member-by_obc.new.step.held,
+      subst (λ (k : StepKept). IsPassed (is_of Obc) k.list (record { seats = k.seats; protections = k.protections }) k.held (c.hand_member-by_ews.result) c.hand_member-by_obc.result c.hand_member-by_obc.new.step.held) c.self.invariant.of_obc c.hand_member-by_obc.ensures.passed,
+    ) in
+    let e : Out seats (is_of Sc) ScStep before.sc (c.hand_member-by_obc.result) = (
+      c.hand_member-by_sc.result,
+      c.hand_member-by_sc.new.step.held,
+      subst (λ (k : StepKept). IsPassed (is_of Sc) k.list (record { seats = k.seats; protections = k.protections }) k.held (c.hand_member-by_obc.result) c.hand_member-by_sc.result c.hand_member-by_sc.new.step.held) c.self.invariant.of_sc c.hand_member-by_sc.ensures.passed,
+    ) in
+    let f : Out seats (is_of St) StStep before.st (c.hand_member-by_sc.result) = (
+      c.hand_member-by_st.result,
+      c.hand_member-by_st.new.step.held,
+      subst (λ (k : StepKept). IsPassed (is_of St) k.list (record { seats = k.seats; protections = k.protections }) k.held (c.hand_member-by_sc.result) c.hand_member-by_st.result c.hand_member-by_st.new.step.held) c.self.invariant.of_st c.hand_member-by_st.ensures.passed,
+    ) in
     let ews_stays = ap (λ (k : StepKept). k.seats) c.hand_member-by_ews.ensures.stays in
     let ews_was = ap (λ (k : StepKept). k.seats) c.self.invariant.of_ews in
     let obc_stays = ap (λ (k : StepKept). k.seats) c.hand_member-by_obc.ensures.stays in
@@ -287,6 +379,76 @@ returns-clause-choice g c =
     let chosen = c.offers_keep_choices.ensures inside.version seats before after person kept.are_seats may kept.choice offered in
     subst (λ (s : ProgrammeKept). ChoosesFrom s.version s.seats (person ∷ everybody s.admissions) after) c.self.view_is chosen
 
+pub returns-clause-all : goal.returns-clause-all
+returns-clause-all g c =
+    let laws = c.step_laws.ensures in
+    let inside = c.self.inside in
+    let person = c.args.person.now in
+    let before : Admissions = record { open_step = inside.open_step.held; ews = inside.ews.held; obc = inside.obc.held; sc = inside.sc.held; st = inside.st.held; dereserved = inside.dereserved.items } in
+    let seats = inside.seats in
+    let kept = c.self.invariant.kept in
+    let may : AreApplicants seats.list (person ∷ everybody before) = subst (λ (s : ProgrammeKept). AreApplicants s.seats.list (person ∷ everybody s.admissions)) (sym c.self.view_is) c.requires in
+    let a : Out seats (is_common seats.list) Open before.open_step (Some person) = (
+      c.hand_common-by_open.result,
+      c.hand_common-by_open.new.step.held,
+      subst (λ (k : StepKept). IsPassed (is_common seats.list) k.list (record { seats = k.seats; protections = k.protections }) k.held (Some person) c.hand_common-by_open.result c.hand_common-by_open.new.step.held) c.self.invariant.of_open c.hand_common-by_open.ensures.passed,
+    ) in
+    let b : Out seats (is_of Ews) EwsStep before.ews (c.hand_common-by_open.result) = (
+      c.hand_member-by_ews.result,
+      c.hand_member-by_ews.new.step.held,
+      subst (λ (k : StepKept). IsPassed (is_of Ews) k.list (record { seats = k.seats; protections = k.protections }) k.held (c.hand_common-by_open.result) c.hand_member-by_ews.result c.hand_member-by_ews.new.step.held) c.self.invariant.of_ews c.hand_member-by_ews.ensures.passed,
+    ) in
+    let d : Out seats (is_of Obc) ObcStep before.obc (c.hand_member-by_ews.result) = (
+      c.hand_member-by_obc.result,
+      c.hand_member-by_obc.new.step.held,
+      subst (λ (k : StepKept). IsPassed (is_of Obc) k.list (record { seats = k.seats; protections = k.protections }) k.held (c.hand_member-by_ews.result) c.hand_member-by_obc.result c.hand_member-by_obc.new.step.held) c.self.invariant.of_obc c.hand_member-by_obc.ensures.passed,
+    ) in
+    let e : Out seats (is_of Sc) ScStep before.sc (c.hand_member-by_obc.result) = (
+      c.hand_member-by_sc.result,
+      c.hand_member-by_sc.new.step.held,
+      subst (λ (k : StepKept). IsPassed (is_of Sc) k.list (record { seats = k.seats; protections = k.protections }) k.held (c.hand_member-by_obc.result) c.hand_member-by_sc.result c.hand_member-by_sc.new.step.held) c.self.invariant.of_sc c.hand_member-by_sc.ensures.passed,
+    ) in
+    let f : Out seats (is_of St) StStep before.st (c.hand_member-by_sc.result) = (
+      c.hand_member-by_st.result,
+      c.hand_member-by_st.new.step.held,
+      subst (λ (k : StepKept). IsPassed (is_of St) k.list (record { seats = k.seats; protections = k.protections }) k.held (c.hand_member-by_sc.result) c.hand_member-by_st.result c.hand_member-by_st.new.step.held) c.self.invariant.of_st c.hand_member-by_st.ensures.passed,
+    ) in
+    let ews_stays = ap (λ (k : StepKept). k.seats) c.hand_member-by_ews.ensures.stays in
+    let ews_was = ap (λ (k : StepKept). k.seats) c.self.invariant.of_ews in
+    let obc_stays = ap (λ (k : StepKept). k.seats) c.hand_member-by_obc.ensures.stays in
+    let obc_was = ap (λ (k : StepKept). k.seats) c.self.invariant.of_obc in
+    let ews_few : length c.hand_member-by_ews.new.step.held ≤ (seats_of seats EwsStep).seats = omega (arith, ews_stays, ews_was, c.held_by.ensures.few) in
+    let obc_few : length c.hand_member-by_obc.new.step.held ≤ (seats_of seats ObcStep).seats = omega (arith, obc_stays, obc_was, c.held_by-2.ensures.few) in
+    let empty : c.left_unfilled-empty.result ≡ left_unfilled inside.version (seats_of seats EwsStep).seats (length c.hand_member-by_ews.new.step.held) (seats_of seats ObcStep).seats (length c.hand_member-by_obc.new.step.held) =
+    c.left_unfilled-empty.ensures
+    ∙ ap (λ (n : ℕ). left_unfilled inside.version (seats_of seats EwsStep).seats n (seats_of seats ObcStep).seats c.held_by-2.result) c.held_by.ensures.held
+    ∙ ap (λ (n : ℕ). left_unfilled inside.version (seats_of seats EwsStep).seats (length c.hand_member-by_ews.new.step.held) (seats_of seats ObcStep).seats n) c.held_by-2.ensures.held in
+    let after : Admissions = record {
+      open_step = c.hand_common-by_open.new.step.held;
+      ews = c.hand_member-by_ews.new.step.held;
+      obc = c.hand_member-by_obc.new.step.held;
+      sc = c.hand_member-by_sc.new.step.held;
+      st = c.hand_member-by_st.new.step.held;
+      dereserved = c.keep_best.new.people.items;
+    } in
+    let offered : IsOffered inside.version seats before person after = record {
+      left_by_open = a.0;
+      left_by_ews = b.0;
+      left_by_obc = d.0;
+      left_by_sc = e.0;
+      left_by_st = f.0;
+      open_step = a.2;
+      ews = b.2;
+      obc = d.2;
+      sc = e.2;
+      st = f.2;
+      dereserved = c.keep_best.ensures.items ∙ ap (λ (n : ℕ). take n (entered seats.list before.dereserved (passing (is_common seats.list) f.0))) empty;
+    } in
+    let chosen = c.offers_keep_choices.ensures inside.version seats before after person kept.are_seats may kept.choice offered in
+    let whole : (s : ProgrammeKept) → Type 0 = λ s. (some all : List Person) → AreDistinct some → AreApplicants s.seats.list all → IsWith person some all → (IsAmong person some → ⊥)
+    → ChoosesFrom s.version s.seats some s.admissions → ChoosesFrom s.version s.seats all after in
+    subst whole c.self.view_is (λ some all distinct all_may joined fresh one. c.resumes.ensures inside.version seats some all person before after kept.are_seats distinct all_may joined fresh one chosen)
+
 pub returns-clause-answer : goal.returns-clause-answer
 returns-clause-answer g c =
     let laws = c.step_laws.ensures in
@@ -296,16 +458,31 @@ returns-clause-answer g c =
     let seats = inside.seats in
     let kept = c.self.invariant.kept in
     let may : AreApplicants seats.list (person ∷ everybody before) = subst (λ (s : ProgrammeKept). AreApplicants s.seats.list (person ∷ everybody s.admissions)) (sym c.self.view_is) c.requires in
-    let a : Out seats (is_common seats.list) Open before.open_step (Some person) = (c.hand_common-by_open.result, c.hand_common-by_open.new.step.held,
-        subst (λ (k : StepKept). IsPassed (is_common seats.list) k.list (record { seats = k.seats; protections = k.protections }) k.held (Some person) c.hand_common-by_open.result c.hand_common-by_open.new.step.held) c.self.invariant.of_open c.hand_common-by_open.ensures.passed) in
-    let b : Out seats (is_of Ews) EwsStep before.ews (c.hand_common-by_open.result) = (c.hand_member-by_ews.result, c.hand_member-by_ews.new.step.held,
-        subst (λ (k : StepKept). IsPassed (is_of Ews) k.list (record { seats = k.seats; protections = k.protections }) k.held (c.hand_common-by_open.result) c.hand_member-by_ews.result c.hand_member-by_ews.new.step.held) c.self.invariant.of_ews c.hand_member-by_ews.ensures.passed) in
-    let d : Out seats (is_of Obc) ObcStep before.obc (c.hand_member-by_ews.result) = (c.hand_member-by_obc.result, c.hand_member-by_obc.new.step.held,
-        subst (λ (k : StepKept). IsPassed (is_of Obc) k.list (record { seats = k.seats; protections = k.protections }) k.held (c.hand_member-by_ews.result) c.hand_member-by_obc.result c.hand_member-by_obc.new.step.held) c.self.invariant.of_obc c.hand_member-by_obc.ensures.passed) in
-    let e : Out seats (is_of Sc) ScStep before.sc (c.hand_member-by_obc.result) = (c.hand_member-by_sc.result, c.hand_member-by_sc.new.step.held,
-        subst (λ (k : StepKept). IsPassed (is_of Sc) k.list (record { seats = k.seats; protections = k.protections }) k.held (c.hand_member-by_obc.result) c.hand_member-by_sc.result c.hand_member-by_sc.new.step.held) c.self.invariant.of_sc c.hand_member-by_sc.ensures.passed) in
-    let f : Out seats (is_of St) StStep before.st (c.hand_member-by_sc.result) = (c.hand_member-by_st.result, c.hand_member-by_st.new.step.held,
-        subst (λ (k : StepKept). IsPassed (is_of St) k.list (record { seats = k.seats; protections = k.protections }) k.held (c.hand_member-by_sc.result) c.hand_member-by_st.result c.hand_member-by_st.new.step.held) c.self.invariant.of_st c.hand_member-by_st.ensures.passed) in
+    let a : Out seats (is_common seats.list) Open before.open_step (Some person) = (
+      c.hand_common-by_open.result,
+      c.hand_common-by_open.new.step.held,
+      subst (λ (k : StepKept). IsPassed (is_common seats.list) k.list (record { seats = k.seats; protections = k.protections }) k.held (Some person) c.hand_common-by_open.result c.hand_common-by_open.new.step.held) c.self.invariant.of_open c.hand_common-by_open.ensures.passed,
+    ) in
+    let b : Out seats (is_of Ews) EwsStep before.ews (c.hand_common-by_open.result) = (
+      c.hand_member-by_ews.result,
+      c.hand_member-by_ews.new.step.held,
+      subst (λ (k : StepKept). IsPassed (is_of Ews) k.list (record { seats = k.seats; protections = k.protections }) k.held (c.hand_common-by_open.result) c.hand_member-by_ews.result c.hand_member-by_ews.new.step.held) c.self.invariant.of_ews c.hand_member-by_ews.ensures.passed,
+    ) in
+    let d : Out seats (is_of Obc) ObcStep before.obc (c.hand_member-by_ews.result) = (
+      c.hand_member-by_obc.result,
+      c.hand_member-by_obc.new.step.held,
+      subst (λ (k : StepKept). IsPassed (is_of Obc) k.list (record { seats = k.seats; protections = k.protections }) k.held (c.hand_member-by_ews.result) c.hand_member-by_obc.result c.hand_member-by_obc.new.step.held) c.self.invariant.of_obc c.hand_member-by_obc.ensures.passed,
+    ) in
+    let e : Out seats (is_of Sc) ScStep before.sc (c.hand_member-by_obc.result) = (
+      c.hand_member-by_sc.result,
+      c.hand_member-by_sc.new.step.held,
+      subst (λ (k : StepKept). IsPassed (is_of Sc) k.list (record { seats = k.seats; protections = k.protections }) k.held (c.hand_member-by_obc.result) c.hand_member-by_sc.result c.hand_member-by_sc.new.step.held) c.self.invariant.of_sc c.hand_member-by_sc.ensures.passed,
+    ) in
+    let f : Out seats (is_of St) StStep before.st (c.hand_member-by_sc.result) = (
+      c.hand_member-by_st.result,
+      c.hand_member-by_st.new.step.held,
+      subst (λ (k : StepKept). IsPassed (is_of St) k.list (record { seats = k.seats; protections = k.protections }) k.held (c.hand_member-by_sc.result) c.hand_member-by_st.result c.hand_member-by_st.new.step.held) c.self.invariant.of_st c.hand_member-by_st.ensures.passed,
+    ) in
     let ews_stays = ap (λ (k : StepKept). k.seats) c.hand_member-by_ews.ensures.stays in
     let ews_was = ap (λ (k : StepKept). k.seats) c.self.invariant.of_ews in
     let obc_stays = ap (λ (k : StepKept). k.seats) c.hand_member-by_obc.ensures.stays in
