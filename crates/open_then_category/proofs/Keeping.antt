@@ -1,23 +1,21 @@
 -- What a programme keeps while people come one at a time.
-use Rattle.std.proofs.Common.{◌≡◌, ◌≤◌, ◌<◌, ◌+◌, ◌-◌, ◌⊎◌, ℕ, zero, suc, Bool, List, [], ◌∷◌, Option, Some, None, take, length, refl, sym, ap, ◌∙◌, subst, inl, inr, arith}
+use Rattle.std.proofs.Common.{◌≡◌, ◌≤◌, ◌+◌, ℕ, zero, suc, Bool, List, [], ◌∷◌, Option, Some, None, take, length, refl, sym, ap, ◌∙◌, subst, inl, inr, arith}
 use Rattle.std.specs.Prelude.{◌==◌}
 use Rattle.std.proofs.lemmas.List.{length-take}
-use Rattle.std.specs.List.{AllByRecursion, filter}
-use Rattle.office_base.specs.Lists.{AnyByRecursion, IsAmong, IsSublist}
+use Rattle.std.specs.List.{filter}
+use Rattle.office_base.specs.Lists.{IsAmong, IsSublist}
 use Rattle.office_base.specs.Merit.{IsNewTo, in_merit}
 use Rattle.office_base.specs.Person.{is_common}
 use Rattle.office_base.specs.StepChoice.{AreRanked, IsStepChoice}
 use Rattle.office_base.specs.Version.{IsVersion}
 use Rattle.office_base.specs.declared.person.Category.TheVariants.{Ews, Obc, Sc, St}
-use Rattle.office_base.specs.declared.person.ListId.{ListId}
 use Rattle.office_base.specs.declared.person.Person.{Person}
 use Rattle.office_base.specs.declared.step.StepKind.{StepKind}
 use Rattle.office_base.specs.declared.step.StepKind.TheVariants.{Open, Ews as EwsStep, Obc as ObcStep, Sc as ScStep, St as StStep, Dereserved}
-use Rattle.placements.specs.Ranks.{AreAmong, AreDistinct}
-use Rattle.placements.proofs.Ranks.{among_again, among_sublist, any_all}
+use Rattle.placements.specs.Ranks.{AreDistinct}
+use Rattle.placements.proofs.Ranks.{among_again, among_sublist}
 use Rattle.placements.proofs.Sublists.{IsSublist-take}
 use Rattle.merit_choice.specs.State.{StepKept}
-use Rattle.merit_choice.specs.declared.state.Offered.{Offered}
 use Rattle.merit_choice.specs.declared.state.Offered.TheVariants.{Taken, Displaced, Refused}
 use Rattle.seat_matrix.specs.Seats.{AreProgrammeSeats, seats_of}
 use Rattle.seat_matrix.specs.Unfilled.{left_unfilled}
@@ -25,12 +23,12 @@ use Rattle.seat_matrix.specs.declared.seats.ProgrammeSeats.{ProgrammeSeats}
 use Rattle.seat_matrix.specs.declared.seats.Seating.{Seating}
 use Rattle.programme_lists.specs.Chosen.{AreApplicants, ChoosesFrom, everybody}
 use Rattle.programme_lists.specs.Programme.{Admissions, admitted_by, is_of, left_over, people_of, step_with, unfilled, without}
-use Rattle.open_then_category.specs.State.{IsAnswered, IsOffered, IsPassed, IsProgrammeKept, LeavesOut, ProgrammeKept, count, entered, nobody, passing, step_kept}
+use Rattle.open_then_category.specs.State.{IsAnswered, IsPassed, IsProgrammeKept, LeavesOut, ProgrammeKept, count, nobody, step_kept}
 use Rattle.open_then_category.specs.StepLaws.{AreLawful}
 use Rattle.open_then_category.proofs.Leaving.{falls_by_one, has_number, passed_count, passed_size}
 use Rattle.open_then_category.proofs.Lists.{filter-sublist, ranked_sublist, sublist_again}
-use Rattle.open_then_category.proofs.Once.{in_everybody, ranked_once}
-use Rattle.open_then_category.proofs.Passing.{Joins, Passes, from_each, key_apart, last_whole, new_to, offers_keep_choices, passes, starts, widen, without_joins}
+use Rattle.open_then_category.proofs.Once.{in_everybody}
+use Rattle.open_then_category.proofs.Passing.{Joins, from_each, key_apart, new_to, passes, starts, widen, without_joins}
 use Rattle.open_then_category.proofs.ProgrammeLaws.{last_sublist, rest_of}
 use Rattle.open_then_category.proofs.SetLaws as sets
 use Rattle.open_then_category.proofs.Walk.{members_sublist, obc_there, sc_there, st_there}

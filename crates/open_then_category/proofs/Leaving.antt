@@ -1,9 +1,7 @@
 -- At most one is left without a seat by an offer to a programme.
-use Rattle.std.proofs.Common.{◌≡◌, ◌≤◌, ◌-◌, ◌+◌, ◌⊎◌, ℕ, zero, suc, Bool, true, false, cond, List, [], ◌∷◌, ◌++◌, Option, Some, None, take, length, length-append, refl, sym, ap, ◌∙◌, subst, inl, inr, min, arith}
-use Rattle.std.specs.Prelude.{◌==◌, ◌↔◌, slice_get}
-use Rattle.std.proofs.lemmas.Bool.{cases_Bool}
+use Rattle.std.proofs.Common.{◌≡◌, ◌≤◌, ◌-◌, ◌+◌, ◌⊎◌, ℕ, zero, suc, Bool, true, false, cond, List, [], ◌∷◌, ◌++◌, Option, Some, None, take, length, length-append, refl, sym, ap, subst, inl, inr, arith}
+use Rattle.std.specs.Prelude.{◌==◌, slice_get}
 use Rattle.std.proofs.lemmas.List.{length-take}
-use Rattle.std.specs.List.{AllByRecursion}
 use Rattle.office_base.specs.Lists.{AnyByRecursion, IsAmong}
 use Rattle.office_base.specs.Merit.{in_merit, is_better, with_person}
 use Rattle.office_base.specs.Person.{is_common}
@@ -14,18 +12,17 @@ use Rattle.office_base.specs.declared.step.StepKind.{StepKind}
 use Rattle.office_base.specs.declared.step.StepKind.TheVariants.{Open, Ews as EwsStep, Obc as ObcStep, Sc as ScStep, St as StStep, Dereserved}
 use Rattle.placements.proofs.Sublists.{length-sublist}
 use Rattle.placements.specs.Ranks.{AreAmong, AreDistinct}
-use Rattle.placements.specs.Ranks as words
 use Rattle.placements.proofs.Ranks.{among_again}
 use Rattle.placements.proofs.Without.{length_without}
-use Rattle.seat_matrix.specs.Seats.{AreProgrammeSeats, seats_of}
+use Rattle.seat_matrix.specs.Seats.{seats_of}
 use Rattle.seat_matrix.specs.declared.seats.ProgrammeSeats.{ProgrammeSeats}
 use Rattle.seat_matrix.specs.declared.seats.Seating.{Seating}
-use Rattle.programme_lists.specs.Chosen.{AreApplicants, ChoosesFrom, everybody}
+use Rattle.programme_lists.specs.Chosen.{AreApplicants, everybody}
 use Rattle.programme_lists.specs.Programme.{Admissions, admitted_by, is_of, people_of, unfilled}
-use Rattle.open_then_category.specs.State.{HandsOn, IsOffered, IsPassed, IsTried, LeavesOut, OffersLeaveOne, count, entered, left_last, passing}
+use Rattle.open_then_category.specs.State.{HandsOn, IsPassed, IsTried, LeavesOut, OffersLeaveOne, count, entered, left_last, passing}
 use Rattle.open_then_category.specs.StepLaws.{AreLawful}
 use Rattle.open_then_category.proofs.Once.{from_everybody, in_everybody, ranked_once}
-use Rattle.open_then_category.proofs.Passing.{Course, Joins, course, from_each, last_joins, offers_keep_choices, starts, widen}
+use Rattle.open_then_category.proofs.Passing.{Joins, course, from_each, last_joins, offers_keep_choices, starts, widen}
 
 -- ---- lengths
 

@@ -1,9 +1,9 @@
 -- A person comes to the steps in their order: what each of them then holds is the choice from its people with whoever came to it.
-use Rattle.std.proofs.Common.{◌≡◌, ◌≢◌, ◌≤◌, ◌+◌, ◌⊎◌, ℕ, suc, Bool, true, false, cond, List, [], ◌∷◌, Option, Some, None, take, length, refl, sym, ap, ◌∙◌, subst, inl, inr, arith}
-use Rattle.std.proofs.lemmas.Bool.{both_ways, cases_Bool, cond-true, cond-false}
+use Rattle.std.proofs.Common.{◌≡◌, ◌≢◌, ◌⊎◌, ℕ, Bool, true, false, cond, List, [], ◌∷◌, Option, Some, None, take, refl, sym, ap, ◌∙◌, subst, inl, inr}
+use Rattle.std.proofs.lemmas.Bool.{cases_Bool, cond-true, cond-false}
 use Rattle.std.specs.List.{AllByRecursion, filter}
 use Rattle.std.specs.Prelude.{IsSome}
-use Rattle.office_base.specs.Lists.{AnyByRecursion, IsAmong, IsSublist, Pairwise}
+use Rattle.office_base.specs.Lists.{IsAmong, IsSublist, Pairwise}
 use Rattle.office_base.specs.Merit.{IsNewTo, in_merit, with_person}
 use Rattle.office_base.specs.Person.{IsList, IsTraitSet, is_common, number_in}
 use Rattle.office_base.specs.StepChoice.{AreRanked, IsStep, IsStepChoice}
@@ -17,19 +17,19 @@ use Rattle.placements.proofs.Sublists.{IsSublist-take}
 use Rattle.placements.specs.Ranks.{AreAmong, AreDistinct}
 use Rattle.placements.specs.Ranks as words
 use Rattle.placements.proofs.Ranks.{among_again, among_itself, among_sublist, any_all, any_among}
-use Rattle.placements.proofs.Without.{is_numbered, among_without as among_others, without_among as others_among, without_apart, without_sublist}
+use Rattle.placements.proofs.Without.{among_without as among_others, without_among as others_among, without_apart}
 use Rattle.seat_matrix.specs.Seats.{AreProgrammeSeats, IsSeated, seats_of}
 use Rattle.seat_matrix.specs.declared.seats.ProgrammeSeats.{ProgrammeSeats}
 use Rattle.seat_matrix.specs.declared.seats.Seating.{Seating}
-use Rattle.programme_lists.specs.Chosen.{AreApplicants, ChoosesFrom, everybody}
-use Rattle.programme_lists.specs.Programme.{Admissions, IsProgrammeChoice, admitted_by, is_of, is_same, left_over, people_of, step_with, unfilled, without}
-use Rattle.open_then_category.specs.State.{HandsOn, IsHanded, IsOffered, IsPassed, IsTried, OffersKeepChoices, entered, passing}
+use Rattle.programme_lists.specs.Chosen.{AreApplicants, everybody}
+use Rattle.programme_lists.specs.Programme.{Admissions, IsProgrammeChoice, admitted_by, is_of, left_over, people_of, step_with, unfilled, without}
+use Rattle.open_then_category.specs.State.{HandsOn, IsOffered, IsPassed, IsTried, OffersKeepChoices, entered, passing}
 use Rattle.open_then_category.specs.StepLaws.{AreLawful}
 use Rattle.open_then_category.proofs.Decide.{is_among_or_not}
 use Rattle.open_then_category.proofs.Lists.{among_filter, among_filter_from, among_without, among_without_from, filter-sublist, ranked_sublist, sublist_again}
-use Rattle.open_then_category.proofs.Once.{all_apart, from_everybody, in_everybody, ranked_one_step}
-use Rattle.open_then_category.proofs.ProgrammeLaws.{all_among, chosen_passes, filtered_step, is_left, last_sublist, rest_of}
-use Rattle.open_then_category.proofs.Walk.{members_among, members_sublist, obc_there, ranked_without, same_category, sc_there, st_there}
+use Rattle.open_then_category.proofs.Once.{from_everybody}
+use Rattle.open_then_category.proofs.ProgrammeLaws.{is_left, last_sublist, rest_of}
+use Rattle.open_then_category.proofs.Walk.{members_sublist, obc_there, ranked_without, same_category, sc_there, st_there}
 
 -- ---- whoever passes a test
 

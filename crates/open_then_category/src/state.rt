@@ -10,7 +10,7 @@ ghost use Rattle.placements.specs.Ranks.{AreDistinct};
 ghost use Rattle.seat_matrix.specs.Matrix.{seats_in};
 ghost use Rattle.seat_matrix.specs.Seats.{IsSeated};
 ghost use Rattle.programme_lists.specs.Chosen.{AreApplicants, ChoosesFrom, IsWith, everybody};
-ghost use Rattle.programme_lists.specs.Programme.{is_of};
+ghost use Rattle.programme_lists.specs.Programme.{admitted_by, is_of};
 ghost use Rattle.open_then_category.specs.State.{IsAnswered, IsPassed, count, entered, left_last, nobody, passing};
 
 use crate::filters::is_of;
@@ -114,6 +114,20 @@ impl ProgrammeState {
                     Offered::Displaced(gone.id)
                 }
             }
+        }
+    }
+
+    /// Those whom a step admits, in merit order. It takes no memory.
+    pub fn admitted(&self, kind: StepKind) -> &[Person]
+        ensures { result.now ≡ admitted_by self.now.admissions kind }
+    {
+        match kind {
+            StepKind::Open => self.open_step.admitted(),
+            StepKind::Ews => self.ews.admitted(),
+            StepKind::Obc => self.obc.admitted(),
+            StepKind::Sc => self.sc.admitted(),
+            StepKind::St => self.st.admitted(),
+            StepKind::Dereserved => self.dereserved.as_slice(),
         }
     }
 }

@@ -1,4 +1,4 @@
-use Rattle.std.proofs.Common.{◌≡◌, ap, length, arith}
+use Rattle.std.proofs.Common.{ap, length, arith}
 use Rattle.open_then_category.specs.State.{count}
 use Rattle.open_then_category.proofs.Leaving.{length_with}
 use Rattle.open_then_category.proofs.state.keep_best.Goals as goal

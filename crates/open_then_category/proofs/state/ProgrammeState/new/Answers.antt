@@ -1,4 +1,4 @@
-use Rattle.std.proofs.Common.{◌≡◌, ◌∙◌, ap, sym, subst, refl, arith}
+use Rattle.std.proofs.Common.{◌≡◌, ap, sym, subst, arith}
 use Rattle.office_base.specs.declared.step.StepKind.TheVariants.{Open, Ews, Obc, Sc, St}
 use Rattle.seat_matrix.specs.Seats.{IsSeated}
 use Rattle.merit_choice.specs.State.{StepKept}

@@ -1,10 +1,9 @@
-use Rattle.std.proofs.Common.{◌≡◌, ◌≤◌, ◌+◌, ◌∙◌, ℕ, List, ◌∷◌, Option, Some, None, take, length, ap, sym, subst, refl, arith}
+use Rattle.std.proofs.Common.{◌≡◌, ◌≤◌, ◌+◌, ◌∙◌, ℕ, List, ◌∷◌, Some, take, length, ap, sym, subst, refl, arith}
 use Rattle.std.proofs.lemmas.Bool.{eqb-true, eqb-false}
 use Rattle.office_base.specs.Lists.{IsAmong}
 use Rattle.office_base.specs.Merit.{IsNewTo}
 use Rattle.placements.specs.Ranks.{AreDistinct}
 use Rattle.office_base.specs.Person.{is_common}
-use Rattle.office_base.specs.StepChoice.{AreRanked}
 use Rattle.office_base.specs.declared.person.CandId.{CandId}
 use Rattle.office_base.specs.declared.person.Category.TheVariants.{Ews, Obc, Sc, St}
 use Rattle.office_base.specs.declared.person.Person.{Person}
@@ -16,7 +15,7 @@ use Rattle.seat_matrix.specs.Seats.{seats_of}
 use Rattle.seat_matrix.specs.Unfilled.{left_unfilled}
 use Rattle.programme_lists.specs.Chosen.{AreApplicants, ChoosesFrom, IsWith, everybody}
 use Rattle.programme_lists.specs.Programme.{Admissions, is_of, unfilled}
-use Rattle.open_then_category.specs.State.{IsAnswered, IsOffered, IsPassed, IsProgrammeKept, LeavesOut, ProgrammeKept, count, entered, left_last, passing, step_kept}
+use Rattle.open_then_category.specs.State.{IsAnswered, IsOffered, IsPassed, ProgrammeKept, count, entered, left_last, passing}
 use Rattle.open_then_category.proofs.Keeping.{Out, answer_displaced, answer_refused, answer_taken, few_last, last_ranked, new_ews, new_last, new_obc, new_open, new_sc, new_st, settled}
 use Rattle.open_then_category.proofs.state.ProgrammeState.offer.Goals as goal
 use Rattle.open_then_category.proofs.state.ProgrammeState.offer.Goals.{in-None, in-Some+then-eq, in-Some+else-eq}
