@@ -27,7 +27,7 @@ pub enum Seek {
 fn is_among(progs: &[ProgId], prog: ProgId) -> bool
     ensures { result ≡ is_chosen prog.0 progs.now }
 {
-    progs.iter().any(|other| prog.0 == other.0)
+    progs.contains(&prog)
 }
 
 /// Whether two programmes stand at one institute.
