@@ -1,14 +1,16 @@
-// A plain Rust reader of the register and the matrix with the standard library, to measure the office's readers beside
-// it. It checks what a careful reader would check, with no proof and no first fault by kind: `readers` says how to run it.
+// A plain Rust reader of season bundles with the standard library, to measure the command `check` beside it. It makes the
+// same checks and keeps the same facts, with no proof and no first fault by kind: `check` runs both.
 use std::collections::{HashMap, HashSet};
 use std::io::Read;
 
+/// A line without its end and the empty fields there.
+fn without_end(line: &str) -> &str {
+    line.trim_end_matches('\r').trim_end_matches(',')
+}
+
 fn fields(line: &str) -> Vec<&str> {
-    let mut fields: Vec<&str> = line.trim_end_matches('\r').split(',').collect();
-    while fields.last() == Some(&"") {
-        fields.pop();
-    }
-    fields
+    let line = without_end(line);
+    if line.is_empty() { Vec::new() } else { line.split(',').collect() }
 }
 
 fn number(text: &str, low: u32, high: u32) -> Option<u32> {
@@ -18,60 +20,226 @@ fn number(text: &str, low: u32, high: u32) -> Option<u32> {
     text.parse().ok().filter(|n| (low..=high).contains(n))
 }
 
-fn register(body: &str) -> Option<usize> {
-    let mut ids = HashMap::new();
+fn is_code(text: &str) -> bool {
+    (1..=16).contains(&text.len()) && text.bytes().all(|b| b.is_ascii_alphanumeric() || b == b'-')
+}
+
+fn is_token(text: &str) -> bool {
+    (8..=32).contains(&text.len()) && text.bytes().all(|b| b.is_ascii_alphanumeric())
+}
+
+fn traits(text: &str) -> Option<u8> {
+    if text == "-" {
+        return Some(0);
+    }
+    let mut set = 0;
+    let mut last = None;
+    for letter in text.bytes() {
+        let place = b"WDXSFL".iter().position(|b| *b == letter)?;
+        if last.is_some_and(|before| before >= place) {
+            return None;
+        }
+        last = Some(place);
+        set |= 1 << place;
+    }
+    if set == 0 { None } else { Some(set) }
+}
+
+/// Cuts the body of the section with this title off the text.
+fn section<'a>(text: &'a str, title: &str) -> Option<(&'a str, &'a str)> {
+    let (line, rest) = text.split_once('\n')?;
+    if line.trim_end_matches(['\r', ',']) != title {
+        return None;
+    }
+    let end = if rest.starts_with('[') { 0 } else { rest.find("\n[").map_or(rest.len(), |at| at + 1) };
+    Some((&rest[..end], &rest[end..]))
+}
+
+fn rows<'a>(body: &'a str, header: &str) -> Option<impl Iterator<Item = Vec<&'a str>>> {
+    let mut rows = body.lines().map(fields).filter(|row| !row.is_empty());
+    if rows.next()? != fields(header) {
+        return None;
+    }
+    Some(rows)
+}
+
+#[derive(Clone, Copy)]
+struct Person {
+    #[allow(dead_code)]
+    category: u8,
+    #[allow(dead_code)]
+    traits: u8,
+    places: [(u32, bool); 4],
+}
+
+struct Register<'a> {
+    people: HashMap<u32, (usize, Person)>,
+    tokens: HashSet<&'a str>,
+}
+
+fn register(body: &str) -> Option<Register<'_>> {
+    let mut people = HashMap::new();
     let mut tokens = HashSet::new();
     let mut taken: [HashSet<u32>; 4] = Default::default();
-    for line in body.lines().skip(1) {
-        let row = fields(line);
-        if row.is_empty() {
-            continue;
+    for row in rows(body, "id,category,traits,token,m1,m2,m3,m4")? {
+        if row.len() > 8 || people.len() >= 250_000 {
+            return None;
         }
         let id = number(row[0], 1, 999_999_999)?;
-        let mut places = [0u32; 4];
+        let category = match *row.get(1)? {
+            "GEN" => 0,
+            "EWS" | "GEN-EWS" => 1,
+            "OBC" | "OBC-NCL" => 2,
+            "SC" => 3,
+            "ST" => 4,
+            _ => return None,
+        };
+        let traits = traits(row.get(2)?)?;
+        let token = *row.get(3)?;
+        let mut places = [(0, false); 4];
         for list in 0..4 {
             let text = row.get(4 + list).copied().unwrap_or("");
             if text.is_empty() {
                 continue;
             }
-            places[list] = number(text.strip_suffix('R').unwrap_or(text), 1, 9_999_999)?;
-            if !taken[list].insert(places[list]) {
+            let relaxed = text.ends_with('R');
+            let number = number(text.strip_suffix('R').unwrap_or(text), 1, 9_999_999)?;
+            if (relaxed && category == 0) || !taken[list].insert(number) {
                 return None;
             }
+            places[list] = (number, relaxed);
         }
-        if !tokens.insert(row.get(3)?.to_string()) || ids.insert(id, (row[1].to_string(), row[2].to_string(), places)).is_some() {
+        if !is_token(token) || !tokens.insert(token) {
+            return None;
+        }
+        let at = people.len();
+        if people.insert(id, (at, Person { category, traits, places })).is_some() {
             return None;
         }
     }
-    Some(ids.len())
+    Some(Register { people, tokens })
 }
 
-fn matrix(body: &str) -> Option<usize> {
-    let mut programmes = HashMap::new();
-    let mut steps = HashSet::new();
-    for line in body.lines().skip(1) {
-        let row = fields(line);
-        if row.is_empty() {
-            continue;
-        }
-        let seats = number(row.get(4)?, 0, 4000)?;
-        let mut sum = 0;
-        for text in row.iter().skip(5) {
-            sum += if text.is_empty() { 0 } else { number(text, 0, 4000)? };
-        }
-        if sum > seats || !steps.insert((row[0].to_string(), row[3].to_string())) {
+struct Programme<'a> {
+    number: u16,
+    institute: &'a str,
+    list: u32,
+}
+
+fn matrix(body: &str) -> Option<HashMap<&str, Programme<'_>>> {
+    let mut programmes: HashMap<&str, Programme> = HashMap::new();
+    let mut steps = HashMap::new();
+    let mut total = 0;
+    for row in rows(body, "programme,institute,list,step,seats,W,D,X,S,F,L")? {
+        if row.len() > 11 || !is_code(row[0]) || !is_code(row.get(1)?) {
             return None;
         }
+        let step = match *row.get(3)? {
+            "OPEN" => 0u8,
+            "EWS" | "GEN-EWS" => 1,
+            "OBC" | "OBC-NCL" => 2,
+            "SC" => 3,
+            "ST" => 4,
+            _ => return None,
+        };
+        let seats = number(row.get(4)?, 0, 4000)?;
+        let mut protections = [0; 6];
+        for (n, text) in row.iter().skip(5).enumerate() {
+            protections[n] = if text.is_empty() { 0 } else { number(text, 0, 4000)? };
+        }
+        total += seats;
+        if protections.iter().sum::<u32>() > seats || total > 1_000_000 {
+            return None;
+        }
+        if steps.insert((row[0], step), (seats, protections)).is_some() {
+            return None;
+        }
+        let list = number(row[2], 1, 4)?;
         let count = programmes.len();
-        programmes.entry(row[0].to_string()).or_insert((count, row[1].to_string(), number(row[2], 1, 4)?));
+        match programmes.get(row[0]) {
+            Some(known) if known.institute != row[1] || known.list != list => return None,
+            Some(_) => {}
+            None if count >= 2_000 => return None,
+            None => {
+                programmes.insert(row[0], Programme { number: count as u16, institute: row[1], list });
+            }
+        }
     }
-    Some(programmes.len())
+    Some(programmes)
+}
+
+struct Choices {
+    programmes: Vec<u16>,
+    ranges: Vec<Option<(usize, usize)>>,
+}
+
+fn choices(body: &str, register: &Register, programmes: &HashMap<&str, Programme>) -> Option<Choices> {
+    let mut choices = Choices { programmes: Vec::new(), ranges: vec![None; register.people.len()] };
+    let mut named_last = vec![0; programmes.len()];
+    let mut lines = body.lines().filter(|line| !without_end(line).is_empty());
+    if without_end(lines.next()?) != "candidate,programmes" {
+        return None;
+    }
+    for line in lines {
+        let mut fields = without_end(line).split(',');
+        let id = number(fields.next()?, 1, 999_999_999)?;
+        let (at, person) = register.people.get(&id)?;
+        let start = choices.programmes.len();
+        for code in fields {
+            let programme = programmes.get(code)?;
+            let last = &mut named_last[usize::from(programme.number)];
+            if person.places[programme.list as usize - 1].0 == 0 || *last == id {
+                return None;
+            }
+            *last = id;
+            choices.programmes.push(programme.number);
+        }
+        let end = choices.programmes.len();
+        if end - start > 1_000 || end > 5_000_000 || choices.ranges[*at].replace((start, end)).is_some() {
+            return None;
+        }
+    }
+    Some(choices)
+}
+
+fn check(text: &str) -> Option<String> {
+    let text = text.strip_prefix('\u{feff}').unwrap_or(text);
+    let (first, rest) = text.split_once('\n')?;
+    if first.trim_end_matches(['\r', ',']) != "office bundle 1" {
+        return None;
+    }
+    let (season, rest) = section(rest, "[season]")?;
+    let (people, rest) = section(rest, "[register]")?;
+    let (seats, rest) = section(rest, "[matrix]")?;
+    let (wanted, rest) = section(rest, "[choices]")?;
+    if !rest.is_empty() {
+        return None;
+    }
+    let (mut rounds, mut clerk) = (None, None);
+    for row in season.lines().map(fields).filter(|row| !row.is_empty()) {
+        match row[..] {
+            ["rounds", text] if rounds.is_none() => rounds = Some(number(text, 1, 10)?),
+            ["clerk", text] if clerk.is_none() && is_token(text) => clerk = Some(text),
+            _ => return None,
+        }
+    }
+    let register = register(people)?;
+    if register.tokens.contains(clerk?) {
+        return None;
+    }
+    let programmes = matrix(seats)?;
+    let choices = choices(wanted, &register, &programmes)?;
+    let count: usize = choices.ranges.iter().flatten().map(|(start, end)| end - start).sum();
+    Some(format!(
+        "bundle candidates {} programmes {} choices {count} rounds {}",
+        register.people.len(),
+        programmes.len(),
+        rounds?
+    ))
 }
 
 fn main() {
-    let section = std::env::args().nth(1).expect("a section");
-    let mut body = String::new();
-    std::io::stdin().read_to_string(&mut body).expect("text");
-    let count = if section == "register" { register(&body) } else { matrix(&body) };
-    println!("{section} {}", count.expect("a section without faults"));
+    let mut text = String::new();
+    std::io::stdin().read_to_string(&mut text).expect("text");
+    println!("{}", check(&text).expect("a bundle without faults"));
 }

@@ -12,7 +12,7 @@ use Rattle.office_base.specs.declared.person.ProgId.{ProgId}
 use Rattle.section_rows.specs.Rows.{Row, field}
 use Rattle.section_rows.specs.Steps.{after, unless}
 use Rattle.section_rows.proofs.StepsLemmas.{after_ok, needs_ok, none_from, unless_ok}
-use Rattle.rank_lists.specs.Register.{Ranks, find_person}
+use Rattle.rank_lists.specs.Register.{Ranks, find_person, row_of}
 use Rattle.seat_matrix.specs.Matrix.{SeatTable}
 use Rattle.seat_matrix.specs.declared.entry.Home.{Home}
 use Rattle.office_text.specs.Number.{number_within}
@@ -32,6 +32,13 @@ same_id n (p ∷ people) person e = by (n == p.id.0) refl e (same_id n people pe
 -- a person is found by the person's own id
 found_self : (n : ℕ) (people : List Person) (person : Person) → find_person n people ≡ Some person → find_person person.id.0 people ≡ Some person
 found_self n people person e = subst (λ (k : ℕ). find_person k people ≡ Some person) (same_id n people person e) e
+
+-- the person at the position of an id has that position
+pub row_own : (people : List Person) (id at : ℕ) (person : Person) → Some at ≡ row_of id people → slice_get people at ≡ find_person id people → slice_get people at ≡ Some person
+    → row_of person.id.0 people ≡ Some at
+row_own people id at person e f g =
+    let same = same_id id people person (sym f ∙ g) in
+    ap (λ (k : ℕ). row_of k people) (sym same) ∙ sym e
 
 -- the person of a text is found by the person's own id
 pub known : (ranks : Ranks) (person : Person) (o : Option ℕ) → option_and_then (λ id. find_person id ranks.people) o ≡ Some person → find_person person.id.0 ranks.people ≡ Some person

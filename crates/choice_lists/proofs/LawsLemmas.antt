@@ -7,6 +7,7 @@ use Rattle.office_base.specs.declared.person.ProgId.{ProgId}
 use Rattle.office_text.specs.FirstFault.{IsFaultless, IsFirstFault}
 use Rattle.office_text.proofs.FirstFaultLemmas.{one_answer}
 use Rattle.section_rows.specs.Rows.{Row}
+use Rattle.section_rows.specs.declared.fault.TableFault.TheVariants.{Bad}
 use Rattle.section_rows.specs.Steps.{after, first_of}
 use Rattle.section_rows.specs.Table.{Reading, entries_after, entries_of, table_judge, with_entry}
 use Rattle.section_rows.proofs.StepsLemmas.{after_ok}
@@ -15,11 +16,10 @@ use Rattle.seat_matrix.specs.Matrix.{SeatTable}
 use Rattle.seat_matrix.specs.declared.entry.Home.{Home}
 use Rattle.choice_lists.specs.Choices.{AreListsOf, Entry, IsChoice, IsFault, IsRead, Lists, choice, choices, header, judge, list_at, listed, new_candidate, reading}
 use Rattle.choice_lists.specs.Laws.{DependOnPeopleAndProgrammes, HaveOneReading}
-use Rattle.choice_lists.specs.declared.fault.ChoiceFault.TheVariants.{Bad}
 use Rattle.choice_lists.specs.declared.fault.ChoiceKind.{ChoiceKind}
 use Rattle.choice_lists.specs.declared.fault.ChoiceKind.TheVariants.{BadHeader}
 use Rattle.choice_lists.proofs.ChoicesLemmas.{choices_ok, good_choice, new_candidate_ok}
-use Rattle.choice_lists.proofs.ListingLemmas.{sound-step}
+use Rattle.choice_lists.proofs.BuilderLemmas.{sound-step}
 
 -- the lists of entries
 abbrev lists_from : List Entry → Lists

@@ -1,3 +1,5 @@
+mod BuilderLemmas
 mod ChoicesLemmas
+mod FlatLemmas
+mod FoundLemmas
 mod LawsLemmas
-mod ListingLemmas

@@ -1,4 +1,4 @@
--- The grammar of the choices: what a row gives behind the entries of the rows before it, or what is wrong with it.
+-- The grammar of the choices: what a row gives after the entries of the rows before it, or what is wrong with it.
 use Rattle.std.specs.Prelude.{◌≡◌, ◌<◌, ◌≤◌, ◌+◌, ◌-◌, ℕ, Bool, false, not, ◌==◌, ◌||◌, nat_lt, List, [], ◌∷◌, ◌++◌, is_some, IsTrue, Option, Some, None, Result, Ok, length, map, drop, slice_get, bytes_eq, codes, position}
 use Rattle.std.specs.List.{AllByRecursion}
 use Rattle.std.specs.Option.{option_and_then}
@@ -6,17 +6,16 @@ use Rattle.office_base.specs.Lists.{Pairwise}
 use Rattle.office_base.specs.Person.{number_in}
 use Rattle.office_base.specs.declared.person.Person.{Person}
 use Rattle.office_base.specs.declared.person.ProgId.{ProgId}
-use Rattle.office_text.specs.FirstFault.{Judge, IsFirstFault, IsFaultless}
+use Rattle.office_text.specs.FirstFault.{Judge, IsFaultless}
 use Rattle.office_text.specs.Number.{number_within}
 use Rattle.section_rows.specs.Rows.{Row, field}
 use Rattle.section_rows.specs.Steps.{after, first_of, needs, unless}
-use Rattle.section_rows.specs.Table.{Reading, entries_of, table_judge}
+use Rattle.section_rows.specs.Table.{IsTableFault, Reading, entries_of, table_judge}
+use Rattle.section_rows.specs.declared.fault.TableFault.{TableFault}
 use Rattle.rank_lists.specs.Register.{Ranks, find_person}
 use Rattle.seat_matrix.specs.Fields.{code_of}
 use Rattle.seat_matrix.specs.Matrix.{SeatTable}
 use Rattle.seat_matrix.specs.declared.entry.Home.{Home}
-use Rattle.choice_lists.specs.declared.fault.ChoiceFault.{ChoiceFault}
-use Rattle.choice_lists.specs.declared.fault.ChoiceFault.TheVariants.{Bad, OutOfMemory}
 use Rattle.choice_lists.specs.declared.fault.ChoiceKind.{ChoiceKind}
 use Rattle.choice_lists.specs.declared.fault.ChoiceKind.TheVariants.{BadHeader, UnknownCandidate, RepeatedCandidate, UnknownProgramme, RepeatedProgramme, NotRankedThere, TooLong, TooMany}
 
@@ -67,13 +66,13 @@ is_ranked_for person (Some held) = is_some (number_in held.1.list person)
 abbrev pub is_ranked : SeatTable → Person → ℕ → Bool
 is_ranked seats person n = is_ranked_for person (slice_get seats.programmes n)
 
--- a programme behind those that stand earlier in the row
+-- a programme after those that stand earlier in the row
 abbrev pub choice : SeatTable → Person → List ProgId → List ℕ → Result ProgId ChoiceKind
 choice seats person chosen text =
     needs (programme_of seats text) UnknownProgramme
     (λ n. unless (is_chosen n chosen) RepeatedProgramme (unless (not (is_ranked seats person n)) NotRankedThere (Ok (record { 0 = n }))))
 
--- the programmes of some fields, behind those that stand earlier in the row
+-- the programmes of some fields, after those that stand earlier in the row
 abbrev pub choices : SeatTable → Person → List ProgId → List (List ℕ) → Result (List ProgId) ChoiceKind
 choices seats person chosen [] = Ok chosen
 choices seats person chosen (text ∷ texts) = after (choice seats person chosen text) (λ prog. choices seats person (chosen ++ prog ∷ []) texts)
@@ -84,7 +83,7 @@ new_candidate ranks entries row =
     needs (person_of ranks (field row 0)) UnknownCandidate (λ person. unless (is_some (list_at person.id.0 entries)) RepeatedCandidate
     (unless (nat_lt 1000 (length row - 1)) TooLong (unless (nat_lt 5000000 (all_choices entries + (length row - 1))) TooMany (Ok person))))
 
--- What a row gives behind these entries, or the first of its faults.
+-- What a row gives after these entries, or the first of its faults.
 unfoldable pub reading : Ranks → SeatTable → Reading Entry ChoiceKind
 reading ranks seats entries row =
     after (new_candidate ranks entries row)
@@ -126,6 +125,18 @@ AreChoices ranks seats lists = (candidate : ℕ) → IsChoice ranks seats candid
 abbrev pub AreLists : Lists → Type 0
 AreLists lists = (candidate : ℕ) → AreDistinct (list_of lists candidate) × (length (list_of lists candidate) ≤ 1000)
 
+-- candidates by these ids, with these lists
+abbrev pub lists_along : List ℕ → List (List ProgId) → Lists
+lists_along [] lists = []
+lists_along (id ∷ ids) [] = []
+lists_along (id ∷ ids) (list ∷ lists) = (id, list) ∷ lists_along ids lists
+
+-- The ids rise, there are as many lists, and the lists are short and name distinct programmes.
+pub record AreKept (ids : List ℕ) (lists : List (List ProgId)) : Type 0 where
+  pub rising : Pairwise (λ a b. a < b) ids
+  pub count : length ids ≡ length lists
+  pub sound : AreLists (lists_along ids lists)
+
 -- the lists are those of the entries
 abbrev pub AreListsOf : List Entry → Lists → Type 0
 AreListsOf entries lists = (candidate : ℕ) → list_of lists candidate ≡ listed (list_at candidate entries)
@@ -135,6 +146,5 @@ abbrev pub IsRead : Ranks → SeatTable → List Row → Lists → Type 0
 IsRead ranks seats rows lists = IsFaultless (judge ranks seats) rows × AreListsOf (entries_of (reading ranks seats) rows) lists
 
 -- the first fault of a body's rows; want of memory tells nothing of them
-abbrev pub IsFault : Ranks → SeatTable → List Row → ChoiceFault → Type 0
-IsFault ranks seats rows (Bad row kind) = (n : ℕ) × (row ≡ n + 1) × IsFirstFault (judge ranks seats) rows n kind
-IsFault ranks seats rows OutOfMemory = Unit {0}
+abbrev pub IsFault : Ranks → SeatTable → List Row → TableFault ChoiceKind → Type 0
+IsFault ranks seats rows fault = IsTableFault (judge ranks seats) rows fault

@@ -1,10 +1,10 @@
 -- That rows give one set of lists or have one fault, and what that depends on.
 use Rattle.std.specs.Prelude.{◌≡◌, ◌⊎◌, ℕ, List}
 use Rattle.section_rows.specs.Rows.{Row}
+use Rattle.section_rows.specs.declared.fault.TableFault.TheVariants.{Bad}
 use Rattle.rank_lists.specs.Register.{Ranks}
 use Rattle.seat_matrix.specs.Matrix.{SeatTable}
 use Rattle.choice_lists.specs.Choices.{AreChoices, IsFault, IsRead, Lists, list_of}
-use Rattle.choice_lists.specs.declared.fault.ChoiceFault.TheVariants.{Bad}
 use Rattle.choice_lists.specs.declared.fault.ChoiceKind.{ChoiceKind}
 
 -- Beside ranks and seats, rows give sound lists or have a fault; never both, and never two that differ.

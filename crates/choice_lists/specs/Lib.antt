@@ -1,4 +1,6 @@
+pub mod Builder
 pub mod Choices
+pub mod Flat
 pub mod Kinds
 pub mod Laws
-pub mod Listing
+pub mod OneProof

@@ -1,58 +1,38 @@
 // The choice lists, as the layers above see them.
-ghost use Rattle.std.specs.Prelude.{◌≡◌, ◌≤◌, IfOk, IfErr, length};
-ghost use Rattle.section_rows.specs.Rows.{rows_of, same_fields};
-ghost use Rattle.choice_lists.specs.Choices.{header, IsRead, IsFault, AreChoices, AreDistinct, list_of};
-ghost use Rattle.choice_lists.specs.Listing.{part};
+ghost use Rattle.std.specs.Prelude.{◌≡◌, ◌<◌, ◌≤◌, Some, IfOk, IfErr, length, map, option_map, slice_get};
+ghost use Rattle.section_rows.specs.Rows.{rows_of};
+ghost use Rattle.choice_lists.specs.Choices.{IsRead, IsFault, AreChoices, AreDistinct, list_of};
 
-use crate::fault::{ChoiceFault, ChoiceKind};
-use crate::listing::Listing;
-use office_base::{CandId, Listed, ProgId};
+use crate::builder::ChoicesBuilder;
+use crate::fault::ChoiceFault;
+use crate::flat::FlatLists;
+use office_base::{CandId, ProgId};
 use rank_lists::Register;
 use seat_matrix::Matrix;
-use section_rows::Rows;
+use section_rows::read_table;
 use std::alloc::Global;
-use std::collections::BTreeMap;
 use std::marker::Model;
 
-/// The programmes of all candidates one behind another, and from where to where each candidate's stand.
+/// The ids of all candidates of a register in rising order, and their lists along with them.
 #[derive(Drop)]
 pub struct Choices {
-    pub(crate) programmes: Listed<ProgId>,
-    pub(crate) ranges: BTreeMap<u32, (usize, usize)>,
+    pub(crate) ids: Vec<u32>,
+    pub(crate) lists: FlatLists<ProgId>,
 }
 
 impl Model for Choices {
-    ghost use Rattle.std.specs.Prelude.{ℕ};
-    ghost use Rattle.std.specs.Ordering.{nat_cmp};
-    ghost use Rattle.std.specs.BTreeMap as tree;
-    ghost use Rattle.choice_lists.specs.Choices.{Lists, AreLists};
-    ghost use Rattle.choice_lists.specs.Listing.{lists_of, IsWithin};
+    ghost use Rattle.choice_lists.specs.Choices.{Lists, AreKept, lists_along};
 
     ghost Value = { Lists };
 
-    ghost view = { λ a. lists_of a.programmes a.ranges.entries };
+    ghost view = { λ a. lists_along a.ids.items a.lists };
 
-    ghost invariant = { λ a. AreLists (lists_of a.programmes a.ranges.entries) × ((candidate : ℕ) → IsWithin a.programmes (tree.get nat_cmp a.ranges candidate)) };
-}
-
-/// Whether the row is the header.
-fn is_header(row: &Rows<'_>) -> bool
-    ensures { result ≡ same_fields row.now.row header }
-{
-    row.is(&[b"candidate".as_slice(), b"programmes".as_slice()])
-}
-
-/// The programmes from `start` to before `end`.
-fn part(all: &[ProgId], start: usize, end: usize) -> &[ProgId]
-    requires rising { start ≤ end }
-    requires within { end ≤ length all.now }
-    ensures { result.now ≡ part all.now (start, end) }
-{
-    &all[start..end]
+    ghost invariant = { λ a. AreKept a.ids.items a.lists };
 }
 
 impl Choices {
-    /// The choices that the body of a section spells beside a register and a matrix, or its first fault by rows.
+    /// The choices that the body of a section spells beside a register and a matrix, or its first fault by rows. There is one
+    /// list for each candidate of the register, in its order, and the empty one where the candidate has no row.
     pub fn read(
         alloc: Global,
         body: &[u8],
@@ -62,27 +42,11 @@ impl Choices {
         ensures value { IfOk result (λ choices. IsRead register.now matrix.now (rows_of body.now) choices) }
         ensures fault { IfErr result (λ fault. IsFault register.now matrix.now (rows_of body.now) fault) }
         ensures sound { IfOk result (λ choices. AreChoices register.now matrix.now choices) }
+        ensures aligned { IfOk result (λ choices. map (λ held. held.0) choices ≡ map (λ person. person.id.0) register.now.people) }
     {
-        let mut rows = Rows::new(alloc, body);
-        if !rows.advance()? || !is_header(&rows) {
-            return Err(ChoiceFault::Bad {
-                row: 1,
-                kind: ChoiceKind::BadHeader,
-            });
-        }
-        let mut listing = Listing::new(alloc);
-        let mut number: u32 = 1;
-        'rows: while rows.advance()? {
-            // no memory holds so many rows: each is of another candidate of the register
-            let Some(next) = number.checked_add(1) else {
-                return Err(ChoiceFault::OutOfMemory);
-            };
-            match listing.put(alloc, &rows, register, matrix)? {
-                None => number = next,
-                Some(kind) => return Err(ChoiceFault::Bad { row: next, kind }),
-            }
-        }
-        Ok(listing.finish())
+        let mut builder = ChoicesBuilder::new(alloc, register, matrix)?;
+        read_table(alloc, body, &mut builder)?;
+        Ok(builder.finish(alloc)?)
     }
 
     /// The programmes that a candidate wants, the most preferred first; none where the candidate has no row. It takes no memory.
@@ -91,9 +55,17 @@ impl Choices {
         ensures distinct { AreDistinct result.now }
         ensures short { length result.now ≤ 1000 }
     {
-        match self.ranges.get(&cand.0) {
-            Some((start, end)) => part(self.programmes.as_slice(), *start, *end),
-            None => &[],
+        match self.ids.binary_search(&cand.0) {
+            Ok(at) => self.lists.at(at),
+            Err(_) => &[],
         }
+    }
+
+    /// The list of the candidate at this position of the register, from 0. It takes no memory.
+    pub fn list_at(&self, at: usize) -> &[ProgId]
+        requires { at < length self.now }
+        ensures { option_map (λ held. held.1) (slice_get self.now at) ≡ Some result.now }
+    {
+        self.lists.at(at)
     }
 }

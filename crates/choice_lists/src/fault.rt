@@ -1,9 +1,8 @@
 // What can be wrong with the choices.
 ghost use Rattle.std.specs.Prelude.{◌≡◌};
 ghost use Rattle.choice_lists.specs.Kinds.{kind_name};
-ghost use Rattle.choice_lists.specs.declared.fault.ChoiceFault.TheVariants.{OutOfMemory as NoMemory};
 
-use office_base::OutOfMemory;
+use section_rows::TableFault;
 
 /// What is wrong with a row of the choices. On one row `UnknownCandidate`, `RepeatedCandidate`, `TooLong` and `TooMany` come in
 /// this order, and then the other three programme by programme.
@@ -45,21 +44,5 @@ impl ChoiceKind {
     }
 }
 
-/// Why choices were not read. Nothing is left behind.
-#[derive(Clone, Copy, Debug, PartialEq, Eq, thiserror::Error)]
-pub enum ChoiceFault {
-    /// The first fault by rows. Rows are counted from 1, the header included.
-    #[error("row {row}: {kind:?}")]
-    Bad { row: u32, kind: ChoiceKind },
-    /// There was no memory for the choices.
-    #[error("out of memory")]
-    OutOfMemory,
-}
-
-impl From<OutOfMemory> for ChoiceFault {
-    ghost from_gives = { λ _ fault. fault ≡ NoMemory };
-
-    fn from(_: OutOfMemory) -> Self {
-        ChoiceFault::OutOfMemory
-    }
-}
+/// Why choices were not read: their first fault by rows, or want of memory. Nothing is left behind.
+pub type ChoiceFault = TableFault<ChoiceKind>;

@@ -1,15 +1,18 @@
 // The choice lists: which programmes each candidate wants, the most preferred first.
 //
-// The season and the office stand on it. `specs/` says what a row of the choices gives or what is wrong with it, behind the
+// The season and the office stand on it. `specs/` says what a row of the choices gives or what is wrong with it, after the
 // rows before it and beside the register and the matrix; the choices of a body are what its rows give, and its fault is the
-// first by rows. All lists lie one behind another in one vector of programme numbers. A list names distinct programmes of
+// first by rows. There is one list for each
+// candidate of the register, in its order, and all lists lie one after another in one vector of programme numbers. A list names distinct programmes of
 // the matrix, in whose merit lists the candidate has a place. It must never know of rounds, of seats or of answers.
 #![tactic(auto)]
 
+pub mod builder;
 pub mod choices;
 pub mod fault;
+pub mod flat;
 pub mod laws;
-pub mod listing;
 
 pub use choices::Choices;
 pub use fault::{ChoiceFault, ChoiceKind};
+pub use flat::FlatLists;

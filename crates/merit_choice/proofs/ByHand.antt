@@ -1,5 +1,5 @@
 -- Going down the people by hand: whoever raises the number that those marked before honour raises the number of all before.
-use Rattle.std.proofs.Common.{◌≡◌, ◌≢◌, ℕ, suc, Bool, true, false, List, [], ◌∷◌, length, refl, subst, inl, arith}
+use Rattle.std.proofs.Common.{Bool, true, false, List, [], ◌∷◌, length, refl, inl, arith}
 use Rattle.office_base.specs.Placement.{IsHonoured}
 use Rattle.office_base.specs.declared.person.Person.{Person}
 use Rattle.office_base.specs.declared.step.Protections.{Protections}

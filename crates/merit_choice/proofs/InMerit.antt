@@ -1,5 +1,5 @@
 -- People by merit: who they are, and that their order is one.
-use Rattle.std.proofs.Common.{◌≡◌, ◌≢◌, ◌≤◌, ◌<◌, ◌⊎◌, ℕ, suc, Bool, true, false, cond, ltb, Option, Some, None, List, [], ◌∷◌, length, refl, sym, ap, ◌∙◌, subst, inl, inr, arith}
+use Rattle.std.proofs.Common.{◌≡◌, ◌≢◌, ◌≤◌, ◌⊎◌, ℕ, suc, Bool, true, false, cond, Option, Some, None, List, [], ◌∷◌, length, refl, sym, ap, ◌∙◌, subst, inl, inr, arith}
 use Rattle.std.specs.Prelude.{IsSome}
 use Rattle.std.specs.List.{AllByRecursion}
 use Rattle.std.proofs.lemmas.Bool.{ltb-true, ltb-false, cases_Bool}
@@ -11,7 +11,7 @@ use Rattle.office_base.specs.declared.person.Person.{Person}
 use Rattle.placements.proofs.Sublists.{IsSublist-nil, IsSublist-same, length-sublist}
 use Rattle.placements.specs.Ranks.{AreAmong, AreDistinct}
 use Rattle.placements.proofs.Exchange.{all_weaker}
-use Rattle.placements.proofs.Ranks.{any_all, all_both, any_among, among_longer, among_itself, among_again}
+use Rattle.placements.proofs.Ranks.{any_all, all_both, among_longer, among_itself, among_again}
 use Rattle.merit_choice.specs.InMerit.{is_ahead, is_better, with_person, in_merit, CanBeRanked, IsNewTo, InMeritRanks, OneMeritOrder, SameMeritOrder, PartCanBeRanked, PartInMerit, RankedInMerit, RankedPart, WithPersonRanks}
 
 -- ---- the order of two

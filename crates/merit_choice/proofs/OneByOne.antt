@@ -1,23 +1,22 @@
 -- One person too many, and people who come one by one.
-use Rattle.std.proofs.Common.{◌≡◌, ◌≢◌, ◌≤◌, ◌<◌, ◌⊎◌, ℕ, suc, sum, List, [], ◌∷◌, length, refl, sym, ap, ◌∙◌, subst, inl, inr, arith}
+use Rattle.std.proofs.Common.{◌≡◌, ◌≢◌, ◌⊎◌, ℕ, suc, List, [], ◌∷◌, length, refl, sym, ap, ◌∙◌, subst, inl, inr, arith}
 use Rattle.std.specs.Prelude.{IsSome}
 use Rattle.std.specs.List.{AllByRecursion}
 use Rattle.office_base.specs.Lists.{AnyByRecursion, IsSublist, Pairwise}
-use Rattle.office_base.specs.Person.{IsBetter, IsList, IsTraitSet, number_in}
+use Rattle.office_base.specs.Person.{IsBetter, IsTraitSet, number_in}
 use Rattle.office_base.specs.Placement.{IsHonoured}
 use Rattle.office_base.specs.StepChoice.{AreRanked, IsStep, IsNoWorse, MayAdmit, IsStepChoice}
 use Rattle.office_base.specs.declared.person.ListId.{ListId}
 use Rattle.office_base.specs.declared.person.Person.{Person}
-use Rattle.office_base.specs.declared.step.Protections.{Protections}
 use Rattle.office_base.specs.declared.step.Step.{Step}
 use Rattle.placements.proofs.Sublists.{AllByRecursion-sublist}
-use Rattle.placements.specs.Ranks.{AreAmong, AreDistinct, without}
+use Rattle.placements.specs.Ranks.{AreDistinct, without}
 use Rattle.placements.proofs.Greatest.{honoured-exists}
-use Rattle.placements.proofs.Ranks.{any_all, any_among, among_itself, among_sublist, monotone, pairwise_sublist}
+use Rattle.placements.proofs.Ranks.{any_all, any_among, among_sublist, monotone, pairwise_sublist}
 use Rattle.placements.proofs.Without.{is_numbered, without_first, without_later, without_sublist, length_without}
 use Rattle.merit_choice.specs.InMerit.{CanBeRanked, IsNewTo, in_merit, with_person}
-use Rattle.merit_choice.specs.Laws.{IsAmong, HasMorePeople, AreHeldAfter, OneTooMany, SeatsForAll, RefusedBefore, OneByOne}
-use Rattle.merit_choice.proofs.InMerit.{not_ahead, ahead_again, all_in_merit, among_with, with_any, any_with, are_among, ranked_in_order, ranked_with, sublist_with, whole_sublist}
+use Rattle.merit_choice.specs.Laws.{IsAmong, HasMorePeople, OneTooMany, SeatsForAll, RefusedBefore, OneByOne}
+use Rattle.merit_choice.proofs.InMerit.{not_ahead, ahead_again, all_in_merit, with_any, any_with, are_among, ranked_in_order, ranked_with, sublist_with, whole_sublist}
 use Rattle.merit_choice.proofs.StepLaws.{choice_exists, choice_size, refused_stays_refused, leaving_out_refused}
 
 -- ---- everybody

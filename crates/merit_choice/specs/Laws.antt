@@ -1,6 +1,6 @@
 -- The laws of the choice of a step, as statements over the definitions of the base.
 use Rattle.std.specs.Prelude.{◌≡◌, ◌≤◌, ◌<◌, ◌-◌, ℕ, suc, min, Bool, List, [], ◌∷◌, length, sum}
-use Rattle.office_base.specs.Lists.{AnyByRecursion}
+pub use Rattle.office_base.specs.Lists.{IsAmong}
 use Rattle.office_base.specs.Person.{IsBetter, IsList}
 use Rattle.office_base.specs.Placement.{IsHonoured}
 use Rattle.office_base.specs.StepChoice.{IsStep, IsStepChoice}
@@ -11,10 +11,6 @@ use Rattle.office_base.specs.declared.step.Step.{Step}
 use Rattle.placements.specs.Ranks.{AreAmong, without}
 use Rattle.merit_choice.specs.InMerit.{CanBeRanked, in_merit, with_person}
 use Rattle.merit_choice.specs.Marks.{marked, kept, filled_up, AreMarkedByHand}
-
--- the person is one of the people
-abbrev pub IsAmong : Person → List Person → Type 0
-IsAmong person people = AnyByRecursion (λ other. person ≡ other) people
 
 -- a step has at most one choice
 abbrev pub OneChoice : Type 0

@@ -1,3 +1,6 @@
+pub mod Held
 pub mod InMerit
 pub mod Laws
 pub mod Marks
+pub mod Needed
+pub mod State

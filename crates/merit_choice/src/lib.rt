@@ -1,13 +1,17 @@
 // The choice of a step: whom the seats of one step admit from the people who stand for them.
 //
 // The choices of programmes and the commands stand on it. It honours as many protections as can be, then takes the best
-// by merit, and shows by a certificate which protections are filled. `choose` promises the definitions of the base whole,
-// and `laws` says what follows from them when people or seats are added. It must never know of categories, programmes
-// or rounds.
+// by merit, and shows by a certificate which protections are filled. `choose` promises the definitions of the base whole.
+// `StepState` makes the same choice from people who come one at a time, and takes no memory then. `laws` says what follows
+// from the definitions when people or seats are added, and what the merit order is. It must never know of categories,
+// programmes or rounds.
 #![tactic(auto)]
 
 pub mod choice;
+mod held;
 pub mod laws;
+pub mod state;
 
 pub use choice::{Chosen, choose};
 pub use office_base::Step;
+pub use state::{Offered, StepState};

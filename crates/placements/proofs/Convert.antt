@@ -159,7 +159,7 @@ filled-slots_of people (pair ∷ pairs) apart held once =
 
 -- the slots along the people of a placement are slots of one, as many as it has pairs
 pub slots-from_placement : (protections : Protections) (people : List Person) (pairs : List Pair)
-    → Pairwise (λ a b. a.id ≢ b.id) people → IsPlacement protections people pairs
+    → AreDistinct people → IsPlacement protections people pairs
     → AreSlots protections people (slots_of pairs people) × (filled (slots_of pairs people) ≡ length pairs)
 slots-from_placement protections people pairs apart placement = (
   record {
@@ -207,7 +207,7 @@ placed_on-le-used t (person ∷ people) (Some s ∷ slots) = omega (arith, place
 
 -- the pairs of slots are a placement
 pub placement-from_slots : (protections : Protections) (people : List Person) (slots : List (Option ℕ))
-    → Pairwise (λ a b. a.id ≢ b.id) people → AreSlots protections people slots
+    → AreDistinct people → AreSlots protections people slots
     → IsPlacement protections people (pairs_of people slots)
 placement-from_slots protections people slots apart stand = record {
   held = held-pairs_of people slots stand.held;
@@ -224,7 +224,7 @@ length-pairs_of (person ∷ people) (None ∷ slots) h = length-pairs_of people 
 length-pairs_of (person ∷ people) (Some t ∷ slots) h = ap suc (length-pairs_of people slots h.1)
 
 -- the slots of the pairs are the slots again
-pub slots_of-pairs_of : (people : List Person) (slots : List (Option ℕ)) → Pairwise (λ a b. a.id ≢ b.id) people
+pub slots_of-pairs_of : (people : List Person) (slots : List (Option ℕ)) → AreDistinct people
     → AllZip MayStand people slots → slots_of (pairs_of people slots) people ≡ slots
 slots_of-pairs_of [] [] apart h = refl
 slots_of-pairs_of [] (slot ∷ slots) apart h = absurd h

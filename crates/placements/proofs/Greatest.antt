@@ -3,13 +3,13 @@ use Rattle.std.proofs.Common.{◌≡◌, ◌≢◌, ◌+◌, ◌-◌, ◌≤◌,
 use Rattle.std.proofs.lemmas.Bool.{ne_eqb, eq-eqb, cond-true, cond-false, cases_Bool, cases_lt, cases_eq, both_ways}
 use Rattle.std.proofs.lemmas.List.{get_or_past, get_or-set_same, get_or-set_other}
 use Rattle.office_base.specs.Certificate.{slots_of}
-use Rattle.office_base.specs.Lists.{Pairwise}
 use Rattle.office_base.specs.Person.{has_trait}
 use Rattle.office_base.specs.Placement.{protected, IsHonoured}
 use Rattle.office_base.specs.declared.person.Person.{Person}
 use Rattle.office_base.specs.declared.step.Protections.{Protections}
 use Rattle.placements.specs.Slots.{used, filled, AreSlots, pairs_of}
 use Rattle.placements.specs.Greatest.{one_less, IsGreatest, IsGreatestBelow}
+use Rattle.placements.specs.Ranks.{AreDistinct}
 use Rattle.placements.proofs.Convert.{slots-from_placement, placement-from_slots, length-pairs_of}
 
 -- a trait with a position is one of those counted
@@ -20,13 +20,13 @@ counted_trait protections t h = ⊎_elim
     (cases_lt t (length protections.counts))
 
 -- one position less of the trait
-protected-one_less_same : (protections : Protections) (t : ℕ) → 0 < protected protections t → suc (protected (one_less protections t) t) ≡ protected protections t
+pub protected-one_less_same : (protections : Protections) (t : ℕ) → 0 < protected protections t → suc (protected (one_less protections t) t) ≡ protected protections t
 protected-one_less_same protections t h =
     let e = get_or-set_same protections.counts t (protected protections t - 1) 0 (counted_trait protections t h) in
     omega arith
 
 -- and as many of every other trait
-protected-one_less_other : (protections : Protections) (t s : ℕ) → s ≢ t → protected (one_less protections t) s ≡ protected protections s
+pub protected-one_less_other : (protections : Protections) (t s : ℕ) → s ≢ t → protected (one_less protections t) s ≡ protected protections s
 protected-one_less_other protections t s h = get_or-set_other protections.counts t s (protected protections t - 1) 0 h
 
 -- a slot counts for its trait
@@ -208,7 +208,7 @@ greatest-exists (person ∷ people) protections =
     (b.0, IsGreatest-from_below (length protections.counts) protections person people b.0 (λ t h. get_or_past protections.counts t 0 h) b.1)
 
 -- the greatest number of slots on positions is the number honoured
-pub IsHonoured-from_greatest : (protections : Protections) (people : List Person) (number : ℕ) → Pairwise (λ a b. a.id ≢ b.id) people
+pub IsHonoured-from_greatest : (protections : Protections) (people : List Person) (number : ℕ) → AreDistinct people
     → IsGreatest protections people number → IsHonoured protections people number
 IsHonoured-from_greatest protections people number apart h = record {
   reached = (
@@ -224,7 +224,7 @@ IsHonoured-from_greatest protections people number apart h = record {
 }
 
 -- and back
-pub IsGreatest-from_honoured : (protections : Protections) (people : List Person) (number : ℕ) → Pairwise (λ a b. a.id ≢ b.id) people
+pub IsGreatest-from_honoured : (protections : Protections) (people : List Person) (number : ℕ) → AreDistinct people
     → IsHonoured protections people number → IsGreatest protections people number
 IsGreatest-from_honoured protections people number apart h =
     let slots = slots-from_placement protections people h.reached.0 apart h.reached.1 in
@@ -237,7 +237,7 @@ IsGreatest-from_honoured protections people number apart h =
     }
 
 -- the number honoured is there
-pub honoured-exists : (protections : Protections) (people : List Person) → Pairwise (λ a b. a.id ≢ b.id) people
+pub honoured-exists : (protections : Protections) (people : List Person) → AreDistinct people
     → (number : ℕ) × IsHonoured protections people number
 honoured-exists protections people apart =
     let g = greatest-exists people protections in
@@ -253,7 +253,7 @@ honoured-one protections people m n h k =
     omega arith
 
 -- the number honoured, told by slots
-pub honoured-from_slots : (protections : Protections) (people : List Person) (number : ℕ) → Pairwise (λ a b. a.id ≢ b.id) people
+pub honoured-from_slots : (protections : Protections) (people : List Person) (number : ℕ) → AreDistinct people
     → ((slots : List (Option ℕ)) × AreSlots protections people slots × (filled slots ≡ number))
     → ((slots : List (Option ℕ)) → AreSlots protections people slots → filled slots ≤ number)
     → IsHonoured protections people number

@@ -1,5 +1,5 @@
 -- People can all be placed exactly where no set of traits is asked for, and nothing else, by more of them than it has positions.
-use Rattle.std.proofs.Common.{◌≡◌, ◌∙◌, ◌≢◌, ◌<◌, ◌≤◌, ◌+◌, ◌-◌, ◌*◌, ◌^◌, ◌⊎◌, ◌&&◌, ℕ, zero, suc, min, max, List, [], ◌∷◌, length, leb, cond, not, Bool, true, false, refl, ap, sym, subst, inl, inr, arith, get_or, get_or-set_same, get_or-set_other, take, sum, add-one, lit<, bit_and, bit_or}
+use Rattle.std.proofs.Common.{◌≡◌, ◌∙◌, ◌≢◌, ◌<◌, ◌≤◌, ◌+◌, ◌*◌, ◌^◌, ◌⊎◌, ◌&&◌, ℕ, zero, suc, min, max, List, [], ◌∷◌, length, leb, cond, not, Bool, true, false, refl, ap, sym, subst, inl, inr, arith, get_or, take, sum, add-one, lit<, bit_and, bit_or}
 use Rattle.std.proofs.lemmas.Bool.{eqb-true, eqb-false, cases_Bool, cases_lt, cases_eq, leb-true, leb-false, eq-eqb, and_parts, and_cases, not-true, not-false, both_ways}
 use Rattle.std.proofs.lemmas.Nat.{pow_pos, or_lt, and_le_l}
 use Rattle.std.proofs.lemmas.List.{get_or_past, take_all}
@@ -9,7 +9,7 @@ use Rattle.std.proofs.lemmas.Nat.Bits.{bit_at_and, bit_at_or, bit_at-lt, and_pow
 use Rattle.std.specs.Int.{bit_at}
 use Rattle.std.specs.Prelude.{IsTrue}
 use Rattle.std.specs.List.{AllByRecursion}
-use Rattle.office_base.specs.Lists.{AnyByRecursion, Pairwise}
+use Rattle.office_base.specs.Lists.{AnyByRecursion}
 use Rattle.office_base.specs.Person.{has_trait, IsTraitSet}
 use Rattle.office_base.specs.Placement.{IsPlacement, Fills, placed_on, protected}
 use Rattle.office_base.specs.declared.person.TraitSet.{TraitSet}
@@ -18,8 +18,9 @@ use Rattle.office_base.specs.declared.step.Pair.{Pair}
 use Rattle.office_base.specs.declared.step.Protections.{Protections}
 use Rattle.placements.specs.Demand.{is_within, asking, positions_below, positions}
 use Rattle.placements.specs.Greatest.{one_less}
-use Rattle.placements.specs.Ranks.{CanBePlaced}
+use Rattle.placements.specs.Ranks.{AreDistinct, CanBePlaced}
 use Rattle.placements.proofs.Exchange.{Apart, joined, finds, fewer, all_leaves, length_leaves, placed_on_leaves, stands_same, pairwise_leaves, apart_back}
+use Rattle.placements.proofs.Greatest.{protected-one_less_same, protected-one_less_other}
 use Rattle.placements.proofs.Ranks.{widened, among_longer, among_itself, nowhere, no_more_than_people, left_out, any_all}
 
 -- ---- traits as bits
@@ -308,20 +309,6 @@ stands_on_trait protections person people small short = elim (stand_or_tight pro
 
 -- ---- one position fewer
 
--- a trait with a position has a number among the counts
-pub counted_trait : (protections : Protections) (s : ℕ) → 0 < protected protections s → s < length protections.counts
-counted_trait protections s some = elim (cases_lt s (length protections.counts)) [
-  | inl less ↦ less
-  | inr past ↦ absurd (let e = get_or_past protections.counts s 0 past in omega arith)
-]
-
-pub protected_same : (protections : Protections) (s : ℕ) → 0 < protected protections s → suc (protected (one_less protections s) s) ≡ protected protections s
-protected_same protections s some =
-    let e = get_or-set_same protections.counts s (protected protections s - 1) 0 (counted_trait protections s some) in omega arith
-
-pub protected_other : (protections : Protections) (s t : ℕ) → t ≢ s → protected (one_less protections s) t ≡ protected protections t
-protected_other protections s t other = get_or-set_other protections.counts s t (protected protections s - 1) 0 other
-
 -- above the trait nothing changes, and below it neither
 positions_below_same : (n : ℕ) (protections : Protections) (s : ℕ) (set : TraitSet) → (has_trait set s ≡ false) ⊎ (n ≤ s)
     → positions_below n (one_less protections s) set ≡ positions_below n protections set
@@ -337,7 +324,7 @@ positions_below_same (suc n) protections s set h =
             let f = ap (λ k. k * protected (one_less protections s) n) e in let g = ap (λ k. k * protected protections n) e in omega arith)
         | inr below ↦ absurd (omega arith)
       ]
-      | inr other ↦ ap (λ k. bit_at set.0 n * k) (protected_other protections s n other)
+      | inr other ↦ ap (λ k. bit_at set.0 n * k) (protected-one_less_other protections s n other)
     ]) in
     omega arith
 
@@ -355,11 +342,11 @@ positions_below_fewer (suc n) protections s set has less some =
           let f = ap (λ k. k * protected (one_less protections s) n) e in
           let g = ap (λ k. k * protected protections n) e in
           let change : suc (protected (one_less protections s) n) ≡ protected protections n =
-          subst (λ k. suc (protected (one_less protections s) k) ≡ protected protections k) (sym same) (protected_same protections s some) in
+          subst (λ k. suc (protected (one_less protections s) k) ≡ protected protections k) (sym same) (protected-one_less_same protections s some) in
           omega arith
       | inr other ↦
           let deeper = positions_below_fewer n protections s set has (omega arith) some in
-          let change = ap (λ k. bit_at set.0 n * k) (protected_other protections s n other) in
+          let change = ap (λ k. bit_at set.0 n * k) (protected-one_less_other protections s n other) in
           omega arith
     ]
 
@@ -456,7 +443,7 @@ short_of_none protections person people s less short has some open' m small =
     ]
 
 -- Where no set is short, the people can all be placed.
-pub placed_where_none_short : (protections : Protections) (people : List Person) → Pairwise (λ a b. a.id ≢ b.id) people
+pub placed_where_none_short : (protections : Protections) (people : List Person) → AreDistinct people
     → AllByRecursion (λ person. IsTraitSet person.traits) people → NoneShort protections people → CanBePlaced protections people
 placed_where_none_short protections [] distinct small short = ([], record { held = tt; once = tt; within = λ t. omega arith }, refl)
 placed_where_none_short protections (person ∷ people) distinct small short =
@@ -470,19 +457,19 @@ placed_where_none_short protections (person ∷ people) distinct small short =
       held = (widened (one_less protections s) people (person ∷ people) others.0 (among_longer person people people (among_itself people)) others.1).held;
       once = others.1.once;
       within = λ t. let w = others.1.within t in (elim (cases_eq t s) [
-        | inl same ↦ (let e = protected_same protections s some in let f = ap (λ k. protected (one_less protections s) k) same in let g = ap (λ k. protected protections k) same in omega arith)
-        | inr other ↦ (let e = protected_other protections s t other in omega arith)
+        | inl same ↦ (let e = protected-one_less_same protections s some in let f = ap (λ k. protected (one_less protections s) k) same in let g = ap (λ k. protected protections k) same in omega arith)
+        | inr other ↦ (let e = protected-one_less_other protections s t other in omega arith)
       ]);
     } in
     let pair : Pair = record { cand = person.id; slot = s } in
-    let room : placed_on s others.0 < protected protections s = (let w = others.1.within s in let e = protected_same protections s some in omega arith) in (
+    let room : placed_on s others.0 < protected protections s = (let w = others.1.within s in let e = protected-one_less_same protections s some in omega arith) in (
       pair ∷ others.0,
       joined protections (person ∷ people) pair others.0 placed (inl (refl, trait.1)) (nowhere (one_less protections s) person people others.0 distinct.0 others.1) room,
       ap suc others.2,
     )
 
 -- Where the people can all be placed, no set is short.
-pub none_short_where_placed : (protections : Protections) (people : List Person) (set : TraitSet) → Pairwise (λ a b. a.id ≢ b.id) people
+pub none_short_where_placed : (protections : Protections) (people : List Person) (set : TraitSet) → AreDistinct people
     → AllByRecursion (λ person. IsTraitSet person.traits) people → CanBePlaced protections people → asking set people ≤ positions protections set
 none_short_where_placed protections [] set distinct small can = omega arith
 none_short_where_placed protections (person ∷ people) set distinct small can =
@@ -506,9 +493,9 @@ none_short_where_placed protections (person ∷ people) set distinct small can =
             held = others.held;
             once = others.once;
             within = λ t. let w = can.1.within t in let count = placed_on_leaves t pair can.0 rest found.2 in (elim (cases_eq t s) [
-              | inl same ↦ (let e = protected_same protections s some in let f = ap (λ k. protected (one_less protections s) k) same in
+              | inl same ↦ (let e = protected-one_less_same protections s some in let f = ap (λ k. protected (one_less protections s) k) same in
                   let g = ap (λ k. protected protections k) same in let h = stands_same t pair (sym same) in omega arith)
-              | inr other ↦ (let e = protected_other protections s t other in omega arith)
+              | inr other ↦ (let e = protected-one_less_other protections s t other in omega arith)
             ]);
           } in
           let size = length_leaves pair can.0 rest found.2 in

@@ -9,7 +9,7 @@ use Rattle.office_base.specs.declared.person.Person.{Person}
 use Rattle.office_base.specs.declared.step.Pair.{Pair}
 use Rattle.office_base.specs.declared.step.Protections.{Protections}
 use Rattle.placements.proofs.Sublists.{AllByRecursion-sublist}
-use Rattle.placements.specs.Ranks.{CanBePlaced, AreAmong}
+use Rattle.placements.specs.Ranks.{AreDistinct, CanBePlaced, AreAmong}
 use Rattle.placements.proofs.Exchange.{Leaves, Apart, Stands, AllStand, Joins, all_weaker, apart_back, pairwise_leaves, length_leaves, fewer, finds, stands_at, stands_or, stands_still, at_standing, all_front, all_joined, all_stand_same, exchange_pairs}
 
 -- ---- who is among whom
@@ -84,7 +84,7 @@ pub among_joined : (front back all : List Person) → AreAmong front all → Are
 among_joined front back all first second = all_joined (λ one. AnyByRecursion (λ other. one ≡ other) all) front back first second
 
 -- each of some persons is who they are by their number: of all, no two have one number
-pub one_person : (all : List Person) → Pairwise (λ a b. a.id ≢ b.id) all → (a b : Person) → AnyByRecursion (λ other. a ≡ other) all
+pub one_person : (all : List Person) → AreDistinct all → (a b : Person) → AnyByRecursion (λ other. a ≡ other) all
     → AnyByRecursion (λ other. b ≡ other) all → a.id ≡ b.id → a ≡ b
 one_person [] distinct a b in_a in_b same = absurd in_a
 one_person (person ∷ all) distinct a b in_a in_b same = elim in_a [
@@ -117,7 +117,7 @@ filler : (pair : Pair) (people : List Person) → AnyByRecursion (Fills pair) pe
 filler pair people held = any_all (Fills pair) (λ person. AnyByRecursion (λ other. person ≡ other) people) people held (among_itself people)
 
 -- what places none but some of the people is a placement of those
-pub narrowed : (protections : Protections) (some all : List Person) (pairs : List Pair) → Pairwise (λ a b. a.id ≢ b.id) all → AreAmong some all
+pub narrowed : (protections : Protections) (some all : List Person) (pairs : List Pair) → AreDistinct all → AreAmong some all
     → AllByRecursion (λ pair. AnyByRecursion (λ person. pair.cand ≡ person.id) some) pairs
     → IsPlacement protections all pairs → IsPlacement protections some pairs
 narrowed protections some all pairs distinct among theirs p = record {
@@ -271,7 +271,7 @@ finds_person person (other ∷ people) = elim (cases_Bool (eqb person.id.0 other
 ]
 
 -- Of two lists of people who can all be placed, a longer one has a person who joins the shorter one.
-pub exchange : (protections : Protections) (all some more : List Person) → Pairwise (λ a b. a.id ≢ b.id) all → AreAmong some all → AreAmong more all
+pub exchange : (protections : Protections) (all some more : List Person) → AreDistinct all → AreAmong some all → AreAmong more all
     → CanBePlaced protections some → CanBePlaced protections more → length some < length more
     → (person : Person) × AnyByRecursion (λ other. person ≡ other) more × AllByRecursion (λ other. person.id ≢ other.id) some × CanBePlaced protections (person ∷ some)
 exchange protections all some more distinct in_some in_more can_some can_more less =
@@ -405,7 +405,7 @@ same_cand a b = elim (cases_Bool (eqb a.0 b.0)) [
 ]
 
 -- Diminishing returns: who raises the number of more people raises that of some of them.
-pub diminishing : (protections : Protections) (person : Person) (some all : List Person) (m m' n n' : ℕ) → Pairwise (λ a b. a.id ≢ b.id) (person ∷ all)
+pub diminishing : (protections : Protections) (person : Person) (some all : List Person) (m m' n n' : ℕ) → AreDistinct (person ∷ all)
     → AreAmong some all → IsHonoured protections some m → IsHonoured protections all m' → IsHonoured protections (person ∷ some) n
     → IsHonoured protections (person ∷ all) n' → n' + m ≤ n + m'
 diminishing protections person some all m m' n n' distinct among hs ha hs' ha' = elim (cases_lt m' n') [
@@ -464,7 +464,7 @@ taken protections person chosen people among h can = record {
 }
 
 -- who cannot does not
-pub refused : (protections : Protections) (person : Person) (chosen people : List Person) → Pairwise (λ a b. a.id ≢ b.id) (person ∷ people)
+pub refused : (protections : Protections) (person : Person) (chosen people : List Person) → AreDistinct (person ∷ people)
     → AreAmong chosen people → CanBePlaced protections chosen → IsHonoured protections people (length chosen)
     → (CanBePlaced protections (person ∷ chosen) → ⊥) → IsHonoured protections (person ∷ people) (length chosen)
 refused protections person chosen people distinct among can h cannot = record {
@@ -530,7 +530,7 @@ pairwise_sublist R some (x ∷ all) h each = elim h [
 ]
 
 -- some of the people who can all be placed are among as many such people as all of them honour
-pub extension : (protections : Protections) (some all : List Person) (n : ℕ) → Pairwise (λ a b. a.id ≢ b.id) all → AreAmong some all
+pub extension : (protections : Protections) (some all : List Person) (n : ℕ) → AreDistinct all → AreAmong some all
     → CanBePlaced protections some → IsHonoured protections all n
     → (more : List Person) × IsSublist more all × AreAmong some more × CanBePlaced protections more × (length more ≡ n)
 extension protections some all n distinct among can h =
@@ -568,7 +568,7 @@ end_among_front person people =
     among_joined people (person ∷ []) (person ∷ people) (among_longer person people people (among_itself people)) (inl refl, tt)
 
 -- distinct with one at the end is distinct with this one in front
-pub distinct_front : (person : Person) (people : List Person) → Pairwise (λ a b. a.id ≢ b.id) (people ++ person ∷ []) → Pairwise (λ a b. a.id ≢ b.id) (person ∷ people)
+pub distinct_front : (person : Person) (people : List Person) → AreDistinct (people ++ person ∷ []) → AreDistinct (person ∷ people)
 distinct_front person [] distinct = (tt, tt)
 distinct_front person (other ∷ people) distinct =
     let deeper = distinct_front person people distinct.1 in

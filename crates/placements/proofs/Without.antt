@@ -1,18 +1,16 @@
 -- The people without one of them.
-use Rattle.std.proofs.Common.{◌≡◌, ◌∙◌, ◌≢◌, ◌<◌, ◌+◌, ◌⊎◌, ℕ, zero, suc, List, [], ◌∷◌, ◌++◌, length, take, drop, get_or, eqb, cond, true, false, refl, sym, ap, subst, inl, inr, arith}
-use Rattle.std.proofs.lemmas.Bool.{cases_Bool, eqb-true, eqb-false, eq-eqb, cond-true, cond-false}
+use Rattle.std.proofs.Common.{◌≡◌, ◌∙◌, ◌≢◌, ◌<◌, ◌⊎◌, ℕ, zero, suc, List, [], ◌∷◌, length, get_or, eqb, refl, sym, ap, subst, inl, inr, arith}
+use Rattle.std.proofs.lemmas.Bool.{cases_Bool, eqb-true, eq-eqb, cond-true, cond-false}
 use Rattle.std.specs.List.{AllByRecursion, remove}
 use Rattle.office_base.specs.Lists.{AnyByRecursion, Pairwise, IsSublist}
 use Rattle.office_base.specs.declared.person.CandId.{CandId}
 use Rattle.office_base.specs.declared.person.Person.{Person}
 use Rattle.placements.specs.Ranks.{AreDistinct, AreAmong, without}
-use Rattle.placements.proofs.Exchange.{Leaves, length_leaves, pairwise_leaves, all_leaves}
-use Rattle.placements.proofs.Ranks.{among_itself, among_longer, among_sublist}
+use Rattle.placements.proofs.Convert
+use Rattle.placements.proofs.Exchange.{Leaves, length_leaves}
+use Rattle.placements.proofs.Ranks
+use Rattle.placements.proofs.Ranks.{among_sublist}
 use Rattle.placements.proofs.Sublists.{IsSublist-same}
-
--- equal numbers are one candidate
-numbered : (a b : CandId) → a.0 ≡ b.0 → a ≡ b
-numbered a b e = ap (λ (n : ℕ). let c : CandId = record { 0 = n } in c) e
 
 -- without the first of the people
 pub without_first : (cand : CandId) (person : Person) (people : List Person) → person.id ≡ cand → without cand (person ∷ people) ≡ people
@@ -21,16 +19,13 @@ without_first cand person people same = cond-true _ _ _ (eq-eqb person.id.0 cand
 -- the first of the people stays where the number is another one
 pub without_later : (cand : CandId) (person : Person) (people : List Person) → person.id ≢ cand → without cand (person ∷ people) ≡ person ∷ without cand people
 without_later cand person people other = elim (cases_Bool (eqb person.id.0 cand.0)) [
-  | inl same ↦ absurd (other (numbered person.id cand (eqb-true person.id.0 cand.0 same)))
+  | inl same ↦ absurd (other (Convert.same_cand person.id cand (eqb-true person.id.0 cand.0 same)))
   | inr apart ↦ cond-false _ _ _ apart
 ]
 
 -- a person has the number or another one
 pub is_numbered : (cand : CandId) (person : Person) → (person.id ≡ cand) ⊎ (person.id ≢ cand)
-is_numbered cand person = elim (cases_Bool (eqb person.id.0 cand.0)) [
-  | inl same ↦ inl (numbered person.id cand (eqb-true person.id.0 cand.0 same))
-  | inr apart ↦ inr (λ e. eqb-false person.id.0 cand.0 apart (ap (λ (c : CandId). c.0) e))
-]
+is_numbered cand person = Ranks.same_cand person.id cand
 
 -- one of the people has the number: that one is taken out, and the others are left
 pub leaves_numbered : (cand : CandId) (people : List Person) → AnyByRecursion (λ member. member.id ≡ cand) people

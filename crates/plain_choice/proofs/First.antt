@@ -3,7 +3,6 @@ use Rattle.std.proofs.Common.{◌≡◌, ◌≢◌, ◌-◌, ◌+◌, ◌≤◌,
 use Rattle.std.proofs.lemmas.Bool.{cases_eq, cases_lt, cases_order, eq-eqb, cond-true}
 use Rattle.std.proofs.lemmas.List.{get_or_past}
 use Rattle.office_base.specs.Certificate.{AreNoLater, IsCanonical, slots_of}
-use Rattle.office_base.specs.Lists.{Pairwise}
 use Rattle.office_base.specs.Person.{has_trait}
 use Rattle.office_base.specs.Placement.{protected}
 use Rattle.office_base.specs.declared.person.Person.{Person}
@@ -11,6 +10,7 @@ use Rattle.office_base.specs.declared.step.Pair.{Pair}
 use Rattle.office_base.specs.declared.step.Protections.{Protections}
 use Rattle.placements.specs.Greatest.{one_less, IsGreatest}
 use Rattle.placements.specs.Slots.{filled, used, AreSlots, pairs_of}
+use Rattle.placements.specs.Ranks.{AreDistinct}
 use Rattle.placements.proofs.Convert.{slots-from_placement, placement-from_slots, length-pairs_of, slots_of-pairs_of, pairs_of-in_order}
 use Rattle.placements.proofs.Greatest.{AreSlots-from_nowhere, AreSlots-nowhere, AreSlots-from_somewhere, AreSlots-somewhere, greatest-exists}
 use Rattle.plain_choice.proofs.Parts.{first_and_rest}
@@ -149,7 +149,7 @@ IsFirst-nowhere left person others slots nowhere h =
     }
 
 -- the pairs of the first slots are the canonical certificate
-pub IsCanonical-from_first : (left : Protections) (people : List Person) (slots : List (Option ℕ)) → Pairwise (λ a b. a.id ≢ b.id) people
+pub IsCanonical-from_first : (left : Protections) (people : List Person) (slots : List (Option ℕ)) → AreDistinct people
     → IsFirst left people slots → IsCanonical left people (pairs_of people slots)
 IsCanonical-from_first left people slots apart h = record {
   placement = placement-from_slots left people slots apart h.stand;

@@ -2,8 +2,8 @@
 ghost use Rattle.std.specs.Prelude.{◌≡◌, ◌≢◌, ◌∷◌, ◌++◌, IfOk, OnOk, IfSome, IfNone};
 ghost use Rattle.std.specs.List.{AllByRecursion};
 ghost use Rattle.office_base.specs.Certificate.{IsCanonical};
-ghost use Rattle.office_base.specs.Lists.{Pairwise};
 ghost use Rattle.office_base.specs.Person.{IsTraitSet};
+ghost use Rattle.placements.specs.Ranks.{AreDistinct};
 ghost use Rattle.placements.specs.Greatest.{one_less};
 ghost use Rattle.placements.specs.Slots.{pairs_of};
 ghost use Rattle.plain_choice.specs.First.{IsFirst, IsFirstStand, StandsNowhere};
@@ -19,7 +19,7 @@ pub fn canonical(
     people: &[Person],
     protections: &Protections,
 ) -> Result<Pairs, OutOfMemory>
-    requires distinct { Pairwise (λ a b. a.id ≢ b.id) people.now }
+    requires distinct { AreDistinct people.now }
     requires traits { AllByRecursion (λ person. IsTraitSet person.traits) people.now }
     ensures { IfOk result (λ pairs. IsCanonical protections.now people.now pairs) }
 {

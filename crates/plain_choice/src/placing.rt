@@ -1,16 +1,16 @@
 // The number of protections that people honour, by trying every person on every trait.
 ghost use Rattle.std.specs.Prelude.{◌≡◌, ◌≢◌, ◌≤◌, ◌<◌, ◌↔◌, length, IsTrue, IfSome, IsSome};
 ghost use Rattle.std.specs.List.{AllByRecursion};
-ghost use Rattle.office_base.specs.Lists.{Pairwise};
 ghost use Rattle.office_base.specs.Person.{IsTraitSet, has_trait};
 ghost use Rattle.office_base.specs.Placement.{protected, IsHonoured};
+ghost use Rattle.placements.specs.Ranks.{AreDistinct};
 ghost use Rattle.placements.specs.Greatest.{one_less, IsGreatest};
 
 use office_base::{Person, Protections};
 
 /// The number of protections that the people honour. It takes no memory, and time that doubles with each person or more.
 pub fn honoured(people: &[Person], protections: &Protections) -> usize
-    requires distinct { Pairwise (λ a b. a.id ≢ b.id) people.now }
+    requires distinct { AreDistinct people.now }
     requires traits { AllByRecursion (λ person. IsTraitSet person.traits) people.now }
     ensures number { IsHonoured protections.now people.now result }
     ensures within { result ≤ length people.now }

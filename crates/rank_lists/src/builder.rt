@@ -175,6 +175,10 @@ impl TableBuilder for RegisterBuilder {
 
     ghost bad = { BadHeader };
 
+    ghost Beside = { Unit {0} };
+
+    ghost beside = { λ _. tt };
+
     ghost reading = { λ _. reading };
 
     ghost keeps = { λ builder entries. Keeps entries builder };

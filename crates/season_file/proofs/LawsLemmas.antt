@@ -8,18 +8,12 @@ use Rattle.office_base.specs.declared.person.CandId.{CandId}
 use Rattle.section_rows.specs.Rows.{Row, rows_of}
 use Rattle.rank_lists.specs.Laws as rank_laws
 use Rattle.rank_lists.specs.Register as rank_grammar
-use Rattle.rank_lists.specs.declared.fault.RankFault.{RankFault}
-use Rattle.rank_lists.specs.declared.fault.RankFault.TheVariants.{Bad as BadRank, OutOfMemory as NoRankMemory}
 use Rattle.rank_lists.specs.declared.fault.RankKind.{RankKind}
 use Rattle.seat_matrix.specs.Laws as seat_laws
 use Rattle.seat_matrix.specs.Matrix as seat_grammar
-use Rattle.seat_matrix.specs.declared.fault.MatrixFault.{MatrixFault}
-use Rattle.seat_matrix.specs.declared.fault.MatrixFault.TheVariants.{Bad as BadMatrix, OutOfMemory as NoMatrixMemory}
 use Rattle.seat_matrix.specs.declared.fault.MatrixKind.{MatrixKind}
 use Rattle.choice_lists.specs.Choices as choice_grammar
 use Rattle.choice_lists.specs.Laws as choice_laws
-use Rattle.choice_lists.specs.declared.fault.ChoiceFault.{ChoiceFault}
-use Rattle.choice_lists.specs.declared.fault.ChoiceFault.TheVariants.{Bad as BadChoice, OutOfMemory as NoChoiceMemory}
 use Rattle.choice_lists.specs.declared.fault.ChoiceKind.{ChoiceKind}
 use Rattle.season_file.specs.Bundle.{Parts, bundle_of}
 use Rattle.season_file.specs.Head.{head_of}
@@ -30,6 +24,8 @@ use Rattle.season_file.specs.declared.fault.SeasonFault.TheVariants.{ReadFault, 
 use Rattle.season_file.specs.declared.head.Head.{Head}
 use Rattle.season_file.specs.declared.content.Content.{Content}
 use Rattle.season_file.proofs.SeasonLemmas.{cutting_fault}
+use Rattle.section_rows.specs.declared.fault.TableFault.{TableFault}
+use Rattle.section_rows.specs.declared.fault.TableFault.TheVariants.{Bad as BadRow, OutOfMemory as NoTableMemory}
 
 -- the laws of the sections
 pub record AreLawful : Type 0 where
@@ -41,17 +37,17 @@ pub record AreLawful : Type 0 where
 -- A fault behind what was read before it, stage by stage: at each one the fault is the stage's own, or the stage is passed.
 abbrev FromChoices : Parts → Head → rank_grammar.Ranks → seat_grammar.SeatTable → SeasonFault → Type 0
 FromChoices parts head ranks seats fault =
-    ((row : ℕ) × (kind : ChoiceKind) × choice_grammar.IsFault ranks seats (rows_of parts.choices) (BadChoice row kind) × (fault ≡ Choices (BadChoice row kind)))
+    ((row : ℕ) × (kind : ChoiceKind) × choice_grammar.IsFault ranks seats (rows_of parts.choices) (BadRow row kind) × (fault ≡ Choices (BadRow row kind)))
     ⊎ ((lists : choice_grammar.Lists) × choice_grammar.IsRead ranks seats (rows_of parts.choices) lists × IsSome (rank_grammar.find_holder head.clerk ranks.holders) × (fault ≡ BadSeason head.row))
 
 abbrev FromMatrix : Parts → Head → rank_grammar.Ranks → SeasonFault → Type 0
 FromMatrix parts head ranks fault =
-    ((row : ℕ) × (kind : MatrixKind) × seat_grammar.IsFault (rows_of parts.matrix) (BadMatrix row kind) × (fault ≡ Matrix (BadMatrix row kind)))
+    ((row : ℕ) × (kind : MatrixKind) × seat_grammar.IsFault (rows_of parts.matrix) (BadRow row kind) × (fault ≡ Matrix (BadRow row kind)))
     ⊎ ((seats : seat_grammar.SeatTable) × seat_grammar.IsRead (rows_of parts.matrix) seats × FromChoices parts head ranks seats fault)
 
 abbrev FromRegister : Parts → Head → SeasonFault → Type 0
 FromRegister parts head fault =
-    ((row : ℕ) × (kind : RankKind) × rank_grammar.IsFault (rows_of parts.register) (BadRank row kind) × (fault ≡ Register (BadRank row kind)))
+    ((row : ℕ) × (kind : RankKind) × rank_grammar.IsFault (rows_of parts.register) (BadRow row kind) × (fault ≡ Register (BadRow row kind)))
     ⊎ ((ranks : rank_grammar.Ranks) × rank_grammar.IsRead (rows_of parts.register) ranks × FromMatrix parts head ranks fault)
 
 abbrev FromHead : Parts → SeasonFault → Type 0
@@ -74,18 +70,18 @@ head-staged parts row (inr found) =
     let (content, give, held, e) = found in
     inr (content.head, give.head, inr (content.register, give.register, inr (content.matrix, give.matrix, inr (content.choices, give.choices, held, ap BadSeason e))))
 
-register-staged : (parts : Parts) (fault : RankFault) → IsRegisterFault parts fault → FromHead parts (Register fault)
-register-staged parts (BadRank row kind) found = let (head, e, first) = found in inr (head, e, inl (row, kind, first, refl))
-register-staged parts NoRankMemory found = absurd found
+register-staged : (parts : Parts) (fault : TableFault RankKind) → IsRegisterFault parts fault → FromHead parts (Register fault)
+register-staged parts (BadRow row kind) found = let (head, e, first) = found in inr (head, e, inl (row, kind, first, refl))
+register-staged parts NoTableMemory found = absurd found
 
-matrix-staged : (parts : Parts) (fault : MatrixFault) → IsMatrixFault parts fault → FromHead parts (Matrix fault)
-matrix-staged parts (BadMatrix row kind) found = let (head, ranks, e, read, first) = found in inr (head, e, inr (ranks, read, inl (row, kind, first, refl)))
-matrix-staged parts NoMatrixMemory found = absurd found
+matrix-staged : (parts : Parts) (fault : TableFault MatrixKind) → IsMatrixFault parts fault → FromHead parts (Matrix fault)
+matrix-staged parts (BadRow row kind) found = let (head, ranks, e, read, first) = found in inr (head, e, inr (ranks, read, inl (row, kind, first, refl)))
+matrix-staged parts NoTableMemory found = absurd found
 
-choices-staged : (parts : Parts) (fault : ChoiceFault) → IsChoiceFault parts fault → FromHead parts (Choices fault)
-choices-staged parts (BadChoice row kind) found =
+choices-staged : (parts : Parts) (fault : TableFault ChoiceKind) → IsChoiceFault parts fault → FromHead parts (Choices fault)
+choices-staged parts (BadRow row kind) found =
     let (head, ranks, seats, e, read, table, first) = found in inr (head, e, inr (ranks, read, inr (seats, table, inl (row, kind, first, refl))))
-choices-staged parts NoChoiceMemory found = absurd found
+choices-staged parts NoTableMemory found = absurd found
 
 inside-staged : (bytes : List ℕ) (parts : Parts) (fault : SeasonFault) → IsText bytes → bundle_of bytes ≡ Ok parts → FromHead parts fault → FromBytes bytes fault
 inside-staged bytes parts fault text cut first = inr (text.short, inr (text.utf8, inr (parts, cut, first)))
@@ -104,13 +100,13 @@ staged bytes NotUtf8 first = inr (first.0, inl (first.1, refl))
 staged bytes OutOfMemory first = absurd first
 
 -- faults of one row and one kind are one
-same_rank : (r s : ℕ) (j k : RankKind) → (r ≡ s) × (j ≡ k) → Register (BadRank r j) ≡ Register (BadRank s k)
+same_rank : (r s : ℕ) (j k : RankKind) → (r ≡ s) × (j ≡ k) → Register (BadRow r j) ≡ Register (BadRow s k)
 same_rank r s j k same = cc (same.0, same.1)
 
-same_seat : (r s : ℕ) (j k : MatrixKind) → (r ≡ s) × (j ≡ k) → Matrix (BadMatrix r j) ≡ Matrix (BadMatrix s k)
+same_seat : (r s : ℕ) (j k : MatrixKind) → (r ≡ s) × (j ≡ k) → Matrix (BadRow r j) ≡ Matrix (BadRow s k)
 same_seat r s j k same = cc (same.0, same.1)
 
-same_list : (r s : ℕ) (j k : ChoiceKind) → (r ≡ s) × (j ≡ k) → Choices (BadChoice r j) ≡ Choices (BadChoice s k)
+same_list : (r s : ℕ) (j k : ChoiceKind) → (r ≡ s) × (j ≡ k) → Choices (BadRow r j) ≡ Choices (BadRow s k)
 same_list r s j k same = cc (same.0, same.1)
 
 -- what carries over from one register and matrix to others that are the same
@@ -259,20 +255,20 @@ some-choices laws bytes parts head ranks seats text cut e read table = elim (law
     choices = found.1;
     sound = (laws.choices ranks seats (rows_of parts.choices)).sound found.0 found.1;
   })
-  | inr first ↦ inr (Choices (BadChoice first.0 first.1), (text, (parts, cut, (head, ranks, seats, e, read, table, first.2))))
+  | inr first ↦ inr (Choices (BadRow first.0 first.1), (text, (parts, cut, (head, ranks, seats, e, read, table, first.2))))
 ]
 
 some-matrix : AreLawful → (bytes : List ℕ) (parts : Parts) (head : Head) (ranks : rank_grammar.Ranks) → IsText bytes → bundle_of bytes ≡ Ok parts → head_of (rows_of parts.season) ≡ Ok head
     → rank_grammar.IsRead (rows_of parts.register) ranks → HaveSome bytes
 some-matrix laws bytes parts head ranks text cut e read = elim (laws.matrix (rows_of parts.matrix)).some [
   | inl found ↦ some-choices laws bytes parts head ranks found.0 text cut e read found.1
-  | inr first ↦ inr (Matrix (BadMatrix first.0 first.1), (text, (parts, cut, (head, ranks, e, read, first.2))))
+  | inr first ↦ inr (Matrix (BadRow first.0 first.1), (text, (parts, cut, (head, ranks, e, read, first.2))))
 ]
 
 some-register : AreLawful → (bytes : List ℕ) (parts : Parts) (head : Head) → IsText bytes → bundle_of bytes ≡ Ok parts → head_of (rows_of parts.season) ≡ Ok head → HaveSome bytes
 some-register laws bytes parts head text cut e = elim (laws.register (rows_of parts.register)).some [
   | inl found ↦ some-matrix laws bytes parts head found.0 text cut e found.1
-  | inr first ↦ inr (Register (BadRank first.0 first.1), (text, (parts, cut, (head, e, first.2))))
+  | inr first ↦ inr (Register (BadRow first.0 first.1), (text, (parts, cut, (head, e, first.2))))
 ]
 
 some-head : AreLawful → (bytes : List ℕ) (parts : Parts) → IsText bytes → bundle_of bytes ≡ Ok parts → (r : Result Head ℕ) → head_of (rows_of parts.season) ≡ r → HaveSome bytes

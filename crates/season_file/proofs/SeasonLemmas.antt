@@ -5,38 +5,37 @@ use Rattle.office_text.specs.Lines.{skip_mark}
 use Rattle.office_base.specs.Outside.{IsAtEnd, Took}
 use Rattle.section_rows.specs.Rows.{rows_of}
 use Rattle.rank_lists.specs.Register as rank_grammar
-use Rattle.rank_lists.specs.declared.fault.RankFault.{RankFault}
-use Rattle.rank_lists.specs.declared.fault.RankFault.TheVariants.{Bad as BadRank, OutOfMemory as NoRankMemory}
 use Rattle.seat_matrix.specs.Matrix as seat_grammar
-use Rattle.seat_matrix.specs.declared.fault.MatrixFault.{MatrixFault}
-use Rattle.seat_matrix.specs.declared.fault.MatrixFault.TheVariants.{Bad as BadMatrix, OutOfMemory as NoMatrixMemory}
 use Rattle.choice_lists.specs.Choices as choice_grammar
-use Rattle.choice_lists.specs.declared.fault.ChoiceFault.{ChoiceFault}
-use Rattle.choice_lists.specs.declared.fault.ChoiceFault.TheVariants.{Bad as BadChoice, OutOfMemory as NoChoiceMemory}
 use Rattle.season_file.specs.Bundle.{Parts, behind, bodies, bundle_of, fault_line, skip_empty, title, with_line}
 use Rattle.season_file.specs.Head.{head_of}
 use Rattle.season_file.specs.Season.{ArePartsWith, IsSeasonFault, IsSourceFault, IsText, choice_error, matrix_error, register_error}
 use Rattle.season_file.specs.declared.fault.SeasonFault.{SeasonFault}
 use Rattle.season_file.specs.declared.fault.SeasonFault.TheVariants.{ReadFault, TooLong, BadFirstLine, Section, BadSeason, Register, Matrix, Choices, NotUtf8, OutOfMemory}
 use Rattle.season_file.specs.declared.head.Head.{Head}
+use Rattle.section_rows.specs.declared.fault.TableFault.{TableFault}
+use Rattle.section_rows.specs.declared.fault.TableFault.TheVariants.{Bad as BadRow, OutOfMemory as NoTableMemory}
+use Rattle.rank_lists.specs.declared.fault.RankKind.{RankKind}
+use Rattle.seat_matrix.specs.declared.fault.MatrixKind.{MatrixKind}
+use Rattle.choice_lists.specs.declared.fault.ChoiceKind.{ChoiceKind}
 
 -- A register's fault is the sections'.
-pub register-told : (parts : Parts) (head : Head) (fault : RankFault) → head_of (rows_of parts.season) ≡ Ok head → rank_grammar.IsFault (rows_of parts.register) fault → ArePartsWith parts (register_error fault)
-register-told parts head (BadRank row kind) given first = (head, given, first)
-register-told parts head NoRankMemory given first = tt
+pub register-told : (parts : Parts) (head : Head) (fault : TableFault RankKind) → head_of (rows_of parts.season) ≡ Ok head → rank_grammar.IsFault (rows_of parts.register) fault → ArePartsWith parts (register_error fault)
+register-told parts head (BadRow row kind) given first = (head, given, first)
+register-told parts head NoTableMemory given first = tt
 
 -- A matrix's fault is the sections'.
-pub matrix-told : (parts : Parts) (head : Head) (ranks : rank_grammar.Ranks) (fault : MatrixFault) → head_of (rows_of parts.season) ≡ Ok head → rank_grammar.IsRead (rows_of parts.register) ranks
+pub matrix-told : (parts : Parts) (head : Head) (ranks : rank_grammar.Ranks) (fault : TableFault MatrixKind) → head_of (rows_of parts.season) ≡ Ok head → rank_grammar.IsRead (rows_of parts.register) ranks
     → seat_grammar.IsFault (rows_of parts.matrix) fault → ArePartsWith parts (matrix_error fault)
-matrix-told parts head ranks (BadMatrix row kind) given read first = (head, ranks, given, read, first)
-matrix-told parts head ranks NoMatrixMemory given read first = tt
+matrix-told parts head ranks (BadRow row kind) given read first = (head, ranks, given, read, first)
+matrix-told parts head ranks NoTableMemory given read first = tt
 
 -- A fault of choices is the sections'.
-pub choice-told : (parts : Parts) (head : Head) (ranks : rank_grammar.Ranks) (seats : seat_grammar.SeatTable) (fault : ChoiceFault) → head_of (rows_of parts.season) ≡ Ok head
+pub choice-told : (parts : Parts) (head : Head) (ranks : rank_grammar.Ranks) (seats : seat_grammar.SeatTable) (fault : TableFault ChoiceKind) → head_of (rows_of parts.season) ≡ Ok head
     → rank_grammar.IsRead (rows_of parts.register) ranks → seat_grammar.IsRead (rows_of parts.matrix) seats → choice_grammar.IsFault ranks seats (rows_of parts.choices) fault
     → ArePartsWith parts (choice_error fault)
-choice-told parts head ranks seats (BadChoice row kind) given read table first = (head, ranks, seats, given, read, table, first)
-choice-told parts head ranks seats NoChoiceMemory given read table first = tt
+choice-told parts head ranks seats (BadRow row kind) given read table first = (head, ranks, seats, given, read, table, first)
+choice-told parts head ranks seats NoTableMemory given read table first = tt
 
 -- A fault of the sections is the bundle's.
 pub parts-told : (bytes : List ℕ) (parts : Parts) (fault : SeasonFault) → IsText bytes → bundle_of bytes ≡ Ok parts → ArePartsWith parts fault → IsSeasonFault bytes fault

@@ -4,14 +4,8 @@ use Rattle.std.specs.Str.{IsUtf8}
 use Rattle.office_base.specs.Outside.{IsAtEnd, Took, TookMore}
 use Rattle.section_rows.specs.Rows.{rows_of}
 use Rattle.rank_lists.specs.Register as rank_grammar
-use Rattle.rank_lists.specs.declared.fault.RankFault.{RankFault}
-use Rattle.rank_lists.specs.declared.fault.RankFault.TheVariants.{Bad as BadRank, OutOfMemory as NoRankMemory}
 use Rattle.seat_matrix.specs.Matrix as seat_grammar
-use Rattle.seat_matrix.specs.declared.fault.MatrixFault.{MatrixFault}
-use Rattle.seat_matrix.specs.declared.fault.MatrixFault.TheVariants.{Bad as BadMatrix, OutOfMemory as NoMatrixMemory}
 use Rattle.choice_lists.specs.Choices as choice_grammar
-use Rattle.choice_lists.specs.declared.fault.ChoiceFault.{ChoiceFault}
-use Rattle.choice_lists.specs.declared.fault.ChoiceFault.TheVariants.{Bad as BadChoice, OutOfMemory as NoChoiceMemory}
 use Rattle.season_file.specs.Bundle.{Parts, bundle_of}
 use Rattle.season_file.specs.Head.{head_of}
 use Rattle.season_file.specs.declared.fault.SeasonFault.{SeasonFault}
@@ -19,6 +13,11 @@ use Rattle.season_file.specs.declared.fault.SeasonFault.TheVariants.{ReadFault, 
 use Rattle.season_file.specs.declared.head.Head.{Head}
 use Rattle.season_file.specs.declared.content.Content.{Content}
 use Rattle.season_file.specs.declared.season.Season.{Season}
+use Rattle.section_rows.specs.declared.fault.TableFault.{TableFault}
+use Rattle.section_rows.specs.declared.fault.TableFault.TheVariants.{Bad as BadRow, OutOfMemory as NoTableMemory}
+use Rattle.rank_lists.specs.declared.fault.RankKind.{RankKind}
+use Rattle.seat_matrix.specs.declared.fault.MatrixKind.{MatrixKind}
+use Rattle.choice_lists.specs.declared.fault.ChoiceKind.{ChoiceKind}
 
 -- UTF-8 of at most 134,217,728 bytes
 pub record IsText (bytes : List ℕ) : Type 0 where
@@ -38,36 +37,36 @@ abbrev pub IsClerkApart : Content → Type 0
 IsClerkApart content = rank_grammar.find_holder content.head.clerk content.register.holders ≡ None
 
 -- a fault of a section is told as it is, except for want of memory
-abbrev pub register_error : RankFault → SeasonFault
-register_error (BadRank row kind) = Register (BadRank row kind)
-register_error NoRankMemory = OutOfMemory
+abbrev pub register_error : TableFault RankKind → SeasonFault
+register_error (BadRow row kind) = Register (BadRow row kind)
+register_error NoTableMemory = OutOfMemory
 
-abbrev pub matrix_error : MatrixFault → SeasonFault
-matrix_error (BadMatrix row kind) = Matrix (BadMatrix row kind)
-matrix_error NoMatrixMemory = OutOfMemory
+abbrev pub matrix_error : TableFault MatrixKind → SeasonFault
+matrix_error (BadRow row kind) = Matrix (BadRow row kind)
+matrix_error NoTableMemory = OutOfMemory
 
-abbrev pub choice_error : ChoiceFault → SeasonFault
-choice_error (BadChoice row kind) = Choices (BadChoice row kind)
-choice_error NoChoiceMemory = OutOfMemory
+abbrev pub choice_error : TableFault ChoiceKind → SeasonFault
+choice_error (BadRow row kind) = Choices (BadRow row kind)
+choice_error NoTableMemory = OutOfMemory
 
 -- the first fault of a register, which is not want of memory
-abbrev pub IsRegisterFault : Parts → RankFault → Type 0
-IsRegisterFault parts (BadRank row kind) = (head : Head) × (head_of (rows_of parts.season) ≡ Ok head) × rank_grammar.IsFault (rows_of parts.register) (BadRank row kind)
-IsRegisterFault parts NoRankMemory = ⊥
+abbrev pub IsRegisterFault : Parts → TableFault RankKind → Type 0
+IsRegisterFault parts (BadRow row kind) = (head : Head) × (head_of (rows_of parts.season) ≡ Ok head) × rank_grammar.IsFault (rows_of parts.register) (BadRow row kind)
+IsRegisterFault parts NoTableMemory = ⊥
 
 -- the first fault of a matrix, behind a register without faults
-abbrev pub IsMatrixFault : Parts → MatrixFault → Type 0
-IsMatrixFault parts (BadMatrix row kind) =
+abbrev pub IsMatrixFault : Parts → TableFault MatrixKind → Type 0
+IsMatrixFault parts (BadRow row kind) =
     (head : Head) × (ranks : rank_grammar.Ranks) × (head_of (rows_of parts.season) ≡ Ok head) × rank_grammar.IsRead (rows_of parts.register) ranks
-    × seat_grammar.IsFault (rows_of parts.matrix) (BadMatrix row kind)
-IsMatrixFault parts NoMatrixMemory = ⊥
+    × seat_grammar.IsFault (rows_of parts.matrix) (BadRow row kind)
+IsMatrixFault parts NoTableMemory = ⊥
 
 -- the first fault of choices, behind a register and a matrix without faults
-abbrev pub IsChoiceFault : Parts → ChoiceFault → Type 0
-IsChoiceFault parts (BadChoice row kind) =
+abbrev pub IsChoiceFault : Parts → TableFault ChoiceKind → Type 0
+IsChoiceFault parts (BadRow row kind) =
     (head : Head) × (ranks : rank_grammar.Ranks) × (seats : seat_grammar.SeatTable) × (head_of (rows_of parts.season) ≡ Ok head) × rank_grammar.IsRead (rows_of parts.register) ranks
-    × seat_grammar.IsRead (rows_of parts.matrix) seats × choice_grammar.IsFault ranks seats (rows_of parts.choices) (BadChoice row kind)
-IsChoiceFault parts NoChoiceMemory = ⊥
+    × seat_grammar.IsRead (rows_of parts.matrix) seats × choice_grammar.IsFault ranks seats (rows_of parts.choices) (BadRow row kind)
+IsChoiceFault parts NoTableMemory = ⊥
 
 -- the first wrong row of the season's section; or the clerk's row, where nothing else is wrong and the clerk's token is a candidate's
 abbrev pub IsHeadFault : Parts → ℕ → Type 0

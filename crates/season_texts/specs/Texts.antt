@@ -2,18 +2,17 @@
 use Rattle.std.specs.Prelude.{ℕ, List, ◌++◌, codes, length, sum_by}
 use Rattle.std.specs.Fmt.{decimal}
 use Rattle.rank_lists.specs.Kinds as rank_kinds
-use Rattle.rank_lists.specs.declared.fault.RankFault.{RankFault}
-use Rattle.rank_lists.specs.declared.fault.RankFault.TheVariants.{Bad as BadRank, OutOfMemory as NoRankMemory}
 use Rattle.seat_matrix.specs.Kinds as matrix_kinds
-use Rattle.seat_matrix.specs.declared.fault.MatrixFault.{MatrixFault}
-use Rattle.seat_matrix.specs.declared.fault.MatrixFault.TheVariants.{Bad as BadMatrix, OutOfMemory as NoMatrixMemory}
 use Rattle.choice_lists.specs.Choices.{list_of}
 use Rattle.choice_lists.specs.Kinds as choice_kinds
-use Rattle.choice_lists.specs.declared.fault.ChoiceFault.{ChoiceFault}
-use Rattle.choice_lists.specs.declared.fault.ChoiceFault.TheVariants.{Bad as BadChoice, OutOfMemory as NoChoiceMemory}
 use Rattle.season_file.specs.declared.fault.SeasonFault.{SeasonFault}
 use Rattle.season_file.specs.declared.fault.SeasonFault.TheVariants.{ReadFault, TooLong, BadFirstLine, Section, BadSeason, Register, Matrix, Choices, NotUtf8, OutOfMemory}
 use Rattle.season_file.specs.declared.season.Season.{Season}
+use Rattle.section_rows.specs.declared.fault.TableFault.{TableFault}
+use Rattle.section_rows.specs.declared.fault.TableFault.TheVariants.{Bad as BadRow, OutOfMemory as NoTableMemory}
+use Rattle.rank_lists.specs.declared.fault.RankKind.{RankKind}
+use Rattle.seat_matrix.specs.declared.fault.MatrixKind.{MatrixKind}
+use Rattle.choice_lists.specs.declared.fault.ChoiceKind.{ChoiceKind}
 
 -- how many programmes stand on the choice lists of all candidates together
 abbrev pub choice_count : Season → ℕ
@@ -41,17 +40,17 @@ abbrev pub memory_line : List ℕ
 memory_line = codes "fault: memory\n"
 
 -- the lines of a register's, a matrix's and the choices' faults
-abbrev pub register_line : RankFault → List ℕ
-register_line (BadRank row kind) = row_line (codes "register") row (rank_kinds.kind_name kind)
-register_line NoRankMemory = memory_line
+abbrev pub register_line : TableFault RankKind → List ℕ
+register_line (BadRow row kind) = row_line (codes "register") row (rank_kinds.kind_name kind)
+register_line NoTableMemory = memory_line
 
-abbrev pub matrix_line : MatrixFault → List ℕ
-matrix_line (BadMatrix row kind) = row_line (codes "matrix") row (matrix_kinds.kind_name kind)
-matrix_line NoMatrixMemory = memory_line
+abbrev pub matrix_line : TableFault MatrixKind → List ℕ
+matrix_line (BadRow row kind) = row_line (codes "matrix") row (matrix_kinds.kind_name kind)
+matrix_line NoTableMemory = memory_line
 
-abbrev pub choices_line : ChoiceFault → List ℕ
-choices_line (BadChoice row kind) = row_line (codes "choices") row (choice_kinds.kind_name kind)
-choices_line NoChoiceMemory = memory_line
+abbrev pub choices_line : TableFault ChoiceKind → List ℕ
+choices_line (BadRow row kind) = row_line (codes "choices") row (choice_kinds.kind_name kind)
+choices_line NoTableMemory = memory_line
 
 -- the line that tells a fault
 abbrev pub fault_line : SeasonFault → List ℕ

@@ -6,6 +6,7 @@ use Rattle.std.proofs.lemmas.Bool.{cond-false, cond-true, false_from_ne_true}
 use Rattle.std.proofs.lemmas.Slice.Eq.{bytes_eq-Decides}
 use Rattle.office_text.proofs.FirstFaultLemmas.{one_answer}
 use Rattle.section_rows.specs.Rows.{Row}
+use Rattle.section_rows.specs.declared.fault.TableFault.TheVariants.{Bad}
 use Rattle.section_rows.specs.Table.{entries_of}
 use Rattle.section_rows.proofs.StepsLemmas.{first_of-push, or_else}
 use Rattle.seat_matrix.proofs.Codes.{Distinct, codes-distinct}
@@ -13,7 +14,6 @@ use Rattle.seat_matrix.specs.Laws.{AreSame, HaveOneReading}
 use Rattle.seat_matrix.specs.Matrix.{IsFault, IsMatrix, IsRead, SeatTable, codes_after, codes_in, codes_of, find_home, home_at, judge, reading, seatings_in, with_code}
 use Rattle.seat_matrix.specs.declared.entry.Entry.{Entry}
 use Rattle.seat_matrix.specs.declared.entry.Home.{Home}
-use Rattle.seat_matrix.specs.declared.fault.MatrixFault.TheVariants.{Bad}
 use Rattle.seat_matrix.specs.declared.fault.MatrixKind.{MatrixKind}
 
 -- programmes with their homes

@@ -25,12 +25,12 @@ use Rattle.seat_matrix.specs.Fields.{code_of, count_of, protections_of, seating_
 use Rattle.seat_matrix.specs.Laws.{OneStepChanges}
 use Rattle.seat_matrix.specs.Matrix.{AreEntries, AreSeats, IsMatrix, SeatTable, all_seats, codes_after, codes_in, codes_of, find_home, first_list, given, home_at, matrix_with, new_row, reading, seating_at, seating_in, seatings_in, seats_after, settles, steps_in, with_code}
 use Rattle.seat_matrix.specs.Seats.{IsSeated, is_dereserved, no_seatings, of_step, with_seating}
-use Rattle.seat_matrix.specs.Table.{Keeps, step_cmp}
+use Rattle.seat_matrix.specs.Builder.{Keeps, step_cmp}
 use Rattle.seat_matrix.specs.declared.entry.Entry.{Entry}
 use Rattle.seat_matrix.specs.declared.entry.Home.{Home}
 use Rattle.seat_matrix.specs.declared.seats.Seating.{Seating}
 use Rattle.seat_matrix.specs.declared.seats.Seatings.{Seatings}
-use Rattle.seat_matrix.specs.declared.table.Table.{Table}
+use Rattle.seat_matrix.specs.declared.builder.MatrixBuilder.{MatrixBuilder}
 use Rattle.seat_matrix.specs.declared.fault.MatrixKind.{MatrixKind}
 use Rattle.seat_matrix.specs.declared.fault.MatrixKind.TheVariants.{BadCode, RepeatedRow, BadNumber, ProtectionsExceedSeats, UnknownList, TwoInstitutes, TwoLists, TooMany}
 
@@ -245,7 +245,7 @@ list_sound programmes prog below each = by (slice_get programmes prog) refl
     by (Some held) e = each held e
 
 -- The map of a table, and what its entries give for each programme, are their matrix.
-pub made : (entries : List Entry) (table : Table) (steps : List Seatings) → Keeps entries table → steps ≡ map (seatings_in entries) (codes_of entries) → IsMatrix entries (record { programmes = table.programmes.entries; steps = steps })
+pub made : (entries : List Entry) (table : MatrixBuilder) (steps : List Seatings) → Keeps entries table → steps ≡ map (seatings_in entries) (codes_of entries) → IsMatrix entries (record { programmes = table.programmes.entries; steps = steps })
 made entries table steps keeps same = record {
   programmes = keys-map table.programmes.entries ∙ keeps.programmes;
   homes = λ code. find-home code table.programmes.entries ∙ keeps.homes code;
@@ -253,7 +253,7 @@ made entries table steps keeps same = record {
 }
 
 -- What is the matrix of sound entries is sound.
-pub made_sound : (entries : List Entry) (table : Table) (steps : List Seatings) → Keeps entries table → steps ≡ map (seatings_in entries) (codes_of entries) → AreSeats (record { programmes = table.programmes.entries; steps = steps })
+pub made_sound : (entries : List Entry) (table : MatrixBuilder) (steps : List Seatings) → Keeps entries table → steps ≡ map (seatings_in entries) (codes_of entries) → AreSeats (record { programmes = table.programmes.entries; steps = steps })
 made_sound entries table steps keeps same =
     let matrix = made entries table steps keeps same in
     let codes : Distinct (codes_in table.programmes.entries) = subst Distinct (sym matrix.programmes) (codes-distinct [] entries tt) in

@@ -1,10 +1,10 @@
 -- That rows give one matrix or have one fault, and what a matrix with other seats in one step is.
 use Rattle.std.specs.Prelude.{◌≡◌, ◌<◌, ◌⊎◌, ℕ, List, false, length}
 use Rattle.section_rows.specs.Rows.{Row}
+use Rattle.section_rows.specs.declared.fault.TableFault.TheVariants.{Bad}
 use Rattle.office_base.specs.declared.step.StepKind.{StepKind}
 use Rattle.seat_matrix.specs.Matrix.{HasSeating, IsFault, IsRead, SeatTable, matrix_with}
 use Rattle.seat_matrix.specs.Seats.{is_dereserved}
-use Rattle.seat_matrix.specs.declared.fault.MatrixFault.TheVariants.{Bad}
 use Rattle.seat_matrix.specs.declared.fault.MatrixKind.{MatrixKind}
 use Rattle.seat_matrix.specs.declared.seats.Seating.{Seating}
 

@@ -1,7 +1,7 @@
+pub mod Builder
 pub mod Fields
 pub mod Kinds
 pub mod Laws
 pub mod Matrix
 pub mod Seats
-pub mod Table
 pub mod Unfilled

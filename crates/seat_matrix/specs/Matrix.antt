@@ -1,4 +1,4 @@
--- The grammar of the matrix: what a row gives behind the entries of the rows before it, or what is wrong with it.
+-- The grammar of the matrix: what a row gives after the entries of the rows before it, or what is wrong with it.
 use Rattle.std.specs.Prelude.{◌≡◌, ◌≢◌, ◌≤◌, ◌<◌, ◌+◌, ℕ, Bool, not, ◌==◌, ◌&&◌, nat_le, nat_lt, sum, List, [], ◌∷◌, ◌++◌, is_some, Option, Some, None, Result, Ok, length, map, slice_get, slice_index_or, slice_set, option_map, bytes_eq, codes, if◌then◌else◌}
 use Rattle.std.specs.List.{list_any}
 use Rattle.std.specs.Option.{unwrap_or}
@@ -7,16 +7,15 @@ use Rattle.office_base.specs.Person.{IsList}
 use Rattle.office_base.specs.declared.person.ListId.{ListId}
 use Rattle.office_base.specs.declared.step.StepKind.{StepKind}
 use Rattle.office_base.specs.declared.step.StepKind.TheVariants.{Open, Ews, Obc, Sc, St}
-use Rattle.office_text.specs.FirstFault.{Judge, IsFirstFault, IsFaultless}
+use Rattle.office_text.specs.FirstFault.{Judge, IsFaultless}
 use Rattle.office_text.specs.Number.{number_within}
 use Rattle.section_rows.specs.Rows.{Row, field}
 use Rattle.section_rows.specs.Steps.{after, first_of, needs, unless}
-use Rattle.section_rows.specs.Table.{Reading, entries_of, table_judge}
+use Rattle.section_rows.specs.Table.{IsTableFault, Reading, entries_of, table_judge}
+use Rattle.section_rows.specs.declared.fault.TableFault.{TableFault}
 use Rattle.seat_matrix.specs.Fields.{code_of, seating_of, step_number, step_of}
 use Rattle.seat_matrix.specs.declared.entry.Entry.{Entry}
 use Rattle.seat_matrix.specs.declared.entry.Home.{Home}
-use Rattle.seat_matrix.specs.declared.fault.MatrixFault.{MatrixFault}
-use Rattle.seat_matrix.specs.declared.fault.MatrixFault.TheVariants.{Bad, OutOfMemory}
 use Rattle.seat_matrix.specs.declared.fault.MatrixKind.{MatrixKind}
 use Rattle.seat_matrix.specs.declared.seats.ProgrammeSeats.{ProgrammeSeats}
 use Rattle.seat_matrix.specs.declared.seats.Seating.{Seating}
@@ -67,7 +66,7 @@ new_row entries row =
     needs (code_of (field row 0)) BadCode (λ programme. needs (code_of (field row 1)) BadCode (λ institute. needs (step_of (field row 3)) BadCode
     (λ step. unless (is_some (seating_at programme (step_number step) entries)) RepeatedRow (Ok (programme, institute, step)))))
 
--- What a row gives behind these entries, or the first of its faults.
+-- What a row gives after these entries, or the first of its faults.
 unfoldable pub reading : Reading Entry MatrixKind
 reading entries row =
     after (new_row entries row) (λ p. needs (seating_of row) BadNumber (λ seating.
@@ -162,6 +161,5 @@ abbrev pub IsRead : List Row → SeatTable → Type 0
 IsRead rows table = IsFaultless judge rows × IsMatrix (entries_of reading rows) table
 
 -- the first fault of a body's rows; want of memory tells nothing of them
-abbrev pub IsFault : List Row → MatrixFault → Type 0
-IsFault rows (Bad row kind) = (n : ℕ) × (row ≡ n + 1) × IsFirstFault judge rows n kind
-IsFault rows OutOfMemory = Unit {0}
+abbrev pub IsFault : List Row → TableFault MatrixKind → Type 0
+IsFault = IsTableFault judge

@@ -1,9 +1,8 @@
 // What can be wrong with a matrix.
 ghost use Rattle.std.specs.Prelude.{◌≡◌};
 ghost use Rattle.seat_matrix.specs.Kinds.{kind_name};
-ghost use Rattle.seat_matrix.specs.declared.fault.MatrixFault.TheVariants.{OutOfMemory as NoMemory};
 
-use office_base::OutOfMemory;
+use section_rows::TableFault;
 
 /// What is wrong with a row of the matrix. On one row they come by rising number.
 #[derive(Clone, Copy, Debug, PartialEq, Eq)]
@@ -47,21 +46,5 @@ impl MatrixKind {
     }
 }
 
-/// Why a matrix was not read. Nothing is left behind.
-#[derive(Clone, Copy, Debug, PartialEq, Eq, thiserror::Error)]
-pub enum MatrixFault {
-    /// The first fault by rows. Rows are counted from 1, the header included.
-    #[error("row {row}: {kind:?}")]
-    Bad { row: u32, kind: MatrixKind },
-    /// There was no memory for the matrix.
-    #[error("out of memory")]
-    OutOfMemory,
-}
-
-impl From<OutOfMemory> for MatrixFault {
-    ghost from_gives = { λ _ fault. fault ≡ NoMemory };
-
-    fn from(_: OutOfMemory) -> Self {
-        MatrixFault::OutOfMemory
-    }
-}
+/// Why a matrix was not read: its first fault by rows, or want of memory. Nothing is left behind.
+pub type MatrixFault = TableFault<MatrixKind>;

@@ -1,17 +1,17 @@
 // The seat matrix, as the layers above see it.
 ghost use Rattle.std.specs.Prelude.{◌≡◌, ◌<◌, ◌≤◌, Some, IfOk, IfErr, length, map, option_map, position, slice_get, sum, bytes_eq, false};
 ghost use Rattle.office_base.specs.Person.{IsList};
-ghost use Rattle.section_rows.specs.Rows.{rows_of, same_fields};
-ghost use Rattle.seat_matrix.specs.Matrix.{header, IsRead, IsFault, HasSeating, list_in, matrix_with, seating_in, seats_in, steps_in};
+ghost use Rattle.section_rows.specs.Rows.{rows_of};
+ghost use Rattle.seat_matrix.specs.Matrix.{IsRead, IsFault, HasSeating, list_in, matrix_with, seating_in, seats_in, steps_in};
 ghost use Rattle.seat_matrix.specs.Seats.{AreProgrammeSeats, IsSeated, is_dereserved};
 
+use crate::builder::MatrixBuilder;
 use crate::entry::Home;
-use crate::fault::{MatrixFault, MatrixKind};
+use crate::fault::MatrixFault;
 use crate::seats::{ProgrammeSeats, Seating, Seatings};
-use crate::table::Table;
 use indexmap::IndexMap;
 use office_base::{Code, ListId, OutOfMemory, ProgId, Protections, StepKind};
-use section_rows::Rows;
+use section_rows::read_table;
 use std::alloc::Global;
 use std::marker::Model;
 
@@ -32,25 +32,6 @@ impl Model for Matrix {
     ghost invariant = { λ a. AreSeats (record { programmes = a.programmes.entries; steps = a.steps.items }) };
 }
 
-/// Whether the row is the header.
-fn is_header(row: &Rows<'_>) -> bool
-    ensures { result ≡ same_fields row.now.row header }
-{
-    row.is(&[
-        b"programme".as_slice(),
-        b"institute".as_slice(),
-        b"list".as_slice(),
-        b"step".as_slice(),
-        b"seats".as_slice(),
-        b"W".as_slice(),
-        b"D".as_slice(),
-        b"X".as_slice(),
-        b"S".as_slice(),
-        b"F".as_slice(),
-        b"L".as_slice(),
-    ])
-}
-
 impl Matrix {
     ghost use Rattle.seat_matrix.specs.Matrix.{AreSeats};
 
@@ -59,27 +40,9 @@ impl Matrix {
         ensures value { IfOk result (λ matrix. IsRead (rows_of body.now) matrix) }
         ensures fault { IfErr result (λ fault. IsFault (rows_of body.now) fault) }
     {
-        let mut rows = Rows::new(alloc, body);
-        if !rows.advance()? || !is_header(&rows) {
-            return Err(MatrixFault::Bad {
-                row: 1,
-                kind: MatrixKind::BadHeader,
-            });
-        }
-        let mut table = Table::new(alloc);
-        let mut number: u32 = 1;
-        'rows: while rows.advance()? {
-            // no memory holds so many rows: without a fault there are at most five for each programme
-            let Some(next) = number.checked_add(1) else {
-                return Err(MatrixFault::OutOfMemory);
-            };
-            number = next;
-            match table.read(&rows) {
-                Ok(entry) => table.add(entry)?,
-                Err(kind) => return Err(MatrixFault::Bad { row: number, kind }),
-            }
-        }
-        Ok(table.finish(alloc)?)
+        let mut builder = MatrixBuilder::new(alloc);
+        read_table(alloc, body, &mut builder)?;
+        Ok(builder.finish(alloc)?)
     }
 
     /// How many programmes there are: at most 2,000.

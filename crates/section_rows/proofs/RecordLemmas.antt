@@ -15,7 +15,7 @@ use Rattle.section_rows.specs.Rows.{Row, rows_among, rows_of}
 use Rattle.section_rows.specs.Reading.{IsPlain, records_at, records_left}
 use denote.Ref.{Bor}
 
--- at the end of the text nothing is left behind a record
+-- at the end of the text nothing is left after a record
 ended : (cfg : Config) (s : State) (fields : List (List ℕ)) (field : List ℕ) (q : Read) → next_record cfg s fields field [] ≡ Some q → (q.1 ≡ st.StartRecord) × (q.2 ≡ [])
 unfolding next_record
 ended cfg s fields field q e =

@@ -40,7 +40,7 @@ pub empty_test : (f : List ℕ) → ((length f == 0) ≡ true → f ≡ []) × (
 empty_test [] = (λ e. refl, λ e. refl)
 empty_test (b ∷ f) = (λ e. absurd (let h : length (b ∷ f) ≡ 0 = eqb-true (length (b ∷ f)) 0 e in omega arith), λ e. cc e)
 
--- An empty field behind the first n is left out.
+-- An empty field after the first n is left out.
 pub used-less : (row : Row) (n : ℕ) → 0 < n → n ≤ length row → field row (n - 1) ≡ [] → without_empty_end (take n row) ≡ without_empty_end (take (n - 1) row)
 used-less row zero some within e = absurd (omega arith)
 used-less row (suc n) some within e =

@@ -9,12 +9,12 @@ use Rattle.office_text.specs.FirstFault.{Judge, fault_at, IsFirstFault, IsFaultl
 use Rattle.section_rows.specs.Rows.{Row, same_fields}
 use Rattle.section_rows.specs.Table.{Reading, entries_after, entries_of, fault_of, table_judge, with_entry}
 
--- the row behind others
+-- the row after others
 slice_get-seam : (rows : List Row) (row : Row) (more : List Row) → slice_get (rows ++ row ∷ more) (length rows) ≡ Some row
 slice_get-seam [] row more = refl
 slice_get-seam (r ∷ rows) row more = slice_get-seam rows row more
 
--- The judge at the row behind others.
+-- The judge at the row after others.
 pub fault_at-seam : {Kind : Type 0} (judge : Judge Row Kind) (rows : List Row) (row : Row) (more : List Row) → fault_at judge (rows ++ row ∷ more) (length rows) ≡ judge rows (Some row)
 fault_at-seam judge rows row more = rw (take-append_seam rows (row ∷ more), slice_get-seam rows row more) refl
 
@@ -35,7 +35,7 @@ pub record IsReadTo {Entry Kind : Type 0} (bad : Kind) (names : Row) (reading : 
   pub clean : (m : ℕ) → m < length rows → fault_at (table_judge bad names reading) all m ≡ None
   pub gives : entries_of reading rows ≡ entries
 
--- the judge of a row behind others
+-- the judge of a row after others
 judge-some : {Entry Kind : Type 0} (bad : Kind) (names : Row) (reading : Reading Entry Kind) (rows : List Row) (row : Row) → 0 < length rows
     → table_judge bad names reading rows (Some row) ≡ fault_of (reading (entries_of reading rows) row)
 judge-some bad names reading [] row some = absurd (omega arith)

@@ -1,11 +1,11 @@
--- A table: a header row, and then rows of which each gives an entry or a fault, behind the entries of the rows before it.
+-- A table: a header row, and then rows of which each gives an entry or a fault, after the entries of the rows before it.
 use Rattle.std.specs.Prelude.{◌≡◌, ◌+◌, ℕ, List, [], ◌∷◌, ◌++◌, Option, Some, None, Result, Ok, Err, if◌then◌else◌}
 use Rattle.office_text.specs.FirstFault.{Judge, IsFirstFault}
 use Rattle.section_rows.specs.Rows.{Row, same_fields}
 use Rattle.section_rows.specs.declared.fault.TableFault.{TableFault}
 use Rattle.section_rows.specs.declared.fault.TableFault.TheVariants.{Bad, OutOfMemory}
 
--- what a row gives, behind these entries
+-- what a row gives, after these entries
 abbrev pub Reading : Type 0 → Type 0 → Type 0
 Reading Entry Kind = List Entry → Row → Result Entry Kind
 
@@ -49,7 +49,7 @@ abbrev pub IsTableFault : {Kind : Type 0} → Judge Row Kind → List Row → Ta
 IsTableFault judge rows (Bad row kind) = (n : ℕ) × (row ≡ n + 1) × IsFirstFault judge rows n kind
 IsTableFault judge rows OutOfMemory = Unit {0}
 
--- a row gave an entry, which is kept behind these, or it has this fault
+-- a row gave an entry, which is kept after these, or it has this fault
 abbrev pub IsPut : {Entry Kind : Type 0} → Result Entry Kind → List Entry → (List Entry → Type 0) → Option Kind → Type 0
 IsPut {Entry} given entries kept None = (entry : Entry) × (given ≡ Ok entry) × kept (entries ++ entry ∷ [])
 IsPut given entries kept (Some kind) = given ≡ Err kind

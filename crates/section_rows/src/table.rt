@@ -23,8 +23,14 @@ pub trait TableBuilder {
     /// The fault of a header that is missing or another one.
     ghost bad: { Self.Kind };
 
-    /// What a row gives behind the entries of the rows before it, beside what the builder looks up.
-    ghost reading: { Self → Reading Entry Self.Kind };
+    /// What a table is read beside: what the builder looks up for a row.
+    ghost Beside: { Type 0 };
+
+    /// What this builder looks up.
+    ghost beside: { Self → Beside };
+
+    /// What a row gives after the entries of the rows before it.
+    ghost reading: { Beside → Reading Entry Self.Kind };
 
     /// The builder has these entries.
     ghost keeps: { Self → List Entry → Type 0 };
@@ -40,8 +46,9 @@ pub trait TableBuilder {
     /// Puts in what a row gives, or tells the first of its faults. After a fault, and where there is no memory, the builder is
     /// of no use any more.
     fn put(&mut self, row: &Rows<'_>) -> Result<Option<Self::Kind>, OutOfMemory>
-        ensures put { IfOk result (λ fault. (entries : List Entry) → keeps self.old entries → IsPut (reading self.old entries row.now.row) entries (keeps self.new) fault) }
-        ensures same { OnOk result (reading self.new ≡ reading self.old) };
+        requires { (entries : List Entry) × keeps self.old entries }
+        ensures put { IfOk result (λ fault. (entries : List Entry) → keeps self.old entries → IsPut (reading (beside self.old) entries row.now.row) entries (keeps self.new) fault) }
+        ensures beside { OnOk result (beside self.new ≡ beside self.old) };
 }
 
 /// Reads the table that the body of a section spells into an empty builder, or tells the first fault by rows. After a fault
@@ -52,9 +59,10 @@ pub fn read_table<B: TableBuilder>(
     builder: &mut B,
 ) -> Result<(), TableFault<B::Kind>>
     requires { B.keeps builder.old [] }
-    ensures clean { OnOk result (IsFaultless (table_judge B.bad B.names (B.reading builder.old)) (rows_of body.now)) }
-    ensures entries { OnOk result (B.keeps builder.new (entries_of (B.reading builder.old) (rows_of body.now))) }
-    ensures fault { IfErr result (λ fault. IsTableFault (table_judge B.bad B.names (B.reading builder.old)) (rows_of body.now) fault) }
+    ensures clean { OnOk result (IsFaultless (table_judge B.bad B.names (B.reading (B.beside builder.old))) (rows_of body.now)) }
+    ensures entries { OnOk result (B.keeps builder.new (entries_of (B.reading (B.beside builder.old)) (rows_of body.now))) }
+    ensures beside { OnOk result (B.beside builder.new ≡ B.beside builder.old) }
+    ensures fault { IfErr result (λ fault. IsTableFault (table_judge B.bad B.names (B.reading (B.beside builder.old))) (rows_of body.now) fault) }
 {
     let mut rows = Rows::new(alloc, body);
     if !rows.advance()? || !B::is_header(&rows) {

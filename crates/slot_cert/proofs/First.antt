@@ -1,10 +1,9 @@
 -- The first slots are slots of a placement, as many as can be, and no later than any others as many.
-use Rattle.std.proofs.Common.{◌≡◌, ◌≢◌, ◌<◌, ◌-◌, ℕ, suc, List, [], ◌∷◌, length, Option, Some, None, refl, sym, ◌∙◌, ap, subst, inl, inr, ⊎_elim, arith}
+use Rattle.std.proofs.Common.{◌≡◌, ◌<◌, ◌-◌, ℕ, suc, List, [], ◌∷◌, length, Option, Some, None, refl, sym, ◌∙◌, ap, subst, inl, inr, ⊎_elim, arith}
 use Rattle.std.proofs.lemmas.Bool.{cases_order, both_ways}
 use Rattle.std.proofs.lemmas.List.{length-set}
 use Rattle.std.specs.List.{AllByRecursion}
 use Rattle.office_base.specs.Certificate.{slots_of, AreNoLater, IsCanonical}
-use Rattle.office_base.specs.Lists.{Pairwise}
 use Rattle.office_base.specs.Person.{has_trait, IsTraitSet}
 use Rattle.office_base.specs.Placement.{protected}
 use Rattle.office_base.specs.declared.person.Person.{Person}
@@ -12,6 +11,7 @@ use Rattle.office_base.specs.declared.person.TraitSet.{TraitSet}
 use Rattle.office_base.specs.declared.step.Protections.{Protections}
 use Rattle.placements.specs.Greatest.{one_less}
 use Rattle.placements.specs.Slots.{filled, AreSlots, pairs_of}
+use Rattle.placements.specs.Ranks.{AreDistinct}
 use Rattle.placements.proofs.Convert.{slots-from_placement, placement-from_slots, length-pairs_of, slots_of-pairs_of, pairs_of-in_order}
 use Rattle.placements.proofs.Hall.{one_if_true}
 use Rattle.placements.proofs.Greatest.{AreSlots-nowhere, AreSlots-from_nowhere, AreSlots-somewhere, AreSlots-from_somewhere}
@@ -90,7 +90,7 @@ AreNoLater-first (person ∷ people) protections most (Some t ∷ slots) (Some s
 
 -- the pairs of the first slots are the certificate
 pub IsCanonical-first : (protections : Protections) (people : List Person) (most : ℕ) (slots : List (Option ℕ)) → length protections.counts ≡ 6
-    → Pairwise (λ a b. a.id ≢ b.id) people → AllByRecursion (λ person. IsTraitSet person.traits) people → IsLeastBound protections people most
+    → AreDistinct people → AllByRecursion (λ person. IsTraitSet person.traits) people → IsLeastBound protections people most
     → AreFirstSlots protections people most slots → IsCanonical protections people (pairs_of people slots)
 IsCanonical-first protections people most slots six apart traits least first =
     let stand = AreSlots-first people protections most slots six traits least first in

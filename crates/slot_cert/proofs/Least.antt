@@ -1,5 +1,5 @@
 -- The least bound is the greatest number of people who can be placed, and how it moves down the people.
-use Rattle.std.proofs.Common.{◌≡◌, ◌≢◌, ◌<◌, ◌≤◌, ◌+◌, ◌-◌, ◌^◌, ℕ, zero, suc, true, false, List, [], ◌∷◌, length, Option, Some, None, sym, ◌∙◌, subst, ⊎_elim, inl, inr, arith, lit<}
+use Rattle.std.proofs.Common.{◌≡◌, ◌≢◌, ◌<◌, ◌≤◌, ◌+◌, ◌-◌, ◌^◌, ℕ, zero, suc, true, false, List, [], ◌∷◌, length, Option, Some, None, sym, ◌∙◌, subst, ⊎_elim, arith, lit<}
 use Rattle.std.proofs.lemmas.Bool.{cases_lt, cases_eq, cases_Bool, both_ways}
 use Rattle.std.proofs.lemmas.List.{get_or_past, length-set}
 use Rattle.std.proofs.lemmas.Nat.{or_lt, and_le_l}
@@ -9,12 +9,12 @@ use Rattle.office_base.specs.Placement.{protected}
 use Rattle.office_base.specs.declared.person.Person.{Person}
 use Rattle.office_base.specs.declared.person.TraitSet.{TraitSet}
 use Rattle.office_base.specs.declared.step.Protections.{Protections}
-use Rattle.placements.specs.Demand.{is_within, positions}
+use Rattle.placements.specs.Demand.{is_within}
 use Rattle.placements.specs.Greatest.{one_less}
 use Rattle.placements.specs.Slots.{filled, AreSlots}
 use Rattle.placements.proofs.Greatest.{AreSlots-from_nowhere, AreSlots-from_somewhere}
-use Rattle.placements.proofs.Hall.{either, both, one_if, one_if_true, one_if_false, one_if_small, has_one, has_left, has_right, within_left, within_six, alone, alone_small, none_alone, positions_modular}
-use Rattle.placements.proofs.Outside.{none_if, one_or_none, outside_modular, outside_smaller, positions_one_less, counted_once, within_itself}
+use Rattle.placements.proofs.Hall.{either, both, one_if, one_if_true, one_if_false, has_one, has_left, has_right, within_left, within_six, alone, alone_small, none_alone, positions_modular}
+use Rattle.placements.proofs.Outside.{one_or_none, outside_modular, outside_smaller, positions_one_less, counted_once, within_itself}
 use Rattle.slot_cert.specs.Bounds.{bound, IsLeastBound}
 use Rattle.slot_cert.specs.First.{MayTake, MustPass, IsFirstChoice}
 
@@ -98,8 +98,7 @@ critical-traits protections person people most a (suc n) l bounds ca pass =
     let before = critical-traits protections person people most a n (omega arith) bounds ca pass in
     ⊎_elim
     (λ (held : has_trait person.traits n ≡ true).
-    let here = critical-trait protections person people most a n (omega arith) ca held (pass n (omega arith)) in
-    (
+    let here = critical-trait protections person people most a n (omega arith) ca held (pass n (omega arith)) in (
       either before.0 here.0,
       critical-union protections person people most before.0 here.0 bounds before.1 here.1,
       λ t m h. ⊎_elim

@@ -1,5 +1,5 @@
 -- The steps of the search: what its bounds are told by numbers, before and after a person.
-use Rattle.std.proofs.Common.{◌≡◌, ◌<◌, ◌≤◌, ◌+◌, ◌-◌, ℕ, Bool, true, false, cond, List, ◌∷◌, length, get_or, set, None, MatchBool, ◌∙◌, inr, ⊎_elim, arith}
+use Rattle.std.proofs.Common.{◌≡◌, ◌<◌, ◌≤◌, ◌+◌, ◌-◌, ℕ, Bool, true, false, List, ◌∷◌, length, get_or, set, None, MatchBool, ◌∙◌, inr, ⊎_elim, arith}
 use Rattle.std.proofs.lemmas.Bool.{cases_Bool}
 use Rattle.std.proofs.lemmas.List.{get_or-set_same, get_or-set_other}
 use Rattle.office_base.specs.Person.{has_trait, IsTraitSet}

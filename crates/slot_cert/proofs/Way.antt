@@ -1,15 +1,15 @@
 -- The way down the people: the pairs so far, and what is left.
-use Rattle.std.proofs.Common.{◌≡◌, ◌≢◌, ◌-◌, ℕ, List, [], ◌∷◌, ◌++◌, length, Option, Some, None, refl, sym, ◌∙◌, subst, append_assoc}
+use Rattle.std.proofs.Common.{◌≡◌, ◌-◌, ℕ, List, [], ◌∷◌, ◌++◌, length, Option, Some, None, refl, sym, ◌∙◌, subst, append_assoc}
 use Rattle.std.proofs.lemmas.List.{append-nil}
 use Rattle.office_base.specs.Certificate.{IsCanonical}
 use Rattle.std.specs.List.{AllByRecursion}
-use Rattle.office_base.specs.Lists.{Pairwise}
 use Rattle.office_base.specs.Person.{IsTraitSet}
 use Rattle.office_base.specs.declared.person.Person.{Person}
 use Rattle.office_base.specs.declared.step.Pair.{Pair}
 use Rattle.office_base.specs.declared.step.Protections.{Protections}
 use Rattle.placements.specs.Greatest.{one_less}
 use Rattle.placements.specs.Slots.{pairs_of}
+use Rattle.placements.specs.Ranks.{AreDistinct}
 use Rattle.slot_cert.specs.Bounds.{IsLeastBound}
 use Rattle.slot_cert.specs.First.{IsFirstChoice, AreFirstSlots}
 use Rattle.slot_cert.specs.Search.{IsSearch, Moves}
@@ -54,7 +54,7 @@ IsOnTheWay-placed protections people pairs room person rest most t choice on = r
 
 -- nobody is left
 pub IsCanonical-at_end : (protections : Protections) (people : List Person) (pairs : List Pair) (room : Protections) (most : ℕ) → length protections.counts ≡ 6
-    → Pairwise (λ a b. a.id ≢ b.id) people → AllByRecursion (λ person. IsTraitSet person.traits) people → IsOnTheWay protections people pairs room [] most
+    → AreDistinct people → AllByRecursion (λ person. IsTraitSet person.traits) people → IsOnTheWay protections people pairs room [] most
     → IsCanonical protections people pairs
 IsCanonical-at_end protections people pairs room most six apart traits on =
     let all = on.way [] tt in

@@ -2,9 +2,9 @@
 ghost use Rattle.std.specs.Prelude.{◌≡◌, ◌≢◌, ◌<◌, List, IfOk, MatchBool, ◌∷◌};
 ghost use Rattle.std.specs.List.{AllByRecursion};
 ghost use Rattle.office_base.specs.Certificate.{IsCanonical};
-ghost use Rattle.office_base.specs.Lists.{Pairwise};
 ghost use Rattle.office_base.specs.Person.{IsTraitSet};
 ghost use Rattle.office_base.specs.declared.person.Person.{Person};
+ghost use Rattle.placements.specs.Ranks.{AreDistinct};
 
 use crate::bounds::{count_outside, keeps, least, leave, positions, take};
 use office_base::{OutOfMemory, Pair, Pairs, Person, Protections, TraitSet};
@@ -17,7 +17,7 @@ pub fn canonical_pairs(
     admitted: &[Person],
     protections: &Protections,
 ) -> Result<Pairs, OutOfMemory>
-    requires distinct { Pairwise (λ a b. a.id ≢ b.id) admitted.now }
+    requires distinct { AreDistinct admitted.now }
     requires traits { AllByRecursion (λ person. IsTraitSet person.traits) admitted.now }
     ensures { IfOk result (λ pairs. IsCanonical protections.now admitted.now pairs) }
 {

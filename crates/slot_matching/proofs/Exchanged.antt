@@ -1,6 +1,6 @@
 -- One member fewer, and one member in the place of another.
-use Rattle.std.proofs.Common.{◌≡◌, ◌∙◌, ◌≢◌, ◌<◌, ◌≤◌, ◌+◌, ℕ, List, [], ◌∷◌, ◌++◌, length, get_or, sym, subst, arith, slice_index, IsTrue}
-use Rattle.std.specs.List.{AllByRecursion, remove}
+use Rattle.std.proofs.Common.{◌≡◌, ◌≢◌, ◌<◌, ◌+◌, ℕ, List, [], ◌∷◌, ◌++◌, length, get_or, sym, subst, arith, slice_index, IsTrue}
+use Rattle.std.specs.List.{remove}
 use Rattle.std.specs.Prelude.{IsSome}
 use Rattle.office_base.specs.Person.{IsTraitSet, number_in}
 use Rattle.office_base.specs.declared.person.CandId.{CandId}

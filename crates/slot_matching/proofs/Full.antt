@@ -1,13 +1,13 @@
 -- The least set with nothing to spare that holds some traits, found set by set.
-use Rattle.std.proofs.Common.{◌≡◌, ◌∙◌, ◌≢◌, ◌<◌, ◌≤◌, ◌+◌, ℕ, List, true, false, Option, Some, None, refl, sym, ap, subst, inl, inr, arith, bit_and, slice_index, IsTrue}
-use Rattle.std.proofs.lemmas.Bool.{cases_eq, cases_Bool, both_ways}
+use Rattle.std.proofs.Common.{◌≡◌, ◌∙◌, ◌≢◌, ◌<◌, ◌+◌, ℕ, List, true, Option, Some, None, sym, ap, subst, inl, inr, arith, bit_and, slice_index, IsTrue}
+use Rattle.std.proofs.lemmas.Bool.{cases_eq}
 use Rattle.std.proofs.lemmas.Nat.{and_le_l}
 use Rattle.std.proofs.lemmas.Nat.Bits.{bit_at_and}
 use Rattle.office_base.specs.declared.person.Person.{Person}
 use Rattle.office_base.specs.declared.person.TraitSet.{TraitSet}
 use Rattle.office_base.specs.declared.step.Protections.{Protections}
 use Rattle.placements.specs.Demand.{is_within}
-use Rattle.placements.proofs.Hall.{both, within_each, within_bits, bits_within, NoneShort}
+use Rattle.placements.proofs.Hall.{both, within_each, within_bits}
 use Rattle.placements.proofs.Outside.{within_itself}
 use Rattle.placements.proofs.Replace.{within_again, full_both}
 use Rattle.slot_matching.specs.Full.{AreClosed, HasSpareBelow, IsLeastFull, IsLeastOf, met}

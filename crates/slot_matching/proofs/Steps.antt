@@ -5,7 +5,6 @@ use Rattle.std.proofs.lemmas.Nat.{and_mask}
 use Rattle.std.specs.List.{AllByRecursion}
 use Rattle.std.specs.Prelude.{IsSome, OnErr}
 use Rattle.std.specs.Result.{is_err}
-use Rattle.office_base.specs.Lists.{Pairwise}
 use Rattle.office_base.specs.Person.{IsTraitSet, number_in}
 use Rattle.office_base.specs.Placement.{IsHonoured}
 use Rattle.office_base.specs.declared.person.TraitSet.{TraitSet}

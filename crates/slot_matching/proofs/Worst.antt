@@ -1,5 +1,5 @@
 -- The worst member whom a person can replace.
-use Rattle.std.proofs.Common.{◌≡◌, ◌∙◌, ◌≢◌, ◌<◌, ◌≤◌, ◌+◌, ◌⊎◌, ℕ, List, [], ◌∷◌, ◌++◌, length, true, false, Option, Some, None, refl, sym, ap, subst, inl, inr, arith, slice_index, IsTrue}
+use Rattle.std.proofs.Common.{◌≡◌, ◌∙◌, ◌≢◌, ◌⊎◌, ℕ, List, [], ◌∷◌, true, false, Option, Some, None, refl, sym, ap, subst, inl, inr, arith}
 use Rattle.std.proofs.lemmas.Bool.{cases_Bool, cases_lt, false≢true}
 use Rattle.std.specs.List.{AllByRecursion}
 use Rattle.std.specs.Prelude.{IsSome}
@@ -9,9 +9,9 @@ use Rattle.office_base.specs.declared.person.ListId.{ListId}
 use Rattle.office_base.specs.declared.person.Person.{Person}
 use Rattle.office_base.specs.declared.person.TraitSet.{TraitSet}
 use Rattle.placements.specs.Demand.{is_within}
-use Rattle.placements.specs.Ranks.{CanBePlaced, without}
-use Rattle.placements.proofs.Ranks.{any_all, among_itself}
-use Rattle.placements.proofs.Replace.{MayReplace, IsFull, replaced_within, not_replaced_outside}
+use Rattle.placements.specs.Ranks.{without}
+use Rattle.placements.proofs.Ranks.{any_all}
+use Rattle.placements.proofs.Replace.{MayReplace, replaced_within, not_replaced_outside}
 use Rattle.placements.proofs.Without.{leaves_member}
 use Rattle.slot_matching.specs.Augmented.{CanReplace, IsWorstFor}
 use Rattle.slot_matching.specs.Full.{IsLeastFull}

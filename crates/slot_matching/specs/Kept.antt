@@ -9,7 +9,7 @@ use Rattle.office_base.specs.declared.person.Person.{Person}
 use Rattle.office_base.specs.declared.person.TraitSet.{TraitSet}
 use Rattle.office_base.specs.declared.step.Protections.{Protections}
 use Rattle.placements.specs.Demand.{asking, positions}
-use Rattle.placements.specs.Ranks.{CanBePlaced, without}
+use Rattle.placements.specs.Ranks.{AreDistinct, CanBePlaced, without}
 
 -- the positions that are protected, the merit list, and the members in the order in which they came
 pub record Kept : Type 0 where
@@ -29,7 +29,7 @@ pub record IsKept (kept : Kept) : Type 0 where
   pub list : IsList kept.list
   pub traits : AllByRecursion (λ member. IsTraitSet member.traits) kept.members
   pub placed : AllByRecursion (λ member. IsSome (number_in kept.list member)) kept.members
-  pub distinct : Pairwise (λ a b. a.id ≢ b.id) kept.members
+  pub distinct : AreDistinct kept.members
   pub apart : Pairwise (λ a b. number_in kept.list a ≢ number_in kept.list b) kept.members
   pub all : CanBePlaced kept.protections kept.members
 
@@ -55,7 +55,7 @@ pub record IsCounted (kept : Kept) (spare : List ℕ) (size : ℕ) : Type 0 wher
   pub list : IsList kept.list
   pub traits : AllByRecursion (λ member. IsTraitSet member.traits) kept.members
   pub placed : AllByRecursion (λ member. IsSome (number_in kept.list member)) kept.members
-  pub distinct : Pairwise (λ a b. a.id ≢ b.id) kept.members
+  pub distinct : AreDistinct kept.members
   pub apart : Pairwise (λ a b. number_in kept.list a ≢ number_in kept.list b) kept.members
   pub left : IsSpare kept.protections kept.members spare
   pub few : sum kept.protections.counts ≤ 65535

@@ -1,4 +1,4 @@
-use Rattle.std.proofs.Common.{◌≡◌, ◌∙◌, sym, subst, Option, take, ◌+◌}
+use Rattle.std.proofs.Common.{◌∙◌, sym, subst, Option, take, ◌+◌}
 use Rattle.std.proofs.lemmas.Bool.{both_ways}
 use Rattle.office_base.specs.declared.person.Person.{Person}
 use Rattle.slot_matching.specs.Members.{IsWorstWithin}

@@ -1,4 +1,4 @@
-use Rattle.std.proofs.Common.{◌≡◌, ℕ, sym, ap, ◌∙◌, subst, Option, ◌+◌, get_or}
+use Rattle.std.proofs.Common.{ℕ, sym, ap, ◌∙◌, subst, Option, ◌+◌, get_or}
 use Rattle.std.proofs.lemmas.Bool.{both_ways}
 use Rattle.office_base.specs.declared.person.TraitSet.{TraitSet}
 use Rattle.slot_matching.specs.Full.{IsLeastFull, IsLeastOf}

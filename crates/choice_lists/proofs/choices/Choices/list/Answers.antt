@@ -1,35 +1,25 @@
-use Rattle.std.proofs.Common.{List, length, ◌≤◌, Some, None, sym, ap, subst, ◌∙◌, arith}
+use Rattle.std.proofs.Common.{◌≡◌, ◌≤◌, List, Ok, Err, Some, length, sym, ap, subst, ◌∙◌}
 use Rattle.office_base.specs.declared.person.ProgId.{ProgId}
-use Rattle.choice_lists.specs.Choices.{AreDistinct, Lists, list_of}
-use Rattle.choice_lists.specs.Listing.{IsWithin, part}
-use Rattle.choice_lists.proofs.ListingLemmas.{found-list}
+use Rattle.choice_lists.specs.Choices.{AreDistinct, Lists, list_of, listed, lists_along}
+use Rattle.choice_lists.proofs.FoundLemmas.{search_found}
 use Rattle.choice_lists.proofs.choices.Choices.list.Goals as goal
 
-pub part-requires-clause-rising : goal.part-requires-clause-rising
-part-requires-clause-rising c =
-    let within = subst (IsWithin c.self.inside.programmes) (sym c.in-Some.ensures.value) (c.self.invariant.1 c.args.cand.0) in
-    within.0
+pub returns-in-Ok-clause-list : goal.returns-in-Ok-clause-list
+returns-in-Ok-clause-list c =
+    let found = search_found c.self.inside.ids.items c.self.inside.lists c.args.cand.0 (Ok c.in-Ok.at) c.self.invariant.rising c.self.invariant.count (rw c.deref.ensures.value at c.in-Ok.ensures.position) in
+    ap listed (sym c.at.ensures) ∙ found.1 ∙ ap (λ (ls : Lists). list_of ls c.args.cand.0) c.self.view_is
 
-pub part-requires-clause-within : goal.part-requires-clause-within
-part-requires-clause-within c =
-    let within = subst (IsWithin c.self.inside.programmes) (sym c.in-Some.ensures.value) (c.self.invariant.1 c.args.cand.0) in
-    omega (arith, within.1, ap (λ (l : List ProgId). length l) c.as_slice.ensures)
+pub returns-in-Ok-clause-distinct : goal.returns-in-Ok-clause-distinct
+returns-in-Ok-clause-distinct c =
+    let found = search_found c.self.inside.ids.items c.self.inside.lists c.args.cand.0 (Ok c.in-Ok.at) c.self.invariant.rising c.self.invariant.count (rw c.deref.ensures.value at c.in-Ok.ensures.position) in
+    subst AreDistinct (sym (ap listed (sym c.at.ensures) ∙ found.1)) (c.self.invariant.sound c.args.cand.0).0
 
-pub returns-in-Some-clause-list : goal.returns-in-Some-clause-list
-returns-in-Some-clause-list c =
-    c.part.ensures
-    ∙ ap (λ (l : List ProgId). part l c.in-Some.field-0.now) c.as_slice.ensures
-    ∙ found-list c.args.cand.0 c.self.inside.programmes c.self.inside.ranges.entries (Some c.in-Some.field-0.now) c.args.self.now (sym c.in-Some.ensures.value) c.self.view_is
+pub returns-in-Ok-clause-short : goal.returns-in-Ok-clause-short
+returns-in-Ok-clause-short c =
+    let found = search_found c.self.inside.ids.items c.self.inside.lists c.args.cand.0 (Ok c.in-Ok.at) c.self.invariant.rising c.self.invariant.count (rw c.deref.ensures.value at c.in-Ok.ensures.position) in
+    subst (λ (l : List ProgId). length l ≤ 1000) (sym (ap listed (sym c.at.ensures) ∙ found.1)) (c.self.invariant.sound c.args.cand.0).1
 
-pub returns-in-Some-clause-distinct : goal.returns-in-Some-clause-distinct
-returns-in-Some-clause-distinct c =
-    subst AreDistinct (sym (returns-in-Some-clause-list c)) (subst (λ (l : Lists). AreDistinct (list_of l c.args.cand.0)) c.self.view_is (c.self.invariant.0 c.args.cand.0).0)
-
-pub returns-in-Some-clause-short : goal.returns-in-Some-clause-short
-returns-in-Some-clause-short c =
-    subst (λ (l : List ProgId). length l ≤ 1000) (sym (returns-in-Some-clause-list c))
-    (subst (λ (l : Lists). length (list_of l c.args.cand.0) ≤ 1000) c.self.view_is (c.self.invariant.0 c.args.cand.0).1)
-
-pub returns-in-None-clause-list : goal.returns-in-None-clause-list
-returns-in-None-clause-list c =
-    found-list c.args.cand.0 c.self.inside.programmes c.self.inside.ranges.entries None c.args.self.now (sym c.in-None.ensures.value) c.self.view_is
+pub returns-in-Err-clause-list : goal.returns-in-Err-clause-list
+returns-in-Err-clause-list c =
+    let found = search_found c.self.inside.ids.items c.self.inside.lists c.args.cand.0 (Err c.in-Err.field-0) c.self.invariant.rising c.self.invariant.count (rw c.deref.ensures.value at c.in-Err.ensures.position) in
+    found ∙ ap (λ (ls : Lists). list_of ls c.args.cand.0) c.self.view_is

@@ -1,0 +1,83 @@
+// The people whom the seats hold, in merit order, each with a mark: whether the protections need the person.
+ghost use Rattle.std.specs.Prelude.{◌≡◌, ◌≤◌, ◌<◌, length, vec_len, vec_capacity, slice_index_or, MatchOption};
+ghost use Rattle.std.specs.List.{insert};
+ghost use Rattle.office_base.specs.Lists.{AnyByRecursion};
+ghost use Rattle.office_base.specs.Person.{IsList};
+ghost use Rattle.office_base.specs.StepChoice.{AreRanked};
+ghost use Rattle.merit_choice.specs.Held.{IsLastFree, AreAllSet, IsLeft};
+ghost use Rattle.merit_choice.specs.InMerit.{with_person, IsNewTo};
+ghost use Rattle.office_base.specs.declared.person.Person.{Person};
+
+use office_base::{CandId, ListId, Person, better};
+
+/// The place that a new person has among people in merit order.
+pub(crate) fn place_for(people: &[Person], person: &Person, list: ListId) -> usize
+    requires list { IsList list }
+    requires ranked { AreRanked list people.now }
+    requires new { IsNewTo list people.now person.now }
+    ensures within { result ≤ length people.now }
+    ensures place { insert people.now result person.now ≡ with_person list person.now people.now }
+{
+    let mut at = people.len();
+    while at > 0 {
+        if better(&people[at - 1], person, list) {
+            return at;
+        }
+        at -= 1;
+    }
+    0
+}
+
+/// The place of the person with this number.
+pub(crate) fn place_of(people: &[Person], cand: CandId) -> Option<usize>
+    requires { AnyByRecursion (λ person. person.id ≡ cand) people.now }
+    ensures { MatchOption result ⊥ (λ at. (at < length people.now) × ((d : Person) → (slice_index_or people.now at d).id ≡ cand)) }
+{
+    for (at, person) in people.iter().enumerate() {
+        if person.id == cand {
+            return Some(at);
+        }
+    }
+    None
+}
+
+/// The last of the people whose mark is not set leaves.
+pub(crate) fn leave(people: &mut Vec<Person>, marks: &mut Vec<bool>) -> Person
+    requires each { vec_len people.old ≡ vec_len marks.old }
+    requires some { ¬ AreAllSet marks.old.items }
+    ensures left { IsLeft people.old.items marks.old.items result people.new.items marks.new.items }
+    ensures room { vec_capacity people.new ≡ vec_capacity people.old }
+    ensures marks_room { vec_capacity marks.new ≡ vec_capacity marks.old }
+{
+    let Some(last) = last_free(marks.as_slice()) else {
+        unreachable!("one of the marks is not set")
+    };
+    marks.remove(last);
+    people.remove(last)
+}
+
+/// The last place whose mark is not set.
+fn last_free(marks: &[bool]) -> Option<usize>
+    ensures { MatchOption result (AreAllSet marks.now) (IsLastFree marks.now) }
+{
+    let mut at = marks.len();
+    while at > 0 {
+        at -= 1;
+        if !marks[at] {
+            return Some(at);
+        }
+    }
+    None
+}
+
+/// Puts a value in at a place, into room that is there.
+pub(crate) fn put<T: Drop>(items: &mut Vec<T>, at: usize, value: T)
+    requires place { at ≤ vec_len items.old }
+    requires room { vec_len items.old < vec_capacity items.old }
+    ensures items { items.new.items ≡ insert items.old.items at value }
+    ensures room { vec_capacity items.old ≤ vec_capacity items.new }
+{
+    if items.insert(at, value).is_err() {
+        unreachable!("there is room")
+    }
+}

@@ -1,0 +1,202 @@
+// The choice of a step from people who come one at a time.
+ghost use Rattle.std.specs.Prelude.{◌≡◌, ◌≤◌, ◌<◌, [], ◌∷◌, length, sum, vec_len, vec_capacity, IfOk};
+ghost use Rattle.std.specs.List.{insert};
+ghost use Rattle.office_base.specs.Person.{IsList};
+ghost use Rattle.office_base.specs.StepChoice.{AreRanked, IsStepChoice};
+ghost use Rattle.placements.specs.Ranks.{CanBePlaced};
+ghost use Rattle.slot_matching.specs.Augmented.{IsWorstFor};
+ghost use Rattle.slot_matching.specs.Kept.{with_member};
+ghost use Rattle.merit_choice.specs.InMerit.{IsNewTo, with_person};
+ghost use Rattle.merit_choice.specs.State.{IsStepKept, step_with, IsAnswered, IsMatched};
+
+use crate::held::{leave, place_for, place_of, put};
+use office_base::{CandId, ListId, OutOfMemory, Person, Protections, better};
+use slot_matching::{Augment, Matching};
+use std::alloc::Global;
+use std::marker::Model;
+
+/// What came of a person who was offered to a step.
+#[derive(Clone, Copy, Debug, PartialEq, Eq)]
+pub enum Offered {
+    /// A seat was free: the person is held, and nobody left.
+    Taken,
+    /// The person is held, and this one of those held before has left.
+    Displaced(CandId),
+    /// The seats hold whom they held before.
+    Refused,
+}
+
+/// The seats of a step, and whom they hold of all who were offered so far.
+#[derive(Debug, Drop)]
+pub struct StepState {
+    list: ListId,
+    seats: u16,
+    matching: Matching,
+    held: Vec<Person>,
+    marks: Vec<bool>,
+}
+
+impl Model for StepState {
+    ghost use Rattle.std.specs.Prelude.{vec_capacity};
+    ghost use Rattle.merit_choice.specs.State.{StepKept, IsWorked};
+
+    ghost Value = { StepKept };
+
+    ghost view = { λ a. record { list = a.list; seats = a.seats; protections = a.matching.protections; held = a.held.items } };
+
+    ghost invariant = { λ a. IsWorked (record { list = a.list; seats = a.seats; protections = a.matching.protections; held = a.held.items }) a.matching a.marks.items (vec_capacity a.held) (vec_capacity a.marks) };
+}
+
+impl StepState {
+    /// A step that holds nobody. It takes the room for all its seats and one more now, so that no later call takes memory.
+    pub fn new(
+        alloc: Global,
+        list: ListId,
+        seats: u16,
+        protections: Protections,
+    ) -> Result<StepState, OutOfMemory>
+        requires list { IsList list }
+        requires protections { sum protections.counts ≤ seats }
+        ensures { IfOk result (λ state. state ≡ record { list = list; seats = seats; protections = protections; held = [] }) }
+    {
+        let room = usize::from(seats) + 1;
+        Ok(StepState {
+            list,
+            seats,
+            matching: Matching::new(alloc, protections, list)?,
+            held: Vec::with_capacity(alloc, room)?,
+            marks: Vec::with_capacity(alloc, room)?,
+        })
+    }
+
+    /// Offers the person to the step, which then holds the choice from those whom it held and the person. So after any
+    /// offers it holds the choice from all who were offered. It takes no memory, and moves at most the seats;
+    /// a person after all whom it holds, who is not needed, costs a few comparisons.
+    pub fn offer(&mut self, person: &Person) -> Offered
+        requires { IsNewTo self.old.list self.old.held person.now }
+        // the list, the seats and the protections stay
+        ensures stays { self.new ≡ record self.old { held = self.new.held } }
+        ensures choice { IsStepChoice (step_with self.old person.now) self.new.held }
+        ensures answer { IsAnswered self.old person.now result self.new }
+        ensures kept { IsStepKept self.new }
+    {
+        let at = place_for(self.held.as_slice(), person, self.list);
+        // after all whom the seats hold, and not needed
+        if at == usize::from(self.seats) && !self.matching.raises(person) {
+            return Offered::Refused;
+        }
+        enter(
+            &mut self.matching,
+            &mut self.held,
+            &mut self.marks,
+            person,
+            self.list,
+            at,
+        );
+        if self.held.len() <= usize::from(self.seats) {
+            return Offered::Taken;
+        }
+        let gone = leave(&mut self.held, &mut self.marks);
+        if gone.id == person.id {
+            Offered::Refused
+        } else {
+            Offered::Displaced(gone.id)
+        }
+    }
+
+    /// Those whom the seats hold, in merit order.
+    pub fn admitted(&self) -> &[Person]
+        ensures held { result.now ≡ self.now.held }
+        ensures kept { IsStepKept self.now }
+    {
+        self.held.as_slice()
+    }
+}
+
+/// Puts a person at this merit place among those held, with a mark.
+fn enter(
+    matching: &mut Matching,
+    held: &mut Vec<Person>,
+    marks: &mut Vec<bool>,
+    person: &Person,
+    list: ListId,
+    at: usize,
+)
+    requires list { IsList list }
+    requires ranked { AreRanked list held.old.items }
+    requires new { IsNewTo list held.old.items person.now }
+    requires within { at ≤ length held.old.items }
+    requires place { insert held.old.items at person.now ≡ with_person list person.now held.old.items }
+    requires matched { IsMatched list held.old.items marks.old.items matching.old }
+    requires room { vec_len held.old < vec_capacity held.old }
+    requires marks_room { vec_len marks.old < vec_capacity marks.old }
+    ensures held { held.new.items ≡ with_person list person.now held.old.items }
+    ensures matched { IsMatched list held.new.items marks.new.items matching.new }
+    ensures protections { matching.new.protections ≡ matching.old.protections }
+    ensures room { vec_capacity held.old ≤ vec_capacity held.new }
+    ensures marks_room { vec_capacity marks.old ≤ vec_capacity marks.new }
+{
+    let needed = join(
+        matching,
+        held.as_slice(),
+        marks.as_mut_slice(),
+        person,
+        list,
+    );
+    put(held, at, *person);
+    put(marks, at, needed);
+}
+
+/// Offers a person to the matching, and tells whether the person is one of the needed then. Who is so no longer loses the mark.
+fn join(
+    matching: &mut Matching,
+    held: &[Person],
+    marks: &mut [bool],
+    person: &Person,
+    list: ListId,
+) -> bool
+    requires list { IsList list }
+    requires ranked { AreRanked list held.now }
+    requires new { IsNewTo list held.now person.now }
+    requires matched { IsMatched list held.now marks.old matching.old }
+    ensures protections { matching.new.protections ≡ matching.old.protections }
+    ensures matched { IsMatched list (person.now ∷ held.now) (result ∷ marks.new) matching.new }
+{
+    match matching.augment(person) {
+        Augment::Raised => true,
+        Augment::Held { worst: None } => false,
+        Augment::Held { worst: Some(worst) } => {
+            replace(matching, held, marks, person, list, worst)
+        }
+    }
+}
+
+/// Puts the person in the place of the worst of the needed whom the person can replace, where that one is worse, and tells
+/// whether it did.
+fn replace(
+    matching: &mut Matching,
+    held: &[Person],
+    marks: &mut [bool],
+    person: &Person,
+    list: ListId,
+    worst: CandId,
+) -> bool
+    requires list { IsList list }
+    requires ranked { AreRanked list held.now }
+    requires new { IsNewTo list held.now person.now }
+    requires matched { IsMatched list held.now marks.old matching.old }
+    requires held_back { ¬ CanBePlaced matching.old.protections (with_member matching.old person.now).members }
+    requires worst { IsWorstFor matching.old person.now (Some worst) }
+    ensures protections { matching.new.protections ≡ matching.old.protections }
+    ensures matched { IsMatched list (person.now ∷ held.now) (result ∷ marks.new) matching.new }
+{
+    let Some(at) = place_of(held, worst) else {
+        unreachable!("whoever is needed is held")
+    };
+    if !better(person, &held[at], list) {
+        return false;
+    }
+    matching.exchange(worst, person);
+    marks[at] = false;
+    true
+}

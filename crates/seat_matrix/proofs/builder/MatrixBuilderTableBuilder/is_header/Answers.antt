@@ -1,0 +1,19 @@
+use Rattle.std.proofs.Common.{refl}
+use Rattle.seat_matrix.proofs.builder.MatrixBuilderTableBuilder.is_header.Goals as goal
+
+pub returns : goal.returns
+returns c =
+    rw (
+      c.is.ensures,
+      c.as_slice.ensures,
+      c.as_slice-2.ensures,
+      c.as_slice-3.ensures,
+      c.as_slice-4.ensures,
+      c.as_slice-5.ensures,
+      c.as_slice-6.ensures,
+      c.as_slice-7.ensures,
+      c.as_slice-8.ensures,
+      c.as_slice-9.ensures,
+      c.as_slice-10.ensures,
+      c.as_slice-11.ensures,
+    ) refl
