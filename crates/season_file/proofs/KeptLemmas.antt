@@ -26,7 +26,7 @@ front_utf8 front last (inr more) utf8 =
     let within : length front < length (front ++ 91 ∷ more.0) = omega (arith, length-append front (91 ∷ more.0)) in
     let here : get_or (front ++ 91 ∷ more.0) (length front) 0 ≡ 91 = get_or-append_seam front 91 more.0 0 in
     subst IsUtf8 (take-append_seam front (91 ∷ more.0))
-        (IsUtf8-take (front ++ 91 ∷ more.0) (length front) all (IsCharBoundary-before_ascii (front ++ 91 ∷ more.0) (length front) within (omega arith)))
+    (IsUtf8-take (front ++ 91 ∷ more.0) (length front) all (IsCharBoundary-before_ascii (front ++ 91 ∷ more.0) (length front) within (omega arith)))
 
 given_again : (bytes : List ℕ) (parts : Parts) (content : Content) → IsText bytes → SectionsGive parts content → IsAgain bytes parts → (text : List ℕ) → text ≡ take (length bytes - length parts.requests) bytes
     → IsText text × ((p : Parts) × (bundle_of false text ≡ Ok p) × SectionsGive p content × (script_of (request_rows_of p) ≡ Ok []))
@@ -37,14 +37,19 @@ given_again bytes parts content are give again text same =
     let long : length bytes ≡ length again.front + length parts.requests = ap length shape ∙ length-append again.front parts.requests in
     subst (λ (t : List ℕ). IsText t × ((p : Parts) × (bundle_of false t ≡ Ok p) × SectionsGive p content × (script_of (request_rows_of p) ≡ Ok []))) (sym is) (
       record { short = omega (arith, long, are.short); utf8 = front_utf8 again.front parts.requests again.next utf8 },
-      (without_requests parts, again.again, record {
-        version = give.version;
-        head = give.head;
-        register = give.register;
-        matrix = give.matrix;
-        choices = give.choices;
-        sound = give.sound;
-      }, refl),
+      (
+        without_requests parts,
+        again.again,
+        record {
+          version = give.version;
+          head = give.head;
+          register = give.register;
+          matrix = give.matrix;
+          choices = give.choices;
+          sound = give.sound;
+        },
+        refl,
+      ),
     )
 
 -- The text of a season, without its requests, gives the season.
@@ -54,7 +59,6 @@ text_gives requests bytes content script text gives same =
     let (parts, cut, give, scripted) = gives.1 in
     let (are, given) = given_again bytes parts content gives.0 give (cut_again requests bytes parts cut) text (same ∙ ap (before_requests bytes) cut) in
     (are, given, gives.2)
-
 
 -- the version of a bundle that is cut is known
 pub version_known : (requests : Bool) (bytes : List ℕ) (content : Content) (script : List Request) → BundleGives requests bytes content script → IsVersion content.version

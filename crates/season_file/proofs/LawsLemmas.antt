@@ -342,6 +342,6 @@ one_reading laws requests bytes = record {
       let (parts, cut, give, scripted) = a.1 in
       let (pieces, split, gift, asked) = b.1 in
       one_ok (script_of (request_rows_of parts)) script more scripted
-          (subst (λ (p : Parts). script_of (request_rows_of p) ≡ Ok more) (one_ok (bundle_of requests bytes) pieces parts split cut) asked);
+      (subst (λ (p : Parts). script_of (request_rows_of p) ≡ Ok more) (one_ok (bundle_of requests bytes) pieces parts split cut) asked);
   one_fault = λ fault other a b. one-bytes laws requests bytes fault other (staged requests bytes fault a) (staged requests bytes other b);
 }

@@ -29,6 +29,7 @@ trimmed-begins x (a ∷ line) b = by (trimmed line) b
     alone : (last : Bool) → Begins x (cond last [] (a ∷ [])) → Begins x (a ∷ line)
     alone true b = absurd (let e : [] ≡ x ∷ b.0 = b.1 in cc)
     alone false b = (line, let e : a ∷ [] ≡ x ∷ b.0 = b.1 in cc)
+
     by : (rest : List ℕ) → Begins x (unless_last 44 a rest) → Begins x (a ∷ line)
     by [] b = alone (eqb a 44) b
     by (next ∷ rest) b = (line, let e : a ∷ next ∷ rest ≡ x ∷ b.0 = b.1 in cc)
@@ -64,11 +65,13 @@ line_split (a ∷ text) x rest e = by (λ h. line_split text x rest h) (eqb a 10
         → (b : Bool) → eqb a 10 ≡ b → drop (suc (cond b 0 (suc (line_len text)))) (a ∷ text) ≡ x ∷ rest → (line : List ℕ) × IsSplit (a ∷ text) line (x ∷ rest)
     by next true same h = ([], record { whole = let is : a ≡ 10 = eqb-true a 10 same in cc (is, h); same = λ other. refl })
     by next false same h =
-        let (line, split) = next h in
-        (a ∷ line, record {
-          whole = ap (λ (bytes : List ℕ). a ∷ bytes) split.whole;
-          same = λ other. rw same (ap suc (split.same other));
-        })
+        let (line, split) = next h in (
+          a ∷ line,
+          record {
+            whole = ap (λ (bytes : List ℕ). a ∷ bytes) split.whole;
+            same = λ other. rw same (ap suc (split.same other));
+          },
+        )
 
 -- the title of such a line, and what stands after it
 title-split : (text line rest other : List ℕ) → IsSplit text line rest → title (line ++ 10 ∷ other) ≡ trimmed (drop_cr line)
@@ -96,8 +99,10 @@ body_split begins (x ∷ bytes) rest e = by (λ h. body_split (eqb x 10) bytes r
     open_other : begins ≡ true → (other : List ℕ) → IsNext other → Cuts begins other [] other
     open_other is other (inl none) = subst (λ (bytes : List ℕ). Cuts begins bytes [] bytes) (sym none) (refl, refl)
     open_other is other (inr next) = subst (λ (bytes : List ℕ). Cuts begins bytes [] bytes) (sym next.1) (rw is (refl, refl))
+
     more : (test : Bool) → (begins && eqb x 91) ≡ test → test ≡ false → (body other : List ℕ) → Cuts (eqb x 10) (body ++ other) body other → Cuts begins (x ∷ (body ++ other)) (x ∷ body) other
     more test is shut body other cut = rw (is ∙ shut) (ap (λ (bytes : List ℕ). x ∷ bytes) cut.0, cut.1)
+
     by : (drop (body_len (eqb x 10) bytes) bytes ≡ 91 ∷ rest → (body : List ℕ) × IsBody (eqb x 10) bytes body (91 ∷ rest))
         → (test : Bool) → (begins && eqb x 91) ≡ test → drop (cond test 0 (suc (body_len (eqb x 10) bytes))) (x ∷ bytes) ≡ 91 ∷ rest → (body : List ℕ) × IsBody begins (x ∷ bytes) body (91 ∷ rest)
     by next true is h = ([], (h, (rw is refl), λ other fits. open_other ((and_parts begins (eqb x 91) is).0) other fits))
@@ -147,15 +152,17 @@ section_split name text cut rest e next =
     let same = found_body.1.2 in
     let is : inner ≡ cut.0 = sym same_body ∙ taken in
     let there : first ∷ more ≡ cut.0 ++ cut.1 = sym filled ∙ whole ∙ ap (λ (bytes : List ℕ). bytes ++ 91 ∷ rest) is ∙ ap (λ (bytes : List ℕ). cut.0 ++ bytes) (sym next) in
-    let head : title text ≡ trimmed (drop_cr line) = ap title split.whole ∙ title-split text line (first ∷ more) (first ∷ more) split in
-    (line ++ 10 ∷ cut.0, record {
-      whole = split.whole ∙ ap (λ (bytes : List ℕ). line ++ 10 ∷ bytes) there ∙ sym (append_assoc line (10 ∷ cut.0) cut.1);
-      same = λ other fits.
-          let cuts = subst (λ (bytes : List ℕ). Cuts true (bytes ++ other) bytes other) is (same other fits) in
-          subst (λ (bytes : List ℕ). section name bytes ≡ Ok (cut.0, other)) (sym (append_assoc line (10 ∷ cut.0) other))
-              (joined (line ++ 10 ∷ (cut.0 ++ other)) (ap (λ (bytes : List ℕ). bytes_eq bytes name) (title-split text line (first ∷ more) (cut.0 ++ other) split ∙ sym head) ∙ titled)
-                  (cut.0 ++ other) (after-split text line (first ∷ more) (cut.0 ++ other) split) other cuts);
-    })
+    let head : title text ≡ trimmed (drop_cr line) = ap title split.whole ∙ title-split text line (first ∷ more) (first ∷ more) split in (
+      line ++ 10 ∷ cut.0,
+      record {
+        whole = split.whole ∙ ap (λ (bytes : List ℕ). line ++ 10 ∷ bytes) there ∙ sym (append_assoc line (10 ∷ cut.0) cut.1);
+        same = λ other fits.
+            let cuts = subst (λ (bytes : List ℕ). Cuts true (bytes ++ other) bytes other) is (same other fits) in
+            subst (λ (bytes : List ℕ). section name bytes ≡ Ok (cut.0, other)) (sym (append_assoc line (10 ∷ cut.0) other))
+            (joined (line ++ 10 ∷ (cut.0 ++ other)) (ap (λ (bytes : List ℕ). bytes_eq bytes name) (title-split text line (first ∷ more) (cut.0 ++ other) split ∙ sym head) ∙ titled)
+            (cut.0 ++ other) (after-split text line (first ∷ more) (cut.0 ++ other) split) other cuts);
+      },
+    )
   where
     joined : (bytes : List ℕ) → bytes_eq (title bytes) name ≡ true → (left : List ℕ) → after_line bytes ≡ left → (other : List ℕ) → Cuts true left cut.0 other → section name bytes ≡ Ok (cut.0, other)
     joined bytes titled left e other cuts =
@@ -231,6 +238,7 @@ version_ok line version e = by (bytes_eq line (codes "office bundle 1")) refl (b
   where
     one : List ℕ
     one = codes "office bundle 1"
+
     by : (first : Bool) → bytes_eq line (codes "office bundle 1") ≡ first → (second : Bool) → bytes_eq line (codes "office bundle 2") ≡ second
         → cond first (Some 1) (cond second (Some 2) None) ≡ Some version → IsVersion version × Begins 111 line
     by true is second there h = (inl (cc h), (drop 1 (codes "office bundle 1"), (bytes_eq-Decides line (codes "office bundle 1")).0 is))
@@ -303,7 +311,7 @@ sections_ok requests version text parts e =
     let b3 = section_begins (codes "[matrix]") register.1 matrix (drop 1 (codes "[matrix]"), refl) e3 in
     let b4 = section_begins (codes "[choices]") matrix.1 choices (drop 1 (codes "[choices]"), refl) e4 in
     subst (λ (p : Parts). AreSections version text p) made
-        (by season register matrix choices last same e1 e2 e3 e4 b1 b2 b3 b4 next)
+    (by season register matrix choices last same e1 e2 e3 e4 b1 b2 b3 b4 next)
   where
     by : (season register matrix choices : List ℕ × List ℕ) (last : List ℕ) → last ≡ choices.1 → section (codes "[season]") text ≡ Ok season → section (codes "[register]") season.1 ≡ Ok register
         → section (codes "[matrix]") register.1 ≡ Ok matrix → section (codes "[choices]") matrix.1 ≡ Ok choices → Begins 91 text → Begins 91 season.1 → Begins 91 register.1 → Begins 91 matrix.1 → IsNext choices.1
@@ -393,6 +401,7 @@ cut_again requests bytes parts e =
     filled_by : (gap rest : List ℕ) → (first : ℕ) × Begins first (gap ++ 91 ∷ rest)
     filled_by [] rest = (91, (rest, refl))
     filled_by (x ∷ gap) rest = (x, (gap ++ 91 ∷ rest, refl))
+
     regroup : (mark line gap front last : List ℕ) → mark ++ (line ++ 10 ∷ (gap ++ (front ++ last))) ≡ (mark ++ (line ++ 10 ∷ (gap ++ front))) ++ last
     regroup mark line gap front last = simp append_assoc
 

@@ -1,5 +1,5 @@
 -- Which season a bundle is, and which fault is its first.
-use Rattle.std.specs.Prelude.{◌≡◌, ◌<◌, ◌≤◌, ◌⊎◌, ℕ, Bool, false, List, [], ◌∷◌, Option, None, Ok, Err, IsSome, length}
+use Rattle.std.specs.Prelude.{◌≡◌, ◌<◌, ◌≤◌, ◌⊎◌, ℕ, Bool, false, List, [], ◌∷◌, Option, None, Ok, Err, IsSome, length, map}
 use Rattle.std.specs.Str.{IsUtf8}
 use Rattle.office_base.specs.Limits.{most_bundle_bytes}
 use Rattle.office_base.specs.Outside.{IsAtEnd, Took, TookMore}
@@ -41,6 +41,10 @@ pub record SectionsGive (parts : Parts) (content : Content) : Type 0 where
 -- the clerk's token is no candidate's
 abbrev pub IsClerkApart : Content → Type 0
 IsClerkApart content = rank_grammar.find_holder content.head.clerk content.register.holders ≡ None
+
+-- the choice lists stand along the people of the register
+abbrev pub AreAligned : Content → Type 0
+AreAligned content = map (λ held. held.0) content.choices ≡ map (λ person. person.id.0) content.register.people
 
 -- the rows after the section line of the requests; none where there is no such section
 abbrev pub rows_of_requests : List ℕ → List Row

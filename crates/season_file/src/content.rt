@@ -5,7 +5,7 @@ ghost use Rattle.office_base.specs.Outside.{IsAtEnd, Rose, Took};
 ghost use Rattle.rank_lists.specs.Register.{find_holder};
 ghost use Rattle.request_rows.specs.Requests.{IsScriptFault as AreRowsWithout, script_of};
 ghost use Rattle.season_file.specs.Bundle.{season_text};
-ghost use Rattle.season_file.specs.Season.{BundleGives, IsSeasonFault, IsSectionFault, IsText, IsUnread, SectionsGive, choice_error, matrix_error, register_error, rows_of_requests, script_error};
+ghost use Rattle.season_file.specs.Season.{AreAligned, BundleGives, IsSeasonFault, IsSectionFault, IsText, IsUnread, SectionsGive, choice_error, matrix_error, register_error, rows_of_requests, script_error};
 
 use crate::cutting::{Pieces, after_line, cut};
 use crate::fault::SeasonFault;
@@ -79,6 +79,7 @@ pub(crate) fn script_error(fault: ScriptFault) -> SeasonFault
 /// What the sections give, or the first fault of one.
 fn read_sections(alloc: Global, cut: Pieces<'_>) -> Result<Content, SeasonFault>
     ensures value { IfOk result (λ content. SectionsGive (record { version = cut.entry.version; season = cut.entry.season.now; register = cut.entry.register.now; matrix = cut.entry.matrix.now; choices = cut.entry.choices.now; requests = cut.entry.requests.now }) content) }
+    ensures aligned { IfOk result AreAligned }
     ensures fault { IfErr result (λ fault. IsSectionFault (record { version = cut.entry.version; season = cut.entry.season.now; register = cut.entry.register.now; matrix = cut.entry.matrix.now; choices = cut.entry.choices.now; requests = cut.entry.requests.now }) fault) }
 {
     let head = match read_head(alloc, cut.season)? {
@@ -127,6 +128,7 @@ fn read_requests(alloc: Global, section: &[u8]) -> Result<Script, ScriptFault>
 fn read_bundle(alloc: Global, bytes: &[u8], requests: bool) -> Result<Given, SeasonFault>
     requires { IsText bytes.now }
     ensures value { IfOk result (λ given. BundleGives requests bytes.now given.content given.script) }
+    ensures aligned { IfOk result (λ given. AreAligned given.content) }
     ensures end { IfOk result (λ given. take given.end bytes.now ≡ season_text requests bytes.now) }
     ensures fault { IfErr result (λ fault. IsSeasonFault requests bytes.now fault) }
 {
@@ -160,6 +162,7 @@ pub(crate) fn read_content(
     requests: bool,
 ) -> Result<Given, SeasonFault>
     ensures value { IfOk result (λ given. BundleGives requests bytes.now given.content given.script) }
+    ensures aligned { IfOk result (λ given. AreAligned given.content) }
     ensures end { IfOk result (λ given. take given.end bytes.now ≡ season_text requests bytes.now) }
     ensures fault { IfErr result (λ fault. IsSeasonFault requests bytes.now fault) }
 {

@@ -5,9 +5,8 @@ ghost use Rattle.season_file.specs.Script.{GaveScript, IsScriptFault};
 
 use crate::content::{read_bytes, script_error};
 use crate::fault::SeasonFault;
-pub use request_rows::Script;
-
 use office_base::Source;
+pub use request_rows::Script;
 use std::alloc::Global;
 
 /// The requests that the bytes of a source spell up to its end, or their first fault: `ReadFault`, `TooLong`, `NotUtf8`,

@@ -1,5 +1,5 @@
 // A season, read from a source or from bytes.
-ghost use Rattle.std.specs.Prelude.{◌≡◌, ◌≤◌, false, is_some};
+ghost use Rattle.std.specs.Prelude.{◌≡◌, ◌≤◌, false, is_some, map};
 ghost use Rattle.office_base.specs.Version.{IsVersion};
 ghost use Rattle.rank_lists.specs.Register.{find_holder};
 ghost use Rattle.choice_lists.specs.Choices.{AreChoices};
@@ -26,20 +26,22 @@ pub struct Season {
     pub clerk: Token,
     pub register: Register,
     pub matrix: Matrix,
-    /// Each list names distinct programmes of the matrix, in whose merit lists the candidate has a place.
+    /// One list for each candidate of the register, in its order. Each names distinct programmes of the matrix, in whose merit
+    /// lists the candidate has a place.
     pub choices: Choices,
     pub text: Text,
     pub ghost known_version: { IsVersion version } by { IsVersion-prop version },
     pub ghost some_rounds: { 1 ≤ rounds },
     pub ghost few_rounds: { rounds ≤ 10 },
     pub ghost clerk_apart: { is_some (find_holder clerk register.holders) ≡ false },
+    pub ghost aligned: { map (λ held. held.0) choices ≡ map (λ person. person.id.0) register.people },
     pub ghost sound: { AreChoices register matrix choices } by { AreChoices-prop register matrix choices },
 }
 
 impl Season {
     ghost use Rattle.std.specs.Prelude.{[], IfOk, IfErr, IsErrOf};
     ghost use Rattle.office_base.specs.Outside.{Rose};
-    ghost use Rattle.season_file.specs.Season.{BundleGives, GaveSeason, IsSeason, IsSeasonFault, IsSourceFault, content_of};
+    ghost use Rattle.season_file.specs.Season.{AreAligned, BundleGives, GaveSeason, IsSeason, IsSeasonFault, IsSourceFault, content_of};
 
     /// The season of a bundle without requests, or its first fault. It never answers `ReadFault` or `BadRequest`.
     pub fn from_text(alloc: Global, bytes: &[u8]) -> Result<Season, SeasonFault>
@@ -82,7 +84,8 @@ impl Season {
 
     /// The season of this content and text.
     fn with_text(content: Content, text: Text) -> Season
-        requires { BundleGives false text content [] }
+        requires given { BundleGives false text content [] }
+        requires aligned { AreAligned content }
         ensures season { IsSeason text result }
         ensures content { content_of result content.head.row ≡ content }
         ensures text { result.text ≡ text }

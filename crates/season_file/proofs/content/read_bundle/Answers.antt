@@ -21,4 +21,4 @@ returns-in-Err-read_requests-clause-fault c =
     let content = c.in-Ok-read_sections.content in
     let clerk = not_some (find_holder content.head.clerk content.register.holders) c.is_candidate.result c.is_candidate.ensures c.if-is_candidate.false in
     rw c.script_error.ensures
-        (script-told c.args.requests c.args.bytes.now parts content c.in-Err-read_requests.fault c.requires c.in-Ok.ensures c.in-Ok-read_sections.ensures.value clerk c.in-Err-read_requests.ensures.fault)
+    (script-told c.args.requests c.args.bytes.now parts content c.in-Err-read_requests.fault c.requires c.in-Ok.ensures c.in-Ok-read_sections.ensures.value clerk c.in-Err-read_requests.ensures.fault)

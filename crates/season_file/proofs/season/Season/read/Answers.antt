@@ -4,10 +4,10 @@ use Rattle.season_file.proofs.KeptLemmas.{text_gives}
 use Rattle.season_file.proofs.SeasonLemmas.{source-told}
 use Rattle.season_file.proofs.season.Season.read.Goals as goal
 
-pub with_text-requires : goal.with_text-requires
-with_text-requires g c =
+pub with_text-requires-clause-given : goal.with_text-requires-clause-given
+with_text-requires-clause-given g c =
     text_gives c.args.requests c.as_slice.result.now c.in-Ok.given.content c.in-Ok.given.script c.truncate.new.self c.in-Ok.ensures.value
-        (c.truncate.ensures ∙ ap (λ (bytes : List ℕ). take c.in-Ok.given.end bytes) (sym c.as_slice.ensures) ∙ c.in-Ok.ensures.end)
+    (c.truncate.ensures ∙ ap (λ (bytes : List ℕ). take c.in-Ok.given.end bytes) (sym c.as_slice.ensures) ∙ c.in-Ok.ensures.end)
 
 pub returns-in-Err-clause-fault : goal.returns-in-Err-clause-fault
 returns-in-Err-clause-fault g c =
