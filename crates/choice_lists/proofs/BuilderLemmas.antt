@@ -9,8 +9,8 @@ use Rattle.office_base.specs.Lists.{Pairwise}
 use Rattle.office_base.specs.declared.person.Person.{Person}
 use Rattle.office_base.specs.declared.person.ProgId.{ProgId}
 use Rattle.section_rows.specs.Rows.{Row, field}
-use Rattle.section_rows.specs.Steps.{first_of, unless}
-use Rattle.section_rows.proofs.StepsLemmas.{first_of-other, first_of-push, first_of-same, or_else}
+use Rattle.section_rows.specs.Steps.{first_of, or_else, unless}
+use Rattle.section_rows.proofs.StepsLemmas.{first_of-other, first_of-push, first_of-same}
 use Rattle.rank_lists.specs.Register.{AreRanks, Ranks, find_person, row_of}
 use Rattle.seat_matrix.specs.Matrix.{SeatTable}
 use Rattle.choice_lists.specs.Choices.{AreListsOf, AreChoices, AreKept, Entry, IsChoice, Lists, choices, choices_after, is_chosen, list_at, list_of, listed, lists_along, new_candidate, person_of, reading, all_choices}
