@@ -1,7 +1,9 @@
 -- What a candidate still seeks: which part of the own list a round reads.
-use Rattle.std.specs.Prelude.{◌≡◌, ◌<◌, ◌+◌, ◌&&◌, ℕ, Bool, false, List, [], ◌∷◌, Option, Some, None, bytes_eq, cond, drop, length, option_map, slice_get, take}
+use Rattle.std.specs.Prelude.{◌<◌, ◌+◌, ℕ, Bool, false, List, [], ◌∷◌, Option, Some, None, bytes_eq, cond, drop, length, option_map, slice_get, take}
+use Rattle.std.specs.List.{AllByRecursion}
 use Rattle.office_base.specs.declared.person.ProgId.{ProgId}
 use Rattle.seat_matrix.specs.Matrix.{SeatTable}
+use Rattle.choice_lists.specs.Choices.{Lists}
 use Rattle.choice_lists.specs.declared.seek.Seek.{Seek}
 use Rattle.choice_lists.specs.declared.seek.Seek.TheVariants.{Whole, UpTo, Within, Only, Nothing}
 
@@ -44,3 +46,16 @@ IsWithinList progs (UpTo place) = place < length progs
 IsWithinList progs (Within place) = place < length progs
 IsWithinList progs (Only place) = place < length progs
 IsWithinList progs Nothing = Unit {0}
+
+-- there is one seek for each list, the place of each is in its list, and the programmes of the lists are known
+abbrev pub AreSeeks : SeatTable → Lists → List Seek → Type 0
+AreSeeks matrix [] [] = Unit {0}
+AreSeeks matrix [] (seek ∷ seeks) = ⊥
+AreSeeks matrix (held ∷ lists) [] = ⊥
+AreSeeks matrix (held ∷ lists) (seek ∷ seeks) = IsWithinList held.1 seek × AllByRecursion (λ prog. prog.0 < length matrix.programmes) held.1 × AreSeeks matrix lists seeks
+
+-- what the seeks leave of the lists, one list for each
+abbrev pub leaves_of : SeatTable → Lists → List Seek → List (List ProgId)
+leaves_of matrix [] seeks = []
+leaves_of matrix (held ∷ lists) [] = []
+leaves_of matrix (held ∷ lists) (seek ∷ seeks) = seek_leaves matrix held.1 seek ∷ leaves_of matrix lists seeks

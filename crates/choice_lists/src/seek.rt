@@ -1,12 +1,14 @@
 // Which part of a candidate's list a round reads.
-ghost use Rattle.std.specs.Prelude.{◌≡◌, ◌<◌, ◌≤◌, ◌&&◌, length};
+ghost use Rattle.std.specs.Prelude.{◌≡◌, ◌<◌, ◌∷◌, ◌++◌, [], length, IfOk, OnOk};
 ghost use Rattle.std.specs.List.{AllByRecursion};
 ghost use Rattle.choice_lists.specs.Choices.{is_chosen, list_of};
-ghost use Rattle.choice_lists.specs.Seek.{IsWithinList, same_institute, seek_leaves};
+ghost use Rattle.choice_lists.specs.Seek.{AreSeeks, IsWithinList, at_institute, leaves_of, same_institute, seek_leaves};
 
 use crate::choices::Choices;
-use office_base::{CandId, ProgId};
+use crate::flat::FlatLists;
+use office_base::{CandId, OutOfMemory, ProgId};
 use seat_matrix::Matrix;
+use std::alloc::Global;
 
 /// What a candidate still seeks. The number is the place of the candidate's seat in the list, from 0.
 #[derive(Clone, Copy, Debug, PartialEq, Eq)]
@@ -57,4 +59,68 @@ pub fn sought(choices: &Choices, matrix: &Matrix, cand: CandId, seek: Seek, prog
         Seek::Only(place) => prog.0 == list[usize::from(place)].0,
         Seek::Nothing => false,
     }
+}
+
+/// Puts those of these programmes that stand at the institute of one into a list, in their order. Where there is no memory,
+/// the list is of no use any more.
+fn take_at_institute(
+    matrix: &Matrix,
+    seat: ProgId,
+    progs: &[ProgId],
+    left: &mut Vec<ProgId>,
+) -> Result<(), OutOfMemory>
+    requires seat { seat.0 < length matrix.now.programmes }
+    requires known { AllByRecursion (λ prog. prog.0 < length matrix.now.programmes) progs.now }
+    ensures { OnOk result (left.new.items ≡ at_institute matrix.now seat.0 progs.now) }
+{
+    left.clear();
+    'progs: for prog in progs {
+        if same_institute(matrix, seat, *prog) {
+            left.push(*prog)?;
+        }
+    }
+    Ok(())
+}
+
+/// Puts what a seek leaves of a list at the end of lists.
+fn push_leaves(
+    matrix: &Matrix,
+    list: &[ProgId],
+    seek: Seek,
+    left: &mut Vec<ProgId>,
+    lists: &mut FlatLists<ProgId>,
+) -> Result<(), OutOfMemory>
+    requires place { IsWithinList list.now seek }
+    requires known { AllByRecursion (λ prog. prog.0 < length matrix.now.programmes) list.now }
+    ensures { OnOk result (lists.new ≡ lists.old ++ seek_leaves matrix.now list.now seek ∷ []) }
+{
+    match seek {
+        Seek::Whole => lists.push(list),
+        Seek::UpTo(place) => lists.push(&list[..usize::from(place) + 1]),
+        Seek::Within(place) => {
+            let end = usize::from(place);
+            take_at_institute(matrix, list[end], &list[..end + 1], left)?;
+            lists.push(left.as_slice())
+        }
+        Seek::Only(place) => lists.push(&list[usize::from(place)..usize::from(place) + 1]),
+        Seek::Nothing => lists.push(&[]),
+    }
+}
+
+/// What the seeks leave of the lists of choices: one list for each candidate of the register, in its order.
+pub fn effective(
+    alloc: Global,
+    choices: &Choices,
+    matrix: &Matrix,
+    seeks: &[Seek],
+) -> Result<FlatLists<ProgId>, OutOfMemory>
+    requires { AreSeeks matrix.now choices.now seeks.now }
+    ensures { IfOk result (λ lists. lists ≡ leaves_of matrix.now choices.now seeks.now) }
+{
+    let mut lists = FlatLists::new(alloc);
+    let mut left = Vec::new(alloc);
+    'seeks: for (at, seek) in seeks.iter().enumerate() {
+        push_leaves(matrix, choices.list_at(at), *seek, &mut left, &mut lists)?;
+    }
+    Ok(lists)
 }

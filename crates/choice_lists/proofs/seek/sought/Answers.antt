@@ -1,4 +1,4 @@
-use Rattle.std.proofs.Common.{◌≡◌, ◌<◌, ℕ, List, get_or, length, ap, ◌∙◌}
+use Rattle.std.proofs.Common.{◌<◌, ℕ, List, get_or, length, ap, ◌∙◌}
 use Rattle.std.specs.Prelude.{◌+◌, take}
 use Rattle.office_base.specs.declared.person.ProgId.{ProgId}
 use Rattle.choice_lists.specs.Choices.{list_of}
