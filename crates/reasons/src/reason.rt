@@ -1,0 +1,32 @@
+// What stood against a person, and the answers to why.
+use office_base::{ProgId, StepKind};
+
+/// What stood against a person at one step of a programme: its seats, and whether somebody worse in merit was admitted there
+/// for a protection.
+#[derive(Clone, Copy, Debug, PartialEq, Eq)]
+pub struct StepWhy {
+    pub kind: StepKind,
+    pub seats: u32,
+    pub worse: bool,
+}
+
+/// Under which step a programme admits a person, or what stood against the person. An entry of a refusal is there exactly where
+/// the person stood for the seats of that step: the open ones, those of the own category, and those that categories left unfilled.
+#[derive(Clone, Copy, Debug, PartialEq, Eq)]
+pub enum Reason {
+    Admitted(StepKind),
+    Refused {
+        at_open: Option<StepWhy>,
+        at_category: Option<StepWhy>,
+        at_dereserved: Option<StepWhy>,
+    },
+}
+
+/// What the office answers to why a candidate has no seat in a programme, or has one: the reason, or the programme of the seat
+/// that comes earlier on the choice list, or that the candidate did not seek the programme in that round.
+#[derive(Clone, Copy, Debug, PartialEq, Eq)]
+pub enum WhyAnswer {
+    Reason(Reason),
+    Better(ProgId),
+    NotSought,
+}
