@@ -3,3 +3,4 @@ mod ChoicesLemmas
 mod FlatLemmas
 mod FoundLemmas
 mod LawsLemmas
+mod SeekLemmas

@@ -22,6 +22,7 @@ pub record Keeps (entries : List Entry) (builder : ChoicesBuilder) : Type 0 wher
   pub had_row : builder.had_row.items ≡ along is_some entries builder.register.now.people
   pub marks : length builder.named_last.items ≡ length builder.matrix.now.programmes
   pub named_last : (n candidate : ℕ) → 1 ≤ candidate → list_at candidate entries ≡ None → (slice_index_or builder.named_last.items n 0 == candidate) ≡ false
+  pub guesses : length builder.guesses.items ≡ 65536
   pub total : builder.total ≡ all_choices entries
   pub few : all_choices entries ≤ 5000000
 

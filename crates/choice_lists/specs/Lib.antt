@@ -4,3 +4,4 @@ pub mod Flat
 pub mod Kinds
 pub mod Laws
 pub mod OneProof
+pub mod Seek

@@ -1,0 +1,11 @@
+pub mod Decided
+pub mod Facts
+pub mod History
+pub mod Judge
+pub mod Moves
+pub mod Promise
+pub mod Raised
+pub mod Refusals
+pub mod Stands
+pub mod State
+pub mod Why

@@ -1,0 +1,138 @@
+-- A move of the office: a request in a state leads to a reply and the next state.
+use Rattle.std.specs.Prelude.{◌≡◌, ◌+◌, ℕ, Bool, true, false, nat_lt, List, [], ◌∷◌, ◌++◌, Option, Some, None, length, map, option_map, slice_get, if◌then◌else◌}
+use Rattle.std.specs.Option.{unwrap_or}
+use Rattle.office_base.specs.declared.asks.Request.{Request}
+use Rattle.office_base.specs.declared.asks.Seat.{Seat}
+use Rattle.office_base.specs.declared.person.CandId.{CandId}
+use Rattle.office_base.specs.declared.person.Person.{Person}
+use Rattle.office_base.specs.declared.person.ProgId.{ProgId}
+use Rattle.keeper_mem.specs.declared.rows.AllotRow.{AllotRow}
+use Rattle.keeper_mem.specs.declared.rows.AnswerRow.{AnswerRow}
+use Rattle.keeper_mem.specs.declared.rows.RaiseRow.{RaiseRow}
+use Rattle.allocations.specs.Market.{place_of}
+use Rattle.choice_lists.specs.Choices.{list_of}
+use Rattle.programme_lists.specs.declared.programme.Programme.{Programme}
+use Rattle.seeks.specs.declared.seek.Seek.{Seek}
+use Rattle.rounds.specs.Round.{IsRound, seated}
+use Rattle.rounds.specs.declared.round.Round.{Round}
+use Rattle.round_options.specs.Options.{holds, seek_after}
+use Rattle.round_options.specs.declared.standing.Standing.{Standing}
+use Rattle.round_options.specs.declared.standing.Standing.TheVariants.{Waiting, Offered, Freeze, Float, Slide, Withdrawn, NoShow}
+use Rattle.office_moves.specs.Facts.{SeasonFacts, lists_in_order}
+use Rattle.office_moves.specs.State.{State, View, last_seat, round_at, seat_of, standing_at, view_of, with_finals, with_raise, with_round, with_row}
+use Rattle.office_moves.specs.Raised.{matrix_at}
+use Rattle.office_moves.specs.Decided.{decided}
+use Rattle.office_moves.specs.Why.{why_answer}
+use Rattle.office_moves.specs.declared.decide.Decision.{Decision}
+use Rattle.office_moves.specs.declared.decide.Decision.TheVariants.{Refuse, NotedAgain, RaisedAgain, CutAgain, Note, Lift, Publish, Finish, TellSeat, TellWhy, TellList, TellState}
+use Rattle.office_moves.specs.declared.moves.Reply.{Reply}
+use Rattle.office_moves.specs.declared.moves.Reply.TheVariants.{Noted, Raised, Published, Final, SeatIs, WhyIs, ListIs, StateIs, Refused}
+
+-- ---- the next round
+
+-- what a candidate seeks next, by the standing and the place of the seat in the choice list
+abbrev pub next_seek : SeasonFacts → State → ℕ → Seek
+next_seek facts state id =
+    seek_after (standing_at facts (view_of state id) id state.now) (option_map (λ seat. place_of (list_of facts.lists id) seat.prog.0) (last_seat facts state.rounds id))
+
+-- what everybody seeks next, along the people
+abbrev pub next_seeks : SeasonFacts → State → List Seek
+next_seeks facts state = map (λ person. next_seek facts state person.id.0) facts.people
+
+-- The round may follow: it is the one after those published, by the raised matrix, on what everybody seeks next.
+abbrev pub IsNextRound : SeasonFacts → State → Round → Type 0
+IsNextRound facts state round =
+    IsRound facts.version (matrix_at facts state) facts.people (lists_in_order facts) (state.now + 1) (next_seeks facts state) round
+
+-- ---- the final rows
+
+-- the seat with which a candidate ends: the last one, where the standing is freeze, float or slide
+abbrev pub final_seat : SeasonFacts → State → ℕ → Option Seat
+final_seat facts state id = if holds (standing_at facts (view_of state id) id state.now) then last_seat facts state.rounds id else None
+
+-- the row of a seat before others
+abbrev pub row_before : ℕ → CandId → Option Seat → List AllotRow → List AllotRow
+row_before number cand None rows = rows
+row_before number cand (Some seat) rows = record { round = number; cand = cand; prog = seat.prog; step = seat.step } ∷ rows
+
+-- the rows of a round of this number, one for each of the people who has a seat
+abbrev pub rows_along : ℕ → (ℕ → Option Seat) → List Person → List AllotRow
+rows_along number seat [] = []
+rows_along number seat (person ∷ people) = row_before number person.id (seat person.id.0) (rows_along number seat people)
+
+-- the final rows, whose round is one more than the number of rounds
+abbrev pub final_rows : SeasonFacts → State → List AllotRow
+final_rows facts state = rows_along (facts.rounds + 1) (final_seat facts state) facts.people
+
+-- the rows of a round that was published
+abbrev pub allot_rows : SeasonFacts → Round → List AllotRow
+allot_rows facts round = rows_along round.number (seat_of facts (Some round)) facts.people
+
+-- ---- replies
+
+abbrev pub noted : AnswerRow → Reply
+noted row = Noted row.cand row.window row.turn row.choice
+
+abbrev pub raised_reply : RaiseRow → Reply
+raised_reply row = Raised row.window row.prog row.step row.seats
+
+-- how many have a seat in a round
+abbrev pub seated_in : Option Round → ℕ
+seated_in None = 0
+seated_in (Some round) = seated round.seats
+
+-- the receipt of the cut of a window that is over
+abbrev pub receipt : SeasonFacts → State → ℕ → Reply
+receipt facts state window =
+    if nat_lt window facts.rounds then Published (window + 1) (seated_in (round_at state.rounds (window + 1)))
+    else Final (unwrap_or (option_map (λ rows. length rows) state.finals) 0)
+
+-- the seat is told to whoever is offered it or keeps it
+abbrev pub told_seat : Standing → Option Seat → Option Seat
+told_seat Waiting seat = None
+told_seat Offered seat = seat
+told_seat Freeze seat = seat
+told_seat Float seat = seat
+told_seat Slide seat = seat
+told_seat Withdrawn seat = None
+told_seat NoShow seat = None
+
+-- how a candidate stands, with the seat of the last published round
+abbrev pub seat_reply : SeasonFacts → View → CandId → Reply
+seat_reply facts view cand =
+    SeatIs cand (length view.rounds) (standing_at facts view cand.0 view.now) (told_seat (standing_at facts view cand.0 view.now) (last_seat facts view.rounds cand.0))
+
+-- why, by the last published round
+abbrev pub why_reply : SeasonFacts → View → CandId → ProgId → Reply
+why_reply facts view cand prog = WhyIs cand prog (why_answer facts (round_at view.rounds (length view.rounds)) cand prog)
+
+-- how far the office is
+abbrev pub state_reply : SeasonFacts → State → Reply
+state_reply facts state = StateIs state.now facts.rounds (length state.rounds)
+
+-- the programme of this number in a round
+abbrev pub programme_in : Option Round → ℕ → Option Programme
+programme_in None prog = None
+programme_in (Some round) prog = slice_get round.programmes prog
+
+-- ---- moves
+
+-- What a decision does to a state. All but an accepted answer, an accepted raise and an accepted cut leave it.
+abbrev pub Does : SeasonFacts → State → Decision → Reply → State → Type 0
+Does facts old (Refuse refusal) reply new = (reply ≡ Refused refusal) × (new ≡ old)
+Does facts old (NotedAgain row) reply new = (reply ≡ noted row) × (new ≡ old)
+Does facts old (RaisedAgain row) reply new = (reply ≡ raised_reply row) × (new ≡ old)
+Does facts old (CutAgain window) reply new = (reply ≡ receipt facts old window) × (new ≡ old)
+Does facts old (Note row) reply new = (reply ≡ noted row) × (new ≡ with_row old row)
+Does facts old (Lift row) reply new = (reply ≡ raised_reply row) × (new ≡ with_raise old row)
+Does facts old Publish reply new = (round : Round) × IsNextRound facts old round × (reply ≡ Published (old.now + 1) (seated round.seats)) × (new ≡ with_round old round)
+Does facts old Finish reply new = (reply ≡ Final (length (final_rows facts old))) × (new ≡ with_finals old (final_rows facts old))
+Does facts old (TellSeat cand) reply new = (reply ≡ seat_reply facts (view_of old cand.0) cand) × (new ≡ old)
+Does facts old (TellWhy cand prog) reply new = (reply ≡ why_reply facts (view_of old cand.0) cand prog) × (new ≡ old)
+Does facts old (TellList number prog) reply new =
+    (programme : Programme) × (programme_in (round_at old.rounds number) prog.0 ≡ Some programme) × (reply ≡ ListIs number prog programme) × (new ≡ old)
+Does facts old TellState reply new = (reply ≡ state_reply facts old) × (new ≡ old)
+
+-- A request in a state leads to this reply and this state.
+abbrev pub IsMove : SeasonFacts → State → Request → Reply → State → Type 0
+IsMove facts old request reply new = Does facts old (decided facts old request) reply new

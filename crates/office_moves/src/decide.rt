@@ -1,0 +1,285 @@
+// What a request comes to, from what it is judged by.
+ghost use Rattle.std.specs.Prelude.{◌≡◌, ◌≤◌};
+ghost use Rattle.office_moves.specs.Judge.{choice_of, is_gone, judge_answer, judge_cut, judge_list, judge_new_answer, judge_new_seats, judge_next_answer, judge_raise, judge_seat, judge_why, may_ask, not_open};
+
+use crate::refusal::Refusal;
+use keeper_mem::{AnswerRow, RaiseRow};
+use office_base::limits::{MOST_MATRIX_SEATS, MOST_STEP_SEATS, MOST_TURNS};
+use office_base::{By, CandId, Choice, ProgId, StepKind};
+use round_options::{Standing, allowed};
+
+/// What a request comes to. The lists of a programme are not copied before it is known that they are asked for.
+#[derive(Clone, Copy, Debug, PartialEq, Eq)]
+pub enum Decision {
+    /// It is refused, and nothing changes.
+    Refuse(Refusal),
+    /// The answer was accepted before: its receipt again.
+    NotedAgain(AnswerRow),
+    /// The raise was accepted before.
+    RaisedAgain(RaiseRow),
+    /// The cut of this window was made before.
+    CutAgain { window: u16 },
+    /// The answer is accepted.
+    Note(AnswerRow),
+    /// The raise is accepted.
+    Lift(RaiseRow),
+    /// The cut is accepted, and publishes the next round.
+    Publish,
+    /// The cut is accepted, and publishes the final admissions.
+    Finish,
+    /// The seat of the candidate is told.
+    TellSeat { cand: CandId },
+    /// It is told why the candidate has no seat of the programme, or has one.
+    TellWhy { cand: CandId, prog: ProgId },
+    /// The lists of the programme in the round are told.
+    TellList { round: u16, prog: ProgId },
+    /// It is told how far the office is.
+    TellState,
+}
+
+/// What an answer is judged by.
+#[derive(Clone, Copy, Debug)]
+pub struct AnswerLooks {
+    /// The candidate is in the register.
+    pub known: bool,
+    /// The choice that was accepted at this window and turn.
+    pub kept: Option<Choice>,
+    /// The window that is open.
+    pub window: u16,
+    /// The rounds of the season.
+    pub rounds: u16,
+    /// The last accepted turn of the open window, 0 where there is none.
+    pub last: u16,
+    /// How the last cut left the candidate.
+    pub left: Standing,
+    /// How the candidate stands with the answers of the open window.
+    pub standing: Standing,
+    /// The candidate has a seat in the last published round.
+    pub seated: bool,
+}
+
+/// What a raise of a programme of the matrix is judged by.
+#[derive(Clone, Copy, Debug)]
+pub struct RaiseLooks {
+    /// This very raise was accepted.
+    pub again: bool,
+    /// The window that is open.
+    pub window: u16,
+    /// The rounds of the season.
+    pub rounds: u16,
+    /// The present seats of the step.
+    pub seats: u16,
+    /// The present seats of all steps.
+    pub total: u32,
+}
+
+/// What an answer comes to. It takes no memory.
+pub fn judge_answer(looks: &AnswerLooks, by: By, row: AnswerRow) -> Decision
+    ensures { result ≡ judge_answer looks.now by row }
+{
+    if !looks.known {
+        return Decision::Refuse(Refusal::UnknownCandidate);
+    }
+    if by != By::Candidate(row.cand) {
+        return Decision::Refuse(Refusal::Denied { rule: 1 });
+    }
+    if let Some(kept) = looks.kept {
+        if kept == row.choice {
+            return Decision::NotedAgain(row);
+        }
+        return Decision::Refuse(Refusal::TurnUsed { kept });
+    }
+    judge_new_answer(looks, row)
+}
+
+/// What an answer of its candidate comes to, whose turn was not accepted before.
+fn judge_new_answer(looks: &AnswerLooks, row: AnswerRow) -> Decision
+    ensures { result ≡ judge_new_answer looks.now row }
+{
+    if let Some(refusal) = not_open(looks.window, looks.rounds, row.window) {
+        return Decision::Refuse(refusal);
+    }
+    if u32::from(row.turn) != u32::from(looks.last) + 1 {
+        return Decision::Refuse(Refusal::Gap { last: looks.last });
+    }
+    judge_next_answer(looks, row)
+}
+
+/// What the next answer of the open window comes to.
+fn judge_next_answer(looks: &AnswerLooks, row: AnswerRow) -> Decision
+    ensures { result ≡ judge_next_answer looks.now row }
+{
+    let leaves = row.choice == Choice::Withdraw;
+    if is_gone(looks.standing) {
+        return Decision::Refuse(Refusal::Gone {
+            how: looks.standing,
+        });
+    }
+    if !looks.seated && !leaves {
+        return Decision::Refuse(Refusal::NoSeat);
+    }
+    if !allowed(looks.left, row.choice) {
+        return Decision::Refuse(Refusal::Widening {
+            standing: choice_of(looks.left),
+        });
+    }
+    if MOST_TURNS < row.turn && !leaves {
+        return Decision::Refuse(Refusal::TooManyTurns);
+    }
+    Decision::Note(row)
+}
+
+/// What a cut comes to, by the window that is open and the rounds of the season. It takes no memory.
+pub fn judge_cut(by: By, now: u16, rounds: u16, window: u16) -> Decision
+    ensures { result ≡ judge_cut by now rounds window }
+{
+    if by != By::Clerk {
+        return Decision::Refuse(Refusal::Denied { rule: 2 });
+    }
+    if window < now {
+        return Decision::CutAgain { window };
+    }
+    if now < window || rounds < window {
+        return Decision::Refuse(Refusal::Ahead { now });
+    }
+    if window == rounds {
+        return Decision::Finish;
+    }
+    Decision::Publish
+}
+
+/// What comes of asking for a candidate's seat, who is known or not. It takes no memory.
+pub fn judge_seat(known: bool, by: By, cand: CandId) -> Decision
+    ensures { result ≡ judge_seat known by cand }
+{
+    if !known {
+        return Decision::Refuse(Refusal::UnknownCandidate);
+    }
+    if !may_ask(by, cand) {
+        return Decision::Refuse(Refusal::Denied { rule: 3 });
+    }
+    Decision::TellSeat { cand }
+}
+
+/// What comes of asking why, by whether the candidate is known, the programme of the code, whether it is on the candidate's choice list, and how
+/// many rounds are published. It takes no memory.
+pub fn judge_why(
+    known: bool,
+    prog: Option<ProgId>,
+    chosen: bool,
+    published: u16,
+    by: By,
+    cand: CandId,
+) -> Decision
+    ensures { result ≡ judge_why known prog chosen published by cand }
+{
+    if !known {
+        return Decision::Refuse(Refusal::UnknownCandidate);
+    }
+    let Some(prog) = prog else {
+        return Decision::Refuse(Refusal::UnknownProgramme);
+    };
+    if !may_ask(by, cand) {
+        return Decision::Refuse(Refusal::Denied { rule: 3 });
+    }
+    if !chosen {
+        return Decision::Refuse(Refusal::NotChosen);
+    }
+    if published == 0 {
+        return Decision::Refuse(Refusal::NoSuchRound { published });
+    }
+    Decision::TellWhy { cand, prog }
+}
+
+/// What comes of asking for a list, by the programme of the code and how many rounds are published. It takes no memory.
+pub fn judge_list(prog: Option<ProgId>, published: u16, round: u16) -> Decision
+    ensures { result ≡ judge_list prog published round }
+{
+    let Some(prog) = prog else {
+        return Decision::Refuse(Refusal::UnknownProgramme);
+    };
+    if round == 0 || published < round {
+        return Decision::Refuse(Refusal::NoSuchRound { published });
+    }
+    Decision::TellList { round, prog }
+}
+
+/// What a raise comes to. It takes no memory.
+pub fn judge_raise(looks: &RaiseLooks, by: By, row: RaiseRow) -> Decision
+    requires few { looks.now.seats ≤ looks.now.total }
+    requires all { looks.now.total ≤ 1000000 }
+    ensures { result ≡ judge_raise looks.now by row }
+{
+    if by != By::Clerk {
+        return Decision::Refuse(Refusal::Denied { rule: 4 });
+    }
+    if looks.again {
+        return Decision::RaisedAgain(row);
+    }
+    if let Some(refusal) = not_open(looks.window, looks.rounds, row.window) {
+        return Decision::Refuse(refusal);
+    }
+    if row.window == looks.rounds {
+        return Decision::Refuse(Refusal::LastWindow);
+    }
+    judge_new_seats(looks, row)
+}
+
+/// What a raise of the open window comes to, by its seats.
+fn judge_new_seats(looks: &RaiseLooks, row: RaiseRow) -> Decision
+    requires few { looks.now.seats ≤ looks.now.total }
+    requires all { looks.now.total ≤ 1000000 }
+    ensures { result ≡ judge_new_seats looks.now row }
+{
+    if row.step == StepKind::Dereserved {
+        return Decision::Refuse(Refusal::StepFixed);
+    }
+    if row.seats <= looks.seats {
+        return Decision::Refuse(Refusal::Falling { seats: looks.seats });
+    }
+    let seats = u32::from(row.seats);
+    let all = looks.total - u32::from(looks.seats) + seats;
+    if MOST_STEP_SEATS < seats || MOST_MATRIX_SEATS < all {
+        return Decision::Refuse(Refusal::SeatLimit { total: looks.total });
+    }
+    Decision::Lift(row)
+}
+
+/// The refusal of a window that is over, or not open yet, or none of the season.
+fn not_open(now: u16, rounds: u16, window: u16) -> Option<Refusal>
+    ensures { result ≡ not_open now rounds window }
+{
+    if window < now {
+        return Some(Refusal::Late { now });
+    }
+    if now < window || rounds < window {
+        return Some(Refusal::Ahead { now });
+    }
+    None
+}
+
+/// Whether seat and why of a candidate are told to this one.
+fn may_ask(by: By, cand: CandId) -> bool
+    ensures { result ≡ may_ask by cand }
+{
+    by == By::Clerk || by == By::Candidate(cand)
+}
+
+/// Whether a candidate is out.
+fn is_gone(standing: Standing) -> bool
+    ensures { result ≡ is_gone standing }
+{
+    matches!(standing, Standing::Withdrawn | Standing::NoShow)
+}
+
+/// The answer that led to a standing. Whoever waits has none, and is told another refusal before.
+fn choice_of(standing: Standing) -> Choice
+    ensures { result ≡ choice_of standing }
+{
+    match standing {
+        Standing::Freeze => Choice::Freeze,
+        Standing::Slide => Choice::Slide,
+        Standing::Withdrawn | Standing::NoShow => Choice::Withdraw,
+        Standing::Waiting | Standing::Offered | Standing::Float => Choice::Float,
+    }
+}

@@ -1,0 +1,81 @@
+// What the office accepts, and what it replies.
+use crate::refusal::Refusal;
+use keeper_mem::{AnswerRow, RaiseRow};
+use office_base::{CandId, Choice, ProgId, Seat, StepKind};
+use programme_lists::Programme;
+use reasons::WhyAnswer;
+use round_options::Standing;
+
+/// What was accepted.
+#[derive(Clone, Copy, Debug, PartialEq, Eq)]
+pub enum Act {
+    /// An answer of its candidate.
+    Answer(AnswerRow),
+    /// More seats, given by the clerk.
+    Raise(RaiseRow),
+    /// The clerk's end of a window.
+    Cut { window: u16 },
+}
+
+/// An accepted act. Numbers rise along a history, and the first is at least 1.
+#[derive(Clone, Copy, Debug, PartialEq, Eq)]
+pub struct Entry {
+    pub number: u64,
+    pub act: Act,
+}
+
+/// The reply to a request.
+#[derive(Debug, Drop)]
+pub enum Reply {
+    /// The receipt of an answer.
+    Noted {
+        cand: CandId,
+        window: u16,
+        turn: u16,
+        choice: Choice,
+    },
+    /// The receipt of a raise: the new number of seats of the step.
+    Raised {
+        window: u16,
+        prog: ProgId,
+        step: StepKind,
+        seats: u16,
+    },
+    /// The receipt of a cut that published a round: its number from 1, and how many have a seat in it.
+    Published {
+        round: u16,
+        seated: u32,
+    },
+    /// The receipt of the last cut: how many are admitted.
+    Final {
+        admitted: u32,
+    },
+    /// How a candidate stands, with the seat of the last published round, which is round 0 where there is none.
+    SeatIs {
+        cand: CandId,
+        round: u16,
+        standing: Standing,
+        seat: Option<Seat>,
+    },
+    /// Why a candidate has no seat of a programme in the last published round, or has one.
+    WhyIs {
+        cand: CandId,
+        prog: ProgId,
+        answer: WhyAnswer,
+    },
+    /// The lists of a programme in a round.
+    ListIs {
+        round: u16,
+        prog: ProgId,
+        programme: Programme,
+    },
+    /// The window that is open now, the rounds of the season, and how many of them are published. After the last cut the window is
+    /// the number of rounds plus 1, and takes nothing.
+    StateIs {
+        now: u16,
+        rounds: u16,
+        published: u16,
+    },
+    /// The request is refused, and changes nothing.
+    Refused(Refusal),
+}
