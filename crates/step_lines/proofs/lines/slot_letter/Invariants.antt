@@ -1,7 +1,7 @@
 use Rattle.std.proofs.Common.{◌≡◌, ◌<◌, drop}
 use Rattle.std.specs.List.{AllByRecursion}
 use Rattle.office_base.specs.Certificate.{slot_of}
-use Rattle.step_sheet.proofs.text.slot_letter.Given as goal
+use Rattle.step_lines.proofs.lines.slot_letter.Given as goal
 
 abbrev pub invariant-loop-pair : goal.invariant-loop-pair
 invariant-loop-pair l = record {
