@@ -1,5 +1,5 @@
 -- The failures of `step` have their causes.
-use Rattle.std.proofs.Common.{◌≡◌, ℕ, List}
+use Rattle.std.proofs.Common.{ℕ, List}
 use Rattle.step_sheet.specs.Output.{fault_output}
 use Rattle.step_sheet.specs.Sheet.{HasFault}
 use Rattle.step_sheet.specs.declared.fault.SheetFault.{SheetFault}

@@ -1,16 +1,16 @@
 -- What one more entry changes of choices in the making.
-use Rattle.std.proofs.Common.{◌≡◌, lt-ltb, le-ltb, ℕ, zero, suc, Bool, true, false, List, [], ◌∷◌, ◌++◌, Option, Some, None, Ok, Err, length, get_or, refl, sym, ap, subst, ◌∙◌, cond, arith, add-one, length-append, map}
+use Rattle.std.proofs.Common.{◌≡◌, lt-ltb, le-ltb, ℕ, zero, suc, Bool, true, false, List, [], ◌∷◌, ◌++◌, Option, Some, None, Ok, Err, length, refl, sym, ap, subst, ◌∙◌, cond, arith, add-one, map}
 use Rattle.std.specs.Prelude.{◌==◌, ◌||◌, ◌<◌, ◌≤◌, ◌+◌, ◌-◌, IsSome, is_some, nat_lt, drop, option_map, replicate, slice_get, slice_index_or, slice_set}
 use Rattle.std.specs.List.{AllByRecursion}
-use Rattle.std.proofs.lemmas.Bool.{cond-false, cond-true, eqb-false, eqb-true, eq-eqb, false≢true, ne_eqb}
+use Rattle.std.proofs.lemmas.Bool.{eqb-false, eqb-true, eq-eqb, ne_eqb}
 use Rattle.std.proofs.lemmas.List.{length-drop, length-replicate}
 use Rattle.std.proofs.lemmas.Option.{get_or_from_slice_get, slice_get_within}
 use Rattle.office_base.specs.Lists.{Pairwise}
 use Rattle.office_base.specs.declared.person.Person.{Person}
 use Rattle.office_base.specs.declared.person.ProgId.{ProgId}
 use Rattle.section_rows.specs.Rows.{Row, field}
-use Rattle.section_rows.specs.Steps.{first_of, unless}
-use Rattle.section_rows.proofs.StepsLemmas.{first_of-other, first_of-push, first_of-same, or_else}
+use Rattle.section_rows.specs.Steps.{first_of, or_else, unless}
+use Rattle.section_rows.proofs.StepsLemmas.{first_of-other, first_of-push, first_of-same}
 use Rattle.rank_lists.specs.Register.{AreRanks, Ranks, find_person, row_of}
 use Rattle.seat_matrix.specs.Matrix.{SeatTable}
 use Rattle.choice_lists.specs.Choices.{AreListsOf, AreChoices, AreKept, Entry, IsChoice, Lists, choices, choices_after, is_chosen, list_at, list_of, listed, lists_along, new_candidate, person_of, reading, all_choices}
@@ -158,11 +158,11 @@ pub keeps_step : (entries : List Entry) (row : Row) (person : Person) (at : ℕ)
     → choices old.matrix.now person [] (drop 1 row) ≡ Ok progs
     → new.register ≡ old.register → new.matrix ≡ old.matrix
     → new.lists ≡ slice_set old.lists at progs → new.had_row.items ≡ slice_set old.had_row.items at true
-    → length new.named_last.items ≡ length old.named_last.items
+    → length new.named_last.items ≡ length old.named_last.items → length new.guesses.items ≡ length old.guesses.items
     → ((n q : ℕ) → (person.id.0 == q) ≡ false → (slice_index_or old.named_last.items n 0 == q) ≡ false → (slice_index_or new.named_last.items n 0 == q) ≡ false)
     → new.total ≡ old.total + length progs
     → Keeps (entries ++ record { candidate = person.id.0; programmes = progs } ∷ []) new
-keeps_step entries row person at progs old new keeps c there d same_register same_matrix lists had_row marks others total =
+keeps_step entries row person at progs old new keeps c there d same_register same_matrix lists had_row marks guesses others total =
     let entry : Entry = record { candidate = person.id.0; programmes = progs } in
     let ranks : Ranks = old.register.now in
     let seats : SeatTable = old.matrix.now in
@@ -183,6 +183,7 @@ keeps_step entries row person at progs old new keeps c there d same_register sam
       had_row = had_row ∙ ap (λ (bs : List Bool). slice_set bs at true) keeps.had_row ∙ along_set is_some entries entry ranks.people at keeps.ranks.rising there accepted.fresh
           ∙ ap (λ (r : Ranks). along is_some (entries ++ entry ∷ []) r.people) ranks_same;
       marks = marks ∙ keeps.marks ∙ ap (λ (s : SeatTable). length s.programmes) seats_same;
+      guesses = guesses ∙ keeps.guesses;
       named_last = named-step entries entry old.named_last.items new.named_last.items keeps.named_last accepted.fresh others;
       total = omega (arith, total, keeps.total, choices-push 0 entries entry);
       few = omega (arith, choices-push 0 entries entry, accepted.room, count, fields);
@@ -347,8 +348,8 @@ tests_none ranks entries row person e f g h =
 
 -- No lists, beside a register and a matrix.
 pub nothing_kept : (builder : ChoicesBuilder) (count places : ℕ) → AreRanks builder.register.now → count ≡ length builder.register.now.people → places ≡ length builder.matrix.now.programmes
-    → builder.lists ≡ replicate count [] → builder.had_row.items ≡ replicate count false → builder.named_last.items ≡ replicate places 0 → builder.total ≡ 0 → Keeps [] builder
-nothing_kept builder count places ranks e f lists had_row named total = record {
+    → builder.lists ≡ replicate count [] → builder.had_row.items ≡ replicate count false → builder.named_last.items ≡ replicate places 0 → length builder.guesses.items ≡ 65536 → builder.total ≡ 0 → Keeps [] builder
+nothing_kept builder count places ranks e f lists had_row named guesses total = record {
   ranks = ranks;
   sound = λ q. record { distinct = tt; short = omega arith; numbers = tt; ranked = tt };
   known = λ q some. cc some;
@@ -356,6 +357,7 @@ nothing_kept builder count places ranks e f lists had_row named total = record {
   had_row = had_row ∙ ap (λ (n : ℕ). replicate n false) e ∙ along_nobody is_some builder.register.now.people;
   marks = ap (λ (ns : List ℕ). length ns) named ∙ length-replicate places 0 ∙ f;
   named_last = λ n q some none. ap (λ (ns : List ℕ). slice_index_or ns n 0 == q) named ∙ nobody places n q some;
+  guesses = guesses;
   total = total;
   few = omega arith;
 }

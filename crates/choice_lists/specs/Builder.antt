@@ -1,5 +1,5 @@
 -- What choices in the making know of the entries so far.
-use Rattle.std.specs.Prelude.{◌≡◌, ◌≤◌, ◌==◌, [], ℕ, Bool, false, List, Option, Some, None, Ok, Err, IsSome, is_some, length, map, drop, slice_index_or}
+use Rattle.std.specs.Prelude.{◌≡◌, ◌≤◌, ◌==◌, [], ℕ, false, List, Option, Some, None, Ok, Err, IsSome, is_some, length, map, drop, slice_index_or}
 use Rattle.office_base.specs.declared.person.Person.{Person}
 use Rattle.office_base.specs.declared.person.ProgId.{ProgId}
 use Rattle.section_rows.specs.Rows.{Row}
@@ -22,6 +22,7 @@ pub record Keeps (entries : List Entry) (builder : ChoicesBuilder) : Type 0 wher
   pub had_row : builder.had_row.items ≡ along is_some entries builder.register.now.people
   pub marks : length builder.named_last.items ≡ length builder.matrix.now.programmes
   pub named_last : (n candidate : ℕ) → 1 ≤ candidate → list_at candidate entries ≡ None → (slice_index_or builder.named_last.items n 0 == candidate) ≡ false
+  pub guesses : length builder.guesses.items ≡ 65536
   pub total : builder.total ≡ all_choices entries
   pub few : all_choices entries ≤ 5000000
 

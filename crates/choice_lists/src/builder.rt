@@ -25,8 +25,12 @@ const MOST_OF_A_ROW: usize = 1_000;
 /// The most programmes of all rows.
 const MOST_OF_ALL: usize = 5_000_000;
 
+/// How many places for guesses there are.
+const GUESSES: usize = 65_536;
+
 /// Choices in the making. The lists and the marks of those who had a row go along with the people of the register, and the
-/// ids of those who named a programme last, 0 for nobody, along with the programmes of the matrix.
+/// ids of those who named a programme last, 0 for nobody, along with the programmes of the matrix. A guess is the number of
+/// the programme that was found last for a text with this place: it only saves a search, and is always tested.
 #[derive(Drop)]
 pub(crate) struct ChoicesBuilder<'a> {
     register: &'a Register,
@@ -34,6 +38,7 @@ pub(crate) struct ChoicesBuilder<'a> {
     lists: FlatLists<ProgId>,
     had_row: Vec<bool>,
     named_last: Vec<u32>,
+    guesses: Vec<u16>,
     chosen: Vec<ProgId>,
     total: usize,
 }
@@ -59,6 +64,7 @@ impl<'a> ChoicesBuilder<'a> {
             lists: FlatLists::empty_lists(alloc, people)?,
             had_row: vec![in alloc; false; people]?,
             named_last: vec![in alloc; 0; programmes]?,
+            guesses: vec![in alloc; 0; GUESSES]?,
             chosen: Vec::new(alloc),
             total: 0,
         })
@@ -147,6 +153,7 @@ impl<'a> TableBuilder for ChoicesBuilder<'a> {
             &person,
             row,
             self.named_last.as_mut_slice(),
+            self.guesses.as_mut_slice(),
             &mut self.chosen,
         )?;
         if let Some(kind) = fault {
@@ -186,6 +193,34 @@ fn read_programme(matrix: &Matrix, text: &[u8]) -> Option<ProgId>
     matrix.find(code)
 }
 
+/// The place of a text's guess: texts of one place share it.
+fn guess_place(text: &[u8]) -> usize
+    ensures { result < 65536 }
+{
+    let mut hash = 2_166_136_261u32;
+    for byte in text {
+        hash = (hash ^ u32::from(*byte)).wrapping_mul(16_777_619);
+    }
+    hash as usize % GUESSES
+}
+
+/// The programme whose code a text spells: the one of the guess, where it has this code, or else the one that is found, which
+/// becomes the guess.
+fn find_programme(matrix: &Matrix, guesses: &mut [u16], text: &[u8]) -> Option<ProgId>
+    requires { length guesses.old ≡ 65536 }
+    ensures number { option_map (λ prog. prog.0) result ≡ programme_of matrix.now text.now }
+    ensures known { IfSome result (λ prog. prog.0 < length matrix.now.programmes) }
+{
+    let place = guess_place(text);
+    let guess = ProgId(guesses[place]);
+    if matrix.has_code(guess, text) {
+        return Some(guess);
+    }
+    let prog = read_programme(matrix, text)?;
+    guesses[place] = prog.0;
+    Some(prog)
+}
+
 /// Whether a person has a place in the merit list of a programme.
 fn is_ranked(matrix: &Matrix, person: &Person, prog: ProgId) -> bool
     requires { prog.0 < length matrix.now.programmes }
@@ -199,13 +234,15 @@ fn read_choice(
     matrix: &Matrix,
     person: &Person,
     named_last: &[u32],
+    guesses: &mut [u16],
     text: &[u8],
 ) -> Result<ProgId, ChoiceKind>
-    requires { length named_last.now ≡ length matrix.now.programmes }
+    requires marks { length named_last.now ≡ length matrix.now.programmes }
+    requires guesses { length guesses.old ≡ 65536 }
     ensures given { (progs : List ProgId) → ((n : ℕ) → (slice_index_or named_last.now n 0 == person.now.id.0) ≡ is_chosen n progs) → result ≡ choice matrix.now person.now progs text.now }
     ensures known { IfOk result (λ prog. prog.0 < length matrix.now.programmes) }
 {
-    let Some(prog) = read_programme(matrix, text) else {
+    let Some(prog) = find_programme(matrix, guesses, text) else {
         return Err(ChoiceKind::UnknownProgramme);
     };
     if named_last[usize::from(prog.0)] == person.id.0 {
@@ -224,9 +261,11 @@ fn read_programmes(
     person: &Person,
     row: &Rows<'_>,
     named_last: &mut [u32],
+    guesses: &mut [u16],
     chosen: &mut Vec<ProgId>,
 ) -> Result<Option<ChoiceKind>, OutOfMemory>
     requires marks { length named_last.old ≡ length matrix.now.programmes }
+    requires guesses { length guesses.old ≡ 65536 }
     requires apart { (n : ℕ) → (slice_index_or named_last.old n 0 == person.now.id.0) ≡ false }
     ensures given { IfOk result (λ fault. AreGiven matrix.now person.now row.now.row chosen.new.items fault) }
     ensures others { OnOk result ((n q : ℕ) → (person.now.id.0 == q) ≡ false → (slice_index_or named_last.old n 0 == q) ≡ false → (slice_index_or named_last.new n 0 == q) ≡ false) }
@@ -234,7 +273,7 @@ fn read_programmes(
     chosen.clear();
     let mut at = 1;
     'fields: while at < row.len() {
-        match read_choice(matrix, person, named_last, row.field(at)) {
+        match read_choice(matrix, person, named_last, guesses, row.field(at)) {
             Ok(prog) => {
                 named_last[usize::from(prog.0)] = person.id.0;
                 chosen.push(prog)?;

@@ -12,7 +12,10 @@ pub mod choices;
 pub mod fault;
 pub mod flat;
 pub mod laws;
+pub mod seek;
 
 pub use choices::Choices;
 pub use fault::{ChoiceFault, ChoiceKind};
 pub use flat::FlatLists;
+pub use seek::sought;
+pub use seeks::Seek;

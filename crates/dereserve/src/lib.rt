@@ -9,4 +9,4 @@ pub mod empty_seats;
 pub mod people;
 
 pub use empty_seats::{left_unfilled, unfilled};
-pub use people::{commons, fill};
+pub use people::{commons, fill, is_common};

@@ -7,7 +7,7 @@ use office_base::{ListId, OutOfMemory, People, Person, Place};
 use std::alloc::Global;
 
 /// Whether the person has a common place in the list.
-fn is_common(person: &Person, list: ListId) -> bool
+pub fn is_common(person: &Person, list: ListId) -> bool
     requires { IsList list }
     ensures { result ≡ is_common list person.now }
 {

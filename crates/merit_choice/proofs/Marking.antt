@@ -15,11 +15,8 @@ use Rattle.office_base.specs.declared.step.Step.{Step}
 use Rattle.placements.specs.Ranks.{AreAmong, AreDistinct, CanBePlaced}
 use Rattle.placements.proofs.Exchange.{all_weaker}
 use Rattle.placements.proofs.Ranks.{any_all, among_longer, among_itself, among_again, among_joined, among_front, among_back, placed_again, taken, refused}
-use Rattle.slot_matching.specs.Augmented.{IsAugmented}
 use Rattle.slot_matching.specs.Kept.{Kept, MayJoin}
-use Rattle.slot_matching.specs.declared.matching.Augment.{Augment}
-use Rattle.slot_matching.specs.declared.matching.Augment.TheVariants.{Raised, Held}
-use Rattle.merit_choice.specs.Marks.{marked, IsRaise, AreRaises}
+use Rattle.merit_choice.specs.Marks.{marked, IsRaise, AreRaises, IsJoined}
 use Rattle.merit_choice.proofs.Raises.{onto, AreNew, apart_part, new-from_nobody, raise_from, no_raise_from, honoured_nobody}
 
 -- ---- one of the people, between those before and those behind
@@ -128,20 +125,10 @@ member_first members person = among_joined members (person ∷ []) (person ∷ m
 member_last : (members : List Person) (person : Person) → AreAmong (person ∷ members) (members ++ person ∷ [])
 member_last members person = ((among_back members (person ∷ [])).0, among_front members (person ∷ []))
 
--- whether the person joined
-abbrev pub joined : Augment → Bool
-joined Raised = true
-joined (Held worst) = false
-
--- a person who did not join is not marked
-pub joined_not : (augment : Augment) → (augment ≡ Raised → ⊥) → joined augment ≡ false
-joined_not Raised other = absurd (other refl)
-joined_not (Held worst) other = refl
-
 -- then the person is marked too
-pub marked_next : (step : Step) (front back : List Person) (person : Person) (before after : Kept) (marks : List Bool) (augment : Augment) → IsStep step → step.people ≡ front ++ person ∷ back
-    → IsMarked step front before marks → IsAugmented before person augment after → IsMarked step (front ++ person ∷ []) after (marks ++ joined augment ∷ [])
-marked_next step front back person before after marks Raised ok split so_far done =
+pub marked_next : (step : Step) (front back : List Person) (person : Person) (before after : Kept) (marks : List Bool) (joined : Bool) → IsStep step → step.people ≡ front ++ person ∷ back
+    → IsMarked step front before marks → IsJoined before person joined after → IsMarked step (front ++ person ∷ []) after (marks ++ joined ∷ [])
+marked_next step front back person before after marks true ok split so_far done =
     let members = before.members in
     let many = length-append members (person ∷ []) in
     let placed : CanBePlaced step.protections (members ++ person ∷ []) =
@@ -161,7 +148,7 @@ marked_next step front back person before after marks Raised ok split so_far don
       raises = raises-snoc step.protections [] front marks person true so_far.raises (raise_from step.protections (onto front []) person (length members) so_far.honoured honoured);
       count = omega (arith, marked-snoc marks, so_far.count);
     })
-marked_next step front back person before after marks (Held worst) ok split so_far done =
+marked_next step front back person before after marks false ok split so_far done =
     let members = before.members in
     let many = length-append members (person ∷ []) in
     let distinct = new_middle front [] back person (new-from_nobody (front ++ person ∷ back) (subst AreDistinct split ok.people.distinct)) in
@@ -193,10 +180,10 @@ may_join_at step people at other kept marks ok same inside so_far =
     next_may_join step (take at people) (drop (suc at) people) (get_or people at other) kept marks ok (sym same ∙ split_at people at other inside) so_far
 
 -- and is marked then
-pub marked_at : (step : Step) (people : List Person) (at : ℕ) (other : Person) (before after : Kept) (marks : List Bool) (augment : Augment) → IsStep step → people ≡ step.people
-    → at < length people → IsMarked step (take at people) before marks → IsAugmented before (get_or people at other) augment after
-    → IsMarked step (take (at + 1) people) after (marks ++ joined augment ∷ [])
-marked_at step people at other before after marks augment ok same inside so_far done =
+pub marked_at : (step : Step) (people : List Person) (at : ℕ) (other : Person) (before after : Kept) (marks : List Bool) (joined : Bool) → IsStep step → people ≡ step.people
+    → at < length people → IsMarked step (take at people) before marks → IsJoined before (get_or people at other) joined after
+    → IsMarked step (take (at + 1) people) after (marks ++ joined ∷ [])
+marked_at step people at other before after marks joined ok same inside so_far done =
     let next : take (at + 1) people ≡ take at people ++ get_or people at other ∷ [] = rw add-one (take-suc people at other inside) in
-    subst (λ (front : List Person). IsMarked step front after (marks ++ joined augment ∷ [])) (sym next)
-    (marked_next step (take at people) (drop (suc at) people) (get_or people at other) before after marks augment ok (sym same ∙ split_at people at other inside) so_far done)
+    subst (λ (front : List Person). IsMarked step front after (marks ++ joined ∷ [])) (sym next)
+    (marked_next step (take at people) (drop (suc at) people) (get_or people at other) before after marks joined ok (sym same ∙ split_at people at other inside) so_far done)

@@ -1,5 +1,5 @@
 -- One person comes to a step: what it holds then.
-use Rattle.std.proofs.Common.{◌≡◌, ◌≢◌, ◌≤◌, ◌<◌, ◌⊎◌, ℕ, zero, suc, sum, Bool, true, false, cond, List, [], ◌∷◌, ◌++◌, length, take, drop, refl, sym, ap, ◌∙◌, subst, inl, inr, arith}
+use Rattle.std.proofs.Common.{◌≡◌, ◌≢◌, ◌≤◌, ◌<◌, ◌⊎◌, ℕ, zero, suc, sum, Bool, true, false, cond, List, [], ◌∷◌, ◌++◌, length, take, drop, refl, sym, ap, ◌∙◌, subst, inl, inr, arith, Some}
 use Rattle.std.specs.List.{AllByRecursion, AllZip, insert, remove}
 use Rattle.office_base.specs.Lists.{AnyByRecursion, IsSublist, Pairwise}
 use Rattle.office_base.specs.Person.{IsBetter, number_in}
@@ -16,7 +16,8 @@ use Rattle.merit_choice.specs.Held.{AreAllSet, IsLeft}
 use Rattle.merit_choice.specs.InMerit.{is_better, IsNewTo, with_person}
 use Rattle.merit_choice.specs.Laws.{IsAmong}
 use Rattle.merit_choice.specs.Needed.{AreNeeded, Tells}
-use Rattle.merit_choice.specs.State.{StepKept, IsStepKept, step_with, IsMatched}
+use Rattle.merit_choice.specs.State.{HandsOn, IsAnswered, IsMatched, IsStepKept, StepKept, step_with}
+use Rattle.merit_choice.specs.declared.state.Offered.TheVariants.{Displaced, Refused}
 use Rattle.merit_choice.proofs.ByHand.{honoured_placed}
 use Rattle.merit_choice.proofs.Filled.{honoured_within}
 use Rattle.merit_choice.proofs.InMerit.{ahead_again, not_ahead, among_with, with_among, with_any, are_among, length-with_person, ranked_with}
@@ -95,8 +96,7 @@ pub record HasLeft (state : StepKept) (person : Person) (kept : Kept) (gone : Pe
   pub matched : IsMatched state.list rest marks kept
   pub choice : IsStepChoice (step_with state person) rest
   pub full : length state.held ≡ state.seats
-  pub refused : gone.id ≡ person.id → rest ≡ state.held
-  pub displaced : gone.id ≢ person.id → AnyByRecursion (λ (other : Person). other.id ≡ gone.id) state.held × (rest ≡ without gone.id (with_person state.list person state.held))
+  pub left : IsAmong gone (with_person state.list person state.held) × (rest ≡ without gone.id (with_person state.list person state.held))
 
 -- without the person those held are as before
 without_with : (state : StepKept) (person : Person) (people : List Person) → AllByRecursion (λ other. person.id ≢ other.id) people
@@ -160,15 +160,31 @@ has_left state person kept people marks gone rest rest_marks come many gives =
       choice = subst (λ (those : List Person). IsStepChoice (record { list = list; seats = state.seats; protections = state.protections; people = those }) rest) come.are
           (subst (IsStepChoice step) (sym taken_out) choice);
       full = omega arith;
-      refused = λ same. taken_out ∙ ap (λ cand. without cand people) same ∙ ap (without person.id) come.are ∙ without_with state person held come.new.distinct;
-      displaced = λ other.
-          let in_all : IsAmong gone (with_person list person held) = subst (IsAmong gone) come.are there in
-          let before : IsAmong gone held = elim (with_any (λ one. gone ≡ one) list person held in_all) [
-            | inl his ↦ absurd (other (ap (λ (p : Person). p.id) his))
-            | inr theirs ↦ theirs
-          ] in
-          (has_number gone held before, taken_out ∙ ap (without gone.id) come.are);
+      left = (subst (IsAmong gone) come.are there, taken_out ∙ ap (without gone.id) come.are);
     }
+
+-- where the person is left, those held are as before
+pub hands_refused : (state : StepKept) (person gone : Person) (after : StepKept) → IsNewTo state.list state.held person → HandsOn state person (Some gone) after → gone.id ≡ person.id
+    → IsAnswered state person Refused after
+hands_refused state person gone after new hands same =
+    (hands.0, hands.2 ∙ ap (λ cand. without cand (with_person state.list person state.held)) same ∙ without_with state person state.held new.distinct)
+
+-- else it is one of those held
+pub hands_displaced : (state : StepKept) (person gone : Person) (after : StepKept) → HandsOn state person (Some gone) after → gone.id ≢ person.id → IsAnswered state person (Displaced gone.id) after
+hands_displaced state person gone after hands other =
+    let before : IsAmong gone state.held = elim (with_any (λ one. gone ≡ one) state.list person state.held hands.1) [
+      | inl his ↦ absurd (other (ap (λ (p : Person). p.id) his))
+      | inr theirs ↦ theirs
+    ] in
+    (hands.0, has_number gone state.held before, hands.2)
+
+-- a person after all whom the seats hold is left, where the person is not needed
+pub hands_itself : (state old : StepKept) (person : Person) (at : ℕ) → IsStepKept state → state ≡ old → IsNewTo old.list old.held person → at ≤ length state.held → at ≡ state.seats → HandsOn old person (Some person) old
+hands_itself state old person at ok same told inside full =
+    let few = ok.few in
+    let new : IsNewTo state.list state.held person = subst (λ (s : StepKept). IsNewTo s.list s.held person) (sym same) told in
+    let all : length state.held ≡ state.seats = omega arith in
+    subst (λ (s : StepKept). HandsOn s person (Some person) s) same (all, (among_with state.list person state.held).0, sym (without_with state person state.held new.distinct))
 
 -- ---- a person after all whom the seats hold
 

@@ -1,8 +1,10 @@
 -- Marks along the people of a step, one for each of them in their order: who is needed for the protections, and whom the seats take.
-use Rattle.std.specs.Prelude.{ℕ, zero, suc, List, [], ◌∷◌, Bool, true, false, if◌then◌else◌}
+use Rattle.std.specs.Prelude.{◌≡◌, ℕ, zero, suc, List, [], ◌∷◌, Bool, true, false, if◌then◌else◌}
 use Rattle.office_base.specs.Placement.{IsHonoured}
 use Rattle.office_base.specs.declared.person.Person.{Person}
 use Rattle.office_base.specs.declared.step.Protections.{Protections}
+use Rattle.placements.specs.Ranks.{CanBePlaced}
+use Rattle.slot_matching.specs.Kept.{Kept, with_member}
 
 -- how many of the marks are set
 abbrev pub marked : List Bool → ℕ
@@ -43,3 +45,8 @@ AreMarkedByHand protections before [] (mark ∷ marks) = ⊥
 AreMarkedByHand protections before (person ∷ people) [] = ⊥
 AreMarkedByHand protections before (person ∷ people) (mark ∷ marks) =
     IsRaise protections before person mark × AreMarkedByHand protections (if mark then person ∷ before else before) people marks
+
+-- The person joined the members of a matching exactly where the members can all be placed with the person.
+abbrev pub IsJoined : Kept → Person → Bool → Kept → Type 0
+IsJoined before person true after = CanBePlaced before.protections (with_member before person).members × (after ≡ with_member before person)
+IsJoined before person false after = (¬ CanBePlaced before.protections (with_member before person).members) × (after ≡ before)

@@ -1,7 +1,7 @@
 -- What a step keeps while people come one at a time, and what comes of one of them.
-use Rattle.std.specs.Prelude.{◌≡◌, ◌≤◌, ◌<◌, ℕ, List, Bool, length, sum}
+use Rattle.std.specs.Prelude.{◌≡◌, ◌≤◌, ◌<◌, ℕ, List, Bool, Option, Some, None, length, sum}
 use Rattle.std.specs.List.{AllZip}
-use Rattle.office_base.specs.Lists.{AnyByRecursion}
+use Rattle.office_base.specs.Lists.{AnyByRecursion, IsAmong}
 use Rattle.office_base.specs.Person.{IsList}
 use Rattle.office_base.specs.StepChoice.{AreRanked}
 use Rattle.office_base.specs.declared.person.ListId.{ListId}
@@ -33,6 +33,12 @@ pub record IsStepKept (state : StepKept) : Type 0 where
 -- the step whose people are those held and one more
 abbrev pub step_with : StepKept → Person → Step
 step_with state person = record { list = state.list; seats = state.seats; protections = state.protections; people = with_person state.list person state.held }
+
+-- whoever is left without a seat: nobody where fewer were held than there are seats, else one of those held or the person
+abbrev pub HandsOn : StepKept → Person → Option Person → StepKept → Type 0
+HandsOn before person None after = (length before.held < before.seats) × (after.held ≡ with_person before.list person before.held)
+HandsOn before person (Some gone) after = (length before.held ≡ before.seats) × IsAmong gone (with_person before.list person before.held)
+    × (after.held ≡ without gone.id (with_person before.list person before.held))
 
 -- Where fewer were held than there are seats, the person is held too. Else one of those held leaves, or the person does.
 abbrev pub IsAnswered : StepKept → Person → Offered → StepKept → Type 0

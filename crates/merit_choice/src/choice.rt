@@ -3,7 +3,8 @@ ghost use Rattle.std.specs.Prelude.{◌≡◌, ◌≤◌, ◌<◌, [], length, I
 ghost use Rattle.std.specs.List.{AllByRecursion};
 ghost use Rattle.office_base.specs.Certificate.{IsCanonical};
 ghost use Rattle.office_base.specs.StepChoice.{IsStep, IsStepChoice};
-ghost use Rattle.merit_choice.specs.Marks.{marked, kept, filled_up, AreRaises};
+ghost use Rattle.slot_matching.specs.Kept.{MayJoin};
+ghost use Rattle.merit_choice.specs.Marks.{marked, kept, filled_up, AreRaises, IsJoined};
 
 use office_base::{Listed, OutOfMemory, People, Person, Step};
 use slot_cert::{Cert, canonical_pairs};
@@ -69,12 +70,21 @@ fn find_needed(alloc: Global, step: &Step) -> Result<Needed, OutOfMemory>
     let mut matching = Matching::new(alloc, step.protections, step.list)?;
     let mut marks = Listed::with_capacity(alloc, people.len())?;
     for person in people {
-        marks.push(matches!(matching.augment(person), Augment::Raised))?;
+        marks.push(try_join(&mut matching, person))?;
     }
     Ok(Needed {
         marks,
         count: matching.honoured(),
     })
+}
+
+/// Keeps the person in the matching too where that honours one protection more, and tells whether it does.
+fn try_join(matching: &mut Matching, person: &Person) -> bool
+    requires { MayJoin matching.old person.now }
+    ensures { IsJoined matching.old person.now result matching.new }
+{
+    // most cannot join, and to see that costs no look at the members
+    matching.raises(person) && matches!(matching.augment(person), Augment::Raised)
 }
 
 /// Those of the people whose mark is set, and the first of the others on the free seats, in their order.

@@ -28,6 +28,19 @@ pub(crate) fn place_for(people: &[Person], person: &Person, list: ListId) -> usi
     0
 }
 
+/// Puts a new person at the merit place among people, into room that is there. It takes no memory.
+pub fn put_in_order(people: &mut Vec<Person>, person: &Person, list: ListId)
+    requires list { IsList list }
+    requires ranked { AreRanked list people.old.items }
+    requires new { IsNewTo list people.old.items person.now }
+    requires room { vec_len people.old < vec_capacity people.old }
+    ensures items { people.new.items ≡ with_person list person.now people.old.items }
+    ensures room { vec_capacity people.old ≤ vec_capacity people.new }
+{
+    let at = place_for(people.as_slice(), person, list);
+    put(people, at, *person);
+}
+
 /// The place of the person with this number.
 pub(crate) fn place_of(people: &[Person], cand: CandId) -> Option<usize>
     requires { AnyByRecursion (λ person. person.id ≡ cand) people.now }

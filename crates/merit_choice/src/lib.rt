@@ -13,5 +13,6 @@ pub mod laws;
 pub mod state;
 
 pub use choice::{Chosen, choose};
+pub use held::put_in_order;
 pub use office_base::Step;
 pub use state::{Offered, StepState};

@@ -7,7 +7,7 @@ ghost use Rattle.placements.specs.Ranks.{CanBePlaced};
 ghost use Rattle.slot_matching.specs.Augmented.{IsWorstFor};
 ghost use Rattle.slot_matching.specs.Kept.{with_member};
 ghost use Rattle.merit_choice.specs.InMerit.{IsNewTo, with_person};
-ghost use Rattle.merit_choice.specs.State.{IsStepKept, step_with, IsAnswered, IsMatched};
+ghost use Rattle.merit_choice.specs.State.{HandsOn, IsStepKept, step_with, IsAnswered, IsMatched};
 
 use crate::held::{leave, place_for, place_of, put};
 use office_base::{CandId, ListId, OutOfMemory, Person, Protections, better};
@@ -80,10 +80,30 @@ impl StepState {
         ensures answer { IsAnswered self.old person.now result self.new }
         ensures kept { IsStepKept self.new }
     {
+        let Some(gone) = self.hand(person) else {
+            return Offered::Taken;
+        };
+        if gone.id == person.id {
+            Offered::Refused
+        } else {
+            Offered::Displaced(gone.id)
+        }
+    }
+
+    /// As `offer`, and tells who is left without a seat: nobody where a seat was free, else one of those whom the seats held
+    /// or the person.
+    pub fn hand(&mut self, person: &Person) -> Option<Person>
+        requires { IsNewTo self.old.list self.old.held person.now }
+        ensures was { IsStepKept self.old }
+        ensures stays { self.new ≡ record self.old { held = self.new.held } }
+        ensures choice { IsStepChoice (step_with self.old person.now) self.new.held }
+        ensures hands_on { HandsOn self.old person.now result self.new }
+        ensures kept { IsStepKept self.new }
+    {
         let at = place_for(self.held.as_slice(), person, self.list);
         // after all whom the seats hold, and not needed
         if at == usize::from(self.seats) && !self.matching.raises(person) {
-            return Offered::Refused;
+            return Some(*person);
         }
         enter(
             &mut self.matching,
@@ -94,14 +114,10 @@ impl StepState {
             at,
         );
         if self.held.len() <= usize::from(self.seats) {
-            return Offered::Taken;
+            return None;
         }
         let gone = leave(&mut self.held, &mut self.marks);
-        if gone.id == person.id {
-            Offered::Refused
-        } else {
-            Offered::Displaced(gone.id)
-        }
+        Some(gone)
     }
 
     /// Those whom the seats hold, in merit order.

@@ -1,14 +1,12 @@
 -- A person is one of the people or is not.
-use Rattle.std.proofs.Common.{◌≡◌, ◌⊎◌, ℕ, Bool, true, false, List, [], ◌∷◌, refl, sym, ap, ◌∙◌, subst, inl, inr}
+use Rattle.std.proofs.Common.{◌≡◌, ◌⊎◌, ℕ, true, List, [], ◌∷◌, refl, ap, ◌∙◌, subst, inl, inr}
 use Rattle.std.proofs.lemmas.Bool.{both_ways, cases_Bool, cases_eq}
 use Rattle.office_base.specs.Lists.{IsAmong}
-use Rattle.office_base.specs.declared.person.CandId.{CandId}
 use Rattle.office_base.specs.declared.person.Category.{Category}
 use Rattle.office_base.specs.declared.person.Category.TheVariants.{Gen, Ews, Obc, Sc, St}
 use Rattle.office_base.specs.declared.person.Person.{Person}
 use Rattle.office_base.specs.declared.person.Place.{Place}
 use Rattle.office_base.specs.declared.person.Place.TheVariants.{Absent, Common, Relaxed}
-use Rattle.office_base.specs.declared.person.TraitSet.{TraitSet}
 use Rattle.programme_lists.specs.Programme.{is_same}
 use Rattle.open_then_category.proofs.Walk.{same_category}
 
@@ -85,7 +83,7 @@ one_person_or_not a b = elim (cases_eq a.id.0 b.id.0) [
             ∙ ap (λ (c : Category). made_of b.id.0 c a.traits.0 a.places) categories
             ∙ ap (λ (n : ℕ). made_of b.id.0 b.category n a.places) traits
             ∙ ap (λ (l : List Place). made_of b.id.0 b.category b.traits.0 l) places
-          )
+            )
       ]
     ]
   ]

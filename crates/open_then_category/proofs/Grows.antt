@@ -1,5 +1,5 @@
 -- More seats keep everybody who was admitted, perhaps under another step.
-use Rattle.std.proofs.Common.{◌≡◌, ◌≤◌, ◌-◌, ◌+◌, ℕ, Bool, true, false, cond, List, take, length, refl, sym, ap, ◌∙◌, subst, inl, inr, min, arith}
+use Rattle.std.proofs.Common.{◌≡◌, ◌≤◌, ◌-◌, ◌+◌, ℕ, Bool, true, false, cond, List, take, length, refl, sym, subst, inl, inr, min, arith}
 use Rattle.std.specs.Prelude.{◌==◌}
 use Rattle.std.specs.List.{filter}
 use Rattle.office_base.specs.Lists.{IsAmong, IsSublist}
@@ -12,8 +12,8 @@ use Rattle.office_base.specs.declared.step.StepKind.{StepKind}
 use Rattle.office_base.specs.declared.step.StepKind.TheVariants.{Open, Ews as EwsStep, Obc as ObcStep, Sc as ScStep, St as StStep, Dereserved}
 use Rattle.placements.proofs.Sublists.{IsSublist-same, IsSublist-take, length-sublist}
 use Rattle.placements.specs.Ranks.{AreAmong, AreDistinct}
-use Rattle.placements.proofs.Ranks.{any_among, among_sublist, among_again, among_itself}
-use Rattle.seat_matrix.specs.Seats.{AreProgrammeSeats, HaveMoreSeats, IsSeated, of_step, seats_of}
+use Rattle.placements.proofs.Ranks.{any_among, among_sublist, among_itself}
+use Rattle.seat_matrix.specs.Seats.{AreProgrammeSeats, HaveMoreSeats, IsSeated, of_step}
 use Rattle.seat_matrix.specs.declared.seats.ProgrammeSeats.{ProgrammeSeats}
 use Rattle.seat_matrix.specs.declared.seats.Seating.{Seating}
 use Rattle.seat_matrix.specs.declared.seats.Seatings.{Seatings}
@@ -21,7 +21,7 @@ use Rattle.programme_lists.specs.Chosen.{IsAdmitted}
 use Rattle.programme_lists.specs.Programme.{Admissions, admitted_by, is_of, without, left_over, people_of, step_with, unfilled, IsProgrammeChoice}
 use Rattle.open_then_category.proofs.Decide.{is_among_or_not}
 use Rattle.open_then_category.proofs.Lists.{filter_mono, filter-sublist, among_filter_from, among_best, among_filter, ranked_sublist, without_mono, among_without_from}
-use Rattle.open_then_category.proofs.ProgrammeLaws.{AllAmong, Stage, all_among, among_left, chosen_among, chosen_passes, filtered_step, is_left, last_sublist, rest_of, stage_refused, without_among}
+use Rattle.open_then_category.proofs.ProgrammeLaws.{Stage, all_among, among_left, chosen_among, chosen_passes, filtered_step, is_left, last_sublist, rest_of, stage_refused, without_among}
 use Rattle.open_then_category.specs.StepLaws.{AreLawful}
 
 -- one step chooses by a test from some people, and with no fewer seats from fewer people
@@ -165,11 +165,11 @@ module _ (laws : AreLawful) where
       let found : IsAdmitted after person = elim (is_among_or_not person after.open_step) [
         | inl taken ↦ (Open, taken)
         | inr free ↦ (
-            kind,
-            growing_keeps list (of_step steps kind) (of_step more kind) test old new (admitted_by before kind) (admitted_by after kind) g person
-            (among_without_from people people after.open_step person ranked.distinct (among_itself people) more_within.open_step
-            (any_among (λ one. person ≡ one) old people (among_sublist old people (filter-sublist _ people)) (chosen_passes list (of_step steps kind) test old (admitted_by before kind) person g.choice there).0) free) there,
-          )
+          kind,
+          growing_keeps list (of_step steps kind) (of_step more kind) test old new (admitted_by before kind) (admitted_by after kind) g person
+              (among_without_from people people after.open_step person ranked.distinct (among_itself people) more_within.open_step
+              (any_among (λ one. person ≡ one) old people (among_sublist old people (filter-sublist _ people)) (chosen_passes list (of_step steps kind) test old (admitted_by before kind) person g.choice there).0) free) there,
+        )
       ] in found in
       elim admitted.0 as (λ (kind : StepKind). IsAmong person (admitted_by before kind) → IsAdmitted after person) [
         | Open ↦ λ there. again Open (growing_keeps list (of_step steps Open) (of_step more Open) (is_common list) people people before.open_step after.open_step opened person

@@ -1,7 +1,10 @@
 mod Assemble
 mod Decide
 mod Grows
+mod Keeping
+mod Leaving
 mod Once
+mod Passing
 mod RankedWords
 mod SetLaws
 mod Sorting

@@ -1,7 +1,7 @@
 -- Filters of people, who is taken from them, and the best of them.
-use Rattle.std.proofs.Common.{◌≡◌, ◌≤◌, ◌⊎◌, ℕ, zero, suc, Bool, true, false, not, cond, List, [], ◌∷◌, take, eqb, refl, sym, ap, ◌∙◌, subst, inl, inr, arith}
+use Rattle.std.proofs.Common.{◌≡◌, ◌≢◌, ◌≤◌, ◌⊎◌, ℕ, zero, suc, Bool, true, false, not, cond, List, [], ◌∷◌, take, eqb, refl, sym, ap, ◌∙◌, subst, inl, inr, arith}
 use Rattle.std.proofs.lemmas.Bool.{cond_both, cond-true, eqb-true, eq-eqb, or_left, or_right, or_cases, not-true, not_from_false, false_from_ne_true, both_ways, cases_Bool}
-use Rattle.std.specs.List.{filter}
+use Rattle.std.specs.List.{AllByRecursion, filter}
 use Rattle.office_base.specs.Lists.{AnyByRecursion, IsSublist}
 use Rattle.office_base.specs.StepChoice.{AreRanked}
 use Rattle.office_base.specs.declared.person.CandId.{CandId}
@@ -11,7 +11,6 @@ use Rattle.placements.proofs.Sublists.{IsSublist-take, AllByRecursion-sublist}
 use Rattle.placements.specs.Ranks.{AreAmong, AreDistinct}
 use Rattle.placements.proofs.Ranks.{any_all, any_among, among_sublist, among_itself, one_person, pairwise_sublist}
 use Rattle.merit_choice.specs.Laws.{IsAmong}
-use Rattle.merit_choice.proofs.Members.{apart_from}
 use Rattle.programme_lists.specs.Programme.{is_taken, without}
 
 -- ---- sublists and filters
@@ -130,6 +129,12 @@ without_mono all some more taken others distinct sub within others_within stays 
 
 -- ---- the best of them
 
+-- who is among some of the people is not the one apart from all of them
+not_among : (x y : Person) (xs ys : List Person) → AllByRecursion (λ one. y.id ≢ one.id) ys → IsSublist xs ys → IsAmong x xs → y ≢ x
+not_among x y xs ys apart sub among same =
+    let found = any_all (λ one. x ≡ one) (λ one. y.id ≢ one.id) ys (any_among (λ one. x ≡ one) xs ys (among_sublist xs ys sub) among) apart in
+    found.2 (ap (λ (p : Person). p.id) (same ∙ found.1))
+
 -- who is one of some people, and of the best of more, is of the best of the some where those are no fewer
 pub among_best : (x : Person) (m n : ℕ) (xs ys : List Person) → AreDistinct ys → IsSublist xs ys → m ≤ n → IsAmong x xs → IsAmong x (take m ys) → IsAmong x (take n xs)
 among_best x m n xs [] distinct sub le here there = absurd (subst (IsAmong x) sub here)
@@ -137,7 +142,7 @@ among_best x zero n xs (y ∷ ys) distinct sub le here there = absurd there
 among_best x (suc m) zero xs (y ∷ ys) distinct sub le here there = absurd (omega arith)
 among_best x (suc m) (suc n) xs (y ∷ ys) distinct sub le here there = elim sub [
   | inl later ↦ elim there [
-    | inl same ↦ absurd (apart_from y x ys distinct.0 (any_among (λ one. x ≡ one) xs ys (among_sublist xs ys later) here) (sym same))
+    | inl same ↦ absurd (not_among x y xs ys distinct.0 later here (sym same))
     | inr more ↦ among_best x m (suc n) xs ys distinct.1 later (omega arith) here more
   ]
   | inr now ↦ subst (λ (zs : List Person). IsAmong x (take (suc n) zs)) (sym now.1) (elim (subst (IsAmong x) now.1 here) [
@@ -154,10 +159,10 @@ pub best_of_some : (n : ℕ) (xs ys : List Person) → AreDistinct ys → IsSubl
 best_of_some n xs [] distinct sub within = ap (take n) sub
 best_of_some zero xs (y ∷ ys) distinct sub within = refl
 best_of_some (suc n) xs (y ∷ ys) distinct sub within = elim sub [
-  | inl later ↦ absurd (apart_from y y ys distinct.0 (any_among (λ one. y ≡ one) xs ys (among_sublist xs ys later) (within y (inl refl))) refl)
+  | inl later ↦ absurd (not_among y y xs ys distinct.0 later (within y (inl refl)) refl)
   | inr now ↦
       let rest : take n now.0 ≡ take n ys = best_of_some n now.0 ys distinct.1 now.2 (λ x more. elim (subst (IsAmong x) now.1 (within x (inr more))) [
-        | inl same ↦ absurd (apart_from y x ys distinct.0 (any_among (λ one. x ≡ one) (take n ys) ys (among_sublist (take n ys) ys (IsSublist-take n ys)) more) (sym same))
+        | inl same ↦ absurd (not_among x y (take n ys) ys distinct.0 (IsSublist-take n ys) more (sym same))
         | inr found ↦ found
       ]) in
       ap (take (suc n)) now.1 ∙ ap (λ (zs : List Person). y ∷ zs) rest

@@ -1,13 +1,12 @@
 -- Each person is admitted once, under one step.
-use Rattle.std.proofs.Common.{◌≡◌, ◌≢◌, ◌⊎◌, ◌<◌, ℕ, Bool, List, [], ◌∷◌, ◌++◌, take, refl, sym, ap, ◌∙◌, subst, inl, inr}
+use Rattle.std.proofs.Common.{◌≡◌, ◌≢◌, ◌<◌, ℕ, Bool, List, [], ◌∷◌, ◌++◌, take, refl, sym, ◌∙◌, subst, inl, inr}
 use Rattle.std.specs.List.{AllByRecursion, AllZip, filter}
-use Rattle.office_base.specs.Lists.{AnyByRecursion, IsAmong, IsSublist, Pairwise}
-use Rattle.office_base.specs.Person.{IsTraitSet, has_trait, is_common}
+use Rattle.office_base.specs.Lists.{AnyByRecursion, IsAmong, IsSublist}
+use Rattle.office_base.specs.Person.{IsTraitSet, is_common}
 use Rattle.office_base.specs.Placement.{Fills}
 use Rattle.office_base.specs.StepChoice.{AreRanked, IsStepChoice}
 use Rattle.office_base.specs.declared.person.Category.{Category}
 use Rattle.office_base.specs.declared.person.Category.TheVariants.{Ews, Obc, Sc, St}
-use Rattle.office_base.specs.declared.person.ListId.{ListId}
 use Rattle.office_base.specs.declared.person.Person.{Person}
 use Rattle.office_base.specs.declared.step.Pair.{Pair}
 use Rattle.office_base.specs.declared.step.StepKind.{StepKind}
@@ -20,11 +19,11 @@ use Rattle.seat_matrix.specs.Seats.{seats_of}
 use Rattle.seat_matrix.specs.declared.seats.ProgrammeSeats.{ProgrammeSeats}
 use Rattle.programme_lists.specs.Chosen.{everybody}
 use Rattle.programme_lists.specs.Listing.{ShowsChoice, ShowsStep}
-use Rattle.programme_lists.specs.Programme.{Admissions, IsProgrammeChoice, admitted_by, is_of, left_over, people_of, unfilled, without}
+use Rattle.programme_lists.specs.Programme.{Admissions, IsProgrammeChoice, admitted_by, is_of, left_over, people_of, unfilled}
 use Rattle.programme_lists.specs.declared.programme.Programme.{Programme}
 use Rattle.programme_lists.specs.declared.programme.StepList.{StepList}
 use Rattle.open_then_category.proofs.Lists.{among_filter, among_without, filter-sublist}
-use Rattle.open_then_category.proofs.ProgrammeLaws.{AllAmong, IsLeft, all_among, chosen_passes, is_left, last_sublist, rest_of}
+use Rattle.open_then_category.proofs.ProgrammeLaws.{IsLeft, chosen_passes, is_left, last_sublist, rest_of}
 use Rattle.open_then_category.proofs.Walk.{same_category}
 
 -- who is admitted by the open step is admitted by no category

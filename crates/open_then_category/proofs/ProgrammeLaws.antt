@@ -14,18 +14,16 @@ use Rattle.office_base.specs.declared.step.StepKind.TheVariants.{Open, Ews as Ew
 use Rattle.placements.proofs.Sublists.{IsSublist-same, IsSublist-take, length-sublist}
 use Rattle.placements.specs.Ranks.{AreAmong, AreDistinct}
 use Rattle.placements.proofs.Ranks.{any_among, among_sublist, among_again, among_itself}
-use Rattle.merit_choice.specs.Laws.{HasMorePeople, HasMoreSeats}
+use Rattle.merit_choice.specs.Laws.{HasMorePeople}
 use Rattle.seat_matrix.specs.Seats.{AreProgrammeSeats, IsSeated, seats_of}
 use Rattle.seat_matrix.specs.Unfilled.{left_unfilled}
 use Rattle.seat_matrix.specs.declared.seats.ProgrammeSeats.{ProgrammeSeats}
 use Rattle.seat_matrix.specs.declared.seats.Seating.{Seating}
-use Rattle.seat_matrix.specs.declared.seats.Seatings.{Seatings}
-use Rattle.programme_lists.specs.Chosen.{IsAdmitted, IsRefused}
+use Rattle.programme_lists.specs.Chosen.{IsRefused}
 use Rattle.programme_lists.specs.Programme.{Admissions, admitted_by, is_of, without, left_over, people_of, step_with, unfilled, IsProgrammeChoice}
-use Rattle.open_then_category.specs.Laws.{admitted_in_all}
 use Rattle.open_then_category.proofs.Lists.{filter_mono, filter-sublist, sublist_again, among_filter, among_filter_from, among_without, among_without_from, without_mono, among_or_not, among_best, best_of_some, ranked_sublist}
 use Rattle.open_then_category.specs.StepLaws.{AreLawful}
-use Rattle.open_then_category.proofs.RankedWords.{IsRankedRefusedAlone, RankedOneProgrammeChoice, RankedProgrammeChoiceExists, RankedFromMore, RankedRefusedFromMore, RankedUnfilledFalls, RankedNoFewerAdmitted, RankedLeavingOutTheRefused, RankedEachRefusedAllRefused}
+use Rattle.open_then_category.proofs.RankedWords.{RankedOneProgrammeChoice, RankedProgrammeChoiceExists, RankedFromMore, RankedRefusedFromMore, RankedUnfilledFalls, RankedNoFewerAdmitted, RankedLeavingOutTheRefused, RankedEachRefusedAllRefused}
 
 -- ---- one step
 
@@ -193,11 +191,11 @@ among_left person applicants admissions distinct within l =
     let at3 = among_without_from applicants left2 admissions.sc person distinct in2 within.sc at2 l.not_sc in
     among_without_from applicants left3 admissions.st person distinct in3 within.st at3 l.not_st
 
-abbrev made_of : List Person → List Person → List Person → List Person → List Person → List Person → Admissions
+abbrev pub made_of : List Person → List Person → List Person → List Person → List Person → List Person → Admissions
 made_of open_step ews obc sc st dereserved = record { open_step = open_step; ews = ews; obc = obc; sc = sc; st = st; dereserved = dereserved }
 
 -- admissions with the same persons at each step are the same
-same_admissions : (first second : Admissions) → first.open_step ≡ second.open_step → first.ews ≡ second.ews → first.obc ≡ second.obc → first.sc ≡ second.sc → first.st ≡ second.st
+pub same_admissions : (first second : Admissions) → first.open_step ≡ second.open_step → first.ews ≡ second.ews → first.obc ≡ second.obc → first.sc ≡ second.sc → first.st ≡ second.st
     → first.dereserved ≡ second.dereserved → first ≡ second
 same_admissions first second open_step ews obc sc st dereserved =
     ap (λ (people : List Person). made_of people first.ews first.obc first.sc first.st first.dereserved) open_step

@@ -1,27 +1,24 @@
 -- The laws of the choice of a programme from people told in any order.
-use Rattle.std.proofs.Common.{◌≡◌, ◌≢◌, ◌⊎◌, ℕ, List, [], ◌∷◌, refl, sym, ap, ◌∙◌, subst, inl, inr}
-use Rattle.std.specs.List.{AllByRecursion}
-use Rattle.office_base.specs.Lists.{IsAmong, IsSublist}
+use Rattle.std.proofs.Common.{◌≡◌, ◌⊎◌, ℕ, List, [], ◌∷◌, refl, sym, subst, inl, inr}
+use Rattle.office_base.specs.Lists.{IsAmong}
 use Rattle.office_base.specs.Merit.{in_merit}
-use Rattle.office_base.specs.StepChoice.{AreRanked}
 use Rattle.office_base.specs.declared.person.ListId.{ListId}
 use Rattle.office_base.specs.declared.person.Person.{Person}
 use Rattle.office_base.specs.declared.step.StepKind.{StepKind}
-use Rattle.office_base.specs.declared.step.StepKind.TheVariants.{Open, Ews as EwsStep, Obc as ObcStep, Sc as ScStep, St as StStep, Dereserved}
 use Rattle.placements.specs.Ranks.{AreAmong, AreDistinct}
-use Rattle.placements.proofs.Ranks.{among_again, among_itself, among_sublist, any_among, pairwise_sublist}
+use Rattle.placements.proofs.Ranks.{among_again, among_sublist, any_among, pairwise_sublist}
 use Rattle.seat_matrix.specs.Seats.{AreProgrammeSeats, HaveMoreSeats}
 use Rattle.seat_matrix.specs.declared.seats.ProgrammeSeats.{ProgrammeSeats}
 use Rattle.seat_matrix.specs.declared.seats.Seatings.{Seatings}
-use Rattle.programme_lists.specs.Chosen.{AdmitsUnder, AreApplicants, ChoosesFrom, IsAdmitted, IsRefused, IsWith, everybody}
+use Rattle.programme_lists.specs.Chosen.{AdmitsUnder, AreApplicants, ChoosesFrom, IsAdmitted, IsRefused, everybody}
 use Rattle.programme_lists.specs.Programme.{Admissions, admitted_by}
-use Rattle.open_then_category.specs.Laws.{AdmittedOnce, ChoosesFromMore, ChosenWell, EachRefusedAllRefused, GrowsWithSeats, IsRefusedAlone, LeavingOutTheRefused, MoreSeatsKeepAll, NoFewerAdmitted, OneProgrammeChoice, OneStep, ProgrammeChoiceExists, RefusedBefore, RefusedFromMore, Resumes, SlotsAreTraits, UnfilledFalls}
+use Rattle.open_then_category.specs.Laws.{AdmittedOnce, ChoosesFromMore, ChosenWell, EachRefusedAllRefused, GrowsWithSeats, LeavingOutTheRefused, MoreSeatsKeepAll, NoFewerAdmitted, OneProgrammeChoice, OneStep, ProgrammeChoiceExists, RefusedBefore, RefusedFromMore, Resumes, SlotsAreTraits, UnfilledFalls}
 use Rattle.open_then_category.proofs.Decide.{is_among_or_not}
 use Rattle.open_then_category.proofs.Grows.{ranked_grows}
 use Rattle.open_then_category.proofs.Once.{all_apart, from_everybody, in_everybody, ranked_once, ranked_one_step, ranked_slots}
 use Rattle.open_then_category.proofs.ProgrammeLaws as ranked
 use Rattle.open_then_category.specs.StepLaws.{AreLawful}
-use Rattle.open_then_category.proofs.RankedWords.{IsRankedRefusedAlone, RankedFromMore}
+use Rattle.open_then_category.proofs.RankedWords.{RankedFromMore}
 
 -- some step admits the person, or none does
 admitted_or_refused : (admissions : Admissions) (person : Person) → IsAdmitted admissions person ⊎ IsRefused admissions person

@@ -1,6 +1,6 @@
 -- The laws of the choice of a step and of people by merit on which those of the choice of a programme rest.
-use Rattle.merit_choice.specs.InMerit.{InMeritRanks, PartCanBeRanked, PartInMerit}
-use Rattle.merit_choice.specs.Laws.{ChoiceExists, ChoiceSize, LeavingOutRefused, MoreSeats, NoFewer, RefusedStaysRefused}
+use Rattle.merit_choice.specs.InMerit.{InMeritRanks, OneMeritOrder, PartCanBeRanked, PartInMerit, RankedInMerit, WithPersonRanks}
+use Rattle.merit_choice.specs.Laws.{ChoiceExists, ChoiceSize, LeavingOutRefused, MoreSeats, NoFewer, RefusedBefore, RefusedStaysRefused, SeatsForAll}
 
 -- the laws of the choice of a step
 pub record AreLawful : Type 0 where
@@ -13,3 +13,8 @@ pub record AreLawful : Type 0 where
   pub in_merit_ranks : InMeritRanks
   pub part_in_merit : PartInMerit
   pub part_can_be_ranked : PartCanBeRanked
+  pub refused_before : RefusedBefore
+  pub one_merit_order : OneMeritOrder
+  pub ranked_in_merit : RankedInMerit
+  pub with_person_ranks : WithPersonRanks
+  pub seats_for_all : SeatsForAll

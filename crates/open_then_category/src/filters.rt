@@ -11,7 +11,7 @@ use office_base::{Category, OutOfMemory, People, Person};
 use std::alloc::Global;
 
 /// Whether the person is of the category.
-fn is_of(person: &Person, category: Category) -> bool
+pub(crate) fn is_of(person: &Person, category: Category) -> bool
     ensures { result ≡ is_of category person.now }
 {
     match category {

@@ -1,9 +1,10 @@
 // The laws of the choice of a programme, over its definition alone. Each is the contract of a function that does nothing.
 ghost use Rattle.open_then_category.specs.Laws.{OneProgrammeChoice, ProgrammeChoiceExists, RefusedFromMore, UnfilledFalls, NoFewerAdmitted, LeavingOutTheRefused, EachRefusedAllRefused, AdmittedOnce, OneStep, SlotsAreTraits, MoreSeatsKeepAll, RefusedBefore, Resumes, ChosenWell, GrowsWithSeats};
+ghost use Rattle.open_then_category.specs.State.{OffersKeepChoices, OffersLeaveOne};
 ghost use Rattle.open_then_category.specs.StepLaws.{AreLawful};
 
 /// The laws of the choice of a step and of the merit order on which these rest.
-fn step_laws()
+pub(crate) fn step_laws()
     ensures { AreLawful }
 {
     merit_choice::laws::choice_exists();
@@ -15,6 +16,11 @@ fn step_laws()
     merit_choice::laws::in_merit_ranks();
     merit_choice::laws::part_in_merit();
     merit_choice::laws::part_can_be_ranked();
+    merit_choice::laws::refused_before();
+    merit_choice::laws::one_merit_order();
+    merit_choice::laws::ranked_in_merit();
+    merit_choice::laws::with_person_ranks();
+    merit_choice::laws::seats_for_all();
 }
 
 /// A programme has at most one choice.
@@ -121,6 +127,21 @@ pub fn chosen_well()
 /// And they admit everybody whom they admitted before where steps have more seats, with all protections as before.
 pub fn grows_with_seats()
     ensures { GrowsWithSeats }
+{
+    step_laws();
+}
+
+/// After a person came to the steps in their order, each handing on whom it leaves out, they admit the choice from those
+/// whom they admitted and the person.
+pub fn offers_keep_choices()
+    ensures { OffersKeepChoices }
+{
+    step_laws();
+}
+
+/// At most one is left without a seat then: one of those whom the steps admitted, or the person. All others are admitted.
+pub fn offers_leave_one()
+    ensures { OffersLeaveOne }
 {
     step_laws();
 }

@@ -1,7 +1,9 @@
 -- The codes of entries are distinct.
-use Rattle.std.proofs.Common.{◌≡◌, ℕ, zero, suc, Bool, true, false, cond, List, [], ◌∷◌, ◌++◌, Some, refl, sym, ap, ◌∙◌}
-use Rattle.std.specs.Prelude.{◌||◌, bytes_eq, slice_get}
-use Rattle.std.specs.List.{AllByRecursion, list_any}
+use Rattle.std.proofs.Common.{◌≡◌, ◌<◌, ℕ, zero, suc, Bool, true, false, cond, List, [], ◌∷◌, ◌++◌, Option, Some, None, get_or, length, lt-ltb, refl, subst, sym, ap, ◌∙◌, arith}
+use Rattle.std.specs.Prelude.{◌||◌, bytes_eq, nat_lt, option_map, position, slice_get}
+use Rattle.std.specs.List.{AllByRecursion, list_any, position_or_len}
+use Rattle.std.proofs.lemmas.List.Sums.{position_or_len_is}
+use Rattle.std.proofs.lemmas.Option.{get_or_from_slice_get, slice_get-map, slice_get_within}
 use Rattle.std.proofs.lemmas.Slice.Eq.{bytes_eq-Decides}
 use Rattle.office_base.specs.Lists.{Pairwise}
 use Rattle.seat_matrix.specs.Matrix.{codes_after, codes_in, with_code}
@@ -45,3 +47,43 @@ pub code_apart : (code : List ℕ) (programmes : List (List ℕ × Home)) (prog 
 code_apart code [] prog held apart e same = cc e
 code_apart code (first ∷ programmes) zero held apart e same = let here : first ≡ held = cc e in apart.0 (same ∙ ap (λ (h : List ℕ × Home). h.0) (sym here))
 code_apart code (first ∷ programmes) (suc prog) held apart e same = code_apart code programmes prog held apart.1 e same
+
+-- P holds of the element at a place
+all_get : (P : List ℕ → Type 0) (codes : List (List ℕ)) (n : ℕ) (code : List ℕ) → AllByRecursion P codes → slice_get codes n ≡ Some code → P code
+all_get P [] n code all e = cc e
+all_get P (first ∷ codes) zero code all e = let here : first ≡ code = cc e in subst P here all.0
+all_get P (first ∷ codes) (suc n) code all e = all_get P codes n code all.1 e
+
+-- an earlier code is another one
+earlier : (codes : List (List ℕ)) (n k : ℕ) (code : List ℕ) → Distinct codes → slice_get codes n ≡ Some code → k < n → bytes_eq code (get_or codes k []) ≡ false
+earlier [] n k code distinct e less = cc e
+earlier (first ∷ codes) zero k code distinct e less = absurd (omega (arith, less))
+earlier (first ∷ codes) (suc n) zero code distinct e less = by (bytes_eq code first) refl
+  where
+    by : (b : Bool) → bytes_eq code first ≡ b → b ≡ false
+    by true same = absurd (all_get (λ other. first ≡ other → ⊥) codes n code distinct.0 e (sym ((bytes_eq-Decides code first).0 same)))
+    by false same = refl
+earlier (first ∷ codes) (suc n) (suc k) code distinct e less = earlier codes n k code distinct.1 e (omega (arith, less))
+
+-- The number of a programme is where its code stands first.
+pub number_of : (codes : List (List ℕ)) (n : ℕ) (code : List ℕ) → Distinct codes → slice_get codes n ≡ Some code → position (bytes_eq code) codes ≡ Some n
+number_of codes n code distinct e =
+    let within : n < length codes = slice_get_within codes n code e in
+    let here : get_or codes n [] ≡ code = get_or_from_slice_get codes n code [] e in
+    let first : position_or_len (bytes_eq code) codes ≡ n =
+    position_or_len_is (bytes_eq code) codes n [] (omega (arith, within)) (λ k less. earlier codes n k code distinct e less) (λ _. (bytes_eq-Decides code (get_or codes n [])).1 (sym here)) in
+    let less : nat_lt n (length codes) ≡ true = lt-ltb n (length codes) within in
+    rw (first, less) refl
+
+-- the code of a programme stands among the codes
+pub code_there : (programmes : List (List ℕ × Home)) (prog : ℕ) (code : List ℕ) → option_map (λ (held : List ℕ × Home). held.0) (slice_get programmes prog) ≡ Some code → slice_get (codes_in programmes) prog ≡ Some code
+code_there programmes prog code e = slice_get-map (λ (held : List ℕ × Home). held.0) programmes prog ∙ e
+
+-- a code is compared where it stands
+pub compared : (programmes : List (List ℕ × Home)) (prog : ℕ) (code text : List ℕ) → option_map (λ (held : List ℕ × Home). held.0) (slice_get programmes prog) ≡ Some code
+    → option_map (λ (held : List ℕ × Home). bytes_eq held.0 text) (slice_get programmes prog) ≡ Some (bytes_eq code text)
+compared programmes prog code text e = by (slice_get programmes prog) e
+  where
+    by : (o : Option (List ℕ × Home)) → option_map (λ (held : List ℕ × Home). held.0) o ≡ Some code → option_map (λ (held : List ℕ × Home). bytes_eq held.0 text) o ≡ Some (bytes_eq code text)
+    by None f = cc f
+    by (Some held) f = let same : held.0 ≡ code = cc f in ap (λ (c : List ℕ). Some (bytes_eq c text)) same

@@ -8,7 +8,8 @@ use Rattle.office_text.proofs.FirstFaultLemmas.{one_answer}
 use Rattle.section_rows.specs.Rows.{Row}
 use Rattle.section_rows.specs.declared.fault.TableFault.TheVariants.{Bad}
 use Rattle.section_rows.specs.Table.{entries_of}
-use Rattle.section_rows.proofs.StepsLemmas.{first_of-push, or_else}
+use Rattle.section_rows.specs.Steps.{or_else}
+use Rattle.section_rows.proofs.StepsLemmas.{first_of-push}
 use Rattle.seat_matrix.proofs.Codes.{Distinct, codes-distinct}
 use Rattle.seat_matrix.specs.Laws.{AreSame, HaveOneReading}
 use Rattle.seat_matrix.specs.Matrix.{IsFault, IsMatrix, IsRead, SeatTable, codes_after, codes_in, codes_of, find_home, home_at, judge, reading, seatings_in, with_code}

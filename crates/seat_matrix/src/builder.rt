@@ -3,7 +3,7 @@ ghost use Rattle.std.specs.Prelude.{◌≡◌, ◌≤◌, ◌∷◌, ◌++◌, [
 ghost use Rattle.std.specs.Cmp.Lexicographic.{pointwise};
 ghost use Rattle.indexmap.specs.IndexMap as index;
 ghost use Rattle.section_rows.specs.Rows.{Row};
-ghost use Rattle.section_rows.proofs.StepsLemmas.{or_else};
+ghost use Rattle.section_rows.specs.Steps.{or_else};
 ghost use Rattle.seat_matrix.specs.Matrix.{with_code};
 
 use crate::entry::{Entry, Home};

@@ -1,7 +1,8 @@
 // The seat matrix, as the layers above see it.
-ghost use Rattle.std.specs.Prelude.{◌≡◌, ◌<◌, ◌≤◌, Some, IfOk, IfErr, length, map, option_map, position, slice_get, sum, bytes_eq, false};
+ghost use Rattle.std.specs.Prelude.{◌≡◌, ◌<◌, ◌≤◌, Some, IfOk, IfErr, length, map, option_map, position, slice_get, sum, bytes_eq, false, IsTrue};
 ghost use Rattle.office_base.specs.Person.{IsList};
 ghost use Rattle.section_rows.specs.Rows.{rows_of};
+ghost use Rattle.seat_matrix.specs.Fields.{code_of};
 ghost use Rattle.seat_matrix.specs.Matrix.{IsRead, IsFault, HasSeating, list_in, matrix_with, seating_in, seats_in, steps_in};
 ghost use Rattle.seat_matrix.specs.Seats.{AreProgrammeSeats, IsSeated, is_dereserved};
 
@@ -72,6 +73,20 @@ impl Matrix {
             unreachable!("the number is below the count")
         };
         *code
+    }
+
+    /// Whether there is a programme of this number and a text spells its code. Then the programme is the one of this code.
+    pub fn has_code(&self, prog: ProgId, text: &[u8]) -> bool
+        ensures same { prog.0 < length self.now.programmes → option_map (λ held. bytes_eq held.0 text.now) (slice_get self.now.programmes prog.0) ≡ Some result }
+        ensures within { IsTrue result → prog.0 < length self.now.programmes }
+        ensures code { IsTrue result → code_of text.now ≡ Some text.now }
+        ensures number { IsTrue result → position (bytes_eq text.now) (map (λ held. held.0) self.now.programmes) ≡ Some prog.0 }
+    {
+        if prog.0 >= self.count() {
+            return false;
+        }
+        let code = self.code(prog);
+        code.bytes() == text
     }
 
     /// The institute at which a programme stands.

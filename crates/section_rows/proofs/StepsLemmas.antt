@@ -8,12 +8,7 @@ use Rattle.std.specs.declared.cmp.Ordering.TheVariants.{Less, Equal, Greater}
 use Rattle.std.proofs.lemmas.Bool.{and_parts, eqb-true, eq-eqb, leb-true, ltb-true}
 use Rattle.std.proofs.lemmas.Option.{cond_some}
 use Rattle.office_text.specs.Number.{number_within, value_of, is_number as is_number_text}
-use Rattle.section_rows.specs.Steps.{after, first_of, needs, unless}
-
--- the first, or else the second
-abbrev pub or_else : {X : Type 0} → Option X → Option X → Option X
-or_else None o = o
-or_else (Some x) o = Some x
+use Rattle.section_rows.specs.Steps.{after, first_of, needs, or_else, unless}
 
 -- what is found with one more element at the end
 pub first_of-push : {X V : Type 0} (test : X → Bool) (value : X → V) (xs : List X) (x : X) → first_of test value (xs ++ x ∷ []) ≡ or_else (first_of test value xs) (cond (test x) (Some (value x)) None)

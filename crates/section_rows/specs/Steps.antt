@@ -19,3 +19,8 @@ after (Err kind) rest = Err kind
 abbrev pub first_of : {X V : Type 0} → (X → Bool) → (X → V) → List X → Option V
 first_of test value [] = None
 first_of test value (x ∷ xs) = if test x then Some (value x) else first_of test value xs
+
+-- the first, or else the second
+abbrev pub or_else : {X : Type 0} → Option X → Option X → Option X
+or_else None o = o
+or_else (Some x) o = Some x

@@ -16,6 +16,8 @@ mod matrices;
 #[cfg(test)]
 mod registers;
 #[cfg(test)]
+mod requests;
+#[cfg(test)]
 mod season_lines;
 #[cfg(test)]
 mod sections;

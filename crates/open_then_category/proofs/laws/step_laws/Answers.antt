@@ -11,4 +11,9 @@ returns c = record {
   in_merit_ranks = c.in_merit_ranks.ensures;
   part_in_merit = c.part_in_merit.ensures;
   part_can_be_ranked = c.part_can_be_ranked.ensures;
+  refused_before = c.refused_before.ensures;
+  one_merit_order = c.one_merit_order.ensures;
+  ranked_in_merit = c.ranked_in_merit.ensures;
+  with_person_ranks = c.with_person_ranks.ensures;
+  seats_for_all = c.seats_for_all.ensures;
 }

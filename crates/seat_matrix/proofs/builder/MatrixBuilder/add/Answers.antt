@@ -2,7 +2,8 @@ use Rattle.std.proofs.Common.{ℕ, List, Option, Some, None, [], sym, ap, ◌∙
 use Rattle.std.specs.Prelude.{bytes_eq, is_some}
 use Rattle.std.specs.List.{list_any}
 use Rattle.std.specs.Ordering.{is_eq}
-use Rattle.section_rows.proofs.StepsLemmas.{first_of-push, or_else}
+use Rattle.section_rows.specs.Steps.{or_else}
+use Rattle.section_rows.proofs.StepsLemmas.{first_of-push}
 use Rattle.seat_matrix.specs.Matrix.{with_code}
 use Rattle.seat_matrix.specs.Builder.{step_cmp}
 use Rattle.seat_matrix.specs.declared.entry.Home.{Home}

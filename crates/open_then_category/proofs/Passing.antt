@@ -1,0 +1,489 @@
+-- A person comes to the steps in their order: what each of them then holds is the choice from its people with whoever came to it.
+use Rattle.std.proofs.Common.{◌≡◌, ◌≢◌, ◌⊎◌, ℕ, Bool, true, false, cond, List, [], ◌∷◌, Option, Some, None, take, refl, sym, ap, ◌∙◌, subst, inl, inr}
+use Rattle.std.proofs.lemmas.Bool.{cases_Bool, cond-true, cond-false}
+use Rattle.std.specs.List.{AllByRecursion, filter}
+use Rattle.std.specs.Prelude.{IsSome}
+use Rattle.office_base.specs.Lists.{IsAmong, IsSublist, Pairwise}
+use Rattle.office_base.specs.Merit.{IsNewTo, in_merit, with_person}
+use Rattle.office_base.specs.Person.{IsList, IsTraitSet, is_common, number_in}
+use Rattle.office_base.specs.StepChoice.{AreRanked, IsStep, IsStepChoice}
+use Rattle.office_base.specs.declared.person.Category.{Category}
+use Rattle.office_base.specs.declared.person.Category.TheVariants.{Ews, Obc, Sc, St}
+use Rattle.office_base.specs.declared.person.ListId.{ListId}
+use Rattle.office_base.specs.declared.person.Person.{Person}
+use Rattle.office_base.specs.declared.step.StepKind.{StepKind}
+use Rattle.office_base.specs.declared.step.StepKind.TheVariants.{Open, Ews as EwsStep, Obc as ObcStep, Sc as ScStep, St as StStep, Dereserved}
+use Rattle.placements.proofs.Sublists.{IsSublist-take}
+use Rattle.placements.specs.Ranks.{AreAmong, AreDistinct}
+use Rattle.placements.specs.Ranks as words
+use Rattle.placements.proofs.Ranks.{among_again, among_itself, among_sublist, any_all, any_among}
+use Rattle.placements.proofs.Without.{among_without as among_others, without_among as others_among, without_apart}
+use Rattle.seat_matrix.specs.Seats.{AreProgrammeSeats, IsSeated, seats_of}
+use Rattle.seat_matrix.specs.declared.seats.ProgrammeSeats.{ProgrammeSeats}
+use Rattle.seat_matrix.specs.declared.seats.Seating.{Seating}
+use Rattle.programme_lists.specs.Chosen.{AreApplicants, everybody}
+use Rattle.programme_lists.specs.Programme.{Admissions, IsProgrammeChoice, admitted_by, is_of, left_over, people_of, step_with, unfilled, without}
+use Rattle.open_then_category.specs.State.{HandsOn, IsOffered, IsPassed, IsTried, OffersKeepChoices, entered, passing}
+use Rattle.open_then_category.specs.StepLaws.{AreLawful}
+use Rattle.open_then_category.proofs.Decide.{is_among_or_not}
+use Rattle.open_then_category.proofs.Lists.{among_filter, among_filter_from, among_without, among_without_from, filter-sublist, ranked_sublist, sublist_again}
+use Rattle.open_then_category.proofs.Once.{from_everybody}
+use Rattle.open_then_category.proofs.ProgrammeLaws.{is_left, last_sublist, rest_of}
+use Rattle.open_then_category.proofs.Walk.{members_sublist, obc_there, ranked_without, same_category, sc_there, st_there}
+
+-- ---- whoever passes a test
+
+pub passing_some : (test : Person → Bool) (coming : Option Person) (person : Person) → passing test coming ≡ Some person → (coming ≡ Some person) × (test person ≡ true)
+passing_some test None person e = cc e
+passing_some test (Some other) person e = by (test other) refl e
+  where
+    by : (b : Bool) → test other ≡ b → cond b (Some other) None ≡ Some person → (Some other ≡ Some person) × (test person ≡ true)
+    by true holds h = let same : other ≡ person = cc h in (h, subst (λ (one : Person). test one ≡ true) same holds)
+    by false fails h = cc h
+
+some_passing : (test : Person → Bool) (coming : Option Person) (person : Person) → coming ≡ Some person → test person ≡ true → passing test coming ≡ Some person
+some_passing test None person e holds = cc e
+some_passing test (Some other) person e holds =
+    let same : other ≡ person = cc e in
+    cond-true (test other) (Some other) None (subst (λ (one : Person). test one ≡ true) (sym same) holds) ∙ e
+
+none_passing : (test : Person → Bool) (coming : Option Person) → ((person : Person) → coming ≡ Some person → test person ≡ false) → passing test coming ≡ None
+none_passing test None fails = refl
+none_passing test (Some person) fails = cond-false (test person) (Some person) None (fails person refl)
+
+-- ---- sets of people
+
+pub from_each : (some all : List Person) → ((person : Person) → IsAmong person some → IsAmong person all) → AreAmong some all
+from_each [] all each = tt
+from_each (person ∷ some) all each = (each person (inl refl), from_each some all (λ other here. each other (inr here)))
+
+pub widen : (person : Person) (some all : List Person) → AreAmong some all → IsAmong person some → IsAmong person all
+widen person some all within here = any_among (λ one. person ≡ one) some all within here
+
+-- nobody of distinct people without one of a number is that one
+gone_apart : (leaver : Person) (people : List Person) → AreDistinct people → IsAmong leaver (words.without leaver.id people) → ⊥
+gone_apart leaver people distinct here =
+    let found = any_all (λ one. leaver ≡ one) (λ other. leaver.id ≢ other.id) (words.without leaver.id people) here (without_apart leaver.id people distinct) in
+    found.2 (ap (λ (p : Person). p.id) found.1)
+
+-- one of the people has another number than another of them, where keys differ in pairs
+pub key_apart : {K : Type 0} (key : Person → K) (all : List Person) (a b : Person) → Pairwise (λ x y. key x ≢ key y) all → IsAmong a all → IsAmong b all → (a ≡ b → ⊥) → key a ≢ key b
+key_apart key [] a b pairs in_a in_b differ = absurd in_a
+key_apart key (person ∷ all) a b pairs in_a in_b differ = elim in_a [
+  | inl a_here ↦ elim in_b [
+    | inl b_here ↦ absurd (differ (a_here ∙ sym b_here))
+    | inr b_later ↦
+        let found = any_all (λ one. b ≡ one) (λ other. key person ≢ key other) all b_later pairs.0 in
+        λ same. found.2 (ap key (sym a_here) ∙ same ∙ ap key found.1)
+  ]
+  | inr a_later ↦ elim in_b [
+    | inl b_here ↦
+        let found = any_all (λ one. a ≡ one) (λ other. key person ≢ key other) all a_later pairs.0 in
+        λ same. found.2 (ap key (sym b_here) ∙ sym same ∙ ap key found.1)
+    | inr b_later ↦ key_apart key all a b pairs.1 a_later b_later differ
+  ]
+]
+
+-- where one of the people is none of some of them, all these have another key
+keys_apart : {K : Type 0} (key : Person → K) (all : List Person) (person : Person) (some : List Person) → Pairwise (λ x y. key x ≢ key y) all → IsAmong person all → AreAmong some all → (IsAmong person some → ⊥)
+    → AllByRecursion (λ other. key person ≢ key other) some
+keys_apart key all person [] pairs here within leaver = tt
+keys_apart key all person (other ∷ some) pairs here within leaver =
+    (key_apart key all person other pairs here within.0 (λ same. leaver (inl same)), keys_apart key all person some pairs here within.1 (λ later. leaver (inr later)))
+
+-- the second people are the first with whoever comes
+pub record Joins (list : ListId) (before after : List Person) (coming : Option Person) : Type 0 where
+  pub ranked : AreRanked list before
+  pub more_ranked : AreRanked list after
+  pub part : AreAmong before after
+  pub here : (person : Person) → coming ≡ Some person → IsAmong person after
+  pub nobody_else : (person : Person) → IsAmong person after → IsAmong person before ⊎ (coming ≡ Some person)
+  pub fresh : (person : Person) → coming ≡ Some person → IsAmong person before → ⊥
+
+-- those held and whoever comes are those held after and whoever goes
+pub record Passes (before : List Person) (coming leaver : Option Person) (after : List Person) : Type 0 where
+  pub stay : (person : Person) → IsAmong person before ⊎ (coming ≡ Some person) → IsAmong person after ⊎ (leaver ≡ Some person)
+  pub back : (person : Person) → IsAmong person after ⊎ (leaver ≡ Some person) → IsAmong person before ⊎ (coming ≡ Some person)
+  pub out : (person : Person) → leaver ≡ Some person → IsAmong person after → ⊥
+
+-- those who pass a test, joined by whoever comes and passes it
+filter_joins : (list : ListId) (test : Person → Bool) (before after : List Person) (coming : Option Person) → Joins list before after coming → Joins list (filter test before) (filter test after) (passing test coming)
+filter_joins list test before after coming j = record {
+  ranked = ranked_sublist list (filter test before) before j.ranked (filter-sublist test before);
+  more_ranked = ranked_sublist list (filter test after) after j.more_ranked (filter-sublist test after);
+  part = from_each (filter test before) (filter test after) (λ person here.
+      let found = among_filter test person before here in
+      among_filter_from test person after (widen person before after j.part found.0) found.1);
+  here = λ person e. let found = passing_some test coming person e in among_filter_from test person after (j.here person found.0) found.1;
+  nobody_else = λ person here.
+      let found = among_filter test person after here in
+      elim (j.nobody_else person found.0) [
+        | inl old ↦ inl (among_filter_from test person before old found.1)
+        | inr new ↦ inr (some_passing test coming person new found.1)
+      ];
+  fresh = λ person e here. j.fresh person (passing_some test coming person e).0 (among_filter test person before here).0;
+}
+
+-- the people who are left, joined by whoever goes
+pub without_joins : (list : ListId) (before after old new : List Person) (coming leaver : Option Person) → Joins list before after coming → AreAmong old before → Passes old coming leaver new
+    → Joins list (without before old) (without after new) leaver
+without_joins list before after old new coming leaver j within p =
+    let new_within : AreAmong new after = from_each new after (λ person here. elim (p.back person (inl here)) [
+      | inl held ↦ widen person before after j.part (widen person old before within held)
+      | inr came ↦ j.here person came
+    ]) in
+    record {
+      ranked = ranked_without list before old j.ranked;
+      more_ranked = ranked_without list after new j.more_ranked;
+      part = from_each (without before old) (without after new) (λ person here.
+          let found = among_without person before old here in
+          among_without_from after after new person j.more_ranked.distinct (among_itself after) new_within (widen person before after j.part found.0)
+          (λ there. elim (p.back person (inl there)) [ inl held ↦ found.1 held | inr came ↦ j.fresh person came found.0 ]));
+      here = λ person e.
+          among_without_from after after new person j.more_ranked.distinct (among_itself after) new_within
+          (elim (p.back person (inr e)) [ inl held ↦ widen person before after j.part (widen person old before within held) | inr came ↦ j.here person came ]) (p.out person e);
+      nobody_else = λ person here.
+          let found = among_without person after new here in
+          let goes = λ (e : IsAmong person old ⊎ (coming ≡ Some person)).
+          let g : leaver ≡ Some person = elim (p.stay person e) [ inl there ↦ absurd (found.1 there) | inr left ↦ left ] in g in
+          elim (j.nobody_else person found.0) [
+            | inl there ↦ elim (is_among_or_not person old) [
+              | inl held ↦ inr (goes (inl held))
+              | inr free ↦ inl (among_without_from before before old person j.ranked.distinct (among_itself before) within there free)
+            ]
+            | inr came ↦ inr (goes (inr came))
+          ];
+      fresh = λ person e here.
+          let found = among_without person before old here in
+          elim (p.back person (inr e)) [ inl held ↦ found.1 held | inr came ↦ j.fresh person came found.0 ];
+    }
+
+-- the choice of a step after whoever came
+abbrev ChosenWith : ListId → Seating → List Person → Option Person → List Person → Type 0
+ChosenWith list seats old None new = new ≡ old
+ChosenWith list seats old (Some person) new = IsStepChoice (step_with list seats (with_person list person old)) new
+
+-- what a step holds after whoever came to it and passed its test
+passed_choice : (test : Person → Bool) (list : ListId) (seats : Seating) (old : List Person) (coming leaver : Option Person) (new : List Person) → IsPassed test list seats old coming leaver new
+    → ChosenWith list seats old (passing test coming) new
+passed_choice test list seats old None leaver new p = p.1
+passed_choice test list seats old (Some person) leaver new p = by (test person) p
+  where
+    by : (b : Bool) → IsTried b list seats old person leaver new → ChosenWith list seats old (cond b (Some person) None) new
+    by true h = h.choice
+    by false h = h.1
+
+-- what each step does in its turn, and the people who are left after the open step and after all categories
+pub record Course (version : ℕ) (seats : ProgrammeSeats) (people more : List Person) (before after : Admissions) (person : Person) (offered : IsOffered version seats before person after) : Type 0 where
+  pub open_passes : Passes before.open_step (Some person) offered.left_by_open after.open_step
+  pub ews_passes : Passes before.ews offered.left_by_open offered.left_by_ews after.ews
+  pub obc_passes : Passes before.obc offered.left_by_ews offered.left_by_obc after.obc
+  pub sc_passes : Passes before.sc offered.left_by_obc offered.left_by_sc after.sc
+  pub st_passes : Passes before.st offered.left_by_sc offered.left_by_st after.st
+  pub rest : Joins seats.list (rest_of people before) (rest_of more after) offered.left_by_open
+  pub last : Joins seats.list (left_over people before) (left_over more after) offered.left_by_st
+
+module _ (laws : AreLawful) where
+  -- ranked people who are the same persons are one list
+  ranked_same : (list : ListId) (some others : List Person) → AreRanked list some → AreRanked list others → AreAmong some others → AreAmong others some → some ≡ others
+  ranked_same list some others one two part back =
+      let can = laws.ranked_in_merit list some one in
+      sym can.1 ∙ sym (laws.one_merit_order list some others can.0 two part back)
+
+  -- whoever joins people is new to those of them
+  pub new_to : (list : ListId) (all some : List Person) (person : Person) → AreRanked list all → AreAmong some all → IsAmong person all → (IsAmong person some → ⊥) → IsNewTo list some person
+  new_to list all some person ranked within here leaver =
+      let can = (laws.ranked_in_merit list all ranked).0 in
+      let traits = any_all (λ one. person ≡ one) (λ one. IsTraitSet one.traits) all here can.traits in
+      let placed = any_all (λ one. person ≡ one) (λ one. IsSome (number_in list one)) all here can.placed in
+      record {
+        traits = subst (λ (one : Person). IsTraitSet one.traits) (sym traits.1) traits.2;
+        placed = subst (λ (one : Person). IsSome (number_in list one)) (sym placed.1) placed.2;
+        distinct = keys_apart (λ (one : Person). one.id) all person some can.distinct here within leaver;
+        numbers = keys_apart (number_in list) all person some can.numbers here within leaver;
+      }
+
+  -- those held and whoever came are those held after and whoever left
+  handed_passes : (list : ListId) (seats : Seating) (all old new : List Person) (person : Person) (leaver : Option Person) → AreRanked list all → AreRanked list old → AreAmong old all → IsAmong person all
+      → (IsAmong person old → ⊥) → HandsOn list old person leaver new → Passes old (Some person) leaver new
+  handed_passes list seats all old new person None ranked old_ranked within here free hands =
+      let with_one = laws.with_person_ranks list old person old_ranked (new_to list all old person ranked within here free) in
+      let joined = with_person list person old in
+      record {
+        stay = λ other h. inl (subst (IsAmong other) (sym hands) (widen other (person ∷ old) joined with_one.1 (elim h [ inl held ↦ inr held | inr came ↦ (let same : person ≡ other = cc came in inl (sym same)) ])));
+        back = λ other h. elim h [
+          | inl held ↦ elim (widen other joined (person ∷ old) with_one.2 (subst (IsAmong other) hands held)) [ inl same ↦ inr (ap (λ (one : Person). Some one) (sym same)) | inr was ↦ inl was ]
+          | inr left ↦ cc left
+        ];
+        out = λ other e. cc e;
+      }
+  handed_passes list seats all old new person (Some leaver) ranked old_ranked within here free hands =
+      let with_one = laws.with_person_ranks list old person old_ranked (new_to list all old person ranked within here free) in
+      let joined = with_person list person old in
+      let back_to = λ (other : Person) (there : IsAmong other joined).
+      let found : IsAmong other old ⊎ (Some person ≡ Some other) = elim (widen other joined (person ∷ old) with_one.2 there) [ inl same ↦ inr (ap (λ (one : Person). Some one) (sym same)) | inr was ↦ inl was ] in found in
+      record {
+        stay = λ other h.
+            let there : IsAmong other joined = widen other (person ∷ old) joined with_one.1 (elim h [ inl held ↦ inr held | inr came ↦ (let same : person ≡ other = cc came in inl (sym same)) ]) in
+            elim (is_among_or_not other new) [
+              | inl held ↦ inl held
+              | inr left ↦ elim (is_among_or_not other (leaver ∷ [])) [
+                | inl found ↦ elim found [ inl same ↦ inr (ap (λ (one : Person). Some one) (sym same)) | inr nothing ↦ absurd nothing ]
+                | inr differs ↦ absurd (left (subst (IsAmong other) (sym hands.1) (among_others leaver.id other joined there
+                    (key_apart (λ (one : Person). one.id) joined other leaver with_one.0.distinct there hands.0 (λ same. differs (inl same))))))
+              ]
+            ];
+        back = λ other h. elim h [
+          | inl held ↦ back_to other (widen other (words.without leaver.id joined) joined (others_among leaver.id joined) (subst (IsAmong other) hands.1 held))
+          | inr left ↦ (let same : leaver ≡ other = cc left in back_to other (subst (λ (one : Person). IsAmong one joined) same hands.0))
+        ];
+        out = λ other e held. (
+            let same : leaver ≡ other = cc e in
+            gone_apart leaver joined with_one.0.distinct (subst (IsAmong leaver) hands.1 (subst (λ (one : Person). IsAmong one new) (sym same) held))
+            );
+      }
+
+  -- and so it is of each step, whether it was offered or not
+  pub passes : (test : Person → Bool) (list : ListId) (seats : Seating) (before after old new : List Person) (coming leaver : Option Person) → Joins list before after coming → AreAmong old before → AreRanked list old
+      → IsPassed test list seats old coming leaver new → Passes old coming leaver new
+  passes test list seats before after old new None leaver j within old_ranked p = record {
+    stay = λ other h. elim h [ inl held ↦ inl (subst (IsAmong other) (sym p.1) held) | inr came ↦ cc came ];
+    back = λ other h. elim h [ inl held ↦ inl (subst (IsAmong other) p.1 held) | inr left ↦ cc (p.0, left) ];
+    out = λ other e held. cc (p.0, e);
+  }
+  passes test list seats before after old new (Some person) leaver j within old_ranked p = by (test person) p
+    where
+      by : (b : Bool) → IsTried b list seats old person leaver new → Passes old (Some person) leaver new
+      by true h = handed_passes list seats after old new person leaver j.more_ranked old_ranked (among_again old before after within j.part) (j.here person refl)
+          (λ held. j.fresh person refl (widen person old before within held)) h.hands_on
+      by false h = record {
+        stay = λ other e. elim e [ inl held ↦ inl (subst (IsAmong other) (sym h.1) held) | inr came ↦ inr (h.0 ∙ came) ];
+        back = λ other e. elim e [ inl held ↦ inl (subst (IsAmong other) h.1 held) | inr left ↦ inr (sym h.0 ∙ left) ];
+        out = λ other e held. j.fresh other (sym h.0 ∙ e) (widen other old before within (subst (IsAmong other) h.1 held));
+      }
+
+  -- the choice from those held and whoever comes is that from all the people
+  joined_choice : (list : ListId) (seats : Seating) (before after old new : List Person) (coming : Option Person) → IsList list → IsSeated seats → Joins list before after coming
+      → IsStepChoice (step_with list seats before) old → ChosenWith list seats old coming new → IsStepChoice (step_with list seats after) new
+  joined_choice list seats before after old new None is_list seated j choice same =
+      let one = ranked_same list before after j.ranked j.more_ranked j.part
+      (from_each after before (λ person here. elim (j.nobody_else person here) [ inl there ↦ there | inr came ↦ cc came ])) in
+      subst (λ (people : List Person). IsStepChoice (step_with list seats people) new) one (subst (IsStepChoice (step_with list seats before)) (sym same) choice)
+  joined_choice list seats before after old new (Some person) is_list seated j choice chosen =
+      let within = among_sublist old before choice.may.people in
+      let old_ranked = ranked_sublist list old before j.ranked choice.may.people in
+      let fresh = new_to list after old person j.more_ranked (among_again old before after within j.part) (j.here person refl) (λ held. j.fresh person refl (widen person old before within held)) in
+      let with_one = laws.with_person_ranks list old person old_ranked fresh in
+      let small = with_person list person old in
+      let step : IsStep (step_with list seats before) = record { list = is_list; people = j.ranked; protections = seated.protections } in
+      let small_step : IsStep (step_with list seats small) = record { list = is_list; people = with_one.0; protections = seated.protections } in
+      let more_step : IsStep (step_with list seats after) = record { list = is_list; people = j.more_ranked; protections = seated.protections } in
+      let whole = laws.choice_exists (step_with list seats after) more_step in
+      let small_within : AreAmong small after = from_each small after (λ other here. elim (widen other small (person ∷ old) with_one.2 here) [
+        | inl same ↦ subst (λ (one : Person). IsAmong one after) (sym same) (j.here person refl)
+        | inr held ↦ widen other before after j.part (widen other old before within held)
+      ]) in
+      let same : new ≡ whole.0 = laws.refused_before (step_with list seats before) (step_with list seats small) (step_with list seats after) old new whole.0
+      (record { is_step = step; more_is_step = more_step; list = refl; seats = refl; protections = refl; people = j.part })
+      (record { is_step = small_step; more_is_step = more_step; list = refl; seats = refl; protections = refl; people = small_within })
+      choice chosen whole.1
+      (λ other here out. elim (j.nobody_else other here) [
+        | inl there ↦ (there, λ held. out (widen other (person ∷ old) small with_one.1 (inr held)))
+        | inr came ↦ (let is : person ≡ other = cc came in absurd (out (widen other (person ∷ old) small with_one.1 (inl (sym is)))))
+      ]) in
+      subst (IsStepChoice (step_with list seats after)) (sym same) whole.1
+
+  -- whoever joins people who are ranked, put in at the merit place
+  joined_people : (list : ListId) (before after : List Person) (coming : Option Person) → Joins list before after coming → after ≡ entered list before coming
+  joined_people list before after None j =
+      sym (ranked_same list before after j.ranked j.more_ranked j.part (from_each after before (λ person here. elim (j.nobody_else person here) [ inl there ↦ there | inr came ↦ cc came ])))
+  joined_people list before after (Some person) j =
+      let fresh = new_to list after before person j.more_ranked j.part (j.here person refl) (j.fresh person refl) in
+      let with_one = laws.with_person_ranks list before person j.ranked fresh in
+      ranked_same list after (with_person list person before) j.more_ranked with_one.0
+      (from_each after (with_person list person before) (λ other here. widen other (person ∷ before) (with_person list person before) with_one.1
+      (elim (j.nobody_else other here) [ inl there ↦ inr there | inr came ↦ (let is : person ≡ other = cc came in inl (sym is)) ])))
+      (from_each (with_person list person before) after (λ other here. elim (widen other (with_person list person before) (person ∷ before) with_one.2 here) [
+        | inl same ↦ subst (λ (one : Person). IsAmong one after) (sym same) (j.here person refl)
+        | inr there ↦ widen other before after j.part there
+      ]))
+
+  -- ---- whoever a category leaves out is none of another category
+
+  passing_later : (one other : Category) (list : ListId) (seats : Seating) (people old new : List Person) (coming leaver : Option Person) → (one ≡ other → ⊥) → IsSublist old (filter (is_of one) people)
+      → Passes old coming leaver new → IsPassed (is_of one) list seats old coming leaver new → passing (is_of other) leaver ≡ passing (is_of other) coming
+  passing_later one other list seats people old new None leaver differ sub p passed = ap (passing (is_of other)) passed.0
+  passing_later one other list seats people old new (Some person) leaver differ sub p passed = by (is_of one person) refl passed
+    where
+      not_other : (someone : Person) → is_of one someone ≡ true → is_of other someone ≡ false
+      not_other someone holds = elim (cases_Bool (is_of other someone)) [
+        | inl too ↦ absurd (differ (same_category one someone.category holds ∙ sym (same_category other someone.category too)))
+        | inr fails ↦ fails
+      ]
+
+      by : (b : Bool) → is_of one person ≡ b → IsTried b list seats old person leaver new → passing (is_of other) leaver ≡ passing (is_of other) (Some person)
+      by true holds h =
+          none_passing (is_of other) leaver (λ someone e. not_other someone (elim (p.back someone (inr e)) [
+            | inl held ↦ (among_filter (is_of one) someone people (widen someone old (filter (is_of one) people) (among_sublist old (filter (is_of one) people) sub) held)).1
+            | inr came ↦ (let is : person ≡ someone = cc came in subst (λ (p : Person). is_of one p ≡ true) is holds)
+          ]))
+          ∙ sym (none_passing (is_of other) (Some person) (λ someone e. (let is : person ≡ someone = cc e in not_other someone (subst (λ (p : Person). is_of one p ≡ true) is holds))))
+      by false fails h = ap (passing (is_of other)) h.0
+
+  -- ---- the whole programme
+
+  -- where all applicants are admitted, the de-reserved step has all who are left to it
+  pub last_whole : (version : ℕ) (seats : ProgrammeSeats) (people : List Person) (admissions : Admissions) → AreRanked seats.list people → AreAmong people (everybody admissions)
+      → IsProgrammeChoice version seats people admissions → admissions.dereserved ≡ people_of seats.list people admissions Dereserved
+  last_whole version seats people admissions ranked all choice =
+      let whole = people_of seats.list people admissions Dereserved in
+      let n = unfilled version seats admissions in
+      let whole_ranked = ranked_sublist seats.list whole people ranked (last_sublist seats.list people admissions) in
+      let sub : IsSublist admissions.dereserved whole = subst (λ (some : List Person). IsSublist some whole) (sym choice.dereserved) (IsSublist-take n whole) in
+      ranked_same seats.list admissions.dereserved whole (ranked_sublist seats.list admissions.dereserved whole whole_ranked sub) whole_ranked (among_sublist admissions.dereserved whole sub)
+      (from_each whole admissions.dereserved (λ person here.
+      let left = is_left person people admissions (among_filter (is_common seats.list) person (left_over people admissions) here).0 in
+      let found = from_everybody admissions person (widen person people (everybody admissions) all left.here) in
+      elim found.0 as (λ (kind : StepKind). IsAmong person (admitted_by admissions kind) → IsAmong person admissions.dereserved) [
+        | Open ↦ λ there. absurd (left.not_open there)
+        | EwsStep ↦ λ there. absurd (left.not_ews there)
+        | ObcStep ↦ λ there. absurd (left.not_obc there)
+        | ScStep ↦ λ there. absurd (left.not_sc there)
+        | StStep ↦ λ there. absurd (left.not_st there)
+        | Dereserved ↦ λ there. there
+      ] found.1))
+
+  -- what each step does in its turn, and the people who are left after it
+  pub course : (version : ℕ) (seats : ProgrammeSeats) (people more : List Person) (before after : Admissions) (person : Person) → Joins seats.list people more (Some person)
+      → IsProgrammeChoice version seats people before → (offered : IsOffered version seats before person after) → Course version seats people more before after person offered
+  course version seats people more before after person j choice offered =
+      let list = seats.list in
+      let open_sub = sublist_again before.open_step (filter (is_common list) people) people choice.open_step.may.people (filter-sublist (is_common list) people) in
+      let open_passes = passes (is_common list) list (seats_of seats Open) people more before.open_step after.open_step (Some person) offered.left_by_open j (among_sublist before.open_step people open_sub)
+      (ranked_sublist list before.open_step people j.ranked open_sub) offered.open_step in
+      let rest = without_joins list people more before.open_step after.open_step (Some person) offered.left_by_open j (among_sublist before.open_step people open_sub) open_passes in
+      let old = rest_of people before in
+      let new = rest_of more after in
+      let distinct = rest.ranked.distinct in
+      let ews_sub = members_sublist Ews before.ews old choice.ews.may.people in
+      let ews_passes = passes (is_of Ews) list (seats_of seats EwsStep) old new before.ews after.ews offered.left_by_open offered.left_by_ews rest (among_sublist before.ews old ews_sub)
+      (ranked_sublist list before.ews old rest.ranked ews_sub) offered.ews in
+      let rest1 = without_joins list old new before.ews after.ews offered.left_by_open offered.left_by_ews rest (among_sublist before.ews old ews_sub) ews_passes in
+      let old1 = without old before.ews in
+      let new1 = without new after.ews in
+      let obc_sub = obc_there old before.ews before.obc distinct choice.ews.may.people choice.obc.may.people in
+      let obc_passes = passes (is_of Obc) list (seats_of seats ObcStep) old1 new1 before.obc after.obc offered.left_by_ews offered.left_by_obc rest1 (among_sublist before.obc old1 obc_sub)
+      (ranked_sublist list before.obc old1 rest1.ranked obc_sub) offered.obc in
+      let rest2 = without_joins list old1 new1 before.obc after.obc offered.left_by_ews offered.left_by_obc rest1 (among_sublist before.obc old1 obc_sub) obc_passes in
+      let old2 = without old1 before.obc in
+      let new2 = without new1 after.obc in
+      let sc_sub = sc_there old before.ews before.obc before.sc distinct choice.ews.may.people choice.obc.may.people choice.sc.may.people in
+      let sc_passes = passes (is_of Sc) list (seats_of seats ScStep) old2 new2 before.sc after.sc offered.left_by_obc offered.left_by_sc rest2 (among_sublist before.sc old2 sc_sub)
+      (ranked_sublist list before.sc old2 rest2.ranked sc_sub) offered.sc in
+      let rest3 = without_joins list old2 new2 before.sc after.sc offered.left_by_obc offered.left_by_sc rest2 (among_sublist before.sc old2 sc_sub) sc_passes in
+      let old3 = without old2 before.sc in
+      let new3 = without new2 after.sc in
+      let st_sub = st_there old before.ews before.obc before.sc before.st distinct choice.ews.may.people choice.obc.may.people choice.sc.may.people choice.st.may.people in
+      let st_passes = passes (is_of St) list (seats_of seats StStep) old3 new3 before.st after.st offered.left_by_sc offered.left_by_st rest3 (among_sublist before.st old3 st_sub)
+      (ranked_sublist list before.st old3 rest3.ranked st_sub) offered.st in
+      let rest4 = without_joins list old3 new3 before.st after.st offered.left_by_sc offered.left_by_st rest3 (among_sublist before.st old3 st_sub) st_passes in
+      record {
+        open_passes = open_passes;
+        ews_passes = ews_passes;
+        obc_passes = obc_passes;
+        sc_passes = sc_passes;
+        st_passes = st_passes;
+        rest = rest;
+        last = rest4;
+      }
+
+  -- whoever comes to the de-reserved step joins those it has
+  pub last_joins : (version : ℕ) (seats : ProgrammeSeats) (people more : List Person) (before after : Admissions) (person : Person) → Joins seats.list people more (Some person)
+      → AreAmong people (everybody before) → IsProgrammeChoice version seats people before → (offered : IsOffered version seats before person after) → Course version seats people more before after person offered
+      → Joins seats.list before.dereserved (entered seats.list before.dereserved (passing (is_common seats.list) offered.left_by_st)) (passing (is_common seats.list) offered.left_by_st)
+  last_joins version seats people more before after person j all choice offered course =
+      let list = seats.list in
+      let coming = passing (is_common list) offered.left_by_st in
+      let joined = filter_joins list (is_common list) (left_over people before) (left_over more after) offered.left_by_st course.last in
+      let whole = last_whole version seats people before j.ranked all choice in
+      let there : Joins list before.dereserved (people_of list more after Dereserved) coming = subst (λ (some : List Person). Joins list some (people_of list more after Dereserved) coming) (sym whole) joined in
+      subst (λ (some : List Person). Joins list before.dereserved some coming) (joined_people list before.dereserved (people_of list more after Dereserved) coming there) there
+
+  pub ranked_offer : (version : ℕ) (seats : ProgrammeSeats) (people more : List Person) (before after : Admissions) (person : Person) → AreProgrammeSeats seats → Joins seats.list people more (Some person)
+      → AreAmong people (everybody before) → IsProgrammeChoice version seats people before → IsOffered version seats before person after → IsProgrammeChoice version seats more after
+  ranked_offer version seats people more before after person ok j all choice offered =
+      let list = seats.list in
+      let way = course version seats people more before after person j choice offered in
+      let rest = way.rest in
+      let rest4 = way.last in
+      let ews_passes = way.ews_passes in
+      let obc_passes = way.obc_passes in
+      let sc_passes = way.sc_passes in
+      let old = rest_of people before in
+      let new = rest_of more after in
+      let to_obc : passing (is_of Obc) offered.left_by_ews ≡ passing (is_of Obc) offered.left_by_open =
+      passing_later Ews Obc list (seats_of seats EwsStep) old before.ews after.ews offered.left_by_open offered.left_by_ews (λ e. cc e) choice.ews.may.people ews_passes offered.ews in
+      let to_sc : passing (is_of Sc) offered.left_by_obc ≡ passing (is_of Sc) offered.left_by_open =
+      passing_later Obc Sc list (seats_of seats ObcStep) old before.obc after.obc offered.left_by_ews offered.left_by_obc (λ e. cc e) choice.obc.may.people obc_passes offered.obc
+      ∙ passing_later Ews Sc list (seats_of seats EwsStep) old before.ews after.ews offered.left_by_open offered.left_by_ews (λ e. cc e) choice.ews.may.people ews_passes offered.ews in
+      let to_st : passing (is_of St) offered.left_by_sc ≡ passing (is_of St) offered.left_by_open =
+      passing_later Sc St list (seats_of seats ScStep) old before.sc after.sc offered.left_by_obc offered.left_by_sc (λ e. cc e) choice.sc.may.people sc_passes offered.sc
+      ∙ passing_later Obc St list (seats_of seats ObcStep) old before.obc after.obc offered.left_by_ews offered.left_by_obc (λ e. cc e) choice.obc.may.people obc_passes offered.obc
+      ∙ passing_later Ews St list (seats_of seats EwsStep) old before.ews after.ews offered.left_by_open offered.left_by_ews (λ e. cc e) choice.ews.may.people ews_passes offered.ews in
+      let last : people_of list more after Dereserved ≡ entered list before.dereserved (passing (is_common list) offered.left_by_st) =
+      joined_people list (filter (is_common list) (left_over people before)) (filter (is_common list) (left_over more after)) (passing (is_common list) offered.left_by_st)
+      (filter_joins list (is_common list) (left_over people before) (left_over more after) offered.left_by_st rest4)
+      ∙ ap (λ (some : List Person). entered list some (passing (is_common list) offered.left_by_st)) (sym (last_whole version seats people before j.ranked all choice)) in
+      record {
+        open_step = joined_choice list (seats_of seats Open) (filter (is_common list) people) (filter (is_common list) more) before.open_step after.open_step (passing (is_common list) (Some person)) ok.list (ok.steps Open)
+            (filter_joins list (is_common list) people more (Some person) j) choice.open_step
+            (passed_choice (is_common list) list (seats_of seats Open) before.open_step (Some person) offered.left_by_open after.open_step offered.open_step);
+        ews = joined_choice list (seats_of seats EwsStep) (filter (is_of Ews) old) (filter (is_of Ews) new) before.ews after.ews (passing (is_of Ews) offered.left_by_open) ok.list (ok.steps EwsStep)
+            (filter_joins list (is_of Ews) old new offered.left_by_open rest) choice.ews
+            (passed_choice (is_of Ews) list (seats_of seats EwsStep) before.ews offered.left_by_open offered.left_by_ews after.ews offered.ews);
+        obc = joined_choice list (seats_of seats ObcStep) (filter (is_of Obc) old) (filter (is_of Obc) new) before.obc after.obc (passing (is_of Obc) offered.left_by_open) ok.list (ok.steps ObcStep)
+            (filter_joins list (is_of Obc) old new offered.left_by_open rest) choice.obc
+            (subst (λ (o : Option Person). ChosenWith list (seats_of seats ObcStep) before.obc o after.obc) to_obc
+            (passed_choice (is_of Obc) list (seats_of seats ObcStep) before.obc offered.left_by_ews offered.left_by_obc after.obc offered.obc));
+        sc = joined_choice list (seats_of seats ScStep) (filter (is_of Sc) old) (filter (is_of Sc) new) before.sc after.sc (passing (is_of Sc) offered.left_by_open) ok.list (ok.steps ScStep)
+            (filter_joins list (is_of Sc) old new offered.left_by_open rest) choice.sc
+            (subst (λ (o : Option Person). ChosenWith list (seats_of seats ScStep) before.sc o after.sc) to_sc
+            (passed_choice (is_of Sc) list (seats_of seats ScStep) before.sc offered.left_by_obc offered.left_by_sc after.sc offered.sc));
+        st = joined_choice list (seats_of seats StStep) (filter (is_of St) old) (filter (is_of St) new) before.st after.st (passing (is_of St) offered.left_by_open) ok.list (ok.steps StStep)
+            (filter_joins list (is_of St) old new offered.left_by_open rest) choice.st
+            (subst (λ (o : Option Person). ChosenWith list (seats_of seats StStep) before.st o after.st) to_st
+            (passed_choice (is_of St) list (seats_of seats StStep) before.st offered.left_by_sc offered.left_by_st after.st offered.st));
+        dereserved = offered.dereserved ∙ ap (λ (some : List Person). take (unfilled version seats after) some) (sym last);
+      }
+
+  -- one applicant more, by merit
+  pub starts : (list : ListId) (held : List Person) (person : Person) → AreApplicants list (person ∷ held) → Joins list (in_merit list held) (in_merit list (person ∷ held)) (Some person)
+  starts list held person may =
+      let ranks = laws.in_merit_ranks list (person ∷ held) may in
+      let held_may = laws.part_can_be_ranked list held (person ∷ held) may.distinct.1 may (from_each held (person ∷ held) (λ other here. inr here)) in
+      let held_ranks = laws.in_merit_ranks list held held_may in
+      record {
+        ranked = held_ranks.0;
+        more_ranked = ranks.0;
+        part = from_each (in_merit list held) (in_merit list (person ∷ held)) (λ other here. widen other (person ∷ held) (in_merit list (person ∷ held)) ranks.1 (inr (widen other (in_merit list held) held held_ranks.2 here)));
+        here = λ other e. (let is : person ≡ other = cc e in widen other (person ∷ held) (in_merit list (person ∷ held)) ranks.1 (inl (sym is)));
+        nobody_else = λ other here. elim (widen other (in_merit list (person ∷ held)) (person ∷ held) ranks.2 here) [
+          | inl same ↦ inr (ap (λ (one : Person). Some one) (sym same))
+          | inr there ↦ inl (widen other held (in_merit list held) held_ranks.1 there)
+        ];
+        fresh = λ other e here. (
+            let is : person ≡ other = cc e in
+            let there = widen other (in_merit list held) held held_ranks.2 here in
+            let found = any_all (λ one. other ≡ one) (λ one. person.id ≢ one.id) held there may.distinct.0 in
+            found.2 (ap (λ (p : Person). p.id) (is ∙ found.1))
+            );
+      }
+
+  pub offers_keep_choices : OffersKeepChoices
+  offers_keep_choices version seats before after person ok may choice offered =
+      let list = seats.list in
+      let held = everybody before in
+      let held_may = laws.part_can_be_ranked list held (person ∷ held) may.distinct.1 may (from_each held (person ∷ held) (λ other here. inr here)) in
+      let held_ranks = laws.in_merit_ranks list held held_may in
+      let j = starts list held person may in
+      ranked_offer version seats (in_merit list held) (in_merit list (person ∷ held)) before after person ok j held_ranks.2 choice offered

@@ -1,0 +1,220 @@
+// The choice of a programme from applicants who come one at a time.
+ghost use Rattle.std.specs.Prelude.{◌≡◌, ◌≤◌, ◌<◌, ◌+◌, [], ◌∷◌, List, Some, length, take, slice_get, vec_len, vec_capacity, IfOk};
+ghost use Rattle.office_base.specs.Lists.{IsAmong};
+ghost use Rattle.office_base.specs.Merit.{IsNewTo};
+ghost use Rattle.office_base.specs.Person.{IsList, is_common};
+ghost use Rattle.office_base.specs.StepChoice.{AreRanked};
+ghost use Rattle.office_base.specs.Version.{IsVersion};
+ghost use Rattle.office_base.specs.declared.person.Person.{Person as AnyPerson};
+ghost use Rattle.placements.specs.Ranks.{AreDistinct};
+ghost use Rattle.seat_matrix.specs.Matrix.{seats_in};
+ghost use Rattle.seat_matrix.specs.Seats.{IsSeated};
+ghost use Rattle.programme_lists.specs.Chosen.{AreApplicants, ChoosesFrom, IsWith, everybody};
+ghost use Rattle.programme_lists.specs.Programme.{admitted_by, is_of};
+ghost use Rattle.open_then_category.specs.State.{IsAnswered, IsPassed, count, entered, left_last, nobody, passing};
+
+use crate::filters::is_of;
+use crate::laws::{offers_keep_choices, offers_leave_one, resumes, step_laws};
+use dereserve::{is_common, left_unfilled};
+use merit_choice::{Offered, StepState, put_in_order};
+use office_base::{Category, ListId, OutOfMemory, Person, ProgId, StepKind, Steps};
+use seat_matrix::{Matrix, ProgrammeSeats, Seating};
+use std::alloc::Global;
+use std::marker::Model;
+use std::sync::ledger::Ledger;
+
+/// The seats of a programme, and whom each step admits of all who were offered so far.
+#[derive(Debug, Drop)]
+pub struct ProgrammeState {
+    version: u8,
+    seats: ProgrammeSeats,
+    open_step: StepState,
+    ews: StepState,
+    obc: StepState,
+    sc: StepState,
+    st: StepState,
+    dereserved: Vec<Person>,
+}
+
+impl Model for ProgrammeState {
+    ghost use Rattle.std.specs.Prelude.{vec_capacity};
+    ghost use Rattle.open_then_category.specs.State.{ProgrammeKept, IsStateKept};
+
+    ghost Value = { ProgrammeKept };
+
+    ghost view = { λ a. record { version = a.version; seats = a.seats; admissions = record { open_step = a.open_step.held; ews = a.ews.held; obc = a.obc.held; sc = a.sc.held; st = a.st.held; dereserved = a.dereserved.items } } };
+
+    ghost invariant = { λ a. IsStateKept (record { version = a.version; seats = a.seats; admissions = record { open_step = a.open_step.held; ews = a.ews.held; obc = a.obc.held; sc = a.sc.held; st = a.st.held; dereserved = a.dereserved.items } }) a.open_step a.ews a.obc a.sc a.st (vec_capacity a.dereserved) };
+}
+
+impl ProgrammeState {
+    /// A programme that admits nobody. It takes all its room now, so that no later call takes memory.
+    pub fn new(
+        alloc: Global,
+        matrix: &Matrix,
+        version: u8,
+        prog: ProgId,
+    ) -> Result<ProgrammeState, OutOfMemory>
+        requires programme { prog.0 < length matrix.now.programmes }
+        requires version { IsVersion version }
+        ensures { IfOk result (λ state. state ≡ record { version = version; seats = seats_in matrix.now prog.0; admissions = nobody }) }
+    {
+        step_laws();
+        let seats = matrix.programme(prog);
+        let list = seats.list;
+        let room = usize::from(seats.steps.ews.seats) + usize::from(seats.steps.obc.seats) + 1;
+        Ok(ProgrammeState {
+            version,
+            seats,
+            open_step: step_state(alloc, list, seats.of(StepKind::Open))?,
+            ews: step_state(alloc, list, seats.of(StepKind::Ews))?,
+            obc: step_state(alloc, list, seats.of(StepKind::Obc))?,
+            sc: step_state(alloc, list, seats.of(StepKind::Sc))?,
+            st: step_state(alloc, list, seats.of(StepKind::St))?,
+            dereserved: Vec::with_capacity(alloc, room)?,
+        })
+    }
+
+    /// Offers the person to the programme, which then admits the choice from those whom it admitted and the person. So after
+    /// any offers it admits the choice from all who were offered. It takes no memory, and counts one step.
+    pub fn offer<L: Ledger>(&mut self, person: &Person, steps: &mut Steps<L>) -> Offered
+        requires { AreApplicants self.old.seats.list (person.now ∷ everybody self.old.admissions) }
+        // the version and the seats stay
+        ensures stays { self.new ≡ record self.old { admissions = self.new.admissions } }
+        ensures choice { ChoosesFrom self.old.version self.old.seats (person.now ∷ everybody self.old.admissions) self.new.admissions }
+        ensures all { (some all : List AnyPerson) → AreDistinct some → AreApplicants self.old.seats.list all → IsWith person.now some all → (IsAmong person.now some → ⊥)
+            → ChoosesFrom self.old.version self.old.seats some self.old.admissions → ChoosesFrom self.old.version self.old.seats all self.new.admissions }
+        ensures answer { IsAnswered self.old person.now result self.new }
+        ensures cost { steps.new ≡ steps.old + 1 }
+    {
+        step_laws();
+        offers_keep_choices();
+        offers_leave_one();
+        resumes();
+        steps.tick();
+        let list = self.seats.list;
+        let by_open = hand_common(&mut self.open_step, list, person);
+        let by_ews = hand_member(&mut self.ews, Category::Ews, by_open);
+        let by_obc = hand_member(&mut self.obc, Category::Obc, by_ews);
+        let by_sc = hand_member(&mut self.sc, Category::Sc, by_obc);
+        let by_st = hand_member(&mut self.st, Category::St, by_sc);
+        let empty = left_unfilled(
+            self.version,
+            self.seats.steps.ews.seats,
+            held_by(&self.ews),
+            self.seats.steps.obc.seats,
+            held_by(&self.obc),
+        );
+        match keep_best(&mut self.dereserved, list, by_st, empty) {
+            None => Offered::Taken,
+            Some(gone) => {
+                if gone.id == person.id {
+                    Offered::Refused
+                } else {
+                    Offered::Displaced(gone.id)
+                }
+            }
+        }
+    }
+
+    /// Those whom a step admits, in merit order. It takes no memory.
+    pub fn admitted(&self, kind: StepKind) -> &[Person]
+        ensures { result.now ≡ admitted_by self.now.admissions kind }
+    {
+        match kind {
+            StepKind::Open => self.open_step.admitted(),
+            StepKind::Ews => self.ews.admitted(),
+            StepKind::Obc => self.obc.admitted(),
+            StepKind::Sc => self.sc.admitted(),
+            StepKind::St => self.st.admitted(),
+            StepKind::Dereserved => self.dereserved.as_slice(),
+        }
+    }
+}
+
+/// A step of these seats that holds nobody.
+fn step_state(alloc: Global, list: ListId, seating: Seating) -> Result<StepState, OutOfMemory>
+    requires list { IsList list }
+    requires seats { IsSeated seating }
+    ensures { IfOk result (λ step. step ≡ record { list = list; seats = seating.seats; protections = seating.protections; held = [] }) }
+{
+    StepState::new(alloc, list, seating.seats, seating.protections)
+}
+
+/// How many a step holds.
+fn held_by(step: &StepState) -> u16
+    requires { step.now.seats ≤ 4000 }
+    ensures held { result ≡ length step.now.held }
+    ensures few { length step.now.held ≤ step.now.seats }
+{
+    step.admitted().len() as u16
+}
+
+/// Hands the person to a step for those with a common place, and tells who goes on to the next one.
+fn hand_common(step: &mut StepState, list: ListId, person: &Person) -> Option<Person>
+    requires list { IsList list }
+    requires new { IsNewTo step.old.list step.old.held person.now }
+    ensures stays { step.new ≡ record step.old { held = step.new.held } }
+    ensures passed { IsPassed (is_common list) step.old.list (record { seats = step.old.seats; protections = step.old.protections }) step.old.held (Some person.now) result step.new.held }
+{
+    if !is_common(person, list) {
+        return Some(*person);
+    }
+    step.hand(person)
+}
+
+/// Hands whoever comes to the step of a category, where it is a member, and tells who goes on to the next one.
+fn hand_member(step: &mut StepState, category: Category, coming: Option<Person>) -> Option<Person>
+    requires { (person : AnyPerson) → coming ≡ Some person → IsNewTo step.old.list step.old.held person }
+    ensures stays { step.new ≡ record step.old { held = step.new.held } }
+    ensures passed { IsPassed (is_of category) step.old.list (record { seats = step.old.seats; protections = step.old.protections }) step.old.held coming result step.new.held }
+{
+    let Some(person) = coming else {
+        return None;
+    };
+    if !is_of(&person, category) {
+        return Some(person);
+    }
+    step.hand(&person)
+}
+
+/// Keeps the best on the seats, with whoever comes and has a common place, and tells who is left without a seat: one too
+/// many at most.
+fn keep_best(
+    people: &mut Vec<Person>,
+    list: ListId,
+    coming: Option<Person>,
+    seats: u32,
+) -> Option<Person>
+    requires list { IsList list }
+    requires ranked { AreRanked list people.old.items }
+    requires new { (person : AnyPerson) → coming ≡ Some person → IsNewTo list people.old.items person }
+    requires room { vec_len people.old < vec_capacity people.old }
+    requires few { length people.old.items + count coming ≤ seats + 1 }
+    ensures items { people.new.items ≡ take seats (entered list people.old.items (passing (is_common list) coming)) }
+    ensures out { result ≡ left_last seats list people.old.items coming }
+    ensures room { vec_capacity people.old ≤ vec_capacity people.new }
+{
+    let Some(person) = coming else {
+        return drop_last(people, seats);
+    };
+    if !is_common(&person, list) {
+        return Some(person);
+    }
+    put_in_order(people, &person, list);
+    drop_last(people, seats)
+}
+
+/// The person for whom there is no seat leaves.
+fn drop_last(people: &mut Vec<Person>, seats: u32) -> Option<Person>
+    requires { length people.old.items ≤ seats + 1 }
+    ensures items { people.new.items ≡ take seats people.old.items }
+    ensures out { result ≡ slice_get people.old.items seats }
+    ensures room { vec_capacity people.old ≤ vec_capacity people.new }
+{
+    if people.len() <= seats as usize {
+        return None;
+    }
+    let gone = people.remove(seats as usize);
+    Some(gone)
+}
