@@ -21,4 +21,6 @@ mod small_programmes;
 #[cfg(test)]
 mod small_steps;
 #[cfg(test)]
+mod step_states;
+#[cfg(test)]
 mod steps;
