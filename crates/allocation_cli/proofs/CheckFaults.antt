@@ -1,8 +1,8 @@
 -- The failures of `check` have their causes.
-use Rattle.std.proofs.Common.{◌≡◌, ℕ, List, Option, refl}
+use Rattle.std.proofs.Common.{◌≡◌, ℕ, true, List, Option, refl}
 use Rattle.office_base.specs.Limits.{most_bundle_bytes}
 use Rattle.season_file.specs.Laws.{HasFault}
-use Rattle.season_file.specs.Season.{HasGiven, IsSeasonFault, IsSourceFault}
+use Rattle.season_file.specs.Season.{GaveFault, IsSeasonFault, IsSourceFault}
 use Rattle.season_file.specs.declared.fault.SeasonFault.{SeasonFault}
 use Rattle.season_file.specs.declared.fault.SeasonFault.TheVariants.{ReadFault, TooLong, OutOfMemory}
 use Rattle.season_texts.specs.Texts.{fault_line}
@@ -13,12 +13,12 @@ use Rattle.allocation_cli.specs.declared.failure.Failure.TheVariants.{Read, Bad,
 use Rattle.allocation_cli.proofs.Ended.{all_left, long_left}
 
 -- the line of a fault of the bytes that a source gave
-told_left : (left after : Option (List ℕ)) (fault : SeasonFault) (line : List ℕ) → HasGiven left after fault → ((bytes : List ℕ) → IsSeasonFault bytes fault → HasFault bytes fault)
+told_left : (left after : Option (List ℕ)) (fault : SeasonFault) (line : List ℕ) → GaveFault true left after fault → ((bytes : List ℕ) → IsSeasonFault true bytes fault → HasFault true bytes fault)
     → line ≡ fault_line fault → HasLeft IsBundleFaultLine left line
 told_left left after fault line given has told = let (bytes, took, end, first) = given in (bytes, all_left bytes left after took end, (fault, has bytes first, told))
 
 -- the line of a source's fault
-line_left : (left after : Option (List ℕ)) (fault : SeasonFault) (line : List ℕ) → (fault ≡ ReadFault → ⊥) → (fault ≡ OutOfMemory → ⊥) → IsSourceFault left after fault → line ≡ fault_line fault
+line_left : (left after : Option (List ℕ)) (fault : SeasonFault) (line : List ℕ) → (fault ≡ ReadFault → ⊥) → (fault ≡ OutOfMemory → ⊥) → IsSourceFault true left after fault → line ≡ fault_line fault
     → HasLeft IsBundleFaultLine left line
 line_left left after ReadFault line read memory first told = absurd (read refl)
 line_left left after TooLong line read memory first told = let long = long_left most_bundle_bytes left after first in (long.0, long.1, (TooLong, long.2, told))
@@ -26,7 +26,7 @@ line_left left after OutOfMemory line read memory first told = absurd (memory re
 line_left left after fault line read memory first told = told_left left after fault line first (λ bytes h. h) told
 
 -- A failure that tells a season's fault has its cause.
-pub season_failed : (left after : Option (List ℕ)) (failed : Type 0) (fault : SeasonFault) (failure : Failure) → (fault ≡ ReadFault → failed) → IsSourceFault left after fault
+pub season_failed : (left after : Option (List ℕ)) (failed : Type 0) (fault : SeasonFault) (failure : Failure) → (fault ≡ ReadFault → failed) → IsSourceFault true left after fault
     → TellsSeasonFault fault failure → IsFailureOf check_answers left failed failure
 season_failed left after failed fault Read cause first told = cause told
 season_failed left after failed fault (Bad line) cause first told = line_left left after fault line told.0 told.1 first told.2

@@ -1,5 +1,5 @@
 -- A command's input has one answer.
-use Rattle.std.proofs.Common.{◌≡◌, ◌≢◌, ◌+◌, ℕ, List, [], ◌∷◌, length, refl, sym, ap, subst, ◌∙◌}
+use Rattle.std.proofs.Common.{◌≡◌, ◌≢◌, ◌+◌, ℕ, true, List, [], ◌∷◌, length, refl, sym, ap, subst, ◌∙◌}
 use Rattle.std.specs.Prelude.{fold}
 use Rattle.office_base.specs.Certificate.{IsCanonical}
 use Rattle.office_base.specs.StepChoice.{IsStep}
@@ -27,7 +27,7 @@ use Rattle.allocation_cli.specs.declared.words.Command.TheVariants.{Step, Check}
 pub record AreLawful : Type 0 where
   pub sheets : (bytes : List ℕ) → sheet.HaveOneReading bytes
   pub steps : (bytes : List ℕ) (step : StepOfSheet) → sheet.SheetGives bytes step → IsStep step
-  pub bundles : (bytes : List ℕ) → season_laws.HaveOneReading bytes
+  pub bundles : (bytes : List ℕ) → season_laws.HaveOneReading true bytes
   pub choice : OneChoice
   pub certificate : OneCertificate
 
@@ -55,8 +55,8 @@ same_counts season other row next same =
 -- a season bundle has one output
 one_check : AreLawful → (bytes output other : List ℕ) → IsCheckOutput bytes output → IsCheckOutput bytes other → output ≡ other
 one_check laws bytes output other a b =
-    let same = (laws.bundles bytes).one_content (content_of a.0 a.1.row) (content_of b.0 b.1.row) a.1.given b.1.given in
-    a.2 ∙ same_counts a.0 b.0 a.1.row b.1.row same ∙ sym b.2
+    let same = (laws.bundles bytes).one_content (content_of a.0 a.2.row) (content_of b.0 b.2.row) a.1 b.1 a.2.given b.2.given in
+    a.3 ∙ same_counts a.0 b.0 a.2.row b.2.row same ∙ sym b.3
 
 -- a sound step has one text
 one_text : AreLawful → (step : StepOfSheet) (output other : List ℕ) → IsStep step → IsStepText step output → IsStepText step other → output ≡ other
@@ -89,8 +89,8 @@ one_step_answer laws bytes = record {
 one_check_answer : AreLawful → (bytes : List ℕ) → HaveOneAnswer check_answers bytes
 one_check_answer laws bytes = record {
   some = (laws.bundles bytes).some;
-  apart = λ input faulty. (laws.bundles bytes).apart input.0 faulty.0 input.1 faulty.1;
-  of_input = λ output made. (content_of made.0 made.1.row, made.1.given);
+  apart = λ input faulty. (laws.bundles bytes).apart input.0 input.1 faulty.0 input.2 faulty.1;
+  of_input = λ output made. (content_of made.0 made.2.row, made.1, made.2.given);
   of_fault = λ line has. (has.0, has.1);
   one_output = one_check laws bytes;
   one_line = λ line other a b. a.2 ∙ ap fault_line ((laws.bundles bytes).one_fault a.0 b.0 a.1 b.1) ∙ sym b.2;

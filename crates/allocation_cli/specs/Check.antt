@@ -1,8 +1,9 @@
--- The command `check`: its input is a season bundle without requests, its output how much the season has.
-use Rattle.std.specs.Prelude.{◌≡◌, ℕ, List, Option}
+-- The command `check`: its input is a season bundle with requests or without, its output how much the season has.
+use Rattle.std.specs.Prelude.{◌≡◌, ℕ, true, List, Option}
 use Rattle.office_base.specs.Outside.{AreLeft}
+use Rattle.office_base.specs.declared.asks.Request.{Request}
 use Rattle.season_file.specs.Laws.{HasFault}
-use Rattle.season_file.specs.Season.{Gives, IsSeason}
+use Rattle.season_file.specs.Season.{BundleGives, IsSeasonWith}
 use Rattle.season_file.specs.declared.content.Content.{Content}
 use Rattle.season_file.specs.declared.fault.SeasonFault.{SeasonFault}
 use Rattle.season_file.specs.declared.fault.SeasonFault.TheVariants.{ReadFault, OutOfMemory}
@@ -14,23 +15,23 @@ use Rattle.allocation_cli.specs.declared.failure.Failure.TheVariants.{Read, Bad,
 
 -- the bytes are a season bundle without faults
 abbrev pub IsBundle : List ℕ → Type 0
-IsBundle bytes = (content : Content) × Gives bytes content
+IsBundle bytes = (content : Content) × (script : List Request) × BundleGives true bytes content script
 
 -- the bytes that were left are a season bundle without faults, and this is its season
 abbrev pub IsLeftSeason : Option (List ℕ) → Season → Type 0
-IsLeftSeason left season = (bytes : List ℕ) × AreLeft bytes left × IsSeason bytes season
+IsLeftSeason left season = (bytes : List ℕ) × AreLeft bytes left × ((script : List Request) × IsSeasonWith true bytes season script)
 
 -- the bytes have a fault as a season bundle
 abbrev pub IsFaultyBundle : List ℕ → Type 0
-IsFaultyBundle bytes = (fault : SeasonFault) × HasFault bytes fault
+IsFaultyBundle bytes = (fault : SeasonFault) × HasFault true bytes fault
 
 -- the bytes are a season bundle, and this is what `check` writes for its season
 abbrev pub IsCheckOutput : List ℕ → List ℕ → Type 0
-IsCheckOutput bytes output = (season : Season) × IsSeason bytes season × (output ≡ counts_line season)
+IsCheckOutput bytes output = (season : Season) × (script : List Request) × IsSeasonWith true bytes season script × (output ≡ counts_line season)
 
 -- the bytes have a fault as a season bundle, and this is its line
 abbrev pub IsBundleFaultLine : List ℕ → List ℕ → Type 0
-IsBundleFaultLine bytes line = (fault : SeasonFault) × HasFault bytes fault × (line ≡ fault_line fault)
+IsBundleFaultLine bytes line = (fault : SeasonFault) × HasFault true bytes fault × (line ≡ fault_line fault)
 
 -- what `check` answers
 abbrev pub check_answers : Answers

@@ -142,6 +142,8 @@ fn a_season_is_counted(rt: HostRuntime) -> Result<(), Fail> {
     let commas = changed(alloc, "\n", ",,\r\n")?;
     let marked = format!(in alloc; "\u{FEFF}{commas}")?;
     assert!(rt; writes(alloc, "check", marked.as_str(), counts, Status::Ok)?);
+    let asked = format!(in alloc; "{marked}[requests]\ncut,clerk,0\n")?;
+    assert!(rt; writes(alloc, "check", asked.as_str(), counts, Status::Ok)?);
     Ok(())
 }
 
@@ -168,7 +170,7 @@ fn a_fault_of_a_season_is_told(rt: HostRuntime) -> Result<(), Fail> {
         ("clerk0001", "tok00003", "fault: season row 2 BadSeason\n"),
         (
             "office bundle 1",
-            "office bundle 2",
+            "office bundle 3",
             "fault: bundle BadFirstLine\n",
         ),
         (
@@ -178,8 +180,13 @@ fn a_fault_of_a_season_is_told(rt: HostRuntime) -> Result<(), Fail> {
         ),
         (
             "5,E\n",
-            "5,E\n[requests]\n",
-            "fault: bundle line 25 Section\n",
+            "5,E\n[requests]\n[requests]\n",
+            "fault: bundle line 26 Section\n",
+        ),
+        (
+            "5,E\n",
+            "5,E\n[requests]\nstate,nobody\ncut,clerk,65536\n",
+            "fault: requests row 2 BadRequest\n",
         ),
     ];
     for (from, to, line) in cases {

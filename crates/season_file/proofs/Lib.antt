@@ -1,4 +1,6 @@
 mod CuttingLemmas
 mod HeadLemmas
+mod KeptLemmas
 mod LawsLemmas
 mod SeasonLemmas
+mod SplitLemmas

@@ -1,16 +1,19 @@
 -- How a bundle is cut into the bodies of its sections.
-use Rattle.std.specs.Prelude.{◌+◌, ◌-◌, ℕ, suc, Bool, true, ◌==◌, ◌&&◌, List, [], ◌∷◌, Result, Ok, Err, length, take, drop, bytes_eq, codes, if◌then◌else◌}
+use Rattle.std.specs.Prelude.{◌+◌, ◌-◌, ℕ, suc, Bool, true, ◌==◌, ◌&&◌, List, [], ◌∷◌, Option, Some, None, Result, Ok, Err, length, take, drop, bytes_eq, codes, if◌then◌else◌}
 use Rattle.office_text.specs.Lines.{drop_cr, lines_of, skip_mark, trimmed}
-use Rattle.section_rows.specs.Steps.{after}
+use Rattle.section_rows.specs.Steps.{after, needs}
 use Rattle.season_file.specs.declared.fault.SeasonFault.{SeasonFault}
 use Rattle.season_file.specs.declared.fault.SeasonFault.TheVariants.{BadFirstLine, Section}
 
--- the bodies of the four sections, without their section lines
+-- What a bundle is cut into: its version, the bodies of four sections without their section lines, and the section of the
+-- requests from its section line on, which is nothing where there is none.
 pub record Parts : Type 0 where
+  pub version : ℕ
   pub season : List ℕ
   pub register : List ℕ
   pub matrix : List ℕ
   pub choices : List ℕ
+  pub requests : List ℕ
 
 -- how many bytes stand before the first LF
 abbrev pub line_len : List ℕ → ℕ
@@ -21,9 +24,9 @@ line_len (byte ∷ bytes) = if byte == 10 then 0 else suc (line_len bytes)
 abbrev pub title : List ℕ → List ℕ
 title bytes = trimmed (drop_cr (take (line_len bytes) bytes))
 
--- the bytes behind the first line
-abbrev pub behind : List ℕ → List ℕ
-behind bytes = drop (line_len bytes + 1) bytes
+-- the bytes after the first line
+abbrev pub after_line : List ℕ → List ℕ
+after_line bytes = drop (line_len bytes + 1) bytes
 
 -- The bytes from the first line on that is not empty. A CR alone at the end is no line.
 abbrev pub skip_empty : List ℕ → List ℕ
@@ -36,25 +39,38 @@ abbrev pub body_len : Bool → List ℕ → ℕ
 body_len begins [] = 0
 body_len begins (byte ∷ bytes) = if begins && byte == 91 then 0 else suc (body_len (byte == 10) bytes)
 
--- the body behind a section line, and what stands behind the body
+-- the body after a section line, and what stands after the body
 abbrev pub body_and_rest : List ℕ → List ℕ × List ℕ
 body_and_rest bytes = (take (body_len true bytes) bytes, drop (body_len true bytes) bytes)
 
--- the body of the section of this name that begins the text, and what stands behind it; where another line does, the text
+-- the body of the section of this name that begins the text, and what stands after it; where another line does, the text
 abbrev pub section : List ℕ → List ℕ → Result (List ℕ × List ℕ) (List ℕ)
-section name text = if bytes_eq (title text) name then Ok (body_and_rest (behind text)) else Err text
+section name text = if bytes_eq (title text) name then Ok (body_and_rest (after_line text)) else Err text
 
--- nothing may be left behind the last section
-abbrev pub closed : List ℕ → Parts → Result Parts (List ℕ)
-closed [] parts = Ok parts
-closed (byte ∷ bytes) parts = Err (byte ∷ bytes)
+-- nothing may be left after the last section
+abbrev pub closed : List ℕ → List ℕ → Result (List ℕ) (List ℕ)
+closed [] value = Ok value
+closed (byte ∷ bytes) value = Err (byte ∷ bytes)
 
--- the bodies of the four sections in their order, or what stands from the first wrong line on: nothing, where a section is missing
-abbrev pub bodies : List ℕ → Result Parts (List ℕ)
-bodies text =
+-- What may follow the choices: nothing, or, where requests are read, their section alone. Else what stands from the first wrong
+-- line on.
+abbrev pub last_section : Bool → List ℕ → Result (List ℕ) (List ℕ)
+last_section requests [] = Ok []
+last_section requests (byte ∷ bytes) = if requests then after (section (codes "[requests]") (byte ∷ bytes)) (λ cut. closed cut.1 (byte ∷ bytes)) else Err (byte ∷ bytes)
+
+-- the sections in their order, or what stands from the first wrong line on: nothing, where a section is missing
+abbrev pub sections : Bool → ℕ → List ℕ → Result Parts (List ℕ)
+sections requests version text =
     after (section (codes "[season]") text) (λ season. after (section (codes "[register]") season.1) (λ register.
     after (section (codes "[matrix]") register.1) (λ matrix. after (section (codes "[choices]") matrix.1)
-    (λ choices. closed choices.1 (record { season = season.0; register = register.0; matrix = matrix.0; choices = choices.0 })))))
+    (λ choices. after (last_section requests choices.1) (λ last. Ok (record {
+      version = version;
+      season = season.0;
+      register = register.0;
+      matrix = matrix.0;
+      choices = choices.0;
+      requests = last;
+    }))))))
 
 -- how many LFs there are
 abbrev pub breaks : List ℕ → ℕ
@@ -71,10 +87,23 @@ abbrev pub with_line : List ℕ → Result Parts (List ℕ) → Result Parts Sea
 with_line text (Ok parts) = Ok parts
 with_line text (Err rest) = Err (Section (fault_line text rest))
 
--- the bodies behind the first line
-abbrev pub text_of : List ℕ → Result Parts SeasonFault
-text_of text = if bytes_eq (title text) (codes "office bundle 1") then with_line text (bodies (skip_empty (behind text))) else Err BadFirstLine
+-- the version that a first line gives
+abbrev pub version_of : List ℕ → Option ℕ
+version_of line = if bytes_eq line (codes "office bundle 1") then Some 1 else if bytes_eq line (codes "office bundle 2") then Some 2 else None
 
--- the bodies of a bundle, or the fault of its first line or of its sections
-abbrev pub bundle_of : List ℕ → Result Parts SeasonFault
-bundle_of bytes = text_of (skip_mark bytes)
+-- the sections after the first line
+abbrev pub text_of : Bool → List ℕ → Result Parts SeasonFault
+text_of requests text = needs (version_of (title text)) BadFirstLine (λ version. with_line text (sections requests version (skip_empty (after_line text))))
+
+-- what a bundle is cut into, or the fault of its first line or of its sections; with its requests, or without
+abbrev pub bundle_of : Bool → List ℕ → Result Parts SeasonFault
+bundle_of requests bytes = text_of requests (skip_mark bytes)
+
+-- what stands in the bytes before the section of the requests
+abbrev pub before_requests : List ℕ → Result Parts SeasonFault → List ℕ
+before_requests bytes (Ok parts) = take (length bytes - length parts.requests) bytes
+before_requests bytes (Err fault) = bytes
+
+-- the text of a bundle's season: all of it but the section of the requests
+abbrev pub season_text : Bool → List ℕ → List ℕ
+season_text requests bytes = before_requests bytes (bundle_of requests bytes)

@@ -1,4 +1,6 @@
 pub mod Bundle
 pub mod Head
+pub mod Kept
 pub mod Laws
+pub mod Script
 pub mod Season

@@ -1,25 +1,39 @@
 // What the sections of a bundle give.
-ghost use Rattle.std.specs.Prelude.{◌≡◌, ◌≤◌, is_some, IfOk, IfErr, IsErrOf};
+ghost use Rattle.std.specs.Prelude.{◌≡◌, ◌≤◌, Ok, is_some, length, take, IfOk, IfErr, IsErrOf};
+ghost use Rattle.office_base.specs.Limits.{most_bundle_bytes};
 ghost use Rattle.office_base.specs.Outside.{IsAtEnd, Rose, Took};
 ghost use Rattle.rank_lists.specs.Register.{find_holder};
-ghost use Rattle.season_file.specs.Season.{ArePartsWith, Give, Gives, IsSeasonFault, IsSourceFault, IsText, choice_error, matrix_error, register_error};
+ghost use Rattle.request_rows.specs.Requests.{IsScriptFault as AreRowsWithout, script_of};
+ghost use Rattle.season_file.specs.Bundle.{season_text};
+ghost use Rattle.season_file.specs.Season.{AreAligned, BundleGives, IsSeasonFault, IsSectionFault, IsText, IsUnread, SectionsGive, choice_error, matrix_error, register_error, rows_of_requests, script_error};
 
-use crate::cutting::{Bodies, MOST_BYTES, cut};
+use crate::cutting::{Pieces, after_line, cut};
 use crate::fault::SeasonFault;
 use crate::head::{Head, read_head};
 use choice_lists::{ChoiceFault, Choices};
+use office_base::limits::MOST_BUNDLE_BYTES;
 use office_base::{ReadFault, Source, Text, read_whole};
 use rank_lists::{RankFault, Register};
+use request_rows::{Script, ScriptFault, read_script};
 use seat_matrix::{Matrix, MatrixFault};
 use std::alloc::Global;
 
-/// What the four sections give.
+/// What the first line and the four sections give.
 #[derive(Drop)]
 pub struct Content {
+    pub version: u8,
     pub head: Head,
     pub register: Register,
     pub matrix: Matrix,
     pub choices: Choices,
+}
+
+/// What a bundle gives: what its sections give, its requests, and how many bytes stand before their section.
+#[derive(Drop)]
+pub(crate) struct Given {
+    pub(crate) content: Content,
+    pub(crate) script: Script,
+    pub(crate) end: usize,
 }
 
 /// The register's fault as the season's.
@@ -52,25 +66,37 @@ fn choice_error(fault: ChoiceFault) -> SeasonFault
     }
 }
 
-/// What the bodies of the sections give, or the first fault of a section.
-fn read_sections(alloc: Global, bodies: Bodies<'_>) -> Result<Content, SeasonFault>
-    ensures value { IfOk result (λ content. Give (record { season = bodies.entry.season.now; register = bodies.entry.register.now; matrix = bodies.entry.matrix.now; choices = bodies.entry.choices.now }) content) }
-    ensures fault { IfErr result (λ fault. ArePartsWith (record { season = bodies.entry.season.now; register = bodies.entry.register.now; matrix = bodies.entry.matrix.now; choices = bodies.entry.choices.now }) fault) }
+/// The script's fault as the season's.
+pub(crate) fn script_error(fault: ScriptFault) -> SeasonFault
+    ensures { result ≡ script_error fault }
 {
-    let head = match read_head(alloc, bodies.season)? {
+    match fault {
+        ScriptFault::BadRequest { row } => SeasonFault::BadRequest { row },
+        ScriptFault::OutOfMemory => SeasonFault::OutOfMemory,
+    }
+}
+
+/// What the sections give, or the first fault of one.
+fn read_sections(alloc: Global, cut: Pieces<'_>) -> Result<Content, SeasonFault>
+    ensures value { IfOk result (λ content. SectionsGive (record { version = cut.entry.version; season = cut.entry.season.now; register = cut.entry.register.now; matrix = cut.entry.matrix.now; choices = cut.entry.choices.now; requests = cut.entry.requests.now }) content) }
+    ensures aligned { IfOk result AreAligned }
+    ensures fault { IfErr result (λ fault. IsSectionFault (record { version = cut.entry.version; season = cut.entry.season.now; register = cut.entry.register.now; matrix = cut.entry.matrix.now; choices = cut.entry.choices.now; requests = cut.entry.requests.now }) fault) }
+{
+    let head = match read_head(alloc, cut.season)? {
         Ok(head) => head,
         Err(row) => return Err(SeasonFault::BadSeason { row }),
     };
-    let register = match Register::read(alloc, bodies.register) {
+    let register = match Register::read(alloc, cut.register) {
         Ok(register) => register,
         Err(fault) => return Err(register_error(fault)),
     };
-    let matrix = match Matrix::read(alloc, bodies.matrix) {
+    let matrix = match Matrix::read(alloc, cut.matrix) {
         Ok(matrix) => matrix,
         Err(fault) => return Err(matrix_error(fault)),
     };
-    match Choices::read(alloc, bodies.choices, &register, &matrix) {
+    match Choices::read(alloc, cut.choices, &register, &matrix) {
         Ok(choices) => Ok(Content {
+            version: cut.version,
             head,
             register,
             matrix,
@@ -87,17 +113,30 @@ fn is_candidate(content: &Content) -> bool
     content.register.who(content.head.clerk.bytes()).is_some()
 }
 
-/// What a bundle of UTF-8 gives, or its first fault.
-fn read_bundle(alloc: Global, bytes: &[u8]) -> Result<Content, SeasonFault>
-    requires { IsText bytes.now }
-    ensures value { IfOk result (λ content. Gives bytes.now content) }
-    ensures fault { IfErr result (λ fault. IsSeasonFault bytes.now fault) }
+/// The requests of a section that begins with its section line, or the first row that is none. Without a section there are none.
+fn read_requests(alloc: Global, section: &[u8]) -> Result<Script, ScriptFault>
+    ensures value { IfOk result (λ script. script_of (rows_of_requests section.now) ≡ Ok script) }
+    ensures fault { IfErr result (λ fault. AreRowsWithout (rows_of_requests section.now) fault) }
 {
-    let bodies = match cut(bytes) {
-        Ok(bodies) => bodies,
+    if section.is_empty() {
+        return Ok(Script::new(alloc));
+    }
+    read_script(alloc, after_line(section))
+}
+
+/// What a bundle of UTF-8 gives, or its first fault.
+fn read_bundle(alloc: Global, bytes: &[u8], requests: bool) -> Result<Given, SeasonFault>
+    requires { IsText bytes.now }
+    ensures value { IfOk result (λ given. BundleGives requests bytes.now given.content given.script) }
+    ensures aligned { IfOk result (λ given. AreAligned given.content) }
+    ensures end { IfOk result (λ given. take given.end bytes.now ≡ season_text requests bytes.now) }
+    ensures fault { IfErr result (λ fault. IsSeasonFault requests bytes.now fault) }
+{
+    let cut = match cut(bytes, requests) {
+        Ok(cut) => cut,
         Err(fault) => return Err(fault),
     };
-    let content = match read_sections(alloc, bodies) {
+    let content = match read_sections(alloc, cut) {
         Ok(content) => content,
         Err(fault) => return Err(fault),
     };
@@ -106,19 +145,32 @@ fn read_bundle(alloc: Global, bytes: &[u8]) -> Result<Content, SeasonFault>
             row: content.head.row,
         });
     }
-    Ok(content)
+    match read_requests(alloc, cut.requests) {
+        Ok(script) => Ok(Given {
+            content,
+            script,
+            end: bytes.len().saturating_sub(cut.requests.len()),
+        }),
+        Err(fault) => Err(script_error(fault)),
+    }
 }
 
 /// What bytes give, or their first fault.
-pub(crate) fn read_content(alloc: Global, bytes: &[u8]) -> Result<Content, SeasonFault>
-    ensures value { IfOk result (λ content. Gives bytes.now content) }
-    ensures fault { IfErr result (λ fault. IsSeasonFault bytes.now fault) }
+pub(crate) fn read_content(
+    alloc: Global,
+    bytes: &[u8],
+    requests: bool,
+) -> Result<Given, SeasonFault>
+    ensures value { IfOk result (λ given. BundleGives requests bytes.now given.content given.script) }
+    ensures aligned { IfOk result (λ given. AreAligned given.content) }
+    ensures end { IfOk result (λ given. take given.end bytes.now ≡ season_text requests bytes.now) }
+    ensures fault { IfErr result (λ fault. IsSeasonFault requests bytes.now fault) }
 {
-    if bytes.len() > MOST_BYTES {
+    if bytes.len() > MOST_BUNDLE_BYTES {
         return Err(SeasonFault::TooLong);
     }
     match std::str::from_utf8(bytes) {
-        Ok(_) => read_bundle(alloc, bytes),
+        Ok(_) => read_bundle(alloc, bytes, requests),
         Err(_) => Err(SeasonFault::NotUtf8),
     }
 }
@@ -127,12 +179,13 @@ pub(crate) fn read_content(alloc: Global, bytes: &[u8]) -> Result<Content, Seaso
 pub(crate) fn read_bytes<S: Source>(alloc: Global, source: &mut S) -> Result<Text, SeasonFault>
     ensures taken { IfOk result (λ bytes. Took bytes (S.left source.old) (S.left source.new)) }
     ensures ended { IfOk result (λ bytes. IsAtEnd (S.left source.new)) }
-    ensures fault { IfErr result (λ fault. IsSourceFault (S.left source.old) (S.left source.new) fault) }
+    ensures short { IfOk result (λ bytes. length bytes ≤ most_bundle_bytes) }
+    ensures fault { IfErr result (λ fault. IsUnread (S.left source.old) (S.left source.new) fault) }
     ensures cause { IsErrOf result SeasonFault.ReadFault → Rose (S.faults source.old) (S.faults source.new) }
     ensures count { S.faults source.old ≤ S.faults source.new }
     ensures steady { ¬ IsErrOf result SeasonFault.ReadFault → S.faults source.new ≡ S.faults source.old }
 {
-    match read_whole(alloc, source, MOST_BYTES) {
+    match read_whole(alloc, source, MOST_BUNDLE_BYTES) {
         Ok(bytes) => Ok(bytes),
         Err(ReadFault::Failed) => Err(SeasonFault::ReadFault),
         Err(ReadFault::TooLong) => Err(SeasonFault::TooLong),

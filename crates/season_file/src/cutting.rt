@@ -1,22 +1,23 @@
-// A bundle, cut into the bodies of its sections.
-ghost use Rattle.std.specs.Prelude.{◌≡◌, ◌≤◌, length, MatchResult, Ok, Err, true, bytes_eq, codes};
-ghost use Rattle.office_text.specs.Lines.{drop_cr, lines_of};
-ghost use Rattle.season_file.specs.Bundle.{behind, bodies, body_len, breaks, bundle_of, fault_line, line_len, section, skip_empty, title, with_line};
+// A bundle, cut into its sections.
+ghost use Rattle.std.specs.Prelude.{◌≡◌, ◌≤◌, length, MatchResult, Ok, Err, true};
+ghost use Rattle.office_base.specs.Limits.{most_bundle_bytes};
+ghost use Rattle.office_text.specs.Lines.{lines_of};
+ghost use Rattle.season_file.specs.Bundle.{after_line, body_len, breaks, bundle_of, fault_line, last_section, line_len, section, sections, skip_empty, title, version_of, with_line};
 
 use crate::fault::SeasonFault;
 use memchr::memchr;
-use office_text::{next_text_line, skip_mark, trim_commas};
+use office_text::{drop_cr, next_text_line, skip_mark, trim_commas};
 
-/// The most bytes of a bundle.
-pub const MOST_BYTES: usize = 134_217_728;
-
-/// The bodies of the four sections, without their section lines.
+/// What a bundle is cut into: its version, the bodies of four sections without their section lines, and the section of the
+/// requests from its section line on, which is empty where there is none.
 #[derive(Clone, Copy)]
-pub struct Bodies<'a> {
-    pub season: &'a [u8],
-    pub register: &'a [u8],
-    pub matrix: &'a [u8],
-    pub choices: &'a [u8],
+pub(crate) struct Pieces<'a> {
+    pub(crate) version: u8,
+    pub(crate) season: &'a [u8],
+    pub(crate) register: &'a [u8],
+    pub(crate) matrix: &'a [u8],
+    pub(crate) choices: &'a [u8],
+    pub(crate) requests: &'a [u8],
 }
 
 /// How many bytes stand before the first LF.
@@ -30,16 +31,6 @@ fn line_len(bytes: &[u8]) -> usize
     }
 }
 
-/// A line without one CR at its end.
-fn drop_cr(line: &[u8]) -> &[u8]
-    ensures { result.now ≡ drop_cr line.now }
-{
-    match line {
-        [front @ .., b'\r'] => front,
-        _ => line,
-    }
-}
-
 /// The first line without its line end and the commas before it.
 fn title(bytes: &[u8]) -> &[u8]
     ensures { result.now ≡ title bytes.now }
@@ -47,9 +38,9 @@ fn title(bytes: &[u8]) -> &[u8]
     trim_commas(drop_cr(&bytes[..line_len(bytes)]))
 }
 
-/// The bytes behind the first line.
-fn behind(bytes: &[u8]) -> &[u8]
-    ensures value { result.now ≡ behind bytes.now }
+/// The bytes after the first line.
+pub(crate) fn after_line(bytes: &[u8]) -> &[u8]
+    ensures { result.now ≡ after_line bytes.now }
 {
     let end = line_len(bytes);
     if end < bytes.len() {
@@ -93,39 +84,54 @@ fn body_len(bytes: &[u8]) -> usize
     count
 }
 
-/// The body behind a section line of this name, and what stands behind the body. Where another line begins the text, the text.
+/// The body after a section line of this name, and what stands after the body. Where another line begins the text, the text.
 fn section<'a>(text: &'a [u8], name: &[u8]) -> Result<(&'a [u8], &'a [u8]), &'a [u8]>
     ensures { MatchResult result (λ cut. section name.now text.now ≡ Ok (cut.0.now, cut.1.now)) (λ rest. section name.now text.now ≡ Err rest.now) }
 {
     if title(text) != name {
         return Err(text);
     }
-    let body = behind(text);
+    let body = after_line(text);
     Ok(body.split_at(body_len(body)))
 }
 
-/// The bodies of the four sections, or what stands from the first wrong line on: nothing, where a section is missing at the end.
-fn cut_sections(text: &[u8]) -> Result<Bodies<'_>, &[u8]>
-    ensures { MatchResult result (λ cut. bodies text.now ≡ Ok (record { season = cut.season.now; register = cut.register.now; matrix = cut.matrix.now; choices = cut.choices.now })) (λ rest. bodies text.now ≡ Err rest.now) }
+/// What follows the choices: nothing, or, where requests are read, their section alone. Else what stands from the first wrong
+/// line on.
+fn last_section(text: &[u8], requests: bool) -> Result<&[u8], &[u8]>
+    ensures { MatchResult result (λ last. last_section requests text.now ≡ Ok last.now) (λ rest. last_section requests text.now ≡ Err rest.now) }
+{
+    if text.is_empty() {
+        return Ok(text);
+    }
+    if !requests {
+        return Err(text);
+    }
+    let (_, rest) = section(text, b"[requests]".as_slice())?;
+    if rest.is_empty() { Ok(text) } else { Err(rest) }
+}
+
+/// The sections in their order, or what stands from the first wrong line on: nothing, where a section is missing at the end.
+fn cut_sections(text: &[u8], version: u8, requests: bool) -> Result<Pieces<'_>, &[u8]>
+    ensures { MatchResult result (λ cut. sections requests version text.now ≡ Ok (record { version = cut.version; season = cut.season.now; register = cut.register.now; matrix = cut.matrix.now; choices = cut.choices.now; requests = cut.requests.now })) (λ rest. sections requests version text.now ≡ Err rest.now) }
 {
     let (season, rest) = section(text, b"[season]".as_slice())?;
     let (register, rest) = section(rest, b"[register]".as_slice())?;
     let (matrix, rest) = section(rest, b"[matrix]".as_slice())?;
     let (choices, rest) = section(rest, b"[choices]".as_slice())?;
-    if !rest.is_empty() {
-        return Err(rest);
-    }
-    Ok(Bodies {
+    let requests = last_section(rest, requests)?;
+    Ok(Pieces {
+        version,
         season,
         register,
         matrix,
         choices,
+        requests,
     })
 }
 
 /// How many lines there are.
 fn line_count(text: &[u8]) -> u32
-    requires { length text.now ≤ 134217728 }
+    requires { length text.now ≤ most_bundle_bytes }
     ensures value { result ≡ length (lines_of text.now) }
     ensures within { result ≤ length text.now }
 {
@@ -140,7 +146,7 @@ fn line_count(text: &[u8]) -> u32
 
 /// How many LFs there are.
 fn breaks(text: &[u8]) -> u32
-    requires { length text.now ≤ 134217728 }
+    requires { length text.now ≤ most_bundle_bytes }
     ensures value { result ≡ breaks text.now }
     ensures within { result ≤ length text.now }
 {
@@ -157,7 +163,7 @@ fn breaks(text: &[u8]) -> u32
 
 /// The line at which the rest of a text begins, or one more than the number of lines where nothing is left.
 fn fault_line(text: &[u8], rest: &[u8]) -> u32
-    requires { length text.now ≤ 134217728 }
+    requires { length text.now ≤ most_bundle_bytes }
     ensures { result ≡ fault_line text.now rest.now }
 {
     if rest.is_empty() {
@@ -167,19 +173,26 @@ fn fault_line(text: &[u8], rest: &[u8]) -> u32
     }
 }
 
-/// Whether the first line is the one of a bundle.
-fn is_bundle(text: &[u8]) -> bool
-    ensures { result ≡ bytes_eq (title text.now) (codes "office bundle 1") }
+/// The version that the first line of a text gives.
+fn read_version(text: &[u8]) -> Option<u8>
+    ensures { result ≡ version_of (title text.now) }
 {
-    title(text) == b"office bundle 1".as_slice()
+    let line = title(text);
+    if line == b"office bundle 1".as_slice() {
+        Some(1)
+    } else if line == b"office bundle 2".as_slice() {
+        Some(2)
+    } else {
+        None
+    }
 }
 
-/// The bodies of the sections behind the first line, or the line that is wrong.
-fn cut_behind(text: &[u8]) -> Result<Bodies<'_>, SeasonFault>
-    requires { length text.now ≤ 134217728 }
-    ensures { MatchResult result (λ cut. with_line text.now (bodies (skip_empty (behind text.now))) ≡ Ok (record { season = cut.season.now; register = cut.register.now; matrix = cut.matrix.now; choices = cut.choices.now })) (λ fault. with_line text.now (bodies (skip_empty (behind text.now))) ≡ Err fault) }
+/// The sections after the first line, or the line that is wrong.
+fn cut_after(text: &[u8], version: u8, requests: bool) -> Result<Pieces<'_>, SeasonFault>
+    requires { length text.now ≤ most_bundle_bytes }
+    ensures { MatchResult result (λ cut. with_line text.now (sections requests version (skip_empty (after_line text.now))) ≡ Ok (record { version = cut.version; season = cut.season.now; register = cut.register.now; matrix = cut.matrix.now; choices = cut.choices.now; requests = cut.requests.now })) (λ fault. with_line text.now (sections requests version (skip_empty (after_line text.now))) ≡ Err fault) }
 {
-    match cut_sections(skip_empty(behind(text))) {
+    match cut_sections(skip_empty(after_line(text)), version, requests) {
         Ok(cut) => Ok(cut),
         Err(rest) => Err(SeasonFault::Section {
             line: fault_line(text, rest),
@@ -187,15 +200,15 @@ fn cut_behind(text: &[u8]) -> Result<Bodies<'_>, SeasonFault>
     }
 }
 
-/// The bodies of a bundle, or the fault of its first line or of its sections.
-pub fn cut(bytes: &[u8]) -> Result<Bodies<'_>, SeasonFault>
-    requires { length bytes.now ≤ 134217728 }
-    ensures { MatchResult result (λ cut. bundle_of bytes.now ≡ Ok (record { season = cut.season.now; register = cut.register.now; matrix = cut.matrix.now; choices = cut.choices.now })) (λ fault. bundle_of bytes.now ≡ Err fault) }
+/// What a bundle is cut into, or the fault of its first line or of its sections. A section of requests is a fault of the
+/// sections where requests are not read.
+pub(crate) fn cut(bytes: &[u8], requests: bool) -> Result<Pieces<'_>, SeasonFault>
+    requires { length bytes.now ≤ most_bundle_bytes }
+    ensures { MatchResult result (λ cut. bundle_of requests bytes.now ≡ Ok (record { version = cut.version; season = cut.season.now; register = cut.register.now; matrix = cut.matrix.now; choices = cut.choices.now; requests = cut.requests.now })) (λ fault. bundle_of requests bytes.now ≡ Err fault) }
 {
     let text = skip_mark(bytes);
-    if is_bundle(text) {
-        cut_behind(text)
-    } else {
-        Err(SeasonFault::BadFirstLine)
+    match read_version(text) {
+        Some(version) => cut_after(text, version, requests),
+        None => Err(SeasonFault::BadFirstLine),
     }
 }

@@ -16,7 +16,7 @@ pub enum SeasonFault {
     /// There are more than 134,217,728 bytes.
     #[error("too long")]
     TooLong,
-    /// The first line is not `office bundle 1`.
+    /// The first line is neither `office bundle 1` nor `office bundle 2`.
     #[error("bad first line")]
     BadFirstLine,
     /// The line of the first wrong section line, or one more than the number of lines where a section is missing.
@@ -38,6 +38,9 @@ pub enum SeasonFault {
     /// The bytes are no UTF-8.
     #[error("not UTF-8")]
     NotUtf8,
+    /// The first row of the requests that is none, counted from 1.
+    #[error("requests row {row}: bad request")]
+    BadRequest { row: u32 },
     /// There was no memory for the season.
     #[error("out of memory")]
     OutOfMemory,

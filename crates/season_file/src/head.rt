@@ -18,9 +18,9 @@ pub struct Head {
 
 /// What rows gave so far: the number of rounds, and the clerk's token with its row.
 #[derive(Clone, Copy)]
-pub struct Keys {
-    pub rounds: Option<u16>,
-    pub clerk: Option<(Token, u32)>,
+pub(crate) struct Keys {
+    pub(crate) rounds: Option<u16>,
+    pub(crate) clerk: Option<(Token, u32)>,
 }
 
 /// The keys with what the row of this number gives. None where the row is wrong.
@@ -42,7 +42,7 @@ fn with_row(keys: Keys, number: u32, row: &Rows<'_>) -> Option<Keys>
 
 /// What the section's body gives, or the number of its first wrong row, which is one more than the number of rows where a key is
 /// missing.
-pub fn read_head(alloc: Global, body: &[u8]) -> Result<Result<Head, u32>, OutOfMemory>
+pub(crate) fn read_head(alloc: Global, body: &[u8]) -> Result<Result<Head, u32>, OutOfMemory>
     ensures { IfOk result (λ answer. answer ≡ head_of (rows_of body.now)) }
 {
     let mut rows = Rows::new(alloc, body);

@@ -1,17 +1,21 @@
-// The season bundle: rounds and clerk, register, matrix and choices in one text.
+// The season bundle: rounds and clerk, register, matrix and choices in one text, which a script of requests may follow.
 //
 // The commands and the office stand on it. `specs/` says where the sections of a bundle begin, what the rows of the first
 // one give, and which fault of a bundle is the first: its length, its bytes, its first line, its sections, then the faults
 // of each section in their order. A season is read from a source or from bytes by the same grammar, and nothing of it
-// depends on how the source cuts its bytes. It must never know of requests, of answers or of what a season is read for.
+// depends on how the source cuts its bytes. It must never know what a request means, or what a season is read for.
 #![tactic(auto)]
 
-pub mod content;
-pub mod cutting;
+mod content;
+mod cutting;
 pub mod fault;
-pub mod head;
+mod head;
 pub mod laws;
+pub mod script;
 pub mod season;
 
+pub use content::Content;
 pub use fault::SeasonFault;
+pub use head::Head;
+pub use script::{Script, read_script};
 pub use season::Season;

@@ -6,7 +6,7 @@ use Rattle.seat_matrix.specs.Kinds as matrix_kinds
 use Rattle.choice_lists.specs.Choices.{list_of}
 use Rattle.choice_lists.specs.Kinds as choice_kinds
 use Rattle.season_file.specs.declared.fault.SeasonFault.{SeasonFault}
-use Rattle.season_file.specs.declared.fault.SeasonFault.TheVariants.{ReadFault, TooLong, BadFirstLine, Section, BadSeason, Register, Matrix, Choices, NotUtf8, OutOfMemory}
+use Rattle.season_file.specs.declared.fault.SeasonFault.TheVariants.{ReadFault, TooLong, BadFirstLine, Section, BadSeason, Register, Matrix, Choices, NotUtf8, BadRequest, OutOfMemory}
 use Rattle.season_file.specs.declared.season.Season.{Season}
 use Rattle.section_rows.specs.declared.fault.TableFault.{TableFault}
 use Rattle.section_rows.specs.declared.fault.TableFault.TheVariants.{Bad as BadRow, OutOfMemory as NoTableMemory}
@@ -63,4 +63,5 @@ fault_line (Register fault) = register_line fault
 fault_line (Matrix fault) = matrix_line fault
 fault_line (Choices fault) = choices_line fault
 fault_line NotUtf8 = codes "fault: bundle NotUtf8\n"
+fault_line (BadRequest row) = row_line (codes "requests") row (codes "BadRequest")
 fault_line OutOfMemory = memory_line

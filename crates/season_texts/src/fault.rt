@@ -21,6 +21,7 @@ pub fn fault_text(alloc: Global, fault: SeasonFault) -> Result<Text, OutOfMemory
         SeasonFault::BadFirstLine => whole_line(alloc, b"fault: bundle BadFirstLine\n"),
         SeasonFault::Section { line } => section_line(alloc, line),
         SeasonFault::BadSeason { row } => row_line(alloc, "season", row, "BadSeason"),
+        SeasonFault::BadRequest { row } => row_line(alloc, "requests", row, "BadRequest"),
         SeasonFault::Register(RankFault::Bad { row, kind }) => {
             row_line(alloc, "register", row, kind.name())
         }

@@ -1,4 +1,4 @@
-// The command `check`: it reads a season bundle without requests and answers how much the season has.
+// The command `check`: it reads a season bundle with its requests, where it has some, and answers how much the season has.
 ghost use Rattle.std.specs.Prelude.{◌≡◌, ◌≤◌, IfOk, IfErr, OnOk, IsErrOf};
 ghost use Rattle.office_base.specs.Outside.{Rose, IsAtEnd};
 ghost use Rattle.allocation_cli.specs.Answers.{HasLeft, IsFailureOf};
@@ -30,8 +30,8 @@ fn check_input<S: Source>(alloc: Global, source: &mut S) -> Result<Season, Failu
     ensures count { S.faults source.old ≤ S.faults source.new }
     ensures steady { ¬ IsErrOf result Failure.Read → S.faults source.new ≡ S.faults source.old }
 {
-    match Season::read(alloc, source, false) {
-        Ok(season) => Ok(season),
+    match Season::read(alloc, source, true) {
+        Ok((season, _)) => Ok(season),
         Err(fault) => Err(bundle_failure(alloc, fault)),
     }
 }

@@ -11,7 +11,7 @@ rows-preserved c =
     let split = rw c.if-branch.true at c.in_ok-advance.ensures.more in
     let put = rw c.if-not-branch.false at c.in_ok-put.ensures in
     read-more (script_of (rows_of c.args.body.now)) c.rows.script c.put.new.script c.rows.number c.in-Some.next c.rows.rows.left c.advance.new.self.row c.advance.new.self.left
-        c.rows.invariant split put c.in-Some.ensures.1
+    c.rows.invariant split put c.in-Some.ensures.1
 
 pub returns-clause-value : goal.returns-clause-value
 returns-clause-value c =

@@ -1,0 +1,1 @@
+// That reasons are just.
