@@ -1,2 +1,1 @@
-pub mod Just
 pub mod Reason

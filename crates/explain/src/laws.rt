@@ -1,1 +1,0 @@
-// That reasons are just.
