@@ -1,10 +1,9 @@
 -- Each step that a reason tells of stands against the person.
-use Rattle.std.proofs.Common.{◌≡◌, ◌<◌, ◌⊎◌, ℕ, zero, suc, not, take, Bool, true, false, Option, Some, None, List, [], ◌∷◌, ◌++◌, length, refl, sym, ap, ◌∙◌, subst, inl, inr, if◌then◌else◌}
+use Rattle.std.proofs.Common.{◌≡◌, ℕ, zero, suc, not, take, Bool, true, false, Option, Some, None, List, [], ◌∷◌, length, refl, sym, ap, ◌∙◌, subst, inl, inr, if◌then◌else◌}
 use Rattle.std.specs.Prelude.{option_to_list, slice_get}
 use Rattle.std.specs.Option.{option_and_then, option_map}
 use Rattle.std.specs.List.{AllByRecursion, AllZip, filter}
-use Rattle.std.proofs.lemmas.Bool.{cases_Bool, cond-true, cond-false}
-use Rattle.office_base.specs.Lists.{AnyByRecursion, IsAmong, IsSublist, Pairwise}
+use Rattle.office_base.specs.Lists.{IsAmong}
 use Rattle.office_base.specs.Merit.{in_merit, with_person}
 use Rattle.office_base.specs.Person.{IsBetter, is_common}
 use Rattle.office_base.specs.Placement.{IsHonoured}
@@ -21,16 +20,15 @@ use Rattle.placements.proofs.Ranks.{pairwise_sublist}
 use Rattle.placements.proofs.Sublists.{AllByRecursion-sublist}
 use Rattle.merit_choice.specs.InMerit.{InMeritRanks, RankedPart, WithPersonRanks}
 use Rattle.merit_choice.specs.Laws.{ChoiceSize, OneChoice, SeatsForAll}
-use Rattle.programme_lists.specs.Listing.{Shows, ShowsStep, seats_filled}
+use Rattle.programme_lists.specs.Listing.{ShowsStep, seats_filled}
 use Rattle.programme_lists.specs.Programme.{Admissions, IsProgrammeChoice, admitted_by, is_of, is_same, is_taken, left_over, people_of, step_of, unfilled, without}
 use Rattle.programme_lists.specs.declared.programme.Programme.{Programme}
 use Rattle.programme_lists.specs.declared.programme.StepList.{StepList}
-use Rattle.reasons.specs.declared.reason.Reason.{Reason}
 use Rattle.reasons.specs.declared.reason.StepWhy.{StepWhy}
 use Rattle.seat_matrix.specs.Seats.{AreProgrammeSeats, seats_of}
 use Rattle.seat_matrix.specs.declared.seats.ProgrammeSeats.{ProgrammeSeats}
 use Rattle.explain.specs.Just.{ReasonsAreJust, StandsAgainst, WasApplicant, told}
-use Rattle.explain.specs.Reason.{admitted_in, at_category, category_step, reason_from, reason_of, refusal, step_place, step_why, why_at}
+use Rattle.explain.specs.Reason.{admitted_in, category_step, reason_from, refusal, step_place, step_why, why_at}
 use Rattle.explain.proofs.Lists.{filter_sublist, left_by_take, none_taken, not_listed, passes, stays, tells_worse}
 use Rattle.explain.proofs.Step.{IsRefusedBy, all_taken, each, fewer_honoured, not_both}
 
@@ -140,7 +138,7 @@ module _ (laws : AreLaws) (seats : ProgrammeSeats) (programme : Programme) (pers
   people_ranked ScStep = filter_ranked seats.list (is_of Sc) _ (without_ranked applicants admissions.open_step ranked)
   people_ranked StStep = filter_ranked seats.list (is_of St) _ (without_ranked applicants admissions.open_step ranked)
   people_ranked Dereserved = filter_ranked seats.list (is_common seats.list) _
-    (without_ranked _ admissions.st (without_ranked _ admissions.sc (without_ranked _ admissions.obc (without_ranked _ admissions.ews (without_ranked applicants admissions.open_step ranked)))))
+      (without_ranked _ admissions.st (without_ranked _ admissions.sc (without_ranked _ admissions.obc (without_ranked _ admissions.ews (without_ranked applicants admissions.open_step ranked)))))
 
   is_step : (kind : StepKind) → IsStep (step_of seats applicants admissions kind)
   is_step kind = record { list = sound.list; people = people_ranked kind; protections = (sound.steps kind).protections }
@@ -177,10 +175,10 @@ module _ (laws : AreLaws) (seats : ProgrammeSeats) (programme : Programme) (pers
         full = ap length shows.persons ∙ all_taken step admitted person r laws.one laws.size laws.for_all ∙ sym filled ∙ sym shows.of_seats;
         worse = tells_worse seats.list person shown.admitted;
         swapped = λ other m n there better theirs own.
-          fewer_honoured step admitted person r laws.part laws.ranks other m n (subst (IsAmong other) shows.persons there) better
-          (subst (λ (k : StepKind). IsHonoured (seats_of seats k).protections (with_person seats.list person (without_one other.id admitted)) m) shows.of_kind
+            fewer_honoured step admitted person r laws.part laws.ranks other m n (subst (IsAmong other) shows.persons there) better
+            (subst (λ (k : StepKind). IsHonoured (seats_of seats k).protections (with_person seats.list person (without_one other.id admitted)) m) shows.of_kind
             (subst (λ (l : List Person). IsHonoured (seats_of seats shown.kind).protections (with_person seats.list person (without_one other.id l)) m) shows.persons theirs))
-          (subst (λ (k : StepKind). IsHonoured (seats_of seats k).protections admitted n) shows.of_kind
+            (subst (λ (k : StepKind). IsHonoured (seats_of seats k).protections admitted n) shows.of_kind
             (subst (λ (l : List Person). IsHonoured (seats_of seats shown.kind).protections l n) shows.persons own));
       }
 
@@ -232,8 +230,8 @@ module _ (laws : AreLaws) (seats : ProgrammeSeats) (programme : Programme) (pers
   told_refusal =
       let common = is_common seats.list person in
       all_joined (StandsAgainst seats programme person) _ _
-        (all_joined (StandsAgainst seats programme person) _ _ (told_where common _ told_open) (told_category person.category refl))
-        (told_where common _ (λ holds. told_at Dereserved (λ shown at. dereserved_step shown at holds)))
+      (all_joined (StandsAgainst seats programme person) _ _ (told_where common _ told_open) (told_category person.category refl))
+      (told_where common _ (λ holds. told_at Dereserved (λ shown at. dereserved_step shown at holds)))
 
 pub just : AreLaws → ReasonsAreJust
 just laws seats programme person sound was = either (admitted_in programme.steps person) refl

@@ -5,11 +5,10 @@ use Rattle.std.specs.List.{AllByRecursion, filter}
 use Rattle.std.proofs.lemmas.Bool.{cases_Bool, cond-true, cond-false}
 use Rattle.std.proofs.lemmas.Bool.Decides.{nat_tests}
 use Rattle.office_base.specs.Lists.{AnyByRecursion, IsAmong, IsSublist, Pairwise}
-use Rattle.office_base.specs.Merit.{is_ahead, is_better}
+use Rattle.office_base.specs.Merit.{is_ahead}
 use Rattle.office_base.specs.Person.{IsAhead, IsBetter, number_in}
 use Rattle.office_base.specs.declared.person.ListId.{ListId}
 use Rattle.office_base.specs.declared.person.Person.{Person}
-use Rattle.office_base.specs.declared.step.StepKind.{StepKind}
 use Rattle.programme_lists.specs.Programme.{is_taken, without}
 use Rattle.programme_lists.specs.declared.programme.StepList.{StepList}
 use Rattle.explain.specs.Reason.{admitted_in, has_worse}
@@ -91,6 +90,7 @@ tells_worse list person admitted = (means admitted, shows admitted)
       | inl here ↦ inl (ahead_means (number_in list person) (number_in list other) here)
       | inr later ↦ inr (means people later)
     ]
+
     shows : (people : List Person) → AnyByRecursion (IsBetter list person) people → has_worse list person people ≡ true
     shows [] worse = absurd worse
     shows (other ∷ people) worse = elim worse [

@@ -1,9 +1,9 @@
 -- Whoever a step refuses: all its seats are taken, and in place of somebody worse the person would leave fewer honoured.
-use Rattle.std.proofs.Common.{◌≡◌, ◌≢◌, ◌<◌, ◌≤◌, ◌⊎◌, ℕ, suc, min, Bool, true, false, Option, Some, None, List, [], ◌∷◌, length, refl, sym, ap, ◌∙◌, subst, inl, inr, arith}
+use Rattle.std.proofs.Common.{◌≡◌, ◌≢◌, ◌<◌, ◌≤◌, ℕ, suc, true, false, Option, Some, None, List, [], ◌∷◌, length, refl, sym, ap, ◌∙◌, subst, inl, inr, arith}
 use Rattle.std.specs.Prelude.{IsSome}
 use Rattle.std.specs.List.{AllByRecursion}
 use Rattle.std.proofs.lemmas.Bool.{ltb-true, ltb-false, cases_Bool, cases_lt, cond-true, cond-false}
-use Rattle.office_base.specs.Lists.{AnyByRecursion, IsAmong, IsSublist, Pairwise}
+use Rattle.office_base.specs.Lists.{IsAmong, Pairwise}
 use Rattle.office_base.specs.Merit.{is_ahead, is_better, with_person, IsNewTo}
 use Rattle.office_base.specs.Person.{IsAhead, IsBetter, IsTraitSet, number_in}
 use Rattle.office_base.specs.Placement.{IsHonoured}
@@ -13,9 +13,9 @@ use Rattle.office_base.specs.declared.person.Person.{Person}
 use Rattle.office_base.specs.declared.step.Step.{Step}
 use Rattle.placements.specs.Ranks.{AreAmong, AreDistinct, without}
 use Rattle.placements.proofs.Exchange.{all_weaker}
-use Rattle.placements.proofs.Ranks.{any_all, any_among, any_weaker, among_again, among_itself, among_sublist, one_person, pairwise_sublist}
+use Rattle.placements.proofs.Ranks.{any_among, any_weaker, among_again, among_itself, among_sublist, one_person, pairwise_sublist}
 use Rattle.placements.proofs.Sublists.{AllByRecursion-sublist}
-use Rattle.placements.proofs.Without.{all_without, among_without, length_without, pairwise_without, without_among, without_first, without_later}
+use Rattle.placements.proofs.Without.{all_without, length_without, pairwise_without, without_among, without_later}
 use Rattle.merit_choice.specs.InMerit.{RankedPart, WithPersonRanks}
 use Rattle.merit_choice.specs.Laws.{ChoiceSize, OneChoice, SeatsForAll}
 
@@ -93,7 +93,7 @@ somewhere_worse list (one ∷ chosen) person other order distinct among better n
   | inl holds ↦
       let ahead : IsBetter list person one = ahead_means (number_in list person) (number_in list one) holds in
       let all : AllByRecursion (IsBetter list person) (one ∷ chosen) =
-        (ahead, all_weaker (IsBetter list one) (IsBetter list person) (λ (x : Person) h. better_again list person one x ahead h) chosen order.0) in
+      (ahead, all_weaker (IsBetter list one) (IsBetter list person) (λ (x : Person) h. better_again list person one x ahead h) chosen order.0) in
       let first = first_of_all list person (without other.id (one ∷ chosen)) (all_without (IsBetter list person) other.id (one ∷ chosen) all) in
       let here = (subst (IsNoWorse list (one ∷ chosen)) first.1 no_worse).0 in
       elim here [
@@ -105,7 +105,7 @@ somewhere_worse list (one ∷ chosen) person other order distinct among better n
     | inr later ↦
         let apart : one.id ≢ other.id = each (λ (x : Person). one.id ≢ x.id) other chosen later distinct.0 in
         let made : with_person list person (without other.id (one ∷ chosen)) ≡ one ∷ with_person list person (without other.id chosen) =
-          ap (with_person list person) (without_later other.id one chosen apart) ∙ cond-false _ _ _ fails in
+        ap (with_person list person) (without_later other.id one chosen apart) ∙ cond-false _ _ _ fails in
         somewhere_worse list chosen person other order.1 distinct.1 later better (subst (IsNoWorse list (one ∷ chosen)) made no_worse).1
   ]
 ]
@@ -158,9 +158,9 @@ module _ (step : Step) (chosen : List Person) (person : Person) (r : IsRefusedBy
     traits = each (λ (x : Person). IsTraitSet x.traits) person step.people r.among r.is_step.people.traits;
     placed = each (λ (x : Person). IsSome (number_in step.list x)) person step.people r.among r.is_step.people.placed;
     distinct = all_weaker (λ (x : Person). IsAmong x chosen) (λ (x : Person). person.id ≢ x.id)
-      (λ (x : Person) there same. apart x there (one_person step.people r.is_step.people.distinct person x r.among (in_people x there) same)) chosen (among_itself chosen);
+        (λ (x : Person) there same. apart x there (one_person step.people r.is_step.people.distinct person x r.among (in_people x there) same)) chosen (among_itself chosen);
     numbers = all_weaker (λ (x : Person). IsAmong x chosen) (λ (x : Person). number_in step.list person ≢ number_in step.list x)
-      (λ (x : Person) there same. apart x there (one_number step.list step.people r.is_step.people.in_order person x r.among (in_people x there) same)) chosen (among_itself chosen);
+        (λ (x : Person) there same. apart x there (one_number step.list step.people r.is_step.people.in_order person x r.among (in_people x there) same)) chosen (among_itself chosen);
   }
 
   new_to_left : (other : Person) → IsNewTo step.list (without other.id chosen) person
@@ -176,7 +176,7 @@ module _ (step : Step) (chosen : List Person) (person : Person) (r : IsRefusedBy
       let swap : List Person = with_person step.list person (without other.id chosen) in
       let ranked = ranks step.list (without other.id chosen) person (left_ranked other) (new_to_left other) in
       let among : AreAmong swap step.people = among_again swap (person ∷ without other.id chosen) step.people ranked.2
-        (r.among, among_again (without other.id chosen) chosen step.people (without_among other.id chosen) chosen_among) in
+      (r.among, among_again (without other.id chosen) chosen step.people (without_among other.id chosen) chosen_among) in
       let long = length_with step.list person (without other.id chosen) in
       let fewer = length_without other.id chosen (any_weaker (λ x. other ≡ x) (λ (x : Person). x.id ≡ other.id) (λ (x : Person) e. ap (λ (p : Person). p.id) (sym e)) chosen there) in
       record {
