@@ -55,6 +55,10 @@ fn each_fault_has_its_line(rt: HostRuntime) -> Result<(), Fail> {
             }),
             "fault: choices row 6 RepeatedProgramme\n",
         ),
+        (
+            SeasonFault::BadRequest { row: 3 },
+            "fault: requests row 3 BadRequest\n",
+        ),
         (SeasonFault::OutOfMemory, "fault: memory\n"),
     ];
     for (fault, line) in cases {
