@@ -1,30 +1,25 @@
 -- The reason of one person at one programme, from the programme's six lists.
-use Rattle.std.specs.Prelude.{ℕ, Bool, false, List, [], ◌∷◌, Option, Some, None, ◌==◌, ◌||◌, if◌then◌else◌, slice_get}
+use Rattle.std.specs.Prelude.{ℕ, Bool, false, List, [], ◌∷◌, Option, Some, None, ◌||◌, if◌then◌else◌, slice_get}
 use Rattle.std.specs.Option.{option_and_then, option_map}
 use Rattle.office_base.specs.Merit.{is_better}
 use Rattle.office_base.specs.Person.{is_common}
-use Rattle.office_base.specs.declared.person.CandId.{CandId}
 use Rattle.office_base.specs.declared.person.Category.{Category}
 use Rattle.office_base.specs.declared.person.Category.TheVariants.{Gen, Ews, Obc, Sc, St}
 use Rattle.office_base.specs.declared.person.ListId.{ListId}
 use Rattle.office_base.specs.declared.person.Person.{Person}
 use Rattle.office_base.specs.declared.step.StepKind.{StepKind}
 use Rattle.office_base.specs.declared.step.StepKind.TheVariants.{Open, Ews as EwsStep, Obc as ObcStep, Sc as ScStep, St as StStep, Dereserved}
+use Rattle.programme_lists.specs.Programme.{is_taken}
 use Rattle.programme_lists.specs.declared.programme.Programme.{Programme}
 use Rattle.programme_lists.specs.declared.programme.StepList.{StepList}
 use Rattle.reasons.specs.declared.reason.Reason.{Reason}
 use Rattle.reasons.specs.declared.reason.Reason.TheVariants.{Admitted, Refused}
 use Rattle.reasons.specs.declared.reason.StepWhy.{StepWhy}
 
--- the candidate is one of these persons
-abbrev pub is_on : List Person → CandId → Bool
-is_on [] cand = false
-is_on (person ∷ people) cand = person.id.0 == cand.0 || is_on people cand
-
--- the step whose list has the candidate
-abbrev pub admitted_in : List StepList → CandId → Option StepKind
-admitted_in [] cand = None
-admitted_in (list ∷ lists) cand = if is_on list.admitted cand then Some list.kind else admitted_in lists cand
+-- the step whose list has the person
+abbrev pub admitted_in : List StepList → Person → Option StepKind
+admitted_in [] person = None
+admitted_in (list ∷ lists) person = if is_taken list.admitted person then Some list.kind else admitted_in lists person
 
 -- the person is better than somebody admitted
 abbrev pub has_worse : ListId → Person → List Person → Bool
@@ -72,4 +67,4 @@ reason_from (Some step) refused = Admitted step
 
 -- under which step the programme admits the person, or what stood against the person
 abbrev pub reason_of : ListId → Programme → Person → Reason
-reason_of list programme person = reason_from (admitted_in programme.steps person.id) (refusal list programme person)
+reason_of list programme person = reason_from (admitted_in programme.steps person) (refusal list programme person)

@@ -3,11 +3,11 @@ ghost use Rattle.std.specs.Prelude.{◌≡◌, ◌<◌, Option, length};
 ghost use Rattle.std.specs.List.{AllByRecursion, list_any};
 ghost use Rattle.office_base.specs.Merit.{is_ahead};
 ghost use Rattle.office_base.specs.Person.{IsList, is_common, number_in};
-ghost use Rattle.seat_matrix.specs.Matrix.{list_in, seats_in};
-ghost use Rattle.explain.specs.Reason.{admitted_in, at_category, category_step, has_worse, is_on, reason_of, refusal, step_place, why_at};
-ghost use Rattle.explain.specs.Just.{StandsAgainst, WasApplicant, told};
+ghost use Rattle.programme_lists.specs.Programme.{is_taken};
+ghost use Rattle.seat_matrix.specs.Matrix.{list_in};
+ghost use Rattle.explain.specs.Reason.{admitted_in, at_category, category_step, has_worse, reason_of, refusal, step_place, why_at};
 
-use office_base::{CandId, Category, ListId, Person, Place, ProgId, StepKind};
+use office_base::{Category, ListId, Person, Place, ProgId, StepKind};
 use programme_lists::{Programme, StepList};
 use reasons::{Reason, StepWhy};
 use seat_matrix::Matrix;
@@ -19,7 +19,7 @@ pub fn why(matrix: &Matrix, prog: ProgId, programme: &Programme, person: &Person
     ensures reason { result ≡ reason_of (list_in matrix.now prog.0) programme.now person.now }
 {
     let list = matrix.programme(prog).list;
-    match admitted_in(&programme.steps, person.id) {
+    match admitted_in(&programme.steps, person) {
         Some(step) => Reason::Admitted(step),
         None => refusal(list, programme, person),
     }
@@ -132,24 +132,24 @@ fn is_ahead(first: Option<u32>, second: Option<u32>) -> bool
     }
 }
 
-/// The step whose list has the candidate.
-fn admitted_in(lists: &[StepList], cand: CandId) -> Option<StepKind>
-    ensures { result ≡ admitted_in lists.now cand }
+/// The step whose list has the person.
+fn admitted_in(lists: &[StepList], person: &Person) -> Option<StepKind>
+    ensures { result ≡ admitted_in lists.now person.now }
 {
     for list in lists {
-        if is_on(list.admitted.as_slice(), cand) {
+        if is_taken(list.admitted.as_slice(), person) {
             return Some(list.kind);
         }
     }
     None
 }
 
-/// Whether the candidate is one of these persons.
-fn is_on(people: &[Person], cand: CandId) -> bool
-    ensures { result ≡ is_on people.now cand }
+/// Whether the person is one of those taken.
+fn is_taken(taken: &[Person], person: &Person) -> bool
+    ensures { result ≡ is_taken taken.now person.now }
 {
-    for person in people {
-        if person.id == cand {
+    for other in taken {
+        if other.id == person.id {
             return true;
         }
     }
