@@ -6,6 +6,7 @@
 #![tactic(auto)]
 
 pub mod decide;
+pub mod facts;
 pub mod laws;
 pub mod moves;
 pub mod refusal;
@@ -14,5 +15,6 @@ pub use decide::{
     AnswerLooks, Decision, RaiseLooks, judge_answer, judge_cut, judge_list, judge_raise,
     judge_seat, judge_why,
 };
+pub use facts::says_what_is_sound;
 pub use moves::{Act, Entry, Reply};
 pub use refusal::Refusal;

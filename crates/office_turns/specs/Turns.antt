@@ -1,0 +1,18 @@
+-- The turns of a candidate as a list.
+use Rattle.std.specs.Prelude.{◌≡◌, ◌≤◌, ℕ, zero, suc, List, [], ◌∷◌, length, take}
+use Rattle.office_base.specs.declared.asks.Choice.{Choice}
+use Rattle.office_turns.specs.declared.turns.Turns.{Turns}
+
+-- the choices of the turns that were taken
+abbrev pub choices_of : Turns → List Choice
+choices_of turns = take turns.count turns.choices
+
+-- there is a place for each turn
+pub record IsTurns (turns : Turns) : Type 0 where
+  pub few : turns.count ≤ 17
+  pub room : length turns.choices ≡ 17
+
+-- so many candidates, who have taken no turn
+abbrev pub no_turns : ℕ → List (List Choice)
+no_turns zero = []
+no_turns (suc count) = [] ∷ no_turns count

@@ -1,0 +1,71 @@
+// The choices of each candidate in one window.
+ghost use Rattle.std.specs.Prelude.{◌≡◌, ◌<◌, ◌≤◌, ◌+◌, ◌++◌, ◌∷◌, [], Some, length, slice_get, slice_set, option_map, IfOk};
+
+use office_base::{Choice, OutOfMemory};
+use std::alloc::Global;
+use std::marker::Model;
+
+/// The choices of a candidate in one window, by turn from 1: the first `count` places, and filler after them. At most 16 turns are accepted, and one
+/// withdrawal.
+#[derive(Clone, Copy)]
+struct Turns {
+    count: u8,
+    choices: [Choice; 17],
+}
+
+/// The choices of each person of the register in one window, in the order of the register.
+#[derive(Drop)]
+pub struct TurnTable {
+    slots: Vec<Turns>,
+}
+
+impl Model for TurnTable {
+    ghost use Rattle.std.specs.Prelude.{List, map, All};
+    ghost use Rattle.office_base.specs.declared.asks.Choice.{Choice};
+    ghost use Rattle.office_turns.specs.Turns.{choices_of, IsTurns};
+
+    ghost Value = { List (List Choice) };
+
+    ghost view = { λ a. map choices_of a.slots.items };
+
+    ghost invariant = { λ a. All IsTurns a.slots.items };
+}
+
+impl TurnTable {
+    ghost use Rattle.std.specs.Prelude.{List};
+    ghost use Rattle.office_base.specs.declared.asks.Choice.{Choice};
+    ghost use Rattle.office_turns.specs.Turns.{no_turns};
+
+    /// A table of this many candidates, who have taken no turn.
+    pub fn new(alloc: Global, count: usize) -> Result<TurnTable, OutOfMemory>
+        ensures { IfOk result (λ table. table ≡ no_turns count) }
+    {
+        let mut slots = Vec::with_capacity(alloc, count)?;
+        'slots: for _ in 0..count {
+            slots.push(Turns {
+                count: 0,
+                choices: [Choice::Freeze; 17],
+            })?;
+        }
+        Ok(TurnTable { slots })
+    }
+
+    /// How many turns the candidate at this place has taken, which is the last turn. It takes no memory.
+    pub fn taken(&self, at: usize) -> u16
+        requires { at < length self.now }
+        ensures { option_map length (slice_get self.now at) ≡ Some result }
+    {
+        u16::from(self.slots[at].count)
+    }
+
+    /// One turn more of the candidate at this place. It takes no memory.
+    pub fn put(&mut self, at: usize, choice: Choice)
+        requires { (old : List Choice) × (slice_get self.old at ≡ Some old) × (length old < 17) }
+        ensures { (old : List Choice) → slice_get self.old at ≡ Some old → self.new ≡ slice_set self.old at (old ++ choice ∷ []) }
+    {
+        let slot = &mut self.slots[at];
+        let count = usize::from(slot.count);
+        slot.choices[count] = choice;
+        slot.count += 1;
+    }
+}
