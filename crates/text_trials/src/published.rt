@@ -2,14 +2,12 @@
 use crate::sections::MATRIX_HEADER;
 use keeper_mem::AllotRow;
 use office_base::{
-    CandId, Category, Listed, Pair, Person, Place, ProgId, Seat, StepKind, Text, TraitSet,
+    CandId, Category, Listed, Person, Place, ProgId, Seat, StepKind, Text, TraitSet,
 };
-use programme_lists::{Programme, StepList};
-use published_texts::{final_text, list_text, reason_text, round_text};
+use published_texts::{final_text, reason_text, round_text};
 use reasons::{Reason, StepWhy, WhyAnswer};
 use rounds::Round;
 use seat_matrix::Matrix;
-use slot_cert::Cert;
 use std::test::Fail;
 
 fn matrix(rt: HostRuntime) -> Result<Matrix, Fail> {
@@ -28,19 +26,6 @@ fn person(id: u32) -> Person {
             Place::Absent,
             Place::Absent,
         ],
-    }
-}
-
-/// The list of a step without seats.
-fn nobody(rt: HostRuntime, kind: StepKind) -> StepList {
-    StepList {
-        kind,
-        seats: 0,
-        candidates: 0,
-        admitted: Listed::new(rt.alloc()),
-        cert: Cert {
-            pairs: Listed::new(rt.alloc()),
-        },
     }
 }
 
@@ -97,45 +82,10 @@ fn final_admissions_are_written(rt: HostRuntime) -> Result<(), Fail> {
     }];
     if matrix.count() == 2 {
         let text = final_text(rt.alloc(), &matrix, &rows)?;
-        assert_eq!(rt; text.as_slice(), b"final 1\nadmit 7 P-2 ST\nend final\n".as_slice());
-    }
-    Ok(())
-}
-
-#[test]
-fn a_list_is_written(rt: HostRuntime) -> Result<(), Fail> {
-    let matrix = matrix(rt)?;
-    let pairs = Vec::from_slice(
-        rt.alloc(),
-        &[Pair {
-            cand: CandId(7),
-            slot: 0,
-        }],
-    )?;
-    let people = Vec::from_slice(rt.alloc(), &[person(4), person(7)])?;
-    let open = StepList {
-        kind: StepKind::Open,
-        seats: 2,
-        candidates: 3,
-        admitted: Listed::from_vec(people),
-        cert: Cert {
-            pairs: Listed::from_vec(pairs),
-        },
-    };
-    let programme = Programme {
-        steps: [
-            open,
-            nobody(rt, StepKind::Ews),
-            nobody(rt, StepKind::Obc),
-            nobody(rt, StepKind::Sc),
-            nobody(rt, StepKind::St),
-            nobody(rt, StepKind::Dereserved),
-        ],
-    };
-    if matrix.count() == 2 {
-        let text = list_text(rt.alloc(), &matrix, 2, ProgId(0), &programme)?;
-        let want = b"list 2 P1\nstep OPEN seats 2 candidates 3 admitted 2\nhonoured 1\n4 -\n7 W\nstep EWS seats 0 candidates 0 admitted 0\nhonoured 0\nstep OBC seats 0 candidates 0 admitted 0\nhonoured 0\nstep SC seats 0 candidates 0 admitted 0\nhonoured 0\nstep ST seats 0 candidates 0 admitted 0\nhonoured 0\nstep D seats 0 candidates 0 admitted 0\nhonoured 0\nend list\n";
-        assert_eq!(rt; text.as_slice(), want.as_slice());
+        assert_eq!(rt;
+            text.as_slice(),
+            b"final 1\nadmit 7 P-2 ST\nend final\n".as_slice()
+        );
     }
     Ok(())
 }
