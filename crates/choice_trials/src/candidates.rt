@@ -109,6 +109,17 @@ pub fn step_without_seats(list: ListId, people: People) -> Step
     }
 }
 
+/// Whether the people may apply to a programme of the list together.
+pub fn may_all_apply(list: ListId, people: &[Person]) -> bool
+    requires { IsList list }
+    ensures { IsTrue result → AreApplicants list people.now }
+{
+    let [person, others @ ..] = people else {
+        return true;
+    };
+    is_new(list, others, person) && may_all_apply(list, others)
+}
+
 /// Whether the step is sound, so that its people may apply to a programme of its list.
 pub fn may_apply(step: &Step) -> bool
     ensures { IsTrue result → AreApplicants step.now.list step.now.people }
@@ -138,6 +149,22 @@ fn is_apart(list: ListId, people: &[Person], person: &Person) -> bool
     person.id != other.id
         && person.place(list).number() != other.place(list).number()
         && is_apart(list, others, person)
+}
+
+/// The people in the order of this number, each order having one: 0 is from the last to the first.
+pub fn in_order(
+    alloc: Global,
+    people: &[Person],
+    number: usize,
+) -> Result<Vec<Person>, OutOfMemory> {
+    let mut order = Vec::new(alloc);
+    let mut left = number;
+    for person in people {
+        let places = order.len() + 1;
+        order.insert(left % places, *person)?;
+        left /= places;
+    }
+    Ok(order)
 }
 
 /// The matrix of these rows, where they have no fault.

@@ -13,7 +13,11 @@ mod certificates;
 #[cfg(test)]
 mod empty_seats;
 #[cfg(test)]
+mod large_programmes;
+#[cfg(test)]
 mod matching;
+#[cfg(test)]
+mod programme_states;
 #[cfg(test)]
 mod programmes;
 #[cfg(test)]

@@ -3,7 +3,7 @@
 ghost use Rattle.std.specs.Prelude.{◌≡◌};
 ghost use Rattle.office_base.specs.Person.{IsList};
 
-use crate::candidates::{D, W, is_new, step_of};
+use crate::candidates::{D, W, in_order, is_new, step_of};
 use merit_choice::{Offered, StepState, choose};
 use office_base::{CandId, OutOfMemory, People, Person, Step};
 use plain_choice::is_step;
@@ -80,18 +80,6 @@ fn hold_choices(
         return Ok(false);
     }
     hold_choices(alloc, state, step, came, later)
-}
-
-// The people in the order of this number, each order having one.
-fn in_order(alloc: Global, people: &[Person], number: usize) -> Result<Vec<Person>, OutOfMemory> {
-    let mut order = Vec::new(alloc);
-    let mut left = number;
-    for person in people {
-        let places = order.len() + 1;
-        order.insert(left % places, *person)?;
-        left /= places;
-    }
-    Ok(order)
 }
 
 // Whether the step holds the choice after each offer, in so many orders of its people.

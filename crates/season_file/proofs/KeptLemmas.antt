@@ -1,5 +1,5 @@
 -- The text of a season reads as the season.
-use Rattle.std.proofs.Common.{◌≡◌, ◌<◌, ◌≤◌, ◌+◌, ◌-◌, inl, inr, ℕ, Bool, true, false, List, [], ◌∷◌, ◌++◌, length, take, get_or, Ok, refl, sym, ap, subst, ◌∙◌, arith}
+use Rattle.std.proofs.Common.{◌≡◌, ◌<◌, ◌+◌, ◌-◌, inl, inr, ℕ, Bool, false, List, [], ◌∷◌, ◌++◌, length, take, get_or, Ok, refl, sym, ap, subst, ◌∙◌, arith}
 use Rattle.std.proofs.Math.Seq.{get_or-append_seam, take-append_seam, take-length}
 use Rattle.std.proofs.lemmas.List.{append-nil, length-append}
 use Rattle.std.proofs.lemmas.Str.{IsUtf8-take, IsCharBoundary-before_ascii}
@@ -10,7 +10,7 @@ use Rattle.request_rows.specs.Requests.{script_of}
 use Rattle.season_file.specs.Bundle.{Parts, before_requests, bundle_of, season_text}
 use Rattle.season_file.specs.Season.{BundleGives, IsText, SectionsGive, request_rows_of}
 use Rattle.season_file.specs.declared.content.Content.{Content}
-use Rattle.season_file.proofs.SplitLemmas.{Begins, IsAgain, IsNext, cut_again, no_requests, without_requests}
+use Rattle.season_file.proofs.SplitLemmas.{IsAgain, IsNext, cut_again, no_requests, without_requests}
 
 -- what stands before the last bytes
 before_last : (front last : List ℕ) → take (length (front ++ last) - length last) (front ++ last) ≡ front

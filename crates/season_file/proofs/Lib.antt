@@ -4,3 +4,4 @@ mod KeptLemmas
 mod LawsLemmas
 mod SeasonLemmas
 mod SplitLemmas
+mod TitleLemmas

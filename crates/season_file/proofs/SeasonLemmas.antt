@@ -1,5 +1,5 @@
 -- The faults of the sections, told as the season's.
-use Rattle.std.proofs.Common.{◌≡◌, ◌⊎◌, inl, inr, ℕ, Bool, true, false, cond, List, Option, Some, None, Result, Ok, Err, ◌-◌, take, length, refl, sym, ap, subst}
+use Rattle.std.proofs.Common.{◌≡◌, ◌⊎◌, inl, inr, ℕ, Bool, false, List, Option, Some, None, Result, Ok, Err, ◌-◌, take, length, refl, sym, ap, subst}
 use Rattle.std.specs.Prelude.{is_some}
 use Rattle.office_text.specs.Lines.{skip_mark}
 use Rattle.office_base.specs.Outside.{IsAtEnd, Took}
@@ -17,11 +17,11 @@ use Rattle.section_rows.specs.declared.fault.TableFault.TheVariants.{Bad as BadR
 use Rattle.rank_lists.specs.declared.fault.RankKind.{RankKind}
 use Rattle.seat_matrix.specs.Matrix as seat_grammar
 use Rattle.choice_lists.specs.Choices as choice_grammar
-use Rattle.season_file.specs.Bundle.{Parts, after_line, before_requests, bundle_of, closed, fault_line, last_section, season_text, section, sections, skip_empty, title, version_of, with_line}
+use Rattle.season_file.specs.Bundle.{Parts, after_line, before_requests, bundle_of, fault_line, season_text, sections, skip_empty, title, version_of, with_line}
 use Rattle.season_file.specs.Head.{head_of}
 use Rattle.season_file.specs.Season.{IsClerkApart, IsSeasonFault, IsSectionFault, IsSourceFault, IsText, IsUnread, SectionsGive, choice_error, matrix_error, register_error, request_rows_of, script_error}
 use Rattle.season_file.specs.declared.fault.SeasonFault.{SeasonFault}
-use Rattle.season_file.specs.declared.fault.SeasonFault.TheVariants.{ReadFault, TooLong, BadFirstLine, Section, BadSeason, Register, Matrix, Choices, NotUtf8, BadRequest, OutOfMemory}
+use Rattle.season_file.specs.declared.fault.SeasonFault.TheVariants.{ReadFault, TooLong, BadFirstLine, Section, NotUtf8, OutOfMemory}
 use Rattle.season_file.specs.declared.head.Head.{Head}
 
 -- A register's fault is the sections'.

@@ -1,7 +1,7 @@
 -- What stands before the section of the requests is cut as the whole bundle is.
-use Rattle.std.proofs.Common.{◌≡◌, ◌<◌, ◌≤◌, ◌+◌, ◌-◌, ◌⊎◌, inl, inr, ℕ, zero, suc, Bool, true, false, cond, ◌&&◌, eqb, List, [], ◌∷◌, ◌++◌, length, take, drop, Option, Some, None, Result, Ok, Err, refl, sym, ap, subst, ◌∙◌, arith, append_assoc, add-one, eq-eqb}
-use Rattle.std.proofs.Math.Seq.{take-append_seam, drop-append_seam, take-length}
-use Rattle.std.proofs.lemmas.Bool.{and_parts, cases_Bool, eqb-true}
+use Rattle.std.proofs.Common.{◌≡◌, ◌+◌, ◌⊎◌, inl, inr, ℕ, zero, suc, Bool, true, false, cond, ◌&&◌, eqb, List, [], ◌∷◌, ◌++◌, length, take, drop, Option, Some, None, Result, Ok, Err, refl, sym, ap, subst, ◌∙◌, append_assoc, add-one}
+use Rattle.std.proofs.Math.Seq.{take-append_seam}
+use Rattle.std.proofs.lemmas.Bool.{and_parts, eqb-true}
 use Rattle.std.proofs.lemmas.List.{append-nil}
 use Rattle.std.proofs.lemmas.Slice.Eq.{bytes_eq-Decides}
 use Rattle.std.specs.Prelude.{bytes_eq, codes}
@@ -10,7 +10,6 @@ use Rattle.office_text.specs.Lines.{drop_cr, skip_mark, trimmed, unless_last}
 use Rattle.section_rows.specs.Steps.{after, needs}
 use Rattle.section_rows.proofs.StepsLemmas.{after_ok, needs_ok}
 use Rattle.season_file.specs.Bundle.{Parts, after_line, body_and_rest, body_len, bundle_of, closed, last_section, line_len, section, sections, skip_empty, text_of, title, version_of, with_line}
-use Rattle.season_file.specs.declared.fault.SeasonFault.{SeasonFault}
 use Rattle.season_file.specs.declared.fault.SeasonFault.TheVariants.{BadFirstLine}
 
 -- the bytes begin with this one
@@ -49,7 +48,7 @@ take-begins x (suc n) [] b = absurd (let e : [] ≡ x ∷ b.0 = b.1 in cc)
 take-begins x (suc n) (a ∷ bytes) b = (bytes, let e : a ∷ take n bytes ≡ x ∷ b.0 = b.1 in cc)
 
 -- A text begins as its title does.
-title-begins : (x : ℕ) (text : List ℕ) → Begins x (title text) → Begins x text
+pub title-begins : (x : ℕ) (text : List ℕ) → Begins x (title text) → Begins x text
 title-begins x text b = take-begins x (line_len text) text (drop_cr-begins x (take (line_len text) text) (trimmed-begins x (drop_cr (take (line_len text) text)) b))
 
 -- a line that something follows ends with LF, whatever follows
@@ -57,7 +56,7 @@ pub record IsSplit (text line rest : List ℕ) : Type 0 where
   pub whole : text ≡ line ++ 10 ∷ rest
   pub same : (other : List ℕ) → line_len (line ++ 10 ∷ other) ≡ length line
 
-line_split : (text : List ℕ) (x : ℕ) (rest : List ℕ) → drop (suc (line_len text)) text ≡ x ∷ rest → (line : List ℕ) × IsSplit text line (x ∷ rest)
+pub line_split : (text : List ℕ) (x : ℕ) (rest : List ℕ) → drop (suc (line_len text)) text ≡ x ∷ rest → (line : List ℕ) × IsSplit text line (x ∷ rest)
 line_split [] x rest e = absurd cc
 line_split (a ∷ text) x rest e = by (λ h. line_split text x rest h) (eqb a 10) refl e
   where
@@ -74,7 +73,7 @@ line_split (a ∷ text) x rest e = by (λ h. line_split text x rest h) (eqb a 10
         )
 
 -- the title of such a line, and what stands after it
-title-split : (text line rest other : List ℕ) → IsSplit text line rest → title (line ++ 10 ∷ other) ≡ trimmed (drop_cr line)
+pub title-split : (text line rest other : List ℕ) → IsSplit text line rest → title (line ++ 10 ∷ other) ≡ trimmed (drop_cr line)
 title-split text line rest other split = ap (λ (n : ℕ). trimmed (drop_cr (take n (line ++ 10 ∷ other)))) (split.same other) ∙ ap (λ (bytes : List ℕ). trimmed (drop_cr bytes)) (take-append_seam line (10 ∷ other))
 
 drop-after : (line other : List ℕ) → drop (suc (length line)) (line ++ 10 ∷ other) ≡ other
@@ -115,7 +114,7 @@ pub record IsSection (name text body rest : List ℕ) (front : List ℕ) : Type 
   pub whole : text ≡ front ++ rest
   pub same : (other : List ℕ) → IsNext other → section name (front ++ other) ≡ Ok (body, other)
 
-section_ok : (name text : List ℕ) (cut : List ℕ × List ℕ) → section name text ≡ Ok cut → (bytes_eq (title text) name ≡ true) × (body_and_rest (after_line text) ≡ cut)
+pub section_ok : (name text : List ℕ) (cut : List ℕ × List ℕ) → section name text ≡ Ok cut → (bytes_eq (title text) name ≡ true) × (body_and_rest (after_line text) ≡ cut)
 section_ok name text cut e = by (bytes_eq (title text) name) refl e
   where
     by : (b : Bool) → bytes_eq (title text) name ≡ b → cond b (Ok (body_and_rest (after_line text))) (Err text) ≡ Ok cut → (bytes_eq (title text) name ≡ true) × (body_and_rest (after_line text) ≡ cut)
@@ -169,7 +168,7 @@ section_split name text cut rest e next =
         ap (λ (b : Bool). cond b (ok_pair (body_and_rest (after_line bytes))) (Err bytes)) titled ∙ ap (λ (l : List ℕ). ok_pair (body_and_rest l)) e ∙ ok_parts left cut.0 other cuts
 
 -- A section begins with `[`.
-section_begins : (name text : List ℕ) (cut : List ℕ × List ℕ) → Begins 91 name → section name text ≡ Ok cut → Begins 91 text
+pub section_begins : (name text : List ℕ) (cut : List ℕ × List ℕ) → Begins 91 name → section name text ≡ Ok cut → Begins 91 text
 section_begins name text cut named e =
     let titled : title text ≡ name = (bytes_eq-Decides (title text) name).0 (section_ok name text cut e).0 in
     title-begins 91 text (named.0, titled ∙ named.1)
@@ -186,10 +185,10 @@ skip-lf : (a : ℕ) (bytes : List ℕ) → eqb a 10 ≡ true → skip_empty (a �
 skip-lf a [] is = rw is refl
 skip-lf a (b ∷ bytes) is = rw is refl
 
-abbrev IsSkipped : List ℕ → List ℕ → Type 0
+abbrev pub IsSkipped : List ℕ → List ℕ → Type 0
 IsSkipped bytes rest = (front : List ℕ) × (bytes ≡ front ++ rest) × ((other : List ℕ) → Begins 91 other → skip_empty (front ++ other) ≡ other)
 
-skip_split : (bytes rest : List ℕ) → skip_empty bytes ≡ 91 ∷ rest → IsSkipped bytes (91 ∷ rest)
+pub skip_split : (bytes rest : List ℕ) → skip_empty bytes ≡ 91 ∷ rest → IsSkipped bytes (91 ∷ rest)
 skip_split [] rest e = absurd cc
 skip_split (a ∷ []) rest e = by (eqb a 10) (eqb a 13) e
   where
@@ -219,10 +218,10 @@ mark-open other begins = subst (λ (bytes : List ℕ). skip_mark bytes ≡ bytes
     by (b ∷ []) = refl
     by (b ∷ c ∷ more) = refl
 
-abbrev IsMarked : List ℕ → List ℕ → Type 0
+abbrev pub IsMarked : List ℕ → List ℕ → Type 0
 IsMarked bytes rest = (front : List ℕ) × (bytes ≡ front ++ rest) × ((other : List ℕ) → Begins 111 other → skip_mark (front ++ other) ≡ other)
 
-mark_split : (bytes rest : List ℕ) → skip_mark bytes ≡ 111 ∷ rest → IsMarked bytes (111 ∷ rest)
+pub mark_split : (bytes rest : List ℕ) → skip_mark bytes ≡ 111 ∷ rest → IsMarked bytes (111 ∷ rest)
 mark_split [] rest e = absurd cc
 mark_split (a ∷ []) rest e = ([], e, mark-open)
 mark_split (a ∷ b ∷ []) rest e = ([], e, mark-open)
@@ -233,7 +232,7 @@ mark_split (a ∷ b ∷ c ∷ bytes) rest e = by (eqb a 239 && eqb b 187 && eqb 
     by false is h = ([], h, mark-open)
 
 -- what a first line gives is a version, and the line begins with `o`
-version_ok : (line : List ℕ) (version : ℕ) → version_of line ≡ Some version → IsVersion version × Begins 111 line
+pub version_ok : (line : List ℕ) (version : ℕ) → version_of line ≡ Some version → IsVersion version × Begins 111 line
 version_ok line version e = by (bytes_eq line (codes "office bundle 1")) refl (bytes_eq line (codes "office bundle 2")) refl e
   where
     one : List ℕ
@@ -246,11 +245,11 @@ version_ok line version e = by (bytes_eq line (codes "office bundle 1")) refl (b
     by false is false there h = absurd cc
 
 -- what may follow the choices is what follows them, and it begins with `[`
-closed_ok : (rest value last : List ℕ) → closed rest value ≡ Ok last → last ≡ value
+pub closed_ok : (rest value last : List ℕ) → closed rest value ≡ Ok last → last ≡ value
 closed_ok [] value last e = cc e
 closed_ok (byte ∷ rest) value last e = absurd cc
 
-last_ok : (requests : Bool) (rest last : List ℕ) → last_section requests rest ≡ Ok last → (last ≡ rest) × IsNext rest
+pub last_ok : (requests : Bool) (rest last : List ℕ) → last_section requests rest ≡ Ok last → (last ≡ rest) × IsNext rest
 last_ok requests [] last e = (cc e, inl refl)
 last_ok true (byte ∷ bytes) last e =
     let (cut, found, shut) = after_ok (section (codes "[requests]") (byte ∷ bytes)) (λ cut. closed cut.1 (byte ∷ bytes)) last e in
@@ -258,19 +257,19 @@ last_ok true (byte ∷ bytes) last e =
 last_ok false (byte ∷ bytes) last e = absurd cc
 
 -- the sections, one after another
-abbrev with_last : ℕ → List ℕ → List ℕ → List ℕ → List ℕ → List ℕ → Result Parts (List ℕ)
+abbrev pub with_last : ℕ → List ℕ → List ℕ → List ℕ → List ℕ → List ℕ → Result Parts (List ℕ)
 with_last version season register matrix choices last = Ok (record { version = version; season = season; register = register; matrix = matrix; choices = choices; requests = last })
 
-abbrev from_choices : Bool → ℕ → List ℕ → List ℕ → List ℕ → List ℕ × List ℕ → Result Parts (List ℕ)
+abbrev pub from_choices : Bool → ℕ → List ℕ → List ℕ → List ℕ → List ℕ × List ℕ → Result Parts (List ℕ)
 from_choices requests version season register matrix choices = after (last_section requests choices.1) (with_last version season register matrix choices.0)
 
-abbrev from_matrix : Bool → ℕ → List ℕ → List ℕ → List ℕ × List ℕ → Result Parts (List ℕ)
+abbrev pub from_matrix : Bool → ℕ → List ℕ → List ℕ → List ℕ × List ℕ → Result Parts (List ℕ)
 from_matrix requests version season register matrix = after (section (codes "[choices]") matrix.1) (from_choices requests version season register matrix.0)
 
-abbrev from_register : Bool → ℕ → List ℕ → List ℕ × List ℕ → Result Parts (List ℕ)
+abbrev pub from_register : Bool → ℕ → List ℕ → List ℕ × List ℕ → Result Parts (List ℕ)
 from_register requests version season register = after (section (codes "[matrix]") register.1) (from_matrix requests version season register.0)
 
-abbrev from_season : Bool → ℕ → List ℕ × List ℕ → Result Parts (List ℕ)
+abbrev pub from_season : Bool → ℕ → List ℕ × List ℕ → Result Parts (List ℕ)
 from_season requests version season = after (section (codes "[register]") season.1) (from_register requests version season.0)
 
 -- the same parts without requests
@@ -351,7 +350,7 @@ sections_ok requests version text parts e =
           next = inr (more.0, same ∙ more.1);
         }
 
-with_line_ok : (text : List ℕ) (r : Result Parts (List ℕ)) (parts : Parts) → with_line text r ≡ Ok parts → r ≡ Ok parts
+pub with_line_ok : (text : List ℕ) (r : Result Parts (List ℕ)) (parts : Parts) → with_line text r ≡ Ok parts → r ≡ Ok parts
 with_line_ok text (Ok made) parts e = cc e
 with_line_ok text (Err rest) parts e = absurd cc
 

@@ -4,3 +4,4 @@ pub mod Kept
 pub mod Laws
 pub mod Script
 pub mod Season
+pub mod Titles

@@ -1,6 +1,8 @@
 // What holds of bundles themselves, whoever reads them.
-ghost use Rattle.std.specs.Prelude.{ℕ, Bool, List};
+ghost use Rattle.std.specs.Prelude.{◌≡◌, ℕ, Bool, List, Ok};
+ghost use Rattle.season_file.specs.Bundle.{Parts, bundle_of};
 ghost use Rattle.season_file.specs.Laws.{HaveOneReading};
+ghost use Rattle.season_file.specs.Titles.{IsCutAtTitles};
 
 /// Bytes give one season with its requests or have one first fault, and never both: where requests are read, and where they are
 /// not.
@@ -12,3 +14,9 @@ pub fn one_reading()
     choice_lists::laws::one_reading();
     choice_lists::laws::same_reading();
 }
+
+/// The section lines of a bundle are the lines that begin with `[`, and title lines with the bodies between them give its bytes
+/// back.
+pub fn sections_stand_between_titles()
+    ensures { (requests : Bool) (bytes : List ℕ) (parts : Parts) → bundle_of requests bytes ≡ Ok parts → IsCutAtTitles bytes parts }
+{}
