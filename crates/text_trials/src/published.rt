@@ -1,13 +1,18 @@
 // The published texts of a small matrix.
+ghost use Rattle.std.specs.Prelude.{◌<◌, IfOk};
+ghost use Rattle.std.specs.List.{AllByRecursion};
+
 use crate::sections::MATRIX_HEADER;
 use keeper_mem::AllotRow;
 use office_base::{
-    CandId, Category, Listed, Person, Place, ProgId, Seat, StepKind, Text, TraitSet,
+    CandId, Category, Listed, Pair, Person, Place, ProgId, Seat, StepKind, Text, TraitSet,
 };
-use published_texts::{final_text, reason_text, round_text};
+use programme_lists::{Programme, StepList};
+use published_texts::{final_text, list_text, reason_text, round_text};
 use reasons::{Reason, StepWhy, WhyAnswer};
 use rounds::Round;
 use seat_matrix::Matrix;
+use slot_cert::Cert;
 use std::test::Fail;
 
 fn matrix(rt: HostRuntime) -> Result<Matrix, Fail> {
@@ -27,6 +32,42 @@ fn person(id: u32) -> Person {
             Place::Absent,
         ],
     }
+}
+
+/// The list of a step without seats.
+fn nobody(rt: HostRuntime, kind: StepKind) -> StepList
+    ensures { AllByRecursion (λ pair. pair.slot < 6) result.cert.pairs }
+{
+    StepList {
+        kind,
+        seats: 0,
+        candidates: 0,
+        admitted: Listed::new(rt.alloc()),
+        cert: Cert {
+            pairs: Listed::new(rt.alloc()),
+        },
+    }
+}
+
+/// The list of two open seats, of which one is protected for women.
+fn women(rt: HostRuntime) -> Result<StepList, Fail>
+    ensures { IfOk result (λ list. AllByRecursion (λ pair. pair.slot < 6) list.cert.pairs) }
+{
+    let seventh = Pair {
+        cand: CandId(7),
+        slot: 0,
+    };
+    let people = Vec::from_slice(rt.alloc(), &[person(4), person(7)])?;
+    let pairs = Vec::from_slice(rt.alloc(), &[seventh])?;
+    Ok(StepList {
+        kind: StepKind::Open,
+        seats: 2,
+        candidates: 3,
+        admitted: Listed::from_vec(people),
+        cert: Cert {
+            pairs: Listed::from_vec(pairs),
+        },
+    })
 }
 
 /// The text of an answer to candidate 7 on the first programme, where the programmes that it names are there.
@@ -86,6 +127,29 @@ fn final_admissions_are_written(rt: HostRuntime) -> Result<(), Fail> {
             text.as_slice(),
             b"final 1\nadmit 7 P-2 ST\nend final\n".as_slice()
         );
+    }
+    Ok(())
+}
+
+#[test]
+fn a_list_is_written(rt: HostRuntime) -> Result<(), Fail> {
+    let matrix = matrix(rt)?;
+    let open = women(rt)?;
+    let programme = Programme {
+        steps: [
+            open,
+            nobody(rt, StepKind::Ews),
+            nobody(rt, StepKind::Obc),
+            nobody(rt, StepKind::Sc),
+            nobody(rt, StepKind::St),
+            nobody(rt, StepKind::Dereserved),
+        ],
+    };
+    if matrix.count() == 2 {
+        let text = list_text(rt.alloc(), &matrix, 2, ProgId(0), &programme)?;
+        let want =
+            b"list 2 P1\nstep OPEN seats 2 candidates 3 admitted 2\nhonoured 1\n4 -\n7 W\nstep EWS seats 0 candidates 0 admitted 0\nhonoured 0\nstep OBC seats 0 candidates 0 admitted 0\nhonoured 0\nstep SC seats 0 candidates 0 admitted 0\nhonoured 0\nstep ST seats 0 candidates 0 admitted 0\nhonoured 0\nstep D seats 0 candidates 0 admitted 0\nhonoured 0\nend list\n";
+        assert_eq!(rt; text.as_slice(), want.as_slice());
     }
     Ok(())
 }
