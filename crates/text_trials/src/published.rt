@@ -1,4 +1,7 @@
 // The published texts of a small matrix.
+ghost use Rattle.std.specs.Prelude.{◌<◌, IfOk};
+ghost use Rattle.std.specs.List.{AllByRecursion};
+
 use crate::sections::MATRIX_HEADER;
 use keeper_mem::AllotRow;
 use office_base::{
@@ -32,7 +35,9 @@ fn person(id: u32) -> Person {
 }
 
 /// The list of a step without seats.
-fn nobody(rt: HostRuntime, kind: StepKind) -> StepList {
+fn nobody(rt: HostRuntime, kind: StepKind) -> StepList
+    ensures { AllByRecursion (λ pair. pair.slot < 6) result.cert.pairs }
+{
     StepList {
         kind,
         seats: 0,
@@ -42,6 +47,27 @@ fn nobody(rt: HostRuntime, kind: StepKind) -> StepList {
             pairs: Listed::new(rt.alloc()),
         },
     }
+}
+
+/// The list of two open seats, of which one is protected for women.
+fn women(rt: HostRuntime) -> Result<StepList, Fail>
+    ensures { IfOk result (λ list. AllByRecursion (λ pair. pair.slot < 6) list.cert.pairs) }
+{
+    let seventh = Pair {
+        cand: CandId(7),
+        slot: 0,
+    };
+    let people = Vec::from_slice(rt.alloc(), &[person(4), person(7)])?;
+    let pairs = Vec::from_slice(rt.alloc(), &[seventh])?;
+    Ok(StepList {
+        kind: StepKind::Open,
+        seats: 2,
+        candidates: 3,
+        admitted: Listed::from_vec(people),
+        cert: Cert {
+            pairs: Listed::from_vec(pairs),
+        },
+    })
 }
 
 /// The text of an answer to candidate 7 on the first programme, where the programmes that it names are there.
@@ -97,7 +123,10 @@ fn final_admissions_are_written(rt: HostRuntime) -> Result<(), Fail> {
     }];
     if matrix.count() == 2 {
         let text = final_text(rt.alloc(), &matrix, &rows)?;
-        assert_eq!(rt; text.as_slice(), b"final 1\nadmit 7 P-2 ST\nend final\n".as_slice());
+        assert_eq!(rt;
+            text.as_slice(),
+            b"final 1\nadmit 7 P-2 ST\nend final\n".as_slice()
+        );
     }
     Ok(())
 }
@@ -105,23 +134,7 @@ fn final_admissions_are_written(rt: HostRuntime) -> Result<(), Fail> {
 #[test]
 fn a_list_is_written(rt: HostRuntime) -> Result<(), Fail> {
     let matrix = matrix(rt)?;
-    let pairs = Vec::from_slice(
-        rt.alloc(),
-        &[Pair {
-            cand: CandId(7),
-            slot: 0,
-        }],
-    )?;
-    let people = Vec::from_slice(rt.alloc(), &[person(4), person(7)])?;
-    let open = StepList {
-        kind: StepKind::Open,
-        seats: 2,
-        candidates: 3,
-        admitted: Listed::from_vec(people),
-        cert: Cert {
-            pairs: Listed::from_vec(pairs),
-        },
-    };
+    let open = women(rt)?;
     let programme = Programme {
         steps: [
             open,
@@ -134,7 +147,8 @@ fn a_list_is_written(rt: HostRuntime) -> Result<(), Fail> {
     };
     if matrix.count() == 2 {
         let text = list_text(rt.alloc(), &matrix, 2, ProgId(0), &programme)?;
-        let want = b"list 2 P1\nstep OPEN seats 2 candidates 3 admitted 2\nhonoured 1\n4 -\n7 W\nstep EWS seats 0 candidates 0 admitted 0\nhonoured 0\nstep OBC seats 0 candidates 0 admitted 0\nhonoured 0\nstep SC seats 0 candidates 0 admitted 0\nhonoured 0\nstep ST seats 0 candidates 0 admitted 0\nhonoured 0\nstep D seats 0 candidates 0 admitted 0\nhonoured 0\nend list\n";
+        let want =
+            b"list 2 P1\nstep OPEN seats 2 candidates 3 admitted 2\nhonoured 1\n4 -\n7 W\nstep EWS seats 0 candidates 0 admitted 0\nhonoured 0\nstep OBC seats 0 candidates 0 admitted 0\nhonoured 0\nstep SC seats 0 candidates 0 admitted 0\nhonoured 0\nstep ST seats 0 candidates 0 admitted 0\nhonoured 0\nstep D seats 0 candidates 0 admitted 0\nhonoured 0\nend list\n";
         assert_eq!(rt; text.as_slice(), want.as_slice());
     }
     Ok(())
