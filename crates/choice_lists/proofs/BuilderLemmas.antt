@@ -1,8 +1,8 @@
 -- What one more entry changes of choices in the making.
-use Rattle.std.proofs.Common.{◌≡◌, lt-ltb, le-ltb, ℕ, zero, suc, Bool, true, false, List, [], ◌∷◌, ◌++◌, Option, Some, None, Ok, Err, length, get_or, refl, sym, ap, subst, ◌∙◌, cond, arith, add-one, length-append, map}
+use Rattle.std.proofs.Common.{◌≡◌, lt-ltb, le-ltb, ℕ, zero, suc, Bool, true, false, List, [], ◌∷◌, ◌++◌, Option, Some, None, Ok, Err, length, refl, sym, ap, subst, ◌∙◌, cond, arith, add-one, map}
 use Rattle.std.specs.Prelude.{◌==◌, ◌||◌, ◌<◌, ◌≤◌, ◌+◌, ◌-◌, IsSome, is_some, nat_lt, drop, option_map, replicate, slice_get, slice_index_or, slice_set}
 use Rattle.std.specs.List.{AllByRecursion}
-use Rattle.std.proofs.lemmas.Bool.{cond-false, cond-true, eqb-false, eqb-true, eq-eqb, false≢true, ne_eqb}
+use Rattle.std.proofs.lemmas.Bool.{eqb-false, eqb-true, eq-eqb, ne_eqb}
 use Rattle.std.proofs.lemmas.List.{length-drop, length-replicate}
 use Rattle.std.proofs.lemmas.Option.{get_or_from_slice_get, slice_get_within}
 use Rattle.office_base.specs.Lists.{Pairwise}

@@ -3,4 +3,3 @@ mod ChoicesLemmas
 mod FlatLemmas
 mod FoundLemmas
 mod LawsLemmas
-mod SeekLemmas

@@ -1,5 +1,5 @@
 -- What choices in the making know of the entries so far.
-use Rattle.std.specs.Prelude.{◌≡◌, ◌≤◌, ◌==◌, [], ℕ, Bool, false, List, Option, Some, None, Ok, Err, IsSome, is_some, length, map, drop, slice_index_or}
+use Rattle.std.specs.Prelude.{◌≡◌, ◌≤◌, ◌==◌, [], ℕ, false, List, Option, Some, None, Ok, Err, IsSome, is_some, length, map, drop, slice_index_or}
 use Rattle.office_base.specs.declared.person.Person.{Person}
 use Rattle.office_base.specs.declared.person.ProgId.{ProgId}
 use Rattle.section_rows.specs.Rows.{Row}

@@ -4,4 +4,3 @@ pub mod Flat
 pub mod Kinds
 pub mod Laws
 pub mod OneProof
-pub mod Seek

@@ -17,4 +17,5 @@ pub mod seek;
 pub use choices::Choices;
 pub use fault::{ChoiceFault, ChoiceKind};
 pub use flat::FlatLists;
-pub use seek::{Seek, sought};
+pub use seek::sought;
+pub use seeks::Seek;

@@ -1,5 +1,8 @@
 // Candidates, steps and programmes that the trials share.
-ghost use Rattle.std.specs.Prelude.{◌≡◌, ◌∷◌, [], IsTrue};
+ghost use Rattle.std.specs.Prelude.{◌≡◌, ◌≢◌, ◌∷◌, [], IsTrue};
+ghost use Rattle.std.specs.List.{AllByRecursion};
+ghost use Rattle.office_base.specs.Merit.{IsNewTo};
+ghost use Rattle.office_base.specs.Person.{IsList, number_in};
 ghost use Rattle.programme_lists.specs.Chosen.{AreApplicants};
 
 use office_base::{
@@ -106,12 +109,62 @@ pub fn step_without_seats(list: ListId, people: People) -> Step
     }
 }
 
+/// Whether the people may apply to a programme of the list together.
+pub fn may_all_apply(list: ListId, people: &[Person]) -> bool
+    requires { IsList list }
+    ensures { IsTrue result → AreApplicants list people.now }
+{
+    let [person, others @ ..] = people else {
+        return true;
+    };
+    is_new(list, others, person) && may_all_apply(list, others)
+}
+
 /// Whether the step is sound, so that its people may apply to a programme of its list.
 pub fn may_apply(step: &Step) -> bool
     ensures { IsTrue result → AreApplicants step.now.list step.now.people }
 {
     merit_choice::laws::ranked_in_merit();
     is_step(step)
+}
+
+/// Whether the person is none of these people and has a place of the own in the list, so that a step that holds them may be
+/// offered the person.
+pub fn is_new(list: ListId, people: &[Person], person: &Person) -> bool
+    requires { IsList list }
+    ensures { IsTrue result → IsNewTo list people.now person.now }
+{
+    person.traits.0 < 64 && person.place(list).number().is_some() && is_apart(list, people, person)
+}
+
+// Whether none of these people has the person's number or place.
+fn is_apart(list: ListId, people: &[Person], person: &Person) -> bool
+    requires { IsList list }
+    ensures { IsTrue result
+        → AllByRecursion (λ other. person.now.id ≢ other.id) people.now × AllByRecursion (λ other. number_in list person.now ≢ number_in list other) people.now }
+{
+    let [other, others @ ..] = people else {
+        return true;
+    };
+    person.id != other.id
+        && person.place(list).number() != other.place(list).number()
+        && is_apart(list, others, person)
+}
+
+/// The people in the order of this number, each order having one: 0 is from the last to the first.
+pub fn in_order(
+    alloc: Global,
+    people: &[Person],
+    number: usize,
+) -> Result<Vec<Person>, OutOfMemory> {
+    let mut order = Vec::new(alloc);
+    let mut left = number;
+    for person in people {
+        let places = order.len() + 1;
+        order.insert(left % places, *person)?;
+        left /= places;
+    }
+    Ok(order)
 }
 
 /// The matrix of these rows, where they have no fault.

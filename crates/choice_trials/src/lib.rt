@@ -13,12 +13,18 @@ mod certificates;
 #[cfg(test)]
 mod empty_seats;
 #[cfg(test)]
+mod large_programmes;
+#[cfg(test)]
 mod matching;
+#[cfg(test)]
+mod programme_states;
 #[cfg(test)]
 mod programmes;
 #[cfg(test)]
 mod small_programmes;
 #[cfg(test)]
 mod small_steps;
+#[cfg(test)]
+mod step_states;
 #[cfg(test)]
 mod steps;

@@ -1,11 +1,24 @@
-// Small programmes with seats of every kind: their choice held against a plain program that goes by the rule.
+// Small programmes with seats of every kind, in both versions of the bundle: their lists held against a plain program that
+// goes by the rule.
 use crate::candidates::{Kind, applicant, candidates_of, matrix_of, may_apply, step_without_seats};
-use office_base::{Category, ListId, OutOfMemory, People, Person, Place, ProgId, Step, StepKind};
-use open_then_category::programme_choice;
-use plain_choice::{choice, is_step};
+use office_base::{
+    Category, ListId, OutOfMemory, Pairs, People, Person, Place, ProgId, Step, StepKind,
+};
+use open_then_category::{StepList, programme_choice};
+use plain_choice::{canonical, choice, is_step};
 use seat_matrix::Matrix;
 use std::alloc::Global;
 use std::test::Fail;
+
+/// What the list of a step is to tell.
+#[derive(Drop)]
+struct Told {
+    kind: StepKind,
+    seats: u32,
+    candidates: usize,
+    admitted: People,
+    pairs: Pairs,
+}
 
 fn is_common(person: &Person) -> bool {
     matches!(person.places[0], Place::Common(_))
@@ -48,13 +61,49 @@ fn left(alloc: Global, people: &[Person], taken: &[Person]) -> Result<People, Ou
     Ok(kept)
 }
 
-// Whom a step of the matrix's programme admits of these people, found by trying all sets.
-fn admits(
+// The first of the people, as many as there are seats.
+fn first(alloc: Global, people: &[Person], seats: u32) -> Result<People, OutOfMemory> {
+    let mut kept = People::new(alloc);
+    for person in people.iter().take(seats as usize) {
+        kept.push(*person)?;
+    }
+    Ok(kept)
+}
+
+// What the step tells of these people, found by trying all sets, and all placements of those whom it admits.
+fn told_of(alloc: Global, kind: StepKind, step: &Step) -> Result<Option<Told>, OutOfMemory> {
+    if !is_step(step) {
+        return Ok(None);
+    }
+    let Some(people) = choice(alloc, step)? else {
+        return Ok(None);
+    };
+    let admitted = Step {
+        list: step.list,
+        seats: step.seats,
+        protections: step.protections,
+        people,
+    };
+    if !is_step(&admitted) {
+        return Ok(None);
+    }
+    let pairs = canonical(alloc, admitted.people.as_slice(), &admitted.protections)?;
+    Ok(Some(Told {
+        kind,
+        seats: u32::from(step.seats),
+        candidates: step.people.len(),
+        admitted: admitted.people,
+        pairs,
+    }))
+}
+
+// What a step of the matrix's one programme tells of these people.
+fn step_told(
     alloc: Global,
     matrix: &Matrix,
     kind: StepKind,
     people: People,
-) -> Result<Option<People>, OutOfMemory> {
+) -> Result<Option<Told>, OutOfMemory> {
     if matrix.count() == 0 {
         return Ok(None);
     }
@@ -64,80 +113,74 @@ fn admits(
         protections: matrix.protections(ProgId(0), kind),
         people,
     };
-    if is_step(&step) {
-        choice(alloc, &step)
-    } else {
-        Ok(None)
-    }
+    told_of(alloc, kind, &step)
 }
 
-// Whom the step of a category admits of those whom OPEN left.
-fn category_admits(
-    alloc: Global,
-    matrix: &Matrix,
-    kind: StepKind,
-    category: Category,
-    rest: &[Person],
-) -> Result<Option<People>, OutOfMemory> {
-    let people = members(alloc, rest, category)?;
-    admits(alloc, matrix, kind, people)
+// How many seats of a step stay empty.
+fn empty_seats(told: &Told) -> u32 {
+    let admitted = u32::try_from(told.admitted.len()).unwrap_or(u32::MAX);
+    told.seats.saturating_sub(admitted)
 }
 
-// The persons of the six steps, by the rule; None where a step has no choice.
+// What the step of the seats left unfilled tells of those whom no other step took.
+fn dereserved_told(alloc: Global, people: &[Person], seats: u32) -> Result<Told, OutOfMemory> {
+    let common = commons(alloc, people)?;
+    Ok(Told {
+        kind: StepKind::Dereserved,
+        seats,
+        candidates: common.len(),
+        admitted: first(alloc, common.as_slice(), seats)?,
+        pairs: Pairs::new(alloc),
+    })
+}
+
+// What the six steps tell by the rule; None where a step has no choice.
 fn plain_choice_of(
     alloc: Global,
     matrix: &Matrix,
+    version: u8,
     applicants: &[Person],
-) -> Result<Option<Vec<People>>, OutOfMemory> {
-    let Some(open) = admits(alloc, matrix, StepKind::Open, commons(alloc, applicants)?)? else {
+) -> Result<Option<Vec<Told>>, OutOfMemory> {
+    let common = commons(alloc, applicants)?;
+    let Some(open) = step_told(alloc, matrix, StepKind::Open, common)? else {
         return Ok(None);
     };
-    let rest = left(alloc, applicants, open.as_slice())?;
-    let mut last = left(alloc, applicants, open.as_slice())?;
+    let rest = left(alloc, applicants, open.admitted.as_slice())?;
+    let mut last = left(alloc, applicants, open.admitted.as_slice())?;
     let mut steps = vec![in alloc; open]?;
-    let mut obc_admitted = 0;
+    let mut empty = 0u32;
     for (kind, category) in [
         (StepKind::Ews, Category::Ews),
         (StepKind::Obc, Category::Obc),
         (StepKind::Sc, Category::Sc),
         (StepKind::St, Category::St),
     ] {
-        match category_admits(alloc, matrix, kind, category, rest.as_slice())? {
-            Some(persons) => {
-                if category == Category::Obc {
-                    obc_admitted = persons.len();
-                }
-                last = left(alloc, last.as_slice(), persons.as_slice())?;
-                steps.push(persons)?;
-            }
-            None => return Ok(None),
+        let people = members(alloc, rest.as_slice(), category)?;
+        let Some(told) = step_told(alloc, matrix, kind, people)? else {
+            return Ok(None);
+        };
+        if kind == StepKind::Obc || (version == 2 && kind == StepKind::Ews) {
+            empty = empty.saturating_add(empty_seats(&told));
         }
+        last = left(alloc, last.as_slice(), told.admitted.as_slice())?;
+        steps.push(told)?;
     }
-    let seats = usize::from(obc_seats(matrix)).saturating_sub(obc_admitted);
-    steps.push(first(alloc, commons(alloc, last.as_slice())?.as_slice(), seats)?)?;
+    steps.push(dereserved_told(alloc, last.as_slice(), empty)?)?;
     Ok(Some(steps))
 }
 
-fn obc_seats(matrix: &Matrix) -> u16 {
-    if matrix.count() == 0 {
-        0
-    } else {
-        matrix.seats(ProgId(0), StepKind::Obc)
-    }
-}
-
-// The first of the people, as many as there are seats.
-fn first(alloc: Global, people: &[Person], seats: usize) -> Result<People, OutOfMemory> {
-    let mut kept = People::new(alloc);
-    for person in people.iter().take(seats) {
-        kept.push(*person)?;
-    }
-    Ok(kept)
+// Whether a list is as told: its step, its numbers, whom it admits, and the numbers and slots of its certificate.
+fn is_as_told(list: &StepList, told: &Told) -> bool {
+    list.kind == told.kind
+        && list.seats == told.seats
+        && list.candidates as usize == told.candidates
+        && list.admitted.as_slice() == told.admitted.as_slice()
+        && list.cert.pairs.as_slice() == told.pairs.as_slice()
 }
 
 // Whether the programme of the matrix chooses as the plain program does.
-fn agree(alloc: Global, matrix: &Matrix, kinds: &[Kind]) -> Result<bool, OutOfMemory> {
-    if matrix.count() != 1 {
+fn agree(alloc: Global, matrix: &Matrix, version: u8, kinds: &[Kind]) -> Result<bool, OutOfMemory> {
+    if matrix.count() != 1 || (version != 1 && version != 2) {
         return Ok(false);
     }
     let prog = ProgId(0);
@@ -146,27 +189,30 @@ fn agree(alloc: Global, matrix: &Matrix, kinds: &[Kind]) -> Result<bool, OutOfMe
         return Ok(false);
     }
     let people = step.people.as_slice();
-    let programme = programme_choice(alloc, matrix, 1, prog, people)?;
-    match plain_choice_of(alloc, matrix, people)? {
+    let programme = programme_choice(alloc, matrix, version, prog, people)?;
+    match plain_choice_of(alloc, matrix, version, people)? {
         Some(plain) => Ok(
             plain.len() == 6
-                && programme.steps.iter().zip(plain.iter()).all(|(list, persons)| list
-                    .admitted
-                    .as_slice()
-                    == persons.as_slice()),
+                && programme
+                    .steps
+                    .iter()
+                    .zip(plain.iter())
+                    .all(|(list, told)| is_as_told(list, told)),
         ),
         None => Ok(false),
     }
 }
 
-// Whether they agree on all lists of four applicants of these kinds.
+// Whether they agree on all lists of four applicants of these kinds, in both versions.
 fn all_agree(alloc: Global, matrix: &Matrix, kinds: &[Kind]) -> Result<bool, OutOfMemory> {
     let mut same = true;
     for first in kinds {
         for second in kinds {
             for third in kinds {
                 for fourth in kinds {
-                    same &= agree(alloc, matrix, &[*first, *second, *third, *fourth])?;
+                    let four = [*first, *second, *third, *fourth];
+                    same &= agree(alloc, matrix, 1, &four)?;
+                    same &= agree(alloc, matrix, 2, &four)?;
                 }
             }
         }
@@ -174,13 +220,36 @@ fn all_agree(alloc: Global, matrix: &Matrix, kinds: &[Kind]) -> Result<bool, Out
     Ok(same)
 }
 
-// The matrix of one programme, where the protections are within the seats.
-fn programme_of(alloc: Global, counts: [u16; 5]) -> Result<Option<Matrix>, OutOfMemory> {
-    let [open, women, obc, disabled, sc] = counts;
+// The matrix of one programme, where the protections are within the seats. ST has a seat where SC has none.
+fn programme_of(alloc: Global, counts: [u16; 6]) -> Result<Option<Matrix>, OutOfMemory> {
+    let [open, women, ews, obc, disabled, sc] = counts;
+    let st = 1u16.saturating_sub(sc);
     let rows = format!(in alloc;
-        "A,I1,1,OPEN,{open},{women}\nA,I1,1,OBC,{obc},0,{disabled}\nA,I1,1,SC,{sc}\n"
+        "A,I1,1,OPEN,{open},{women}\nA,I1,1,EWS,{ews}\nA,I1,1,OBC,{obc},0,{disabled}\nA,I1,1,SC,{sc}\nA,I1,1,ST,{st}\n"
     )?;
     matrix_of(alloc, rows.as_str())
+}
+
+// Whether all programmes with so many open seats agree, and how many there are.
+fn agree_with_open(alloc: Global, open: u16, kinds: &[Kind]) -> Result<(bool, u32), OutOfMemory> {
+    let mut same = true;
+    let mut programmes = 0u32;
+    for women in 0..2u16 {
+        for ews in 0..2u16 {
+            for obc in 0..3u16 {
+                for disabled in 0..2u16 {
+                    for sc in 0..2u16 {
+                        let counts = [open, women, ews, obc, disabled, sc];
+                        if let Some(matrix) = programme_of(alloc, counts)? {
+                            same &= all_agree(alloc, &matrix, kinds)?;
+                            programmes = programmes.saturating_add(1);
+                        }
+                    }
+                }
+            }
+        }
+    }
+    Ok((same, programmes))
 }
 
 #[test]
@@ -189,30 +258,15 @@ fn the_programme_chooses_by_the_rule(rt: HostRuntime) -> Result<(), Fail> {
     let kinds = [
         applicant(Category::Gen, 1, true),
         applicant(Category::Ews, 1, true),
-        applicant(Category::Obc, 0, true),
         applicant(Category::Obc, 3, true),
         applicant(Category::Obc, 1, false),
         applicant(Category::Sc, 2, true),
         applicant(Category::St, 0, false),
     ];
-    let mut programmes = 0u32;
-    for open in 0..3u16 {
-        for women in 0..2u16 {
-            for obc in 0..3u16 {
-                for disabled in 0..2u16 {
-                    for sc in 0..2u16 {
-                        if let Some(matrix) = programme_of(
-                            alloc,
-                            [open, women, obc, disabled, sc],
-                        )? {
-                            assert!(rt; all_agree(alloc, &matrix, &kinds)?);
-                            programmes = programmes.saturating_add(1);
-                        }
-                    }
-                }
-            }
-        }
+    for (open, wanted) in [(0, 20), (1, 40)] {
+        let (same, programmes) = agree_with_open(alloc, open, &kinds)?;
+        assert!(rt; same, "open {open}");
+        assert_eq!(rt; programmes, wanted);
     }
-    assert_eq!(rt; programmes, 50);
     Ok(())
 }

@@ -1,0 +1,5 @@
+mod Chains
+mod Grows
+mod OneState
+mod OwnView
+mod Repeats

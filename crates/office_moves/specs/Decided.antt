@@ -1,5 +1,5 @@
 -- What each request comes to in a state: what it looks at, and what is judged by that.
-use Rattle.std.specs.Prelude.{◌≡◌, ◌+◌, ◌-◌, ℕ, Bool, true, false, ◌==◌, ◌&&◌, List, [], ◌∷◌, Option, Some, None, length, is_some, bytes_eq}
+use Rattle.std.specs.Prelude.{ℕ, Bool, false, ◌==◌, ◌&&◌, List, Option, Some, None, length, is_some}
 use Rattle.std.specs.List.{list_any}
 use Rattle.office_base.specs.declared.asks.Ask.{Ask}
 use Rattle.office_base.specs.declared.asks.Ask.TheVariants.{Answer, Cut, Seat as AskSeat, Why, List as AskList, State as AskState, Raise}
@@ -12,7 +12,7 @@ use Rattle.seat_matrix.specs.Fields.{step_number}
 use Rattle.keeper_mem.specs.declared.rows.AnswerRow.{AnswerRow}
 use Rattle.keeper_mem.specs.declared.rows.RaiseRow.{RaiseRow}
 use Rattle.rank_lists.specs.Register.{find_person}
-use Rattle.seat_matrix.specs.Matrix.{SeatTable, seating_in}
+use Rattle.seat_matrix.specs.Matrix.{seating_in}
 use Rattle.choice_lists.specs.Choices.{list_of}
 use Rattle.seeks.specs.Seek.{is_listed}
 use Rattle.office_moves.specs.Facts.{SeasonFacts, find_programme}

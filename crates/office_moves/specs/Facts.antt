@@ -1,5 +1,5 @@
 -- What a season says, apart from how it is kept.
-use Rattle.std.specs.Prelude.{◌≡◌, ◌≤◌, ℕ, List, [], Option, None, Some, length, map, position, slice_get, bytes_eq, option_map}
+use Rattle.std.specs.Prelude.{◌≡◌, ◌≤◌, ℕ, List, [], Option, None, map, position, slice_get, bytes_eq, option_map}
 use Rattle.std.specs.Option.{unwrap_or}
 use Rattle.office_base.specs.Version.{IsVersion}
 use Rattle.office_base.specs.declared.person.CandId.{CandId}

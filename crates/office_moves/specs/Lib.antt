@@ -2,6 +2,7 @@ pub mod Decided
 pub mod Facts
 pub mod History
 pub mod Judge
+pub mod Laws
 pub mod Moves
 pub mod Promise
 pub mod Raised

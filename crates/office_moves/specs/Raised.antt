@@ -1,6 +1,5 @@
 -- The seat matrix with what was raised.
-use Rattle.std.specs.Prelude.{◌≡◌, ◌+◌, ℕ, Bool, ◌==◌, ◌&&◌, nat_lt, List, [], ◌∷◌, Option, Some, None, if◌then◌else◌}
-use Rattle.office_base.specs.declared.step.StepKind.{StepKind}
+use Rattle.std.specs.Prelude.{◌+◌, ℕ, nat_lt, List, [], ◌∷◌, if◌then◌else◌}
 use Rattle.keeper_mem.specs.declared.rows.RaiseRow.{RaiseRow}
 use Rattle.seat_matrix.specs.Matrix.{SeatTable, matrix_with, seating_in}
 use Rattle.seat_matrix.specs.declared.seats.Seating.{Seating}

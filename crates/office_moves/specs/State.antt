@@ -1,5 +1,5 @@
 -- The state of the office, and what is read off it.
-use Rattle.std.specs.Prelude.{◌≡◌, ◌+◌, ℕ, zero, suc, Bool, ◌==◌, ◌&&◌, nat_lt, List, [], ◌∷◌, ◌++◌, Option, Some, None, length, slice_get, is_some, if◌then◌else◌}
+use Rattle.std.specs.Prelude.{◌+◌, ℕ, zero, suc, ◌==◌, ◌&&◌, nat_lt, List, [], ◌∷◌, ◌++◌, Option, Some, None, length, slice_get, if◌then◌else◌}
 use Rattle.std.specs.Option.{option_and_then}
 use Rattle.office_base.specs.Person.{at_person}
 use Rattle.office_base.specs.declared.asks.Choice.{Choice}

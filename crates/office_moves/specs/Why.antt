@@ -1,5 +1,5 @@
 -- Why a candidate has no seat of a programme, or has one.
-use Rattle.std.specs.Prelude.{◌≡◌, ℕ, Bool, true, false, ◌==◌, nat_lt, List, [], ◌∷◌, Option, Some, None, length, slice_get, if◌then◌else◌}
+use Rattle.std.specs.Prelude.{ℕ, Bool, true, false, ◌==◌, nat_lt, List, [], ◌∷◌, Option, Some, None, slice_get, if◌then◌else◌}
 use Rattle.std.specs.List.{list_any}
 use Rattle.std.specs.Option.{option_and_then}
 use Rattle.office_base.specs.Person.{at_person, is_common, number_in}
@@ -11,7 +11,6 @@ use Rattle.office_base.specs.declared.person.ListId.{ListId}
 use Rattle.office_base.specs.declared.person.Person.{Person}
 use Rattle.office_base.specs.declared.person.ProgId.{ProgId}
 use Rattle.office_base.specs.declared.step.StepKind.{StepKind}
-use Rattle.office_base.specs.declared.step.StepKind.TheVariants.{Open, Ews as EwsStep, Obc as ObcStep, Sc as ScStep, St as StStep, Dereserved}
 use Rattle.allocations.specs.Market.{place_of}
 use Rattle.rank_lists.specs.Register.{find_person}
 use Rattle.seat_matrix.specs.Matrix.{list_in}

@@ -6,6 +6,7 @@
 #![tactic(auto)]
 
 pub mod decide;
+pub mod laws;
 pub mod moves;
 pub mod refusal;
 

@@ -14,6 +14,8 @@ mod limits;
 #[cfg(test)]
 mod matrices;
 #[cfg(test)]
+mod published;
+#[cfg(test)]
 mod registers;
 #[cfg(test)]
 mod requests;

@@ -1,4 +1,3 @@
-use Rattle.std.proofs.Common.{arith, sym, ◌∙◌}
 use Rattle.std.proofs.lemmas.Option.{slice_get-get_or}
 use Rattle.choice_lists.proofs.ChoicesLemmas.{row_own}
 use Rattle.choice_lists.proofs.builder.read_person.Goals as goal

@@ -1,5 +1,5 @@
-use Rattle.std.proofs.Common.{◌≡◌, ◌<◌, ℕ, List, length, sym, ap, ◌∙◌, arith}
-use Rattle.std.specs.Prelude.{◌+◌, ◌==◌, drop, slice_index_or, slice_set}
+use Rattle.std.proofs.Common.{◌<◌, ℕ, List, length, sym, ap, ◌∙◌, arith}
+use Rattle.std.specs.Prelude.{◌+◌, drop}
 use Rattle.office_base.specs.declared.person.ProgId.{ProgId}
 use Rattle.choice_lists.specs.Choices.{choices, is_chosen}
 use Rattle.choice_lists.proofs.BuilderLemmas.{marks_chosen, marks_others}

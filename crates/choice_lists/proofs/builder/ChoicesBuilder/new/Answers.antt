@@ -1,4 +1,4 @@
-use Rattle.std.proofs.Common.{ℕ, sym, ap, ◌∙◌, length, refl, rules}
+use Rattle.std.proofs.Common.{ℕ, ap, ◌∙◌, length, refl, rules}
 use Rattle.std.proofs.lemmas.List.{length-replicate}
 use Rattle.choice_lists.proofs.BuilderLemmas.{nothing_kept}
 use Rattle.choice_lists.proofs.builder.ChoicesBuilder.new.Goals as goal

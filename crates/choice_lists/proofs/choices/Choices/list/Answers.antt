@@ -1,6 +1,6 @@
-use Rattle.std.proofs.Common.{◌≡◌, ◌≤◌, List, Ok, Err, Some, length, sym, ap, subst, ◌∙◌}
+use Rattle.std.proofs.Common.{◌≤◌, List, Ok, Err, length, sym, ap, subst, ◌∙◌}
 use Rattle.office_base.specs.declared.person.ProgId.{ProgId}
-use Rattle.choice_lists.specs.Choices.{AreDistinct, Lists, list_of, listed, lists_along}
+use Rattle.choice_lists.specs.Choices.{AreDistinct, Lists, list_of, listed}
 use Rattle.choice_lists.proofs.FoundLemmas.{search_found}
 use Rattle.choice_lists.proofs.choices.Choices.list.Goals as goal
 

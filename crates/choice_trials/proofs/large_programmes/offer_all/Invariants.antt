@@ -1,0 +1,6 @@
+use Rattle.std.proofs.Common.{◌≡◌}
+use Rattle.programme_lists.specs.Chosen.{AreApplicants, everybody}
+use Rattle.choice_trials.proofs.large_programmes.offer_all.Given as goal
+
+abbrev pub invariant-loop-person : goal.invariant-loop-person
+invariant-loop-person g l = (l.state.seats ≡ l.fn.state.seats) × AreApplicants l.list (everybody l.state.admissions)

@@ -1,0 +1,3 @@
+mod Step
+mod Lists
+mod Just

@@ -1,0 +1,113 @@
+-- Who passes a filter, who is taken, and who is left out of the first of some people.
+use Rattle.std.proofs.Common.{◌≡◌, ◌⊎◌, ◌==◌, ℕ, zero, suc, Bool, true, false, not, Option, Some, None, List, [], ◌∷◌, length, take, refl, sym, ap, ◌∙◌, subst, inl, inr, arith}
+use Rattle.std.specs.Prelude.{◌||◌, IsTrue, ◌↔◌}
+use Rattle.std.specs.List.{AllByRecursion, filter}
+use Rattle.std.proofs.lemmas.Bool.{cases_Bool, cond-true, cond-false}
+use Rattle.std.proofs.lemmas.Bool.Decides.{nat_tests}
+use Rattle.office_base.specs.Lists.{AnyByRecursion, IsAmong, IsSublist, Pairwise}
+use Rattle.office_base.specs.Merit.{is_ahead}
+use Rattle.office_base.specs.Person.{IsAhead, IsBetter, number_in}
+use Rattle.office_base.specs.declared.person.ListId.{ListId}
+use Rattle.office_base.specs.declared.person.Person.{Person}
+use Rattle.programme_lists.specs.Programme.{is_taken, without}
+use Rattle.programme_lists.specs.declared.programme.StepList.{StepList}
+use Rattle.explain.specs.Reason.{admitted_in, has_worse}
+use Rattle.explain.proofs.Step.{ahead_means, each, not_ahead_means}
+
+-- ---- filters
+
+pub filter_sublist : (p : Person → Bool) (xs : List Person) → IsSublist (filter p xs) xs
+filter_sublist p [] = refl
+filter_sublist p (x ∷ xs) = elim (cases_Bool (p x)) [
+  | inl holds ↦ inr (filter p xs, cond-true _ _ _ holds, filter_sublist p xs)
+  | inr fails ↦ inl (subst (λ (l : List Person). IsSublist l xs) (sym (cond-false _ _ _ fails)) (filter_sublist p xs))
+]
+
+pub passes : (p : Person → Bool) (person : Person) (xs : List Person) → IsAmong person xs → p person ≡ true → IsAmong person (filter p xs)
+passes p person [] among holds = absurd among
+passes p person (x ∷ xs) among holds = elim among [
+  | inl here ↦ subst (IsAmong person) (sym (cond-true _ _ _ (ap p (sym here) ∙ holds))) (inl here)
+  | inr later ↦ elim (cases_Bool (p x)) [
+    | inl too ↦ subst (IsAmong person) (sym (cond-true _ _ _ too)) (inr (passes p person xs later holds))
+    | inr not_it ↦ subst (IsAmong person) (sym (cond-false _ _ _ not_it)) (passes p person xs later holds)
+  ]
+]
+
+-- ---- who is taken
+
+or_true_left : (a b : Bool) → a ≡ true → a || b ≡ true
+or_true_left true b e = refl
+or_true_left false b e = absurd (cc)
+
+or_true_right : (a b : Bool) → b ≡ true → a || b ≡ true
+or_true_right true b e = refl
+or_true_right false b e = e
+
+or_means : (a b : Bool) → a || b ≡ true → (a ≡ true) ⊎ (b ≡ true)
+or_means true b e = inl refl
+or_means false b e = inr e
+
+eq_true : (m n : ℕ) → m ≡ n → m == n ≡ true
+eq_true m n e = grind (arith, nat_tests)
+
+-- whoever is not taken is none of those taken
+pub none_taken : (taken : List Person) (person : Person) → is_taken taken person ≡ false → IsAmong person taken → ⊥
+none_taken taken person fails among = absurd (let e : false ≡ true = sym fails ∙ is_there taken among in cc)
+  where
+    is_there : (people : List Person) → IsAmong person people → is_taken people person ≡ true
+    is_there [] there = absurd there
+    is_there (other ∷ people) there = elim there [
+      | inl here ↦ or_true_left _ _ (eq_true other.id.0 person.id.0 (ap (λ (p : Person). p.id.0) (sym here)))
+      | inr later ↦ or_true_right _ _ (is_there people later)
+    ]
+
+-- and is left without them
+pub stays : (people taken : List Person) (person : Person) → IsAmong person people → is_taken taken person ≡ false → IsAmong person (without people taken)
+stays people taken person among fails = passes (λ (x : Person). not (is_taken taken x)) person people among (ap not fails)
+
+-- no list has whoever no list admits
+pub not_listed : (lists : List StepList) (person : Person) → admitted_in lists person ≡ None → AllByRecursion (λ list. is_taken list.admitted person ≡ false) lists
+not_listed [] person none = tt
+not_listed (list ∷ lists) person none = elim (cases_Bool (is_taken list.admitted person)) [
+  | inl holds ↦ absurd (let e : Some list.kind ≡ None = sym (cond-true _ _ _ holds) ∙ none in cc)
+  | inr fails ↦ (fails, not_listed lists person (sym (cond-false _ _ _ fails) ∙ none))
+]
+
+-- ---- who is worse
+
+better_true : (m n : Option ℕ) → IsAhead m n → is_ahead m n ≡ true
+better_true m n ahead = elim (cases_Bool (is_ahead m n)) [
+  | inl holds ↦ holds
+  | inr fails ↦ absurd (not_ahead_means m n fails ahead)
+]
+
+pub tells_worse : (list : ListId) (person : Person) (admitted : List Person) → IsTrue (has_worse list person admitted) ↔ AnyByRecursion (IsBetter list person) admitted
+tells_worse list person admitted = (means admitted, shows admitted)
+  where
+    means : (people : List Person) → has_worse list person people ≡ true → AnyByRecursion (IsBetter list person) people
+    means [] told = absurd (let e : false ≡ true = told in cc)
+    means (other ∷ people) told = elim (or_means _ _ told) [
+      | inl here ↦ inl (ahead_means (number_in list person) (number_in list other) here)
+      | inr later ↦ inr (means people later)
+    ]
+
+    shows : (people : List Person) → AnyByRecursion (IsBetter list person) people → has_worse list person people ≡ true
+    shows [] worse = absurd worse
+    shows (other ∷ people) worse = elim worse [
+      | inl here ↦ or_true_left _ _ (better_true (number_in list person) (number_in list other) here)
+      | inr later ↦ or_true_right _ _ (shows people later)
+    ]
+
+-- ---- the first of some people
+
+-- where a person is not among the first, these are as many as there could be, and all of them are better
+pub left_by_take : (list : ListId) (n : ℕ) (people : List Person) (person : Person) → Pairwise (IsBetter list) people → IsAmong person people → (IsAmong person (take n people) → ⊥)
+    → (length (take n people) ≡ n) × AllByRecursion (λ other. IsBetter list other person) (take n people)
+left_by_take list zero people person order among out = (refl, tt)
+left_by_take list (suc n) [] person order among out = absurd among
+left_by_take list (suc n) (one ∷ people) person order among out = elim among [
+  | inl here ↦ absurd (out (inl here))
+  | inr later ↦
+      let rest = left_by_take list n people person order.1 later (λ there. out (inr there)) in
+      (ap suc rest.0, (each (IsBetter list one) person people later order.0, rest.1))
+]

@@ -1,0 +1,2 @@
+pub mod Just
+pub mod Reason

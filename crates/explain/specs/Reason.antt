@@ -1,0 +1,70 @@
+-- The reason of one person at one programme, from the programme's six lists.
+use Rattle.std.specs.Prelude.{ℕ, Bool, false, List, [], ◌∷◌, Option, Some, None, ◌||◌, if◌then◌else◌, slice_get}
+use Rattle.std.specs.Option.{option_and_then, option_map}
+use Rattle.office_base.specs.Merit.{is_better}
+use Rattle.office_base.specs.Person.{is_common}
+use Rattle.office_base.specs.declared.person.Category.{Category}
+use Rattle.office_base.specs.declared.person.Category.TheVariants.{Gen, Ews, Obc, Sc, St}
+use Rattle.office_base.specs.declared.person.ListId.{ListId}
+use Rattle.office_base.specs.declared.person.Person.{Person}
+use Rattle.office_base.specs.declared.step.StepKind.{StepKind}
+use Rattle.office_base.specs.declared.step.StepKind.TheVariants.{Open, Ews as EwsStep, Obc as ObcStep, Sc as ScStep, St as StStep, Dereserved}
+use Rattle.programme_lists.specs.Programme.{is_taken}
+use Rattle.programme_lists.specs.declared.programme.Programme.{Programme}
+use Rattle.programme_lists.specs.declared.programme.StepList.{StepList}
+use Rattle.reasons.specs.declared.reason.Reason.{Reason}
+use Rattle.reasons.specs.declared.reason.Reason.TheVariants.{Admitted, Refused}
+use Rattle.reasons.specs.declared.reason.StepWhy.{StepWhy}
+
+-- the step whose list has the person
+abbrev pub admitted_in : List StepList → Person → Option StepKind
+admitted_in [] person = None
+admitted_in (list ∷ lists) person = if is_taken list.admitted person then Some list.kind else admitted_in lists person
+
+-- the person is better than somebody admitted
+abbrev pub has_worse : ListId → Person → List Person → Bool
+has_worse list person [] = false
+has_worse list person (other ∷ admitted) = is_better list person other || has_worse list person admitted
+
+-- the place of a step among the six
+abbrev pub step_place : StepKind → ℕ
+step_place Open = 0
+step_place EwsStep = 1
+step_place ObcStep = 2
+step_place ScStep = 3
+step_place StStep = 4
+step_place Dereserved = 5
+
+-- what stood against the person at the step that this list shows: its seats, and whether somebody worse was admitted
+abbrev pub step_why : ListId → Person → StepList → StepWhy
+step_why list person shown = record { kind = shown.kind; seats = shown.seats; worse = has_worse list person shown.admitted }
+
+-- what stood against the person at a step
+abbrev pub why_at : ListId → Programme → Person → StepKind → Option StepWhy
+why_at list programme person kind = option_map (step_why list person) (slice_get programme.steps (step_place kind))
+
+-- the step of a category
+abbrev pub category_step : Category → Option StepKind
+category_step Gen = None
+category_step Ews = Some EwsStep
+category_step Obc = Some ObcStep
+category_step Sc = Some ScStep
+category_step St = Some StStep
+
+-- what stood against the person at the step of the own category, where it has one
+abbrev pub at_category : ListId → Programme → Person → Option StepWhy
+at_category list programme person = option_and_then (why_at list programme person) (category_step person.category)
+
+-- what stood against the person at each step: open and de-reserved seats are for those with a common place, and a category's for its members
+abbrev pub refusal : ListId → Programme → Person → Reason
+refusal list programme person =
+    Refused (if is_common list person then why_at list programme person Open else None) (at_category list programme person) (if is_common list person then why_at list programme person Dereserved else None)
+
+-- an admission, or else a refusal
+abbrev pub reason_from : Option StepKind → Reason → Reason
+reason_from None refused = refused
+reason_from (Some step) refused = Admitted step
+
+-- under which step the programme admits the person, or what stood against the person
+abbrev pub reason_of : ListId → Programme → Person → Reason
+reason_of list programme person = reason_from (admitted_in programme.steps person) (refusal list programme person)

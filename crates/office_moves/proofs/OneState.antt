@@ -1,0 +1,62 @@
+-- A history leads to one state, where rounds are one.
+use Rattle.std.proofs.Common.{◌≡◌, ◌+◌, List, [], ◌∷◌, ◌++◌, Some, refl, sym, ap, ◌∙◌, subst}
+use Rattle.programme_lists.specs.declared.programme.Programme.{Programme}
+use Rattle.rounds.specs.Round.{seated}
+use Rattle.rounds.specs.declared.round.Round.{Round}
+use Rattle.office_moves.specs.Facts.{SeasonFacts}
+use Rattle.office_moves.specs.State.{State, opening, with_round}
+use Rattle.office_moves.specs.Decided.{decided}
+use Rattle.office_moves.specs.Moves.{Does, IsMove}
+use Rattle.office_moves.specs.History.{Reaches, asked, newly}
+use Rattle.office_moves.specs.Laws.{NextRoundsAreOne, OneNextRound, OneReply, OneState}
+use Rattle.office_moves.specs.declared.decide.Decision.{Decision}
+use Rattle.office_moves.specs.declared.decide.Decision.TheVariants.{Refuse, NotedAgain, RaisedAgain, CutAgain, Note, Lift, Publish, Finish, TellSeat, TellWhy, TellList, TellState}
+use Rattle.office_moves.specs.declared.moves.Entry.{Entry}
+use Rattle.office_moves.specs.declared.moves.Reply.{Reply}
+use Rattle.office_moves.specs.declared.moves.Reply.TheVariants.{ListIs, Published}
+
+both : (reply other told : Reply) (after then next : State) → (reply ≡ told) × (after ≡ next) → (other ≡ told) × (then ≡ next) → (reply ≡ other) × (after ≡ then)
+both reply other told after then next first second = (first.0 ∙ sym second.0, first.1 ∙ sym second.1)
+
+one_result : (facts : SeasonFacts) (old : State) (decision : Decision) (reply other : Reply) (after then : State) → OneNextRound facts old → Does facts old decision reply after
+    → Does facts old decision other then → (reply ≡ other) × (after ≡ then)
+one_result facts old (Refuse refusal) reply other after then one first second = both _ _ _ _ _ _ first second
+one_result facts old (NotedAgain row) reply other after then one first second = both _ _ _ _ _ _ first second
+one_result facts old (RaisedAgain row) reply other after then one first second = both _ _ _ _ _ _ first second
+one_result facts old (CutAgain window) reply other after then one first second = both _ _ _ _ _ _ first second
+one_result facts old (Note row) reply other after then one first second = both _ _ _ _ _ _ first second
+one_result facts old (Lift row) reply other after then one first second = both _ _ _ _ _ _ first second
+one_result facts old Publish reply other after then one first second =
+    let same = one first.0 second.0 first.1 second.1 in
+    (first.2 ∙ (ap (λ (round : Round). Published (old.now + 1) (seated round.seats)) same ∙ sym second.2), first.3 ∙ (ap (with_round old) same ∙ sym second.3))
+one_result facts old Finish reply other after then one first second = both _ _ _ _ _ _ first second
+one_result facts old (TellSeat cand) reply other after then one first second = both _ _ _ _ _ _ first second
+one_result facts old (TellWhy cand prog) reply other after then one first second = both _ _ _ _ _ _ first second
+one_result facts old (TellList number prog) reply other after then one first second =
+    let e = first.1 in
+    let f = second.1 in
+    let same : first.0 ≡ second.0 = cc in
+    (first.2 ∙ (ap (λ (programme : Programme). ListIs number prog programme) same ∙ sym second.2), first.3 ∙ sym second.3)
+one_result facts old TellState reply other after then one first second = both _ _ _ _ _ _ first second
+
+-- an act more at the end
+reaches_more : (facts : SeasonFacts) (old mid new : State) (entries : List Entry) (entry : Entry) (reply : Reply) → Reaches facts old entries mid
+    → newly mid.now (decided facts mid (asked facts entry.act)) ≡ Some entry.act → IsMove facts mid (asked facts entry.act) reply new → Reaches facts old (entries ++ entry ∷ []) new
+reaches_more facts old mid new [] entry reply same accepted moves =
+    (new, reply, subst (λ s. newly s.now (decided facts s (asked facts entry.act)) ≡ Some entry.act) same accepted, subst (λ s. IsMove facts s (asked facts entry.act) reply new) same moves, refl)
+reaches_more facts old mid new (first ∷ entries) entry reply reached accepted moves =
+    (reached.0, reached.1, reached.2, reached.3, reaches_more facts reached.0 mid new entries entry reply reached.4 accepted moves)
+
+one_from : (facts : SeasonFacts) (before entries : List Entry) (old a b : State) → NextRoundsAreOne facts → Reaches facts opening before old → Reaches facts old entries a
+    → Reaches facts old entries b → a ≡ b
+one_from facts before [] old a b one there first second = first ∙ sym second
+one_from facts before (entry ∷ entries) old a b one there first second =
+    let same = one_result facts old _ _ _ _ _ (one before old there) first.3 second.3 in
+    let there' = reaches_more facts opening old first.0 before entry first.1 there first.2 first.3 in
+    one_from facts (before ++ entry ∷ []) entries first.0 a b one there' first.4 (subst (λ s. Reaches facts s entries b) (sym same.1) second.4)
+
+pub one_state : (facts : SeasonFacts) → OneState facts
+one_state facts one entries a b first second = one_from facts [] entries opening a b one refl first.reached second.reached
+
+pub one_reply : (facts : SeasonFacts) → OneReply facts
+one_reply facts one entries state after then request reply other history first second = one_result facts state _ _ _ _ _ (one entries state history.reached) first second

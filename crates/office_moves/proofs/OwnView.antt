@@ -1,0 +1,89 @@
+-- What is told to a candidate looks at the candidate's own view.
+use Rattle.std.proofs.Common.{◌≡◌, ℕ, Bool, Option, length, refl, sym, ap, ◌∙◌, subst}
+use Rattle.office_base.specs.declared.asks.Ask.TheVariants.{Answer, Cut, Seat, Why, List as AskList, State as AskState, Raise}
+use Rattle.office_base.specs.declared.asks.By.{By}
+use Rattle.office_base.specs.declared.person.CandId.{CandId}
+use Rattle.office_base.specs.declared.person.ProgId.{ProgId}
+use Rattle.keeper_mem.specs.declared.rows.AnswerRow.{AnswerRow}
+use Rattle.office_moves.specs.Facts.{SeasonFacts, find_programme}
+use Rattle.office_moves.specs.State.{State, View, view_of}
+use Rattle.office_moves.specs.Judge.{judge_answer, judge_seat, judge_why}
+use Rattle.office_moves.specs.Decided.{answer_looks, decide_answer, decide_seat, decide_why, is_chosen_by, is_known}
+use Rattle.office_moves.specs.Moves.{Does, seat_reply, why_reply}
+use Rattle.office_moves.specs.Laws.{OwnViewOnly}
+use Rattle.office_moves.specs.declared.decide.AnswerLooks.{AnswerLooks}
+use Rattle.office_moves.specs.declared.decide.Decision.{Decision}
+use Rattle.office_moves.specs.declared.decide.Decision.TheVariants.{Refuse, NotedAgain, RaisedAgain, CutAgain, Note, Lift, Publish, Finish, TellSeat, TellWhy, TellList, TellState}
+use Rattle.office_moves.specs.declared.moves.Reply.{Reply}
+use Rattle.office_moves.proofs.Chains.{answer_keeps, seat_keeps, why_keeps}
+
+-- the decision tells a candidate of this candidate alone
+abbrev IsOf : CandId → Decision → Type 0
+IsOf cand (Refuse refusal) = Unit {0}
+IsOf cand (NotedAgain row) = Unit {0}
+IsOf cand (RaisedAgain row) = ⊥
+IsOf cand (CutAgain window) = ⊥
+IsOf cand (Note row) = Unit {0}
+IsOf cand (Lift row) = ⊥
+IsOf cand Publish = ⊥
+IsOf cand Finish = ⊥
+IsOf cand (TellSeat other) = other ≡ cand
+IsOf cand (TellWhy other prog) = other ≡ cand
+IsOf cand (TellList number prog) = ⊥
+IsOf cand TellState = ⊥
+
+answer_is : (cand : CandId) (looks : AnswerLooks) (by : By) (row : AnswerRow) → IsOf cand (judge_answer looks by row)
+answer_is cand looks by row = answer_keeps (IsOf cand) looks by row (λ r. tt) tt tt
+
+seat_is : (known : Bool) (by : By) (cand : CandId) → IsOf cand (judge_seat known by cand)
+seat_is known by cand = seat_keeps (IsOf cand) known by cand (λ r. tt) refl
+
+why_is : (known : Bool) (prog : Option ProgId) (chosen : Bool) (published : ℕ) (by : By) (cand : CandId) → IsOf cand (judge_why known prog chosen published by cand)
+why_is known prog chosen published by cand = why_keeps (IsOf cand) known prog chosen published by cand (λ r. tt) (λ p. refl)
+
+-- what such a decision tells is a function of the view
+same_told : (facts : SeasonFacts) (cand : CandId) (decision : Decision) (a b after then : State) (reply other : Reply) → IsOf cand decision → view_of a cand.0 ≡ view_of b cand.0
+    → Does facts a decision reply after → Does facts b decision other then → reply ≡ other
+same_told facts cand (Refuse refusal) a b after then reply other is same first second = first.0 ∙ sym second.0
+same_told facts cand (NotedAgain row) a b after then reply other is same first second = first.0 ∙ sym second.0
+same_told facts cand (RaisedAgain row) a b after then reply other is same first second = absurd is
+same_told facts cand (CutAgain window) a b after then reply other is same first second = absurd is
+same_told facts cand (Note row) a b after then reply other is same first second = first.0 ∙ sym second.0
+same_told facts cand (Lift row) a b after then reply other is same first second = absurd is
+same_told facts cand Publish a b after then reply other is same first second = absurd is
+same_told facts cand Finish a b after then reply other is same first second = absurd is
+same_told facts cand (TellSeat one) a b after then reply other is same first second =
+    let views : view_of a one.0 ≡ view_of b one.0 = subst (λ z. view_of a z.0 ≡ view_of b z.0) (sym is) same in
+    first.0 ∙ (ap (λ view. seat_reply facts view one) views ∙ sym second.0)
+same_told facts cand (TellWhy one prog) a b after then reply other is same first second =
+    let views : view_of a one.0 ≡ view_of b one.0 = subst (λ z. view_of a z.0 ≡ view_of b z.0) (sym is) same in
+    first.0 ∙ (ap (λ view. why_reply facts view one prog) views ∙ sym second.0)
+same_told facts cand (TellList number prog) a b after then reply other is same first second = absurd is
+same_told facts cand TellState a b after then reply other is same first second = absurd is
+
+-- the decisions of two states with one view are one
+through : (facts : SeasonFacts) (cand : CandId) (decide : View → Decision) (a b after then : State) (reply other : Reply) → ((view : View) → IsOf cand (decide view))
+    → view_of a cand.0 ≡ view_of b cand.0 → Does facts a (decide (view_of a cand.0)) reply after → Does facts b (decide (view_of b cand.0)) other then → reply ≡ other
+through facts cand decide a b after then reply other is same first second =
+    same_told facts cand (decide (view_of b cand.0)) a b after then reply other (is (view_of b cand.0)) same
+    (subst (λ view. Does facts a (decide view) reply after) same first) second
+
+pub own_view_only : (facts : SeasonFacts) → OwnViewOnly facts
+own_view_only facts a b after then by (Answer one window turn choice) cand reply other e same first second =
+    let is : one ≡ cand = cc in
+    let row : AnswerRow = record { window = window; cand = one; turn = turn; choice = choice } in
+    through facts one (λ view. decide_answer facts view by row) a b after then reply other (λ view. answer_is one (answer_looks facts view row) by row)
+    (subst (λ z. view_of a z.0 ≡ view_of b z.0) (sym is) same) first second
+own_view_only facts a b after then by (Cut window) cand reply other e same first second = absurd (cc)
+own_view_only facts a b after then by (Seat one) cand reply other e same first second =
+    let is : one ≡ cand = cc in
+    through facts one (λ view. decide_seat facts by one) a b after then reply other (λ view. seat_is (is_known facts one) by one)
+    (subst (λ z. view_of a z.0 ≡ view_of b z.0) (sym is) same) first second
+own_view_only facts a b after then by (Why one code) cand reply other e same first second =
+    let is : one ≡ cand = cc in
+    through facts one (λ view. decide_why facts view by one code) a b after then reply other
+    (λ view. why_is (is_known facts one) (find_programme facts code) (is_chosen_by facts one (find_programme facts code)) (length view.rounds) by one)
+    (subst (λ z. view_of a z.0 ≡ view_of b z.0) (sym is) same) first second
+own_view_only facts a b after then by (AskList round code) cand reply other e same first second = absurd (cc)
+own_view_only facts a b after then by AskState cand reply other e same first second = absurd (cc)
+own_view_only facts a b after then by (Raise window code step seats) cand reply other e same first second = absurd (cc)
