@@ -39,18 +39,10 @@ row_line section row kind = codes "fault: " ++ section ++ codes " row " ++ decim
 abbrev pub memory_line : List ℕ
 memory_line = codes "fault: memory\n"
 
--- the lines of a register's, a matrix's and the choices' faults
-abbrev pub register_line : TableFault RankKind → List ℕ
-register_line (BadRow row kind) = row_line (codes "register") row (rank_kinds.kind_name kind)
-register_line NoTableMemory = memory_line
-
-abbrev pub matrix_line : TableFault MatrixKind → List ℕ
-matrix_line (BadRow row kind) = row_line (codes "matrix") row (matrix_kinds.kind_name kind)
-matrix_line NoTableMemory = memory_line
-
-abbrev pub choices_line : TableFault ChoiceKind → List ℕ
-choices_line (BadRow row kind) = row_line (codes "choices") row (choice_kinds.kind_name kind)
-choices_line NoTableMemory = memory_line
+-- the line of a table's fault, by the table's name and the names of its kinds
+abbrev pub table_line : {Kind : Type 0} → List ℕ → (Kind → List ℕ) → TableFault Kind → List ℕ
+table_line name kind_name (BadRow row kind) = row_line name row (kind_name kind)
+table_line name kind_name NoTableMemory = memory_line
 
 -- the line that tells a fault
 abbrev pub fault_line : SeasonFault → List ℕ
@@ -59,9 +51,9 @@ fault_line TooLong = codes "fault: bundle TooLong\n"
 fault_line BadFirstLine = codes "fault: bundle BadFirstLine\n"
 fault_line (Section line) = section_line line
 fault_line (BadSeason row) = row_line (codes "season") row (codes "BadSeason")
-fault_line (Register fault) = register_line fault
-fault_line (Matrix fault) = matrix_line fault
-fault_line (Choices fault) = choices_line fault
+fault_line (Register fault) = table_line (codes "register") rank_kinds.kind_name fault
+fault_line (Matrix fault) = table_line (codes "matrix") matrix_kinds.kind_name fault
+fault_line (Choices fault) = table_line (codes "choices") choice_kinds.kind_name fault
 fault_line NotUtf8 = codes "fault: bundle NotUtf8\n"
 fault_line (BadRequest row) = row_line (codes "requests") row (codes "BadRequest")
 fault_line OutOfMemory = memory_line
