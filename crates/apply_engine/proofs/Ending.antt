@@ -1,0 +1,136 @@
+-- The applications begin with nobody admitted, and end.
+use Rattle.std.proofs.Common.{◌≡◌, ◌<◌, ◌≤◌, ◌+◌, ◌++◌, inl, ℕ, zero, suc, List, [], ◌∷◌, Some, length, arith, refl, sym, ap, ◌∙◌, subst, nat_lt}
+use Rattle.std.specs.Prelude.{slice_get, replicate}
+use Rattle.office_base.specs.Lists.{IsAmong}
+use Rattle.office_base.specs.declared.person.Person.{Person}
+use Rattle.office_base.specs.declared.person.ProgId.{ProgId}
+use Rattle.placements.proofs.Ranks.{any_among}
+use Rattle.allocations.specs.Course.{places, tried}
+use Rattle.allocations.proofs.Course.{begins, left_at_first, tried_may}
+use Rattle.allocations.proofs.Those.{of_those}
+use Rattle.allocations.specs.Market.{Seeker, place_of}
+use Rattle.allocations.proofs.Places.{lt_means}
+use Rattle.open_then_category.specs.State.{ProgrammeKept, nobody}
+use Rattle.programme_lists.specs.Chosen.{ChoosesFrom, everybody}
+use Rattle.programme_lists.specs.Programme.{Admissions}
+use Rattle.rounds.specs.Rule.{MayApplyIn, rule_of}
+use Rattle.seat_matrix.specs.Matrix.{SeatTable, seats_in}
+use Rattle.apply_engine.specs.Engine.{AreBegun, Begins, Enters, HasApplied, HasEnded, IsSet, IsSettledTo, Setting, seekers_in}
+use Rattle.apply_engine.proofs.Setting.{chooses_well, length_with}
+
+zeros_at : (n i m : ℕ) → slice_get (replicate n 0) i ≡ Some m → m ≡ 0
+zeros_at zero i m at = absurd (cc)
+zeros_at (suc n) zero m at = (let same : 0 ≡ m = cc in sym same)
+zeros_at (suc n) (suc i) m at = zeros_at n i m at
+
+length_zeros : (n : ℕ) → length {A = ℕ} (replicate n 0) ≡ n
+length_zeros zero = refl
+length_zeros (suc n) = ap suc (length_zeros n)
+
+-- a list of which nobody is one is empty
+none_of : {X : Type 0} (xs : List X) → ((x : X) → IsAmong x xs → ⊥) → xs ≡ []
+none_of [] h = refl
+none_of (x ∷ xs) h = absurd (h x (inl refl))
+
+split_none : {X : Type 0} (xs ys : List X) → xs ++ ys ≡ [] → (xs ≡ []) × (ys ≡ [])
+split_none [] ys e = (refl, e)
+split_none (x ∷ xs) ys e = absurd (cc)
+
+-- where everybody admitted is nobody, no step admits anyone
+is_nobody : (admissions : Admissions) → everybody admissions ≡ [] → admissions ≡ nobody
+is_nobody admissions e =
+    let a = split_none (admissions.open_step ++ admissions.ews ++ admissions.obc ++ admissions.sc ++ admissions.st) admissions.dereserved e in
+    let b = split_none (admissions.open_step ++ admissions.ews ++ admissions.obc ++ admissions.sc) admissions.st a.0 in
+    let d = split_none (admissions.open_step ++ admissions.ews ++ admissions.obc) admissions.sc b.0 in
+    let f = split_none (admissions.open_step ++ admissions.ews) admissions.obc d.0 in
+    let h = split_none admissions.open_step admissions.ews f.0 in
+    made admissions nobody h.0 h.1 f.1 d.1 b.1 a.1
+  where
+    made : (x y : Admissions) → x.open_step ≡ y.open_step → x.ews ≡ y.ews → x.obc ≡ y.obc → x.sc ≡ y.sc → x.st ≡ y.st → x.dereserved ≡ y.dereserved → x ≡ y
+    made x y e0 e1 e2 e3 e4 e5 =
+        ap (λ l. let a : Admissions = record x { open_step = l } in a) e0
+        ∙ (ap (λ l. let a : Admissions = record { open_step = y.open_step; ews = l; obc = x.obc; sc = x.sc; st = x.st; dereserved = x.dereserved } in a) e1
+        ∙ (ap (λ l. let a : Admissions = record { open_step = y.open_step; ews = y.ews; obc = l; sc = x.sc; st = x.st; dereserved = x.dereserved } in a) e2
+        ∙ (ap (λ l. let a : Admissions = record { open_step = y.open_step; ews = y.ews; obc = y.obc; sc = l; st = x.st; dereserved = x.dereserved } in a) e3
+        ∙ (ap (λ l. let a : Admissions = record { open_step = y.open_step; ews = y.ews; obc = y.obc; sc = y.sc; st = l; dereserved = x.dereserved } in a) e4
+        ∙ ap (λ l. let a : Admissions = record { open_step = y.open_step; ews = y.ews; obc = y.obc; sc = y.sc; st = y.st; dereserved = l } in a) e5))))
+
+-- nobody tried anything yet
+none_tried : (p : ℕ) (seekers : List Seeker) (next : List ℕ) → ((i n : ℕ) → slice_get next i ≡ Some n → n ≡ 0) → tried p seekers next ≡ []
+none_tried p seekers next none = none_of (tried p seekers next) (λ x among.
+    let found = of_those (λ s n. nat_lt (place_of s.list p) n) seekers next x among in
+    let less = lt_means (place_of found.s.list p) found.value found.passes in
+    let zero_is = none found.place found.value found.at in
+    omega (arith, less, zero_is))
+
+-- the choice from nobody is nobody
+choice_from_none : (over : Setting) (p : ℕ) → IsSet over → p < length over.table.programmes → MayApplyIn over.table p [] → ChoosesFrom over.version (seats_in over.table p) [] nobody
+choice_from_none over p set below may =
+    let sound = set.seats.sound p below in
+    let some = set.laws.some over.version (seats_in over.table p) [] sound may in
+    let once = set.laws.once over.version (seats_in over.table p) [] some.0 sound may some.1 in
+    let none : everybody some.0 ≡ [] = none_of (everybody some.0) (λ x among. any_among (λ y. x ≡ y) (everybody some.0) [] once.1 among) in
+    subst (λ a. ChoosesFrom over.version (seats_in over.table p) [] a) (is_nobody some.0 none) some.1
+
+-- The applications begin.
+pub enters : (over : Setting) (version : ℕ) (table : SeatTable) (people : List Person) (lists : List (List ProgId)) (next : List ℕ) (states : List ProgrammeKept)
+    → Enters over version table people lists → AreBegun version table states → next ≡ replicate (length lists) 0 → Begins over people lists next states 0
+enters over version table people lists next states e begun zeros =
+    let people_is : over.people ≡ people = ap (λ (o : Setting). o.people) e.over_is in
+    let lists_is : over.lists ≡ lists = ap (λ (o : Setting). o.lists) e.over_is in
+    let table_is : over.table ≡ table = ap (λ (o : Setting). o.table) e.over_is in
+    let version_is : over.version ≡ version = ap (λ (o : Setting). o.version) e.over_is in
+    let none : (i n : ℕ) → slice_get next i ≡ Some n → n ≡ 0 = λ i n at. zeros_at (length lists) i n (subst (λ l. slice_get l i ≡ Some n) zeros at) in
+    let size = length_with over.people over.lists e.set_is.full in
+    let full : length next ≡ length (seekers_in over) = (let a = ap length zeros ∙ length_zeros (length lists) in let b = ap length lists_is in let d = e.set_is.full in omega (arith, a, b, d, size)) in
+    let well = chooses_well over.version over.table e.set_is.laws e.set_is.seats in
+    let underway = begins (rule_of over.version over.table) (MayApplyIn over.table) (length over.table.programmes) (seekers_in over) next e.set_is.market well full none in
+    record {
+      people_is = people_is;
+      lists_is = lists_is;
+      set_is = e.set_is;
+      going = record {
+        underway = underway;
+        shows = record {
+          full = begun.full ∙ ap (λ (t : SeatTable). length t.programmes) (sym table_is);
+          each = λ p state at.
+              let is = begun.each p state at in
+              let below : p < length over.table.programmes = (let less = length_at states p state at in let f = begun.full in let g = ap (λ (t : SeatTable). length t.programmes) table_is in omega (arith, less, f, g)) in
+              let may = tried_may (rule_of over.version over.table) (MayApplyIn over.table) (length over.table.programmes) p (seekers_in over) next e.set_is.market well below full underway.within in
+              let nobody_tried = none_tried p (seekers_in over) next none in
+              let choice = choice_from_none over p e.set_is below (subst (λ people. MayApplyIn over.table p people) nobody_tried may) in
+              record {
+                version_is = ap (λ (z : ProgrammeKept). z.version) is ∙ sym version_is;
+                seats_are = ap (λ (z : ProgrammeKept). z.seats) is ∙ ap (λ t. seats_in t p) (sym table_is);
+                choice = subst (λ people. ChoosesFrom over.version (seats_in over.table p) people state.admissions) (sym nobody_tried)
+                    (subst (λ a. ChoosesFrom over.version (seats_in over.table p) [] a) (sym (ap (λ (z : ProgrammeKept). z.admissions) is)) choice);
+              };
+        };
+      };
+      settled = λ j m t less. absurd (omega (arith, less));
+      not_begun = λ j m far at. none j m at;
+    }
+  where
+    length_at : {X : Type 0} (xs : List X) (i : ℕ) (x : X) → slice_get xs i ≡ Some x → i < length xs
+    length_at [] i x at = absurd (cc)
+    length_at (y ∷ xs) zero x at = omega arith
+    length_at (y ∷ xs) (suc i) x at = let less = length_at xs i x at in omega (arith, less)
+
+-- And end.
+pub ended : (over : Setting) (version : ℕ) (table : SeatTable) (people : List Person) (lists : List (List ProgId)) (before next : List ℕ) (states : List ProgrammeKept) (steps_before steps : ℕ)
+    → Enters over version table people lists → HasApplied over before next states (length people) steps_before steps → HasEnded over next
+ended over version table people lists before next states steps_before steps e h = record {
+  underway = h.going.underway;
+  settled = subst (λ k. IsSettledTo over next k) (ap length (ap (λ (o : Setting). o.people) (sym e.over_is))) h.settled;
+}
+
+pub at_most : (over : Setting) (version : ℕ) (table : SeatTable) (people : List Person) (lists : List (List ProgId)) (before next : List ℕ) (states : List ProgrammeKept) (last steps_before steps : ℕ)
+    → Enters over version table people lists → before ≡ replicate (length lists) 0 → HasApplied over before next states last steps_before steps → steps ≤ steps_before + places (seekers_in over)
+at_most over version table people lists before next states last steps_before steps e zeros h =
+    let lists_is : over.lists ≡ lists = ap (λ (o : Setting). o.lists) e.over_is in
+    let none : (i n : ℕ) → slice_get before i ≡ Some n → n ≡ 0 = λ i n at. zeros_at (length lists) i n (subst (λ l. slice_get l i ≡ Some n) zeros at) in
+    let size = length_with over.people over.lists e.set_is.full in
+    let full : length before ≡ length (seekers_in over) = (let a = ap length zeros ∙ length_zeros (length lists) in let b = ap length lists_is in let d = e.set_is.full in omega (arith, a, b, d, size)) in
+    let all = left_at_first (seekers_in over) before full none in
+    let cost = h.cost in
+    omega (arith, all, cost)

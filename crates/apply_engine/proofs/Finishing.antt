@@ -1,0 +1,268 @@
+-- The end of a round: what the lists of the programmes show, and that the seats are the best allocation.
+use Rattle.std.proofs.Common.{◌≡◌, ◌<◌, ◌≤◌, ◌+◌, ℕ, zero, suc, List, [], ◌∷◌, Option, Some, length, arith, refl, sym, ap, ◌∙◌, subst, nat_lt}
+use Rattle.std.specs.Prelude.{slice_get}
+use Rattle.std.specs.List.{AllByRecursion, AllZip}
+use Rattle.office_base.specs.Merit.{in_merit}
+use Rattle.office_base.specs.Lists.{IsAmong}
+use Rattle.office_base.specs.declared.asks.Seat.{Seat}
+use Rattle.office_base.specs.declared.person.Person.{Person}
+use Rattle.office_base.specs.declared.person.ProgId.{ProgId}
+use Rattle.office_base.specs.declared.step.StepKind.{StepKind}
+use Rattle.office_base.specs.declared.step.StepKind.TheVariants.{Open, Ews, Obc, Sc, St, Dereserved}
+use Rattle.allocations.specs.Course.{AreSeatsOf, IsSettled, tried}
+use Rattle.allocations.specs.Market.{Seeker, applicants, place_of, seat_at}
+use Rattle.allocations.proofs.Course.{ends_best, tried_may}
+use Rattle.apply_engine.proofs.Settled.{settled_applicants}
+use Rattle.allocations.proofs.Places.{one_place}
+use Rattle.allocations.proofs.Those.{of_those, same_place}
+use Rattle.programme_lists.specs.Chosen.{ChoosesFrom, ShowsFrom}
+use Rattle.programme_lists.specs.Listing.{ShowsStep}
+use Rattle.programme_lists.specs.Programme.{Admissions, admitted_by}
+use Rattle.programme_lists.specs.declared.programme.Programme.{Programme}
+use Rattle.programme_lists.specs.declared.programme.StepList.{StepList}
+use Rattle.rounds.specs.Rule.{MayApplyIn, rule_of}
+use Rattle.seat_matrix.specs.Fields.{step_number}
+use Rattle.seat_matrix.specs.Matrix.{seats_in}
+use Rattle.seeks.specs.declared.seek.Seek.{Seek}
+use Rattle.apply_engine.specs.Engine.{HasEnded, IsMade, IsSet, Setting, seekers_in}
+use Rattle.apply_engine.specs.Made.{AreGiven, AreInOrder, AreListed, AreRows, AreShown, admitted_of, persons_at, rows_from, shown}
+use Rattle.apply_engine.proofs.Offers.{admitted_is_there, held_tried, rule_shows}
+use Rattle.apply_engine.proofs.RowLemmas.{rows_below, rows_tried}
+use Rattle.apply_engine.proofs.Setting.{chooses_well, length_with, made_at, seeker_at}
+
+abbrev kinds : List StepKind
+kinds = Open ∷ Ews ∷ Obc ∷ Sc ∷ St ∷ Dereserved ∷ []
+
+zip_at : {A B : Type 0} (R : A → B → Type 0) (xs : List A) (ys : List B) (j : ℕ) (x : A) → AllZip R xs ys → slice_get xs j ≡ Some x → (y : B) × (slice_get ys j ≡ Some y) × R x y
+zip_at R [] ys j x all at = absurd (cc)
+zip_at R (z ∷ xs) [] j x all at = absurd all
+zip_at R (z ∷ xs) (y ∷ ys) zero x all at = let same : z ≡ x = cc in (y, refl, subst (λ w. R w y) same all.0)
+zip_at R (z ∷ xs) (y ∷ ys) (suc j) x all at = zip_at R xs ys j x all.1 at
+
+zip_back : {A B : Type 0} (R : A → B → Type 0) (xs : List A) (ys : List B) (j : ℕ) (y : B) → AllZip R xs ys → slice_get ys j ≡ Some y → (x : A) × (slice_get xs j ≡ Some x) × R x y
+zip_back R [] [] j y all at = absurd (cc)
+zip_back R [] (z ∷ ys) j y all at = absurd all
+zip_back R (x ∷ xs) [] j y all at = absurd all
+zip_back R (x ∷ xs) (z ∷ ys) zero y all at = let same : z ≡ y = cc in (x, refl, subst (λ w. R x w) same all.0)
+zip_back R (x ∷ xs) (z ∷ ys) (suc j) y all at = zip_back R xs ys j y all.1 at
+
+zip_length : {A B : Type 0} (R : A → B → Type 0) (xs : List A) (ys : List B) → AllZip R xs ys → length ys ≡ length xs
+zip_length R [] [] all = refl
+zip_length R [] (y ∷ ys) all = absurd all
+zip_length R (x ∷ xs) [] all = absurd all
+zip_length R (x ∷ xs) (y ∷ ys) all = ap suc (zip_length R xs ys all.1)
+
+kind_at : (kind : StepKind) → slice_get kinds (step_number kind) ≡ Some kind
+kind_at Open = refl
+kind_at Ews = refl
+kind_at Obc = refl
+kind_at Sc = refl
+kind_at St = refl
+kind_at Dereserved = refl
+
+number_at : (j : ℕ) (kind : StepKind) → slice_get kinds j ≡ Some kind → step_number kind ≡ j
+number_at zero kind at = ap step_number (let same : Open ≡ kind = cc in sym same)
+number_at (suc zero) kind at = ap step_number (let same : Ews ≡ kind = cc in sym same)
+number_at (suc (suc zero)) kind at = ap step_number (let same : Obc ≡ kind = cc in sym same)
+number_at (suc (suc (suc zero))) kind at = ap step_number (let same : Sc ≡ kind = cc in sym same)
+number_at (suc (suc (suc (suc zero)))) kind at = ap step_number (let same : St ≡ kind = cc in sym same)
+number_at (suc (suc (suc (suc (suc zero))))) kind at = ap step_number (let same : Dereserved ≡ kind = cc in sym same)
+number_at (suc (suc (suc (suc (suc (suc j)))))) kind at = absurd (cc)
+
+-- what the lists of a programme show
+pub record ShownAt (over : Setting) (next : List ℕ) (p : ℕ) (programme : Programme) : Type 0 where
+  pub admissions : Admissions
+  pub choice : ChoosesFrom over.version (seats_in over.table p) (tried p (seekers_in over) next) admissions
+  pub order : AreInOrder programme
+  pub shown_is : (kind : StepKind) → shown programme kind ≡ admitted_by admissions kind
+
+shown_at : (over : Setting) (next : List ℕ) (p : ℕ) (programme : Programme) → ShowsFrom over.version (seats_in over.table p) (tried p (seekers_in over) next) programme → ShownAt over next p programme
+shown_at over next p programme (admissions, choice, steps) =
+    let R : StepKind → StepList → Type 0 = ShowsStep over.version (seats_in over.table p) (in_merit (seats_in over.table p).list (tried p (seekers_in over) next)) admissions in
+    record {
+      admissions = admissions;
+      choice = choice;
+      order = record {
+        six = zip_length R kinds programme.steps steps;
+        each = λ j list at.
+            let found = zip_back R kinds programme.steps j list steps at in
+            ap step_number found.2.of_kind ∙ number_at j found.0 found.1;
+      };
+      shown_is = λ kind.
+          let found = zip_at R kinds programme.steps (step_number kind) kind steps (kind_at kind) in
+          ap admitted_of found.1 ∙ found.2.persons;
+    }
+
+-- a run, with the lists of its programmes
+pub record Run (over : Setting) (next : List ℕ) (rows : List (List ℕ)) (programmes : List Programme) : Type 0 where
+  pub set_is : IsSet over
+  pub ended : HasEnded over next
+  pub rows_are : AreRows (length over.table.programmes) over.lists next rows
+  pub listed : AreListed over.version over.table over.people rows programmes
+
+length_at : {X : Type 0} (xs : List X) (i : ℕ) (x : X) → slice_get xs i ≡ Some x → i < length xs
+length_at [] i x at = absurd (cc)
+length_at (y ∷ xs) zero x at = omega arith
+length_at (y ∷ xs) (suc i) x at = let less = length_at xs i x at in omega (arith, less)
+
+there_is : {X : Type 0} (xs : List X) (i : ℕ) → i < length xs → (x : X) × (slice_get xs i ≡ Some x)
+there_is [] i less = absurd (omega (arith, less))
+there_is (x ∷ xs) zero less = (x, refl)
+there_is (x ∷ xs) (suc i) less = there_is xs i (omega (arith, less))
+
+-- the persons of a row are those who tried
+pub row_tried : (over : Setting) (next : List ℕ) (rows : List (List ℕ)) (p : ℕ) (row : List ℕ) → IsSet over → AreRows (length over.table.programmes) over.lists next rows → slice_get rows p ≡ Some row
+    → persons_at over.people row ≡ tried p (seekers_in over) next
+row_tried over next rows p row set rows_are at = ap (λ r. persons_at over.people r) (rows_are.each p row at) ∙ rows_tried p over.people over.lists next set.full
+
+pub may_of : (over : Setting) (next : List ℕ) (p : ℕ) → IsSet over → HasEnded over next → p < length over.table.programmes → MayApplyIn over.table p (tried p (seekers_in over) next)
+may_of over next p set ended below =
+    tried_may (rule_of over.version over.table) (MayApplyIn over.table) (length over.table.programmes) p (seekers_in over) next set.market
+    (chooses_well over.version over.table set.laws set.seats) below ended.underway.full ended.underway.within
+
+at_programme : (over : Setting) (next : List ℕ) (rows : List (List ℕ)) (programmes : List Programme) (p : ℕ) (programme : Programme) → Run over next rows programmes → slice_get programmes p ≡ Some programme
+    → (p < length over.table.programmes) × ShownAt over next p programme
+at_programme over next rows programmes p programme r at =
+    let less : p < length rows = (let short = length_at programmes p programme at in let f = r.listed.full in omega (arith, short, f)) in
+    let row = there_is rows p less in
+    let shows = r.listed.each p row.0 programme row.1 at in
+    let same = row_tried over next rows p row.0 r.set_is r.rows_are row.1 in
+    ((let f = r.rows_are.full in omega (arith, less, f)), shown_at over next p programme (subst (λ people. ShowsFrom over.version (seats_in over.table p) people programme) same shows))
+
+-- whoever is shown tried the programme last
+pub record Seated (over : Setting) (next : List ℕ) (p : ℕ) (person : Person) (kind : StepKind) : Type 0 where
+  pub place : ℕ
+  pub s : Seeker
+  pub n : ℕ
+  pub there : slice_get (seekers_in over) place ≡ Some s
+  pub at : slice_get next place ≡ Some n
+  pub person_is : person ≡ s.person
+  pub last : n ≡ place_of s.list p + 1
+  pub rule_is : rule_of over.version over.table p (tried p (seekers_in over) next) person kind
+
+seated : (over : Setting) (next : List ℕ) (rows : List (List ℕ)) (programmes : List Programme) (p : ℕ) (programme : Programme) (person : Person) (kind : StepKind) → Run over next rows programmes
+    → slice_get programmes p ≡ Some programme → IsAmong person (shown programme kind) → Seated over next p person kind
+seated over next rows programmes p programme person kind r at among =
+    let here = at_programme over next rows programmes p programme r at in
+    let is = here.1 in
+    let may = may_of over next p r.set_is r.ended here.0 in
+    let among' : IsAmong person (admitted_by is.admissions kind) = subst (λ l. IsAmong person l) (is.shown_is kind) among in
+    let tried_it = held_tried over.version over.table p (tried p (seekers_in over) next) is.admissions person r.set_is.laws r.set_is.seats here.0 may is.choice
+    (admitted_is_there is.admissions person (kind, among')) in
+    let found = of_those (λ s n. nat_lt (place_of s.list p) n) (seekers_in over) next person tried_it in
+    let rule_is : rule_of over.version over.table p (tried p (seekers_in over) next) person kind = (is.admissions, is.choice, among') in
+    record {
+      place = found.place;
+      s = found.s;
+      n = found.value;
+      there = found.there;
+      at = found.at;
+      person_is = found.person_is;
+      last = r.ended.underway.last p found.place found.value found.s kind here.0 found.there found.at
+          (subst (λ z. rule_of over.version over.table p (tried p (seekers_in over) next) z kind) found.person_is rule_is);
+      rule_is = rule_is;
+    }
+
+-- What the programmes of a run show.
+pub all_shown : (over : Setting) (next : List ℕ) (rows : List (List ℕ)) (programmes : List Programme) → Run over next rows programmes → AreShown over.people programmes
+all_shown over next rows programmes r = record {
+  few = (let a = r.listed.full in let b = r.rows_are.full in let d = r.set_is.seats.few in omega (arith, a, b, d));
+  in_order = λ p programme at. (at_programme over next rows programmes p programme r at).1.order;
+  of_people = λ p programme kind at person among.
+      let x = seated over next rows programmes p programme person kind r at among in
+      let place = seeker_at over.people over.lists x.place x.s x.there in
+      (x.place, subst (λ z. slice_get over.people x.place ≡ Some z) (sym x.person_is) place.person_at);
+  once = λ p q programme other person kind next_kind at at' among among'.
+      let x = seated over next rows programmes p programme person kind r at among in
+      let y = seated over next rows programmes q other person next_kind r at' among' in
+      let place : x.place ≡ y.place = same_place (seekers_in over) x.place y.place x.s y.s r.set_is.market.ids x.there y.there (ap (λ (z : Person). z.id) (sym x.person_is ∙ y.person_is)) in
+      let there : slice_get (seekers_in over) x.place ≡ Some y.s = subst (λ k. slice_get (seekers_in over) k ≡ Some y.s) (sym place) y.there in
+      let at_n : slice_get next x.place ≡ Some y.n = subst (λ k. slice_get next k ≡ Some y.n) (sym place) y.at in
+      let seeker : x.s ≡ y.s = (let e = x.there in cc) in
+      let value : x.n ≡ y.n = (let e = x.at in cc) in
+      let places : place_of x.s.list p ≡ place_of x.s.list q = (let a = x.last in let b = y.last in let d = ap (λ (z : Seeker). place_of z.list q) seeker in omega (arith, a, b, d, value)) in
+      let less : place_of x.s.list p < length x.s.list = (let a = x.last in let short = r.ended.underway.within x.place x.n x.s x.there x.at in omega (arith, a, short)) in
+      let prog : p ≡ q = one_place x.s.list p q less places in
+      let below = (at_programme over next rows programmes p programme r at).0 in
+      let second : rule_of over.version over.table p (tried p (seekers_in over) next) person next_kind =
+      subst (λ k. rule_of over.version over.table k (tried k (seekers_in over) next) person next_kind) (sym prog) y.rule_is in
+      let well = chooses_well over.version over.table r.set_is.laws r.set_is.seats in
+      (prog, well.one_step p (tried p (seekers_in over) next) person kind next_kind (may_of over next p r.set_is r.ended below) x.rule_is second);
+}
+
+-- The seats that they show are those that the programmes give.
+pub are_seats : (over : Setting) (next : List ℕ) (rows : List (List ℕ)) (programmes : List Programme) (seats : List (Option Seat)) → Run over next rows programmes
+    → AreGiven over.people programmes (length programmes) seats
+    → AreSeatsOf (rule_of over.version over.table) (length over.table.programmes) (seekers_in over) next seats
+are_seats over next rows programmes seats r given =
+    let size = length_with over.people over.lists r.set_is.full in
+    let count : length programmes ≡ length over.table.programmes = r.listed.full ∙ r.rows_are.full in
+    record {
+      full = (let g = given.full in omega (arith, g, size));
+      below = λ i seat has.
+          let person = there_is over.people i (let short = length_at seats i (Some seat) has in let g = given.full in omega (arith, short, g)) in
+          let only = given.only i person.0 seat person.1 has in
+          (let less = only.0 in omega (arith, less, count));
+      each = λ p i s kind below there.
+          let less : p < length programmes = omega (arith, below, count) in
+          let programme = there_is programmes p less in
+          let is = (at_programme over next rows programmes p programme.0 r programme.1).1 in
+          let person = (seeker_at over.people over.lists i s there).person_at in
+          let may = may_of over next p r.set_is r.ended below in (
+            λ rule_is.
+                let among = rule_shows over.version over.table p (tried p (seekers_in over) next) is.admissions s.person kind r.set_is.laws r.set_is.seats below may is.choice rule_is in
+                given.given p i programme.0 s.person kind less programme.1 person (subst (λ l. IsAmong s.person l) (sym (is.shown_is kind)) among),
+            λ has.
+                let among = (given.only i s.person (seat_at p kind) person has).1 programme.0 programme.1 in
+                (is.admissions, is.choice, subst (λ l. IsAmong s.person l) (is.shown_is kind) among),
+          );
+    }
+
+-- ---- the round
+
+-- where the applications ended, everybody is settled
+all_settled : (over : Setting) (next : List ℕ) → IsSet over → HasEnded over next → (i n : ℕ) (s : Seeker) → slice_get (seekers_in over) i ≡ Some s → slice_get next i ≡ Some n
+    → IsSettled (rule_of over.version over.table) (length over.table.programmes) (seekers_in over) next s n
+all_settled over next set ended i n s there at =
+    ended.settled i n s (length_at over.people i s.person (seeker_at over.people over.lists i s there).person_at) there at
+
+-- The round of a run.
+pub made : (over : Setting) (next : List ℕ) (rows : List (List ℕ)) (programmes : List Programme) (seats : List (Option Seat)) (n : ℕ) (seeks : List Seek) → Run over next rows programmes
+    → AreGiven over.people programmes (length programmes) seats → IsMade over n seeks (record { number = n; seeks = seeks; seats = seats; programmes = programmes })
+made over next rows programmes seats n seeks r given =
+    let are = are_seats over next rows programmes seats r given in
+    let settled = all_settled over next r.set_is r.ended in
+    record {
+      number = refl;
+      sought = refl;
+      best = ends_best (rule_of over.version over.table) (MayApplyIn over.table) (length over.table.programmes) (seekers_in over) next seats r.set_is.market
+          (chooses_well over.version over.table r.set_is.laws r.set_is.seats) r.ended.underway are settled;
+      count = r.listed.full ∙ r.rows_are.full;
+      shown = λ p programme at.
+          let less : p < length rows = (let short = length_at programmes p programme at in let f = r.listed.full in omega (arith, short, f)) in
+          let row = there_is rows p less in
+          let same : persons_at over.people row.0 ≡ applicants p (seekers_in over) seats =
+          row_tried over next rows p row.0 r.set_is r.rows_are row.1
+          ∙ sym (settled_applicants (rule_of over.version over.table) (MayApplyIn over.table) (length over.table.programmes) p (seekers_in over) next seats r.ended.underway are settled) in
+          subst (λ people. ShowsFrom over.version (seats_in over.table p) people programme) same (r.listed.each p row.0 programme row.1 at);
+    }
+
+-- the places of a row are places of the register
+pub row_below : (over : Setting) (next : List ℕ) (rows : List (List ℕ)) (p : ℕ) (row : List ℕ) → IsSet over → AreRows (length over.table.programmes) over.lists next rows → slice_get rows p ≡ Some row
+    → AllByRecursion (λ place. place < length over.people) row
+row_below over next rows p row set are at =
+    subst (λ r. AllByRecursion (λ place. place < length over.people) r) (sym (are.each p row at))
+    (subst (λ size. AllByRecursion (λ place. place < size) (rows_from p over.lists next 0)) (let f = set.full in omega (arith, f)) (rows_below p over.lists next 0))
+
+-- those at the places of a row may apply
+pub row_may : (over : Setting) (next : List ℕ) (rows : List (List ℕ)) (p : ℕ) (row : List ℕ) → IsSet over → HasEnded over next → AreRows (length over.table.programmes) over.lists next rows
+    → slice_get rows p ≡ Some row → MayApplyIn over.table p (persons_at over.people row)
+row_may over next rows p row set ended are at =
+    subst (λ people. MayApplyIn over.table p people) (sym (row_tried over next rows p row set are at))
+    (may_of over next p set ended (let less = length_at rows p row at in let f = are.full in omega (arith, less, f)))
+
+-- how many programmes of the list are tried is within it
+pub tried_within : (over : Setting) (next : List ℕ) → IsSet over → HasEnded over next → (i n : ℕ) (list : List ProgId) → slice_get over.lists i ≡ Some list → slice_get next i ≡ Some n → n ≤ length list
+tried_within over next set ended i n list at at' =
+    let person = there_is over.people i (let less = length_at over.lists i list at in let f = set.full in omega (arith, less, f)) in
+    ended.underway.within i n (record { person = person.0; list = list }) (made_at over.people over.lists i person.0 list person.1 at) at'

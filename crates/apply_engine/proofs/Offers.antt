@@ -1,0 +1,220 @@
+-- One offer: the states show the choices from all who tried, before and after it.
+use Rattle.std.proofs.Common.{◌≡◌, ◌≢◌, ◌<◌, ◌+◌, inl, inr, ℕ, List, [], ◌∷◌, ◌++◌, Some, length, slice_set, refl, sym, ap, ◌∙◌, subst, length-set}
+use Rattle.std.specs.Prelude.{slice_get, IsSome}
+use Rattle.std.specs.List.{AllByRecursion}
+use Rattle.std.proofs.lemmas.Bool.Decides.{eqb_tells}
+use Rattle.office_base.specs.Lists.{IsAmong, IsSublist, Pairwise}
+use Rattle.office_base.specs.Merit.{IsNewTo}
+use Rattle.office_base.specs.Person.{IsTraitSet, number_in}
+use Rattle.office_base.specs.declared.person.ListId.{ListId}
+use Rattle.office_base.specs.declared.person.Person.{Person}
+use Rattle.office_base.specs.declared.step.StepKind.{StepKind}
+use Rattle.office_base.specs.declared.step.StepKind.TheVariants.{Open, Ews, Obc, Sc, St, Dereserved}
+use Rattle.placements.proofs.Ranks.{any_among, any_all, any_append, among_sublist}
+use Rattle.allocations.specs.Course.{IsUnderway, IsWith as IsWithOne, MayTry, tried}
+use Rattle.allocations.specs.Fair.{IsMarket}
+use Rattle.allocations.specs.Market.{Seeker}
+use Rattle.allocations.specs.Rule.{Admits, ChoosesWell, Refuses}
+use Rattle.allocations.proofs.Course.{tried_may, tried_with, get_set_same}
+use Rattle.apply_engine.proofs.Settled.{get_set_other}
+use Rattle.allocations.proofs.Settled.{other_programmes}
+use Rattle.open_then_category.specs.State.{ProgrammeKept}
+use Rattle.programme_lists.specs.Chosen.{ChoosesFrom, IsAdmitted, IsRefused, everybody}
+use Rattle.programme_lists.specs.Programme.{Admissions, admitted_by}
+use Rattle.rounds.specs.Rule.{MayApplyIn, rule_of}
+use Rattle.seat_matrix.specs.Matrix.{AreSeats, SeatTable, list_in, seats_in}
+use Rattle.apply_engine.specs.Engine.{AllShow, AreLawful, Show}
+
+-- ---- everybody
+
+-- who is in one of two lists is in both joined
+in_left : {X : Type 0} (x : X) (xs ys : List X) → IsAmong x xs → IsAmong x (xs ++ ys)
+in_left x [] ys h = absurd h
+in_left x (y ∷ xs) ys h = elim h [ inl e ↦ inl e | inr later ↦ inr (in_left x xs ys later) ]
+
+in_right : {X : Type 0} (x : X) (xs ys : List X) → IsAmong x ys → IsAmong x (xs ++ ys)
+in_right x [] ys h = h
+in_right x (y ∷ xs) ys h = inr (in_right x xs ys h)
+
+-- whoever a step admits is one of all who are admitted
+pub admitted_is_there : (admissions : Admissions) (person : Person) → IsAdmitted admissions person → IsAmong person (everybody admissions)
+admitted_is_there admissions person (Open, h) =
+    in_left person _ admissions.dereserved (in_left person _ admissions.st (in_left person _ admissions.sc (in_left person _ admissions.obc (in_left person admissions.open_step admissions.ews h))))
+admitted_is_there admissions person (Ews, h) =
+    in_left person _ admissions.dereserved (in_left person _ admissions.st (in_left person _ admissions.sc (in_left person _ admissions.obc (in_right person admissions.open_step admissions.ews h))))
+admitted_is_there admissions person (Obc, h) =
+    in_left person _ admissions.dereserved (in_left person _ admissions.st (in_left person _ admissions.sc (in_right person (admissions.open_step ++ admissions.ews) admissions.obc h)))
+admitted_is_there admissions person (Sc, h) =
+    in_left person _ admissions.dereserved (in_left person _ admissions.st (in_right person (admissions.open_step ++ admissions.ews ++ admissions.obc) admissions.sc h))
+admitted_is_there admissions person (St, h) =
+    in_left person _ admissions.dereserved (in_right person (admissions.open_step ++ admissions.ews ++ admissions.obc ++ admissions.sc) admissions.st h)
+admitted_is_there admissions person (Dereserved, h) = in_right person (admissions.open_step ++ admissions.ews ++ admissions.obc ++ admissions.sc ++ admissions.st) admissions.dereserved h
+
+-- and is admitted by one of the steps
+pub there_is_admitted : (admissions : Admissions) (person : Person) → IsAmong person (everybody admissions) → IsAdmitted admissions person
+there_is_admitted admissions person h =
+    let is : Person → Type 0 = λ other. person ≡ other in
+    elim (any_append is (admissions.open_step ++ admissions.ews ++ admissions.obc ++ admissions.sc ++ admissions.st) admissions.dereserved h) [
+      | inr a ↦ (Dereserved, a)
+      | inl h1 ↦ elim (any_append is (admissions.open_step ++ admissions.ews ++ admissions.obc ++ admissions.sc) admissions.st h1) [
+        | inr a ↦ (St, a)
+        | inl h2 ↦ elim (any_append is (admissions.open_step ++ admissions.ews ++ admissions.obc) admissions.sc h2) [
+          | inr a ↦ (Sc, a)
+          | inl h3 ↦ elim (any_append is (admissions.open_step ++ admissions.ews) admissions.obc h3) [
+            | inr a ↦ (Obc, a)
+            | inl h4 ↦ elim (any_append is admissions.open_step admissions.ews h4) [
+              | inr a ↦ (Ews, a)
+              | inl a ↦ (Open, a)
+            ]
+          ]
+        ]
+      ]
+    ]
+
+-- ---- what a state shows is what the rule says
+
+pub shown_admits : (version : ℕ) (table : SeatTable) (p : ℕ) (people : List Person) (admissions : Admissions) (person : Person) → ChoosesFrom version (seats_in table p) people admissions
+    → IsAdmitted admissions person → Admits (rule_of version table) p people person
+shown_admits version table p people admissions person choice admitted = (admitted.0, (admissions, choice, admitted.1))
+
+pub rule_shows : (version : ℕ) (table : SeatTable) (p : ℕ) (people : List Person) (admissions : Admissions) (person : Person) (kind : StepKind) → AreLawful → AreSeats table
+    → p < length table.programmes → MayApplyIn table p people → ChoosesFrom version (seats_in table p) people admissions → rule_of version table p people person kind
+    → IsAmong person (admitted_by admissions kind)
+rule_shows version table p people admissions person kind laws seats below may choice rule =
+    let one = laws.one version (seats_in table p) people rule.0 admissions (seats.sound p below) may rule.1 choice in
+    subst (λ (a : Admissions). IsAmong person (admitted_by a kind)) one rule.2
+
+pub refused_shows : (version : ℕ) (table : SeatTable) (p : ℕ) (people : List Person) (admissions : Admissions) (person : Person) → AreLawful → AreSeats table
+    → p < length table.programmes → MayApplyIn table p people → ChoosesFrom version (seats_in table p) people admissions → IsRefused admissions person
+    → Refuses (rule_of version table) p people person
+refused_shows version table p people admissions person laws seats below may choice refused = λ kind rule.
+    refused kind (rule_shows version table p people admissions person kind laws seats below may choice rule)
+
+-- ---- one offer
+
+-- two of some people who can be ranked have other numbers
+numbers_apart : (list : ListId) (people : List Person) (a b : Person) → Pairwise (λ (x y : Person). number_in list x ≢ number_in list y) people → IsAmong a people → IsAmong b people
+    → a.id ≢ b.id → number_in list a ≢ number_in list b
+numbers_apart list [] a b apart in_a in_b other = absurd in_a
+numbers_apart list (x ∷ people) a b apart in_a in_b other = elim in_a [
+  | inl here ↦ elim in_b [
+    | inl here' ↦ absurd (other (ap (λ (z : Person). z.id) here ∙ ap (λ (z : Person). z.id) (sym here')))
+    | inr later ↦
+        let far = any_all (λ other. b ≡ other) (λ other. number_in list x ≢ number_in list other) people later apart.0 in
+        λ e. far.2 (ap (λ (z : Person). number_in list z) (sym here) ∙ e ∙ ap (λ (z : Person). number_in list z) far.1)
+  ]
+  | inr later ↦ elim in_b [
+    | inl here ↦
+        let far = any_all (λ other. a ≡ other) (λ other. number_in list x ≢ number_in list other) people later apart.0 in
+        λ e. far.2 (ap (λ (z : Person). number_in list z) (sym here) ∙ sym e ∙ ap (λ (z : Person). number_in list z) far.1)
+    | inr later' ↦ numbers_apart list people a b apart.1 later later' other
+  ]
+]
+
+pub ids_apart : (people : List Person) (a b : Person) → Pairwise (λ (x y : Person). x.id ≢ y.id) people → IsAmong a people → IsAmong b people → (a ≡ b → ⊥) → a.id ≢ b.id
+ids_apart [] a b apart in_a in_b other = absurd in_a
+ids_apart (x ∷ people) a b apart in_a in_b other = elim in_a [
+  | inl here ↦ elim in_b [
+    | inl here' ↦ absurd (other (here ∙ sym here'))
+    | inr later ↦
+        let far = any_all (λ other. b ≡ other) (λ (other : Person). x.id ≢ other.id) people later apart.0 in
+        λ e. far.2 (ap (λ (z : Person). z.id) (sym here) ∙ e ∙ ap (λ (z : Person). z.id) far.1)
+  ]
+  | inr later ↦ elim in_b [
+    | inl here ↦
+        let far = any_all (λ other. a ≡ other) (λ (other : Person). x.id ≢ other.id) people later apart.0 in
+        λ e. far.2 (ap (λ (z : Person). z.id) (sym here) ∙ sym e ∙ ap (λ (z : Person). z.id) far.1)
+    | inr later' ↦ ids_apart people a b apart.1 later later' other
+  ]
+]
+
+pub all_of : {X : Type 0} (P : X → Type 0) (xs : List X) → ((x : X) → IsAmong x xs → P x) → AllByRecursion P xs
+all_of P [] h = tt
+all_of P (x ∷ xs) h = (h x (inl refl), all_of P xs (λ y among. h y (inr among)))
+
+one_of : {X : Type 0} (P : X → Type 0) (xs : List X) (x : X) → AllByRecursion P xs → IsAmong x xs → P x
+one_of P [] x all among = absurd among
+one_of P (y ∷ xs) x all among = elim among [ inl e ↦ subst P (sym e) all.0 | inr later ↦ one_of P xs x all.1 later ]
+
+-- whoever is among some of the people is among all
+pub within : (x : Person) (some all : List Person) → IsSublist some all → IsAmong x some → IsAmong x all
+within x some all part among = any_among (λ other. x ≡ other) some all (among_sublist some all part) among
+
+-- the people after the offer, and the choice from them
+pub record Facts (version : ℕ) (table : SeatTable) (seekers : List Seeker) (next : List ℕ) (i p n : ℕ) (s : Seeker) : Type 0 where
+  pub with_one : IsWithOne s.person (tried p seekers next) (tried p seekers (slice_set next i (n + 1)))
+  pub may : MayApplyIn table p (tried p seekers next)
+  pub may_after : MayApplyIn table p (tried p seekers (slice_set next i (n + 1)))
+
+pub facts : (version : ℕ) (table : SeatTable) (seekers : List Seeker) (next : List ℕ) (i p n : ℕ) (s : Seeker) → ChoosesWell (rule_of version table) (MayApplyIn table)
+    → IsMarket (MayApplyIn table) (length table.programmes) seekers → IsUnderway (rule_of version table) (length table.programmes) seekers next
+    → IsUnderway (rule_of version table) (length table.programmes) seekers (slice_set next i (n + 1)) → MayTry (rule_of version table) (length table.programmes) seekers next i p n s
+    → Facts version table seekers next i p n s
+facts version table seekers next i p n s well market before after try = record {
+  with_one = tried_with (MayApplyIn table) (length table.programmes) p i n seekers next s market try.there try.at try.place;
+  may = tried_may (rule_of version table) (MayApplyIn table) (length table.programmes) p seekers next market well try.below before.full before.within;
+  may_after = tried_may (rule_of version table) (MayApplyIn table) (length table.programmes) p seekers (slice_set next i (n + 1)) market well try.below after.full after.within;
+}
+
+-- whoever is held tried the programme before
+pub held_tried : (version : ℕ) (table : SeatTable) (p : ℕ) (people : List Person) (admissions : Admissions) (other : Person) → AreLawful → AreSeats table → p < length table.programmes
+    → MayApplyIn table p people → ChoosesFrom version (seats_in table p) people admissions → IsAmong other (everybody admissions) → IsAmong other people
+held_tried version table p people admissions other laws seats below may choice among =
+    let once = laws.once version (seats_in table p) people admissions (seats.sound p below) may choice in
+    any_among (λ x. other ≡ x) (everybody admissions) people once.1 among
+
+-- The seeker is new to those whom the programme holds.
+pub new_to_held : (version : ℕ) (table : SeatTable) (seekers : List Seeker) (next : List ℕ) (i p n : ℕ) (s : Seeker) (admissions : Admissions) → AreLawful → AreSeats table
+    → p < length table.programmes → Facts version table seekers next i p n s → ChoosesFrom version (seats_in table p) (tried p seekers next) admissions
+    → IsNewTo (list_in table p) (everybody admissions) s.person
+new_to_held version table seekers next i p n s admissions laws seats below f choice =
+    let after = tried p seekers (slice_set next i (n + 1)) in
+    let apart : (other : Person) → IsAmong other (everybody admissions) → s.person.id ≢ other.id = λ other among.
+    let before = held_tried version table p _ admissions other laws seats below f.may choice among in
+    ids_apart after s.person other f.may_after.distinct f.with_one.there (within other _ _ f.with_one.within before)
+    (λ e. f.with_one.fresh (subst (λ z. IsAmong z (tried p seekers next)) (sym e) before)) in
+    record {
+      traits = one_of (λ (x : Person). IsTraitSet x.traits) after s.person f.may_after.traits f.with_one.there;
+      placed = one_of (λ x. IsSome (number_in (list_in table p) x)) after s.person f.may_after.placed f.with_one.there;
+      distinct = all_of _ _ apart;
+      numbers = all_of _ _ (λ other among.
+          let before = held_tried version table p _ admissions other laws seats below f.may choice among in
+          numbers_apart (list_in table p) after s.person other f.may_after.numbers f.with_one.there (within other _ _ f.with_one.within before) (apart other among));
+    }
+
+-- The choice from those held with the seeker is the choice from all who tried.
+pub goes_on_choice : (version : ℕ) (table : SeatTable) (seekers : List Seeker) (next : List ℕ) (i p n : ℕ) (s : Seeker) (before after : Admissions) → AreLawful → AreSeats table
+    → p < length table.programmes → Facts version table seekers next i p n s → ChoosesFrom version (seats_in table p) (tried p seekers next) before
+    → ChoosesFrom version (seats_in table p) (s.person ∷ everybody before) after
+    → ChoosesFrom version (seats_in table p) (tried p seekers (slice_set next i (n + 1))) after
+goes_on_choice version table seekers next i p n s before after laws seats below f choice next_choice =
+    laws.resumes version (seats_in table p) (tried p seekers next) (tried p seekers (slice_set next i (n + 1))) s.person before after (seats.sound p below) f.may.distinct f.may_after
+    (record {
+      part = λ other among. within other _ _ f.with_one.within among;
+      here = f.with_one.there;
+      nobody_else = f.with_one.only;
+    })
+    f.with_one.fresh choice next_choice
+
+-- All states show the choices from those who tried, after the state of one programme took the offer.
+pub all_show : (version : ℕ) (table : SeatTable) (seekers : List Seeker) (next : List ℕ) (states : List ProgrammeKept) (i p n : ℕ) (s : Seeker) (old new : ProgrammeKept)
+    → AllShow version table seekers next states → MayTry (rule_of version table) (length table.programmes) seekers next i p n s → slice_get states p ≡ Some old
+    → Show version table seekers (slice_set next i (n + 1)) p new → AllShow version table seekers (slice_set next i (n + 1)) (slice_set states p new)
+all_show version table seekers next states i p n s old new shows try at shown = record {
+  full = length-set states p new ∙ shows.full;
+  each = λ q state here. elim (eqb_tells q p) [
+    | inl h ↦
+        let mine : slice_get (slice_set states p new) q ≡ Some new = subst (λ k. slice_get (slice_set states p new) k ≡ Some new) (sym h.1) (get_set_same states p new old at) in
+        let same : new ≡ state = cc in
+        subst (λ z. Show version table seekers (slice_set next i (n + 1)) q z) same (subst (λ k. Show version table seekers (slice_set next i (n + 1)) k new) (sym h.1) shown)
+    | inr h ↦
+        let his : slice_get states q ≡ Some state = sym (get_set_other states p q new h.1) ∙ here in
+        let before = shows.each q state his in
+        record {
+          version_is = before.version_is;
+          seats_are = before.seats_are;
+          choice = subst (λ people. ChoosesFrom version (seats_in table q) people state.admissions)
+              (sym (other_programmes (rule_of version table) (length table.programmes) p i n q seekers next s try h.1)) before.choice;
+        }
+  ];
+}

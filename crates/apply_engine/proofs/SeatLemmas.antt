@@ -1,0 +1,213 @@
+-- The seats that the lists of the programmes show, step after step and programme after programme.
+use Rattle.std.proofs.Common.{◌≡◌, ◌≢◌, ◌<◌, ◌≤◌, ◌+◌, ◌⊎◌, inl, inr, ℕ, zero, suc, List, [], ◌∷◌, Option, Some, None, length, arith, refl, sym, ap, ◌∙◌, subst}
+use Rattle.std.specs.Prelude.{slice_get}
+use Rattle.std.proofs.lemmas.Bool.Decides.{eqb_tells}
+use Rattle.office_base.specs.Lists.{IsAmong, Pairwise}
+use Rattle.placements.proofs.Ranks.{one_person}
+use Rattle.allocations.proofs.Those.{same_id}
+use Rattle.office_base.specs.declared.asks.Seat.{Seat}
+use Rattle.office_base.specs.declared.person.Person.{Person}
+use Rattle.office_base.specs.declared.step.StepKind.{StepKind}
+use Rattle.office_base.specs.declared.step.StepKind.TheVariants.{Open, Ews, Obc, Sc, St, Dereserved}
+use Rattle.allocations.specs.Market.{seat_at}
+use Rattle.programme_lists.specs.declared.programme.Programme.{Programme}
+use Rattle.programme_lists.specs.declared.programme.StepList.{StepList}
+use Rattle.seat_matrix.specs.Fields.{step_number}
+use Rattle.apply_engine.specs.Made.{AreGiven, AreInOrder, AreOf, ArePut, AreShown, IsPut, IsShownOnce, admitted_of, shown}
+
+-- a step is told by its number
+pub one_number : (kind other : StepKind) → step_number kind ≡ step_number other → kind ≡ other
+one_number Open Open e = refl
+one_number Open Ews e = absurd (omega (arith, e))
+one_number Open Obc e = absurd (omega (arith, e))
+one_number Open Sc e = absurd (omega (arith, e))
+one_number Open St e = absurd (omega (arith, e))
+one_number Open Dereserved e = absurd (omega (arith, e))
+one_number Ews Open e = absurd (omega (arith, e))
+one_number Ews Ews e = refl
+one_number Ews Obc e = absurd (omega (arith, e))
+one_number Ews Sc e = absurd (omega (arith, e))
+one_number Ews St e = absurd (omega (arith, e))
+one_number Ews Dereserved e = absurd (omega (arith, e))
+one_number Obc Open e = absurd (omega (arith, e))
+one_number Obc Ews e = absurd (omega (arith, e))
+one_number Obc Obc e = refl
+one_number Obc Sc e = absurd (omega (arith, e))
+one_number Obc St e = absurd (omega (arith, e))
+one_number Obc Dereserved e = absurd (omega (arith, e))
+one_number Sc Open e = absurd (omega (arith, e))
+one_number Sc Ews e = absurd (omega (arith, e))
+one_number Sc Obc e = absurd (omega (arith, e))
+one_number Sc Sc e = refl
+one_number Sc St e = absurd (omega (arith, e))
+one_number Sc Dereserved e = absurd (omega (arith, e))
+one_number St Open e = absurd (omega (arith, e))
+one_number St Ews e = absurd (omega (arith, e))
+one_number St Obc e = absurd (omega (arith, e))
+one_number St Sc e = absurd (omega (arith, e))
+one_number St St e = refl
+one_number St Dereserved e = absurd (omega (arith, e))
+one_number Dereserved Open e = absurd (omega (arith, e))
+one_number Dereserved Ews e = absurd (omega (arith, e))
+one_number Dereserved Obc e = absurd (omega (arith, e))
+one_number Dereserved Sc e = absurd (omega (arith, e))
+one_number Dereserved St e = absurd (omega (arith, e))
+one_number Dereserved Dereserved e = refl
+
+-- the list at a place shows whom it admits
+pub shows_at : (programme : Programme) (j : ℕ) (list : StepList) → AreInOrder programme → slice_get programme.steps j ≡ Some list → shown programme list.kind ≡ list.admitted
+shows_at programme j list order at = ap (λ k. admitted_of (slice_get programme.steps k)) (order.each j list at) ∙ ap admitted_of at
+
+-- nobody has a seat of a programme before its first step
+pub none_given : (people : List Person) (p : ℕ) (programme : Programme) (seats : List (Option Seat)) → ArePut people p 0 programme seats seats
+none_given people p programme seats = record { full = refl; here = λ i person kind less at among. absurd (omega (arith, less)); elsewhere = λ i person at apart. refl }
+
+-- one step more
+pub step_more : (people : List Person) (p j : ℕ) (programme : Programme) (list : StepList) (old seats new : List (Option Seat)) → AreInOrder programme → IsShownOnce programme
+    → slice_get programme.steps j ≡ Some list → ArePut people p j programme old seats → IsPut people (seat_at p list.kind) list.admitted seats new → ArePut people p (j + 1) programme old new
+step_more people p j programme list old seats new order once at h put =
+    let mine : shown programme list.kind ≡ list.admitted = shows_at programme j list order at in
+    let number : step_number list.kind ≡ j = order.each j list at in
+    record {
+      full = put.full ∙ h.full;
+      here = λ i person kind less there among. elim (cases (step_number kind) j (omega (arith, less))) [
+        | inl before ↦
+            let apart : IsAmong person list.admitted → ⊥ = λ here.
+            let same = once person kind list.kind among (subst (λ l. IsAmong person l) (sym mine) here) in
+            let number' : step_number kind ≡ j = ap step_number same ∙ number in
+            omega (arith, before, number') in
+            put.elsewhere i person there apart ∙ h.here i person kind before there among
+        | inr now ↦
+            let same : kind ≡ list.kind = one_number kind list.kind (now ∙ sym number) in
+            let here : IsAmong person list.admitted = subst (λ l. IsAmong person l) (ap (λ k. shown programme k) same ∙ mine) among in
+            put.here i person there here ∙ ap (λ k. Some (Some (seat_at p k))) (sym same)
+      ];
+      elsewhere = λ i person there apart.
+          put.elsewhere i person there (λ here. apart list.kind (omega (arith, number)) (subst (λ l. IsAmong person l) (sym mine) here))
+          ∙ h.elsewhere i person there (λ kind less. apart kind (omega (arith, less)));
+    }
+  where
+    cases : (m n : ℕ) → m ≤ n → (m < n) ⊎ (m ≡ n)
+    cases m zero less = inr (omega (arith, less))
+    cases zero (suc n) less = inl (omega arith)
+    cases (suc m) (suc n) less = elim (cases m n (omega (arith, less))) [ inl h ↦ inl (omega (arith, h)) | inr h ↦ inr (ap suc h) ]
+
+length_at : {X : Type 0} (xs : List X) (i : ℕ) (x : X) → slice_get xs i ≡ Some x → i < length xs
+length_at [] i x at = absurd (cc)
+length_at (y ∷ xs) zero x at = omega arith
+length_at (y ∷ xs) (suc i) x at = let less = length_at xs i x at in omega (arith, less)
+
+below_six : (kind : StepKind) → step_number kind < 6
+below_six Open = omega arith
+below_six Ews = omega arith
+below_six Obc = omega arith
+below_six Sc = omega arith
+below_six St = omega arith
+below_six Dereserved = omega arith
+
+-- whoever has a seat before anything was given: nobody
+pub nothing_given : (people : List Person) (programmes : List Programme) (seats : List (Option Seat)) → length seats ≡ length people
+    → ((i : ℕ) (seat : Option Seat) → slice_get seats i ≡ Some seat → seat ≡ None) → AreGiven people programmes 0 seats
+nothing_given people programmes seats full none = record {
+  full = full;
+  given = λ q i programme person kind less. absurd (omega (arith, less));
+  only = λ i person seat there has. absurd (let e = none i (Some seat) has in cc);
+}
+
+-- one programme more: each person is shown by it, or has what the person had
+pub one_programme_more : (people : List Person) (programmes : List Programme) (p : ℕ) (programme : Programme) (seats new : List (Option Seat)) → AreShown people programmes
+    → slice_get programmes p ≡ Some programme → AreGiven people programmes p seats → ArePut people p 6 programme seats new
+    → ((i : ℕ) (person : Person) (seat : Seat) → slice_get people i ≡ Some person → slice_get new i ≡ Some (Some seat)
+    → ((kind : StepKind) × IsAmong person (shown programme kind)) ⊎ ((kind : StepKind) → IsAmong person (shown programme kind) → ⊥))
+    → AreGiven people programmes (p + 1) new
+one_programme_more people programmes p programme seats new shown_is at given put decide = record {
+  full = put.full ∙ given.full;
+  given = λ q i other person kind less at' there among. elim (cases q p (omega (arith, less))) [
+    | inl before ↦
+        put.elsewhere i person there (λ next less' among'.
+        let same = (shown_is.once q p other programme person kind next at' at among among').0 in
+        omega (arith, before, same))
+        ∙ given.given q i other person kind before at' there among
+    | inr now ↦
+        let here : slice_get programmes p ≡ Some other = subst (λ k. slice_get programmes k ≡ Some other) now at' in
+        let same : other ≡ programme = cc in
+        put.here i person kind (below_six kind) there (subst (λ x. IsAmong person (shown x kind)) same among) ∙ ap (λ k. Some (Some (seat_at k kind))) (sym now)
+  ];
+  only = λ i person seat there has. elim (decide i person seat there has) [
+    | inl mine ↦
+        let set = put.here i person mine.0 (below_six mine.0) there mine.1 in
+        let same : seat ≡ seat_at p mine.0 = cc in
+        let prog : seat.prog.0 ≡ p = ap (λ (s : Seat). s.prog.0) same in (
+          omega (arith, prog),
+          λ other at'.
+              let at_p : slice_get programmes p ≡ Some other = subst (λ k. slice_get programmes k ≡ Some other) prog at' in
+              let one : programme ≡ other = cc in
+              subst (λ x. IsAmong person (shown x seat.step)) one (subst (λ k. IsAmong person (shown programme k)) (ap (λ (s : Seat). s.step) (sym same)) mine.1),
+        )
+    | inr none ↦
+        let before = sym (put.elsewhere i person there (λ kind less. none kind)) ∙ has in
+        let old = given.only i person seat there before in
+        (let less = old.0 in omega (arith, less), old.1)
+  ];
+}
+  where
+    cases : (m n : ℕ) → m ≤ n → (m < n) ⊎ (m ≡ n)
+    cases m zero less = inr (omega (arith, less))
+    cases zero (suc n) less = inl (omega arith)
+    cases (suc m) (suc n) less = elim (cases m n (omega (arith, less))) [ inl h ↦ inl (omega (arith, h)) | inr h ↦ inr (ap suc h) ]
+
+-- whether a person is among some who are told by their numbers
+decide_among : (person : Person) (some all : List Person) → ((x : Person) → IsAmong x some → IsAmong x all) → IsAmong person all → Pairwise (λ (a b : Person). a.id ≢ b.id) all
+    → IsAmong person some ⊎ (IsAmong person some → ⊥)
+decide_among person [] all part there distinct = inr (λ h. h)
+decide_among person (x ∷ some) all part there distinct = elim (eqb_tells person.id.0 x.id.0) [
+  | inl h ↦ inl (inl (one_person all distinct person x there (part x (inl refl)) (same_id person.id x.id h.1)))
+  | inr h ↦ elim (decide_among person some all (λ y among. part y (inr among)) there distinct) [
+    | inl among ↦ inl (inr among)
+    | inr apart ↦ inr (λ among. elim among [ inl e ↦ h.1 (ap (λ (z : Person). z.id.0) e) | inr later ↦ apart later ])
+  ]
+]
+
+is_one : (people : List Person) (i : ℕ) (x : Person) → slice_get people i ≡ Some x → IsAmong x people
+is_one [] i x at = absurd (cc)
+is_one (y ∷ people) zero x at = inl (let same : y ≡ x = cc in sym same)
+is_one (y ∷ people) (suc i) x at = inr (is_one people i x at)
+
+-- whether a programme shows a person of the register
+pub decide_shown : (people : List Person) (programme : Programme) (i : ℕ) (person : Person) → Pairwise (λ (a b : Person). a.id ≢ b.id) people
+    → ((kind : StepKind) → AreOf people (shown programme kind)) → slice_get people i ≡ Some person
+    → ((kind : StepKind) × IsAmong person (shown programme kind)) ⊎ ((kind : StepKind) → IsAmong person (shown programme kind) → ⊥)
+decide_shown people programme i person distinct are there =
+    let by : (kind : StepKind) → IsAmong person (shown programme kind) ⊎ (IsAmong person (shown programme kind) → ⊥) = λ kind.
+    decide_among person (shown programme kind) people (λ x among. let found = are kind x among in is_one people found.0 x found.1) (is_one people i person there) distinct in
+    elim (by Open) [
+      | inl a ↦ inl (Open, a)
+      | inr n0 ↦
+          elim (by Ews) [
+            | inl a ↦ inl (Ews, a)
+            | inr n1 ↦
+                elim (by Obc) [
+                  | inl a ↦ inl (Obc, a)
+                  | inr n2 ↦
+                      elim (by Sc) [
+                        | inl a ↦ inl (Sc, a)
+                        | inr n3 ↦
+                            elim (by St) [
+                              | inl a ↦ inl (St, a)
+                              | inr n4 ↦
+                                  elim (by Dereserved) [ inl a ↦ inl (Dereserved, a) | inr n5 ↦ inr (none person programme n0 n1 n2 n3 n4 n5) ]
+                            ]
+                      ]
+                ]
+          ]
+    ]
+  where
+    none : (person : Person) (programme : Programme) → (IsAmong person (shown programme Open) → ⊥) → (IsAmong person (shown programme Ews) → ⊥) → (IsAmong person (shown programme Obc) → ⊥)
+        → (IsAmong person (shown programme Sc) → ⊥) → (IsAmong person (shown programme St) → ⊥) → (IsAmong person (shown programme Dereserved) → ⊥)
+        → (kind : StepKind) → IsAmong person (shown programme kind) → ⊥
+    none person programme n0 n1 n2 n3 n4 n5 Open = n0
+    none person programme n0 n1 n2 n3 n4 n5 Ews = n1
+    none person programme n0 n1 n2 n3 n4 n5 Obc = n2
+    none person programme n0 n1 n2 n3 n4 n5 Sc = n3
+    none person programme n0 n1 n2 n3 n4 n5 St = n4
+    none person programme n0 n1 n2 n3 n4 n5 Dereserved = n5

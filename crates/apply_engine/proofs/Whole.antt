@@ -1,0 +1,170 @@
+-- The whole round: the people with what their seeks leave of their lists are a sound setting, and what is made over it is the round.
+use Rattle.std.proofs.Common.{◌≡◌, ◌<◌, ◌≤◌, ◌+◌, ◌∙◌, ℕ, zero, suc, List, [], ◌∷◌, Option, Some, None, length, arith, refl, sym, ap, subst}
+use Rattle.std.specs.Prelude.{slice_get, IsTrue}
+use Rattle.std.specs.List.{AllByRecursion}
+use Rattle.office_base.specs.declared.person.Person.{Person}
+use Rattle.office_base.specs.declared.person.ProgId.{ProgId}
+use Rattle.allocations.specs.Course.{places}
+use Rattle.allocations.specs.Fair.{IsBest, IsMarket}
+use Rattle.allocations.specs.Market.{applicants}
+use Rattle.placements.proofs.Sublists.{length-sublist}
+use Rattle.programme_lists.specs.Chosen.{ShowsFrom}
+use Rattle.choice_lists.specs.Choices.{AreChoices, Lists, is_ranked_for, is_ranked_there, list_of}
+use Rattle.rank_lists.specs.Register.{AreRanks, Ranks, find_person}
+use Rattle.seat_matrix.specs.declared.entry.Home.{Home}
+use Rattle.rounds.specs.Round.{IsRound}
+use Rattle.rounds.specs.Rule.{IsOwnList, MayApplyIn, rule_of, seekers_of}
+use Rattle.rounds.specs.declared.round.Round.{Round}
+use Rattle.rounds.proofs.Entrants.{leaves_own, leaves_sublist, market}
+use Rattle.seat_matrix.specs.Matrix.{AreSeats, SeatTable, seats_in}
+use Rattle.seeks.specs.Seek.{AreBelow, seek_leaves}
+use Rattle.seeks.specs.declared.seek.Seek.{Seek}
+use Rattle.apply_engine.specs.Engine.{AreLawful, IsMade, IsSet, MayRun, Setting, lists_in, seekers_with}
+use Rattle.apply_engine.specs.Made.{leaves_along}
+use Rattle.apply_engine.proofs.Season.{aligned_length, entrants, length_lists, list_at_place}
+
+pub seekers_same : (table : SeatTable) (people : List Person) (lists : List (List ProgId)) (seeks : List Seek) → seekers_with people (leaves_along table lists seeks) ≡ seekers_of table people lists seeks
+seekers_same table [] [] seeks = refl
+seekers_same table [] (list ∷ lists) [] = refl
+seekers_same table [] (list ∷ lists) (seek ∷ seeks) = refl
+seekers_same table (person ∷ people) [] seeks = refl
+seekers_same table (person ∷ people) (list ∷ lists) [] = refl
+seekers_same table (person ∷ people) (list ∷ lists) (seek ∷ seeks) = ap (λ rest. record { person = person; list = seek_leaves table seek list } ∷ rest) (seekers_same table people lists seeks)
+
+length_left : (table : SeatTable) (lists : List (List ProgId)) (seeks : List Seek) → length seeks ≡ length lists → length (leaves_along table lists seeks) ≡ length lists
+length_left table [] seeks full = refl
+length_left table (list ∷ lists) [] full = absurd (omega (arith, full))
+length_left table (list ∷ lists) (seek ∷ seeks) full = ap suc (length_left table lists seeks (omega (arith, full)))
+
+-- what is left at a place
+record LeftAt (table : SeatTable) (lists : List (List ProgId)) (seeks : List Seek) (i : ℕ) (left : List ProgId) : Type 0 where
+  list : List ProgId
+  seek : Seek
+  at : slice_get lists i ≡ Some list
+  left_is : left ≡ seek_leaves table seek list
+
+left_at : (table : SeatTable) (lists : List (List ProgId)) (seeks : List Seek) (i : ℕ) (left : List ProgId) → slice_get (leaves_along table lists seeks) i ≡ Some left → LeftAt table lists seeks i left
+left_at table [] seeks i left at = absurd (cc)
+left_at table (list ∷ lists) [] i left at = absurd (cc)
+left_at table (list ∷ lists) (seek ∷ seeks) zero left at = let same : seek_leaves table seek list ≡ left = cc in record { list = list; seek = seek; at = refl; left_is = sym same }
+left_at table (list ∷ lists) (seek ∷ seeks) (suc i) left at =
+    let rest = left_at table lists seeks i left at in
+    record { list = rest.list; seek = rest.seek; at = rest.at; left_is = rest.left_is }
+
+there_is : {X : Type 0} (xs : List X) (i : ℕ) → i < length xs → (x : X) × (slice_get xs i ≡ Some x)
+there_is [] i less = absurd (omega (arith, less))
+there_is (x ∷ xs) zero less = (x, refl)
+there_is (x ∷ xs) (suc i) less = there_is xs i (omega (arith, less))
+
+length_at : {X : Type 0} (xs : List X) (i : ℕ) (x : X) → slice_get xs i ≡ Some x → i < length xs
+length_at [] i x at = absurd (cc)
+length_at (y ∷ xs) zero x at = omega arith
+length_at (y ∷ xs) (suc i) x at = let less = length_at xs i x at in omega (arith, less)
+
+-- the setting of a round
+abbrev pub setting : ℕ → SeatTable → Ranks → Lists → List Seek → Setting
+setting version table ranks lists seeks = record { version = version; table = table; people = ranks.people; lists = leaves_along table (lists_in lists) seeks }
+
+record OwnAt (table : SeatTable) (i : ℕ) (person : Person) (list : List ProgId) : Type 0 where
+  own : IsOwnList table person list
+  short : length list ≤ 1000
+
+own_at : (version : ℕ) (table : SeatTable) (ranks : Ranks) (lists : Lists) (seeks : List Seek) (i : ℕ) (left : List ProgId) → MayRun version table ranks lists seeks → AreRanks ranks
+    → slice_get (leaves_along table (lists_in lists) seeks) i ≡ Some left → (person : Person) × OwnAt table i person left
+own_at version table ranks lists seeks i left may sound at =
+    let found = left_at table (lists_in lists) seeks i left at in
+    let less : i < length ranks.people =
+    (let short = length_at (lists_in lists) i found.list found.at in let a = length_lists lists in let b = aligned_length lists ranks.people may.aligned in omega (arith, short, a, b)) in
+    let person = there_is ranks.people i less in
+    let own = (entrants ranks table lists sound may.choices may.aligned).own i person.0 found.list person.1 found.at in
+    let same = list_at_place lists ranks.people i person.0 found.list may.aligned sound.rising person.1 found.at in
+    let few = (may.choices person.0.id.0).short in
+    let size = length-sublist (seek_leaves table found.seek found.list) found.list (leaves_sublist table found.seek found.list) in (
+      person.0,
+      record {
+        own = subst (λ l. IsOwnList table person.0 l) (sym found.left_is) (leaves_own table found.seek person.0 found.list own);
+        short = (let a = ap (λ (l : List ProgId). length l) found.left_is in let b = ap (λ (l : List ProgId). length l) same in omega (arith, a, b, few, size));
+      },
+    )
+
+pub is_set : (version : ℕ) (table : SeatTable) (ranks : Ranks) (lists : Lists) (seeks : List Seek) → MayRun version table ranks lists seeks → AreLawful → AreSeats table → AreRanks ranks
+    → IsSet (setting version table ranks lists seeks)
+is_set version table ranks lists seeks may laws seats sound = record {
+  laws = laws;
+  seats = seats;
+  market = subst (λ s. IsMarket (MayApplyIn table) (length table.programmes) s) (sym (seekers_same table ranks.people (lists_in lists) seeks))
+      (market table ranks.people (lists_in lists) seeks seats (entrants ranks table lists sound may.choices may.aligned));
+  rising = sound.rising;
+  full = length_left table (lists_in lists) seeks may.sought.full ∙ (length_lists lists ∙ aligned_length lists ranks.people may.aligned);
+  few = sound.few;
+  short = λ i left at. (own_at version table ranks lists seeks i left may sound at).1.short;
+  distinct = λ i left at. (own_at version table ranks lists seeks i left may sound at).1.own.distinct;
+  below = λ i left at. (own_at version table ranks lists seeks i left may sound at).1.own.below;
+}
+
+all_below : (count : ℕ) (list : List ProgId) → AllByRecursion (λ (prog : ProgId). prog.0 < count) list → AreBelow count list
+all_below count [] all k prog at = absurd (cc)
+all_below count (x ∷ list) all zero prog at = let same : x ≡ prog = cc in subst (λ (z : ProgId). z.0 < count) same all.0
+all_below count (x ∷ list) all (suc k) prog at = all_below count list all.1 k prog at
+
+-- the choice lists name programmes of the matrix
+pub lists_below : (version : ℕ) (table : SeatTable) (ranks : Ranks) (lists : Lists) (seeks : List Seek) → MayRun version table ranks lists seeks → AreRanks ranks → (i : ℕ) (list : List ProgId)
+    → slice_get (lists_in lists) i ≡ Some list → AreBelow (length table.programmes) list
+lists_below version table ranks lists seeks may sound i list at =
+    let less : i < length ranks.people =
+    (let short = length_at (lists_in lists) i list at in let a = length_lists lists in let b = aligned_length lists ranks.people may.aligned in omega (arith, short, a, b)) in
+    let person = there_is ranks.people i less in
+    all_below (length table.programmes) list ((entrants ranks table lists sound may.choices may.aligned).own i person.0 list person.1 at).below
+
+-- what is made over the setting is the round
+pub is_round : (version : ℕ) (table : SeatTable) (ranks : Ranks) (lists : Lists) (n : ℕ) (seeks : List Seek) (round : Round) → IsMade (setting version table ranks lists seeks) n seeks round
+    → IsRound version table ranks.people (lists_in lists) n seeks round
+is_round version table ranks lists n seeks round made =
+    let e = seekers_same table ranks.people (lists_in lists) seeks in
+    record {
+      number = made.number;
+      sought = made.sought;
+      best = subst (λ s. IsBest (rule_of version table) (length table.programmes) s round.seats) e made.best;
+      count = made.count;
+      shown = λ p programme at. subst (λ s. ShowsFrom version (seats_in table p) (applicants p s round.seats) programme) e (made.shown p programme at);
+    }
+
+-- over these lists the setting is that of the round
+pub over_is : (version : ℕ) (table : SeatTable) (ranks : Ranks) (lists : Lists) (seeks : List Seek) (left : List (List ProgId)) → left ≡ leaves_along table (lists_in lists) seeks
+    → setting version table ranks lists seeks ≡ record { version = version; table = table; people = ranks.people; lists = left }
+over_is version table ranks lists seeks left same = ap (λ l. let s : Setting = record { version = version; table = table; people = ranks.people; lists = l } in s) (sym same)
+
+pub set_over : (version : ℕ) (table : SeatTable) (ranks : Ranks) (lists : Lists) (seeks : List Seek) (left : List (List ProgId)) → MayRun version table ranks lists seeks → AreLawful → AreSeats table
+    → AreRanks ranks → left ≡ leaves_along table (lists_in lists) seeks → IsSet (record { version = version; table = table; people = ranks.people; lists = left })
+set_over version table ranks lists seeks left may laws seats sound same =
+    subst (λ (s : Setting). IsSet s) (over_is version table ranks lists seeks left same) (is_set version table ranks lists seeks may laws seats sound)
+
+pub cost_over : (table : SeatTable) (people : List Person) (lists : List (List ProgId)) (seeks : List Seek) (left : List (List ProgId)) (before after : ℕ) → left ≡ leaves_along table lists seeks
+    → after ≤ before + places (seekers_with people left) → after ≤ before + places (seekers_of table people lists seeks)
+cost_over table people lists seeks left before after same less =
+    subst (λ s. after ≤ before + places s) (ap (λ l. seekers_with people l) same ∙ seekers_same table people lists seeks) less
+
+pub round_over_is : (version : ℕ) (table : SeatTable) (ranks : Ranks) (lists : Lists) (n : ℕ) (seeks : List Seek) (left : List (List ProgId)) (round : Round) → left ≡ leaves_along table (lists_in lists) seeks
+    → IsMade (record { version = version; table = table; people = ranks.people; lists = left }) n seeks round → IsRound version table ranks.people (lists_in lists) n seeks round
+round_over_is version table ranks lists n seeks left round same made =
+    is_round version table ranks lists n seeks round (subst (λ (s : Setting). IsMade s n seeks round) (sym (over_is version table ranks lists seeks left same)) made)
+
+there_same : (table more : SeatTable) (who : Option Person) (n : ℕ) → more.programmes ≡ table.programmes → IsTrue (is_ranked_there table who n) → IsTrue (is_ranked_there more who n)
+there_same table more None n same h = h
+there_same table more (Some person) n same h = subst (λ (programmes : List (List ℕ × Home)). IsTrue (is_ranked_for person (slice_get programmes n))) (sym same) h
+
+all_there : (table more : SeatTable) (who : Option Person) (list : List ProgId) → more.programmes ≡ table.programmes → AllByRecursion (λ (prog : ProgId). IsTrue (is_ranked_there table who prog.0)) list
+    → AllByRecursion (λ (prog : ProgId). IsTrue (is_ranked_there more who prog.0)) list
+all_there table more who [] same all = tt
+all_there table more who (prog ∷ list) same all = (there_same table more who prog.0 same all.0, all_there table more who list same all.1)
+
+-- choices of a matrix are choices of any matrix with the same programmes
+pub same_choices : (ranks : Ranks) (table more : SeatTable) (lists : Lists) → more.programmes ≡ table.programmes → AreChoices ranks table lists → AreChoices ranks more lists
+same_choices ranks table more lists same choices = λ candidate.
+    let choice = choices candidate in
+    record {
+      distinct = choice.distinct;
+      short = choice.short;
+      numbers = subst (λ n. AllByRecursion (λ (prog : ProgId). prog.0 < n) (list_of lists candidate)) (ap (λ l. length l) (sym same)) choice.numbers;
+      ranked = all_there table more (find_person candidate ranks.people) (list_of lists candidate) same choice.ranked;
+    }

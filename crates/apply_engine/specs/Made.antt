@@ -1,0 +1,107 @@
+-- What is made before and after the applications: the effective lists, who tried which programme, and the seats from the lists of the programmes.
+use Rattle.std.specs.Prelude.{◌≡◌, ◌<◌, ◌≤◌, ◌+◌, ℕ, List, [], ◌∷◌, ◌++◌, Option, Some, None, length, slice_get, nat_lt, if◌then◌else◌}
+use Rattle.office_base.specs.Lists.{IsAmong}
+use Rattle.office_base.specs.declared.asks.Seat.{Seat}
+use Rattle.office_base.specs.declared.person.Person.{Person}
+use Rattle.office_base.specs.declared.person.ProgId.{ProgId}
+use Rattle.office_base.specs.declared.step.StepKind.{StepKind}
+use Rattle.allocations.specs.Market.{place_of, seat_at}
+use Rattle.programme_lists.specs.Chosen.{ShowsFrom}
+use Rattle.programme_lists.specs.declared.programme.Programme.{Programme}
+use Rattle.programme_lists.specs.declared.programme.StepList.{StepList}
+use Rattle.seat_matrix.specs.Fields.{step_number}
+use Rattle.seat_matrix.specs.Matrix.{SeatTable, seats_in}
+use Rattle.seeks.specs.Seek.{seek_leaves}
+use Rattle.seeks.specs.declared.seek.Seek.{Seek}
+
+-- what the seeks leave of the lists
+abbrev pub leaves_along : SeatTable → List (List ProgId) → List Seek → List (List ProgId)
+leaves_along table [] seeks = []
+leaves_along table (list ∷ lists) [] = []
+leaves_along table (list ∷ lists) (seek ∷ seeks) = seek_leaves table seek list ∷ leaves_along table lists seeks
+
+-- the places of those who tried a programme: it stands on their list before the place that they try next; the first list is of this place
+abbrev pub rows_from : ℕ → List (List ProgId) → List ℕ → ℕ → List ℕ
+rows_from p [] next from = []
+rows_from p (list ∷ lists) [] from = []
+rows_from p (list ∷ lists) (n ∷ next) from = if nat_lt (place_of list p) n then from ∷ rows_from p lists next (from + 1) else rows_from p lists next (from + 1)
+
+-- for each programme the places of those who tried it
+pub record AreRows (count : ℕ) (lists : List (List ProgId)) (next : List ℕ) (rows : List (List ℕ)) : Type 0 where
+  pub full : length rows ≡ count
+  pub each : (p : ℕ) (row : List ℕ) → slice_get rows p ≡ Some row → row ≡ rows_from p lists next 0
+
+-- a place more where the programme is one of the first n of the list
+abbrev pub when_tried : ℕ → List ProgId → ℕ → ℕ → List ℕ
+when_tried p list n place = if nat_lt (place_of list p) n then place ∷ [] else []
+
+-- Each programme has the place more, if it is one of the first n of the list.
+pub record HaveMore (list : List ProgId) (n place : ℕ) (old new : List (List ℕ)) : Type 0 where
+  pub full : length new ≡ length old
+  pub each : (p : ℕ) (before after : List ℕ) → slice_get old p ≡ Some before → slice_get new p ≡ Some after → after ≡ before ++ when_tried p list n place
+
+-- the persons at some places
+abbrev pub with_some : Option Person → List Person → List Person
+with_some None people = people
+with_some (Some person) people = person ∷ people
+
+abbrev pub persons_at : List Person → List ℕ → List Person
+persons_at people [] = []
+persons_at people (place ∷ places) = with_some (slice_get people place) (persons_at people places)
+
+-- Those admitted have this seat, and all others have what they had.
+pub record IsPut (people : List Person) (seat : Seat) (admitted : List Person) (old new : List (Option Seat)) : Type 0 where
+  pub full : length new ≡ length old
+  pub here : (i : ℕ) (person : Person) → slice_get people i ≡ Some person → IsAmong person admitted → slice_get new i ≡ Some (Some seat)
+  pub elsewhere : (i : ℕ) (person : Person) → slice_get people i ≡ Some person → (IsAmong person admitted → ⊥) → slice_get new i ≡ slice_get old i
+
+-- each of them is one of the people
+abbrev pub AreOf : List Person → List Person → Type 0
+AreOf people some = (person : Person) → IsAmong person some → (i : ℕ) × (slice_get people i ≡ Some person)
+
+-- Each programme shows its choice from the persons at its places.
+pub record AreListed (version : ℕ) (table : SeatTable) (people : List Person) (rows : List (List ℕ)) (programmes : List Programme) : Type 0 where
+  pub full : length programmes ≡ length rows
+  pub each : (p : ℕ) (row : List ℕ) (programme : Programme) → slice_get rows p ≡ Some row → slice_get programmes p ≡ Some programme
+      → ShowsFrom version (seats_in table p) (persons_at people row) programme
+
+-- those whom a programme's lists show as admitted by a step
+abbrev pub admitted_of : Option StepList → List Person
+admitted_of None = []
+admitted_of (Some list) = list.admitted
+
+abbrev pub shown : Programme → StepKind → List Person
+shown programme kind = admitted_of (slice_get programme.steps (step_number kind))
+
+-- the lists stand in the order of the steps
+pub record AreInOrder (programme : Programme) : Type 0 where
+  pub six : length programme.steps ≡ 6
+  pub each : (j : ℕ) (list : StepList) → slice_get programme.steps j ≡ Some list → step_number list.kind ≡ j
+
+-- Those whom the first steps of a programme show have its seats, under their steps, and all others have what they had.
+pub record ArePut (people : List Person) (p j : ℕ) (programme : Programme) (old new : List (Option Seat)) : Type 0 where
+  pub full : length new ≡ length old
+  pub here : (i : ℕ) (person : Person) (kind : StepKind) → step_number kind < j → slice_get people i ≡ Some person → IsAmong person (shown programme kind)
+      → slice_get new i ≡ Some (Some (seat_at p kind))
+  pub elsewhere : (i : ℕ) (person : Person) → slice_get people i ≡ Some person → ((kind : StepKind) → step_number kind < j → IsAmong person (shown programme kind) → ⊥)
+      → slice_get new i ≡ slice_get old i
+
+-- nobody is shown by two steps of a programme
+abbrev pub IsShownOnce : Programme → Type 0
+IsShownOnce programme = (person : Person) (kind other : StepKind) → IsAmong person (shown programme kind) → IsAmong person (shown programme other) → kind ≡ other
+
+-- The seats are those that the first programmes show: each seat is one of them, and each of them is given.
+pub record AreGiven (people : List Person) (programmes : List Programme) (p : ℕ) (seats : List (Option Seat)) : Type 0 where
+  pub full : length seats ≡ length people
+  pub given : (q i : ℕ) (programme : Programme) (person : Person) (kind : StepKind) → q < p → slice_get programmes q ≡ Some programme → slice_get people i ≡ Some person
+      → IsAmong person (shown programme kind) → slice_get seats i ≡ Some (Some (seat_at q kind))
+  pub only : (i : ℕ) (person : Person) (seat : Seat) → slice_get people i ≡ Some person → slice_get seats i ≡ Some (Some seat)
+      → (seat.prog.0 < p) × ((programme : Programme) → slice_get programmes seat.prog.0 ≡ Some programme → IsAmong person (shown programme seat.step))
+
+-- What the programmes of a round show: in order, each person of the register, and once in all.
+pub record AreShown (people : List Person) (programmes : List Programme) : Type 0 where
+  pub few : length programmes ≤ 2000
+  pub in_order : (p : ℕ) (programme : Programme) → slice_get programmes p ≡ Some programme → AreInOrder programme
+  pub of_people : (p : ℕ) (programme : Programme) (kind : StepKind) → slice_get programmes p ≡ Some programme → AreOf people (shown programme kind)
+  pub once : (p q : ℕ) (programme other : Programme) (person : Person) (kind next : StepKind) → slice_get programmes p ≡ Some programme → slice_get programmes q ≡ Some other
+      → IsAmong person (shown programme kind) → IsAmong person (shown other next) → (p ≡ q) × (kind ≡ next)

@@ -1,0 +1,114 @@
+// The applications: one offer, the offers until all so far are settled, and all of them.
+ghost use Rattle.std.specs.Prelude.{◌≡◌, ◌<◌, ◌≤◌, ◌+◌, ℕ, List, Some, None, IfOk, length, replicate, slice_get, slice_set, slice_index};
+ghost use Rattle.allocations.specs.Course.{places, places_left};
+ghost use Rattle.office_base.specs.Version.{IsVersion};
+ghost use Rattle.apply_engine.specs.Engine.{Setting, IsSet, IsGoing, IsFree, IsSettledTo, Begins, BeginsAt, Enters, HasApplied, HasEnded, Leaves, Reads, seekers_in};
+
+use crate::one_round::begin_states;
+use choice_lists::FlatLists;
+use merit_choice::Offered;
+use office_base::{OutOfMemory, ProgId, Steps};
+use open_then_category::ProgrammeState;
+use rank_lists::Register;
+use seat_matrix::Matrix;
+use std::alloc::Global;
+use std::sync::ledger::Ledger;
+
+/// The candidate at `cur`, who is free, tries the next programme of the own list. Who is free then: nobody, or the one
+/// at this place.
+fn offer_next<L: Ledger>(
+    register: &Register,
+    lists: &FlatLists<ProgId>,
+    states: &mut [ProgrammeState],
+    next: &mut [u16],
+    cur: usize,
+    steps: &mut Steps<L>,
+) -> Option<usize>
+    ghost over: { Setting }
+    requires { Reads over register.now.people lists.now next.old states.old cur }
+    ensures going { IsGoing over next.new states.new }
+    ensures next { next.new ≡ slice_set next.old cur (slice_index next.old cur + 1) }
+    ensures free { Leaves over next.old next.new cur result }
+    ensures left { places_left (seekers_in over) next.old ≡ places_left (seekers_in over) next.new + 1 }
+    ensures cost { steps.new ≡ steps.old + 1 }
+{
+    let prog = lists.at(cur)[usize::from(next[cur])];
+    next[cur] += 1;
+    let person = &register.people()[cur];
+    match states[usize::from(prog.0)].offer(person, steps) {
+        Offered::Taken => None,
+        Offered::Refused => Some(cur),
+        Offered::Displaced(cand) => {
+            let Some(place) = register.position(cand) else {
+                unreachable!("whoever is held is a candidate of the register")
+            };
+            Some(place as usize)
+        }
+    }
+}
+
+/// Offers on behalf of the candidate at `first`, and of whoever is displaced, until all up to that one are settled.
+fn apply_from<L: Ledger>(
+    register: &Register,
+    lists: &FlatLists<ProgId>,
+    states: &mut [ProgrammeState],
+    next: &mut [u16],
+    first: usize,
+    steps: &mut Steps<L>,
+)
+    ghost over: { Setting }
+    requires { BeginsAt over register.now.people lists.now next.old states.old first }
+    ensures { HasApplied over next.old next.new states.new (first + 1) steps.old steps.new }
+{
+    let mut cur = first;
+    while usize::from(next[cur]) < lists.at(cur).len() {
+        match offer_next(register, lists, states, next, cur, steps) {
+            None => return,
+            Some(free) => cur = free,
+        }
+    }
+}
+
+/// Offers on behalf of all candidates, in their order.
+fn apply_in_order<L: Ledger>(
+    register: &Register,
+    lists: &FlatLists<ProgId>,
+    states: &mut [ProgrammeState],
+    next: &mut [u16],
+    steps: &mut Steps<L>,
+)
+    ghost over: { Setting }
+    requires { Begins over register.now.people lists.now next.old states.old 0 }
+    ensures { HasApplied over next.old next.new states.new (length register.now.people) steps.old steps.new }
+{
+    for first in 0..next.len() {
+        apply_from(register, lists, states, next, first, steps);
+    }
+}
+
+/// So many zeros.
+fn zeros(alloc: Global, count: usize) -> Result<Vec<u16>, OutOfMemory>
+    ensures { IfOk result (λ zeros. zeros.items ≡ replicate count 0) }
+{
+    Ok(vec![in alloc; 0u16; count]?)
+}
+
+/// All applications, from the first one on: how many programmes of the own list each candidate tried.
+pub(crate) fn apply_all<L: Ledger>(
+    alloc: Global,
+    version: u8,
+    matrix: &Matrix,
+    register: &Register,
+    lists: &FlatLists<ProgId>,
+    steps: &mut Steps<L>,
+) -> Result<Vec<u16>, OutOfMemory>
+    ghost over: { Setting }
+    requires { Enters over version matrix.now register.now.people lists.now }
+    ensures ended { IfOk result (λ next. HasEnded over next.items) }
+    ensures cost { steps.new ≤ steps.old + places (seekers_in over) }
+{
+    let mut states = begin_states(alloc, matrix, version)?;
+    let mut next = zeros(alloc, lists.len())?;
+    apply_in_order(register, lists, &mut states, &mut next, steps);
+    Ok(next)
+}

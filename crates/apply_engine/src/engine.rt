@@ -1,0 +1,46 @@
+// The rounds of a season.
+ghost use Rattle.std.specs.Prelude.{◌≡◌, ◌≤◌, ◌+◌, IfOk};
+ghost use Rattle.allocations.specs.Course.{places};
+ghost use Rattle.rounds.specs.Round.{IsRound};
+ghost use Rattle.rounds.specs.Rule.{AreSeeks, seekers_of};
+ghost use Rattle.apply_engine.specs.Engine.{lists_in};
+
+use crate::one_round::round_over;
+use office_base::{OutOfMemory, Steps};
+use rounds::{Round, Seeks};
+use season_file::Season;
+use seat_matrix::Matrix;
+use std::alloc::Global;
+use std::sync::ledger::Ledger;
+
+/// The round of this number over a season, on what each candidate of the register seeks, and over a matrix of the season's
+/// programmes: its own one, or one with raised seats. The round is the best allocation on what the seeks leave of the choice
+/// lists (candidate-proposing deferred acceptance; Baswana and others 2019, section 4), with the six lists of each programme from
+/// its applicants. Steps rise by one with each application, at most by the lengths of what the seeks leave. The only error is
+/// want of memory; it leaves nothing but the steps.
+pub fn round<L: Ledger>(
+    alloc: Global,
+    season: &Season,
+    matrix: &Matrix,
+    number: u16,
+    seeks: &Seeks,
+    steps: &mut Steps<L>,
+) -> Result<Round, OutOfMemory>
+    requires programmes { matrix.now.programmes ≡ season.now.matrix.programmes }
+    requires sought { AreSeeks (lists_in season.now.choices) seeks.now }
+    ensures round { IfOk result (λ round. IsRound season.now.version matrix.now season.now.register.people (lists_in season.now.choices) number seeks.now round) }
+    ensures cost { steps.new ≤ steps.old + places (seekers_of matrix.now season.now.register.people (lists_in season.now.choices) seeks.now) }
+{
+    let mut own = Seeks::new(alloc);
+    own.extend_from_slice(seeks.as_slice())?;
+    round_over(
+        alloc,
+        season.version,
+        matrix,
+        &season.register,
+        &season.choices,
+        number,
+        own,
+        steps,
+    )
+}
