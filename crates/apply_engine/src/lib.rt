@@ -11,4 +11,4 @@ mod one_round;
 mod rows;
 mod seating;
 
-pub use engine::round;
+pub use engine::{plain_round, round};
