@@ -12,3 +12,5 @@ pub mod SeatLemmas
 pub mod Setting
 mod Whole
 mod Settled
+mod InTurn
+mod OneRound
