@@ -1,5 +1,5 @@
 -- Programmes choose well and grow with their seats; so between two fair rounds nobody who remains does worse.
-use Rattle.std.proofs.Common.{◌≡◌, ◌<◌, ◌≤◌, ℕ, List, Option, Some, None, length, sym, ap, subst}
+use Rattle.std.proofs.Common.{◌≡◌, ◌<◌, ◌≤◌, ℕ, List, Option, Some, None, length, ap, subst}
 use Rattle.std.specs.Prelude.{slice_get}
 use Rattle.office_base.specs.declared.asks.Seat.{Seat}
 use Rattle.allocations.specs.Fair.{IsFair}
