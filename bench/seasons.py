@@ -1,0 +1,48 @@
+"""Season bundles of any size, line by line, that the measurements share."""
+
+CATEGORIES = ("GEN", "EWS", "OBC-NCL", "SC", "ST")
+STEPS = (("OPEN", 40), ("GEN-EWS", 10), ("OBC-NCL", 20), ("SC", 12), ("ST", 6))
+
+
+def number_of(k):
+    """Numbers of candidates that are spread over their whole range."""
+    return 1 + (k * 700_001) % 999_999_937
+
+
+def register(candidates):
+    """Each candidate has a place in the lists 1, 2 and 4."""
+    yield "[register]"
+    yield "id,category,traits,token,m1,m2,m3,m4"
+    for k in range(candidates):
+        category = CATEGORIES[k % 5]
+        relaxed = "R" if category != "GEN" and k % 7 == 0 else ""
+        place = 1 + (k * 7_919) % 9_999_991
+        yield f"{number_of(k)},{category},{'-WDXSFL'[k % 7]},g{k:08d},{place}{relaxed},{1 + k},,{9_999_999 - k}{relaxed}"
+
+
+def matrix(programmes):
+    yield "[matrix]"
+    yield "programme,institute,list,step,seats,W,D,X,S,F,L"
+    for k in range(programmes):
+        for step, seats in STEPS:
+            yield f"P{k:04d},I{k // 10},{(1, 2, 4)[k % 3]},{step},{seats},{seats // 4},{seats // 8},,1"
+
+
+def choices(candidates, programmes, each):
+    """Each candidate names as many programmes, which lie at a step of their own through all of them."""
+    yield "[choices]"
+    yield "candidate,programmes"
+    for k in range(candidates):
+        begin, stride = (k * 37) % programmes, (7, 11, 13, 17)[k % 4]
+        named = ",".join(f"P{(begin + n * stride) % programmes:04d}" for n in range(each))
+        yield f"{number_of(k)},{named}"
+
+
+def bundle(candidates, programmes, each):
+    yield "office bundle 1"
+    yield "[season]"
+    yield "rounds,6"
+    yield "clerk,clerkoffice"
+    yield from register(candidates)
+    yield from matrix(programmes)
+    yield from choices(candidates, programmes, each)
