@@ -1,0 +1,5 @@
+mod Answered
+mod Coursed
+mod Made
+mod Stays
+mod Steps
