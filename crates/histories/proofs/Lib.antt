@@ -1,0 +1,4 @@
+mod Acts
+mod Changes
+mod Turns
+mod Windows

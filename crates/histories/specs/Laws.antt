@@ -1,0 +1,33 @@
+-- What holds of accepted requests and of histories.
+use Rattle.std.specs.Prelude.{◌≡◌, ◌<◌, ◌≤◌, ◌+◌, ℕ, List, Some, None, IsSome, length, map}
+use Rattle.office_base.specs.Numbered.{last_of}
+use Rattle.office_base.specs.declared.asks.Request.{Request}
+use Rattle.office_moves.specs.Facts.{SeasonFacts}
+use Rattle.office_moves.specs.State.{State, opening}
+use Rattle.office_moves.specs.Decided.{decided}
+use Rattle.office_moves.specs.Moves.{IsMove}
+use Rattle.office_moves.specs.History.{IsHistory, Reaches, asked, grown, newly}
+use Rattle.office_moves.specs.declared.moves.Act.{Act}
+use Rattle.office_moves.specs.declared.moves.Entry.{Entry}
+use Rattle.office_moves.specs.declared.moves.Reply.{Reply}
+use Rattle.histories.specs.Orderly.{AreAnswers}
+
+-- A newly accepted request comes to the same as its act, asked by its candidate or by the clerk.
+abbrev pub AcceptedByItsAct : SeasonFacts → Type 0
+AcceptedByItsAct facts = (state : State) (request : Request) (act : Act) → newly state.now (decided facts state request) ≡ Some act
+    → decided facts state (asked facts act) ≡ decided facts state request
+
+-- Any request after a history leads to the state of a history again: of the entries with its act, where it was newly accepted, and a number above theirs.
+abbrev pub HistoryGrows : SeasonFacts → Type 0
+HistoryGrows facts = (entries : List Entry) (old new : State) (request : Request) (reply : Reply) (number : ℕ) → IsHistory facts entries old
+    → last_of (map (λ entry. entry.number) entries) < number → IsMove facts old request reply new
+    → IsHistory facts (grown entries number (newly old.now (decided facts old request))) new
+
+-- In every state that a history reaches the turns of each candidate in each window count from 1, and are few.
+abbrev pub TurnsCount : SeasonFacts → Type 0
+TurnsCount facts = (entries : List Entry) (state : State) → Reaches facts opening entries state → AreAnswers facts state
+
+-- A history goes from window to window up to the last cut; until then there are no final rows, and then there are.
+abbrev pub WindowsPass : SeasonFacts → Type 0
+WindowsPass facts = (entries : List Entry) (state : State) → Reaches facts opening entries state
+    → (state.now ≤ facts.rounds + 1) × (state.now ≤ facts.rounds → state.finals ≡ None) × (facts.rounds < state.now → (length state.rounds ≡ facts.rounds) × IsSome state.finals)
