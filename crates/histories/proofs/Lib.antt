@@ -1,4 +1,5 @@
 mod Acts
 mod Changes
+mod Raises
 mod Turns
 mod Windows

@@ -140,7 +140,7 @@ few_turns turn false e f = by (nat_lt 16 turn) refl e
     by false g h = grind (arith, nat_tests)
 
 -- an open window is the one of now
-opened : (now rounds window : ℕ) → not_open now rounds window ≡ None → window ≡ now
+pub opened : (now rounds window : ℕ) → not_open now rounds window ≡ None → window ≡ now
 opened now rounds window e = by (nat_lt window now) refl (nat_lt now window) refl e
   where
     late : (a : Bool) → nat_lt window now ≡ a → a ≡ false → now ≤ window

@@ -1,9 +1,13 @@
 -- What holds of accepted requests and of histories.
-use Rattle.std.specs.Prelude.{◌≡◌, ◌<◌, ◌≤◌, ◌+◌, ℕ, List, Some, None, IsSome, length, map}
+use Rattle.std.specs.Prelude.{◌≡◌, ◌<◌, ◌≤◌, ◌+◌, ℕ, suc, List, Some, None, IsSome, length, map}
 use Rattle.office_base.specs.Numbered.{last_of}
 use Rattle.office_base.specs.declared.asks.Request.{Request}
-use Rattle.office_moves.specs.Facts.{SeasonFacts}
+use Rattle.seat_matrix.specs.Laws.{OneStepChanges}
+use Rattle.seat_matrix.specs.Matrix.{AreSeats}
+use Rattle.rounds.specs.Rule.{IsRaised}
+use Rattle.office_moves.specs.Facts.{IsSound, SeasonFacts}
 use Rattle.office_moves.specs.State.{State, opening}
+use Rattle.office_moves.specs.Raised.{matrix_at, matrix_of_round}
 use Rattle.office_moves.specs.Decided.{decided}
 use Rattle.office_moves.specs.Moves.{IsMove}
 use Rattle.office_moves.specs.History.{IsHistory, Reaches, asked, grown, newly}
@@ -31,3 +35,17 @@ TurnsCount facts = (entries : List Entry) (state : State) → Reaches facts open
 abbrev pub WindowsPass : SeasonFacts → Type 0
 WindowsPass facts = (entries : List Entry) (state : State) → Reaches facts opening entries state
     → (state.now ≤ facts.rounds + 1) × (state.now ≤ facts.rounds → state.finals ≡ None) × (facts.rounds < state.now → (length state.rounds ≡ facts.rounds) × IsSome state.finals)
+
+-- The matrices of a state are sound, and their seats only rise.
+pub record SeatsRise (facts : SeasonFacts) (state : State) : Type 0 where
+  pub seats : (n : ℕ) → AreSeats (matrix_of_round facts state n)
+  pub raised : (n : ℕ) → IsRaised (matrix_of_round facts state n) (matrix_of_round facts state (suc n))
+  pub programmes : (n : ℕ) → (matrix_of_round facts state n).programmes ≡ facts.matrix.programmes
+  -- the raised matrix is the one of the next round
+  pub matrix : matrix_at facts state ≡ matrix_of_round facts state (suc state.now)
+  pub whole : AreSeats (matrix_at facts state)
+  pub whole_programmes : (matrix_at facts state).programmes ≡ facts.matrix.programmes
+
+-- In every state that a history reaches seats have only risen, where one step can be changed alone.
+abbrev pub SeatsOnlyRise : SeasonFacts → Type 0
+SeatsOnlyRise facts = OneStepChanges → IsSound facts → (entries : List Entry) (state : State) → Reaches facts opening entries state → SeatsRise facts state

@@ -1,6 +1,6 @@
 // The laws of the states that a history reaches. Each is the contract of a function that does nothing.
 ghost use Rattle.office_moves.specs.Facts.{SeasonFacts};
-ghost use Rattle.histories.specs.Laws.{AcceptedByItsAct, HistoryGrows, TurnsCount, WindowsPass};
+ghost use Rattle.histories.specs.Laws.{AcceptedByItsAct, HistoryGrows, SeatsOnlyRise, TurnsCount, WindowsPass};
 
 /// A newly accepted request comes to the same as its act, asked by its candidate or by the clerk.
 pub fn accepted_by_its_act()
@@ -20,4 +20,9 @@ pub fn turns_count()
 /// A history goes from window to window up to the last cut, which alone gives final rows.
 pub fn windows_pass()
     ensures { (facts : SeasonFacts) → WindowsPass facts }
+{}
+
+/// Seats only rise, in steps that one raise changes alone.
+pub fn seats_only_rise()
+    ensures { (facts : SeasonFacts) → SeatsOnlyRise facts }
 {}
