@@ -17,12 +17,14 @@ pub fn turns_count()
     ensures { (facts : SeasonFacts) → TurnsCount facts }
 {}
 
-/// A history goes from window to window up to the last cut, which alone gives final rows.
+/// A history goes from window to window up to the last cut, which alone gives the final rows.
 pub fn windows_pass()
     ensures { (facts : SeasonFacts) → WindowsPass facts }
 {}
 
-/// Seats only rise, in steps that one raise changes alone.
+/// Seats only rise along a history, and the raised matrix is the one of the next round.
 pub fn seats_only_rise()
     ensures { (facts : SeasonFacts) → SeatsOnlyRise facts }
-{}
+{
+    seat_matrix::laws::one_step_changes();
+}
