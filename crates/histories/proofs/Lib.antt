@@ -3,3 +3,8 @@ mod Coursed
 mod Made
 mod Stays
 mod Steps
+mod Acts
+mod Changes
+mod Raises
+mod Turns
+mod Windows
