@@ -1,0 +1,6 @@
+pub mod Choosing
+pub mod Entering
+pub mod Falls
+pub mod Fits
+pub mod OneRound
+pub mod Word

@@ -1,6 +1,6 @@
 mod Chains
 mod Grows
-mod Narrows
+pub mod Narrows
 mod OneState
 mod OwnView
 mod Repeats
