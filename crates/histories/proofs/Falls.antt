@@ -8,9 +8,9 @@ use Rattle.office_base.specs.declared.asks.Seat.{Seat}
 use Rattle.office_base.specs.declared.person.Person.{Person}
 use Rattle.office_base.specs.declared.person.ProgId.{ProgId}
 use Rattle.allocations.specs.Fair.{IsFair, IsNextMarket, IsOwn}
-use Rattle.allocations.specs.Market.{applies, place_of, seat_at}
+use Rattle.allocations.specs.Market.{Seeker, applies, place_of, seat_at}
 use Rattle.allocations.proofs.Falls as falls
-use Rattle.allocations.proofs.Places.{applies_true, eq_means, eq_true, seat_same}
+use Rattle.allocations.proofs.Places.{applies_true, eq_means, eq_true}
 use Rattle.allocations.proofs.Those.{all_at}
 use Rattle.choice_lists.specs.Choices.{list_of}
 use Rattle.seat_matrix.specs.Matrix.{SeatTable}
@@ -27,11 +27,11 @@ use Rattle.round_options.specs.declared.standing.Standing.TheVariants.{Waiting, 
 use Rattle.office_moves.specs.Facts.{IsSound, SeasonFacts, lists_in_order}
 use Rattle.office_moves.specs.State.{State, seat_in}
 use Rattle.office_moves.specs.Raised.{matrix_of_round}
-use Rattle.office_moves.specs.Promise.{HoldsOn, standing_then}
+use Rattle.office_moves.specs.Promise.{HoldsOn, IsNoWorse, standing_then}
 use Rattle.office_moves.proofs.Narrows.{FitsLast, holder_narrows, left_there, narrows_applies, there_left}
 use Rattle.histories.specs.Course.{IsCourse, left_then, seek_then, seeks_then}
 use Rattle.histories.proofs.Entering.{entrants, own_there}
-use Rattle.histories.proofs.Fits.{Answered, FitsCut, below_get, cut_fits, enters, follows, full_seekers, get_below, held_seat, not_true, seat_at_place, seat_is, seat_there, seekers_then, still_waits}
+use Rattle.histories.proofs.Fits.{Answered, SeatOf, FitsCut, below_get, cut_fits, enters, follows, full_seekers, get_below, held_seat, not_true, seat_at_place, seat_is, seat_there, seekers_then, still_waits}
 
 -- ---- matrices with the same programmes
 
@@ -209,6 +209,113 @@ next_market facts state before round sound course fit is = record {
 
 -- ---- nobody falls
 
+-- what whoever keeps a seat seeks again, by the choice list
+abbrev again_list : SeasonFacts → State → ℕ → ℕ → Seat → List ProgId
+again_list facts state before id old =
+    seek_leaves (matrix_of_round facts state (suc (suc before))) (seek_after (standing_then facts state (suc before) id) (Some (place_of (list_of facts.lists id) old.prog.0)))
+    (list_of facts.lists id)
+
+-- The candidate of a seat in the round after it, with the entry there.
+record Returns (facts : SeasonFacts) (state : State) (before id place : ℕ) (old : Seat) : Type 0 where
+  next : Round
+  is : slice_get state.rounds (suc before) ≡ Some next
+  t : Seeker
+  there : slice_get (seekers_then facts state (suc before)) place ≡ Some t
+  person_at : slice_get facts.people place ≡ Some t.person
+  id_is : t.person.id.0 ≡ id
+  leaves : t.list ≡ again_list facts state before id old
+  seat : Option Seat
+  at : slice_get next.seats place ≡ Some seat
+
+returns : (facts : SeasonFacts) (state : State) (before id : ℕ) (old : Seat) → IsSound facts → IsCourse facts state → suc before < length state.rounds
+    → seat_in facts state.rounds (suc before) id ≡ Some old → (known : SeatOf facts state before id old) → Returns facts state before id known.place old
+returns facts state before id old sound course less had known =
+    let standing = standing_then facts state (suc before) id in
+    let list = list_of facts.lists id in
+    let more = matrix_of_round facts state (suc (suc before)) in
+    let next = get_below state.rounds (suc before) less in
+    let full_seats = (course.made (suc before) next.0 next.1).best.fair.allocation.full in
+    let below = below_get facts.people known.place known.s.person known.person_at in
+    let full = full_seekers facts state (suc before) sound in
+    let t = get_below (seekers_then facts state (suc before)) known.place (omega (arith, below, full)) in
+    let entry = enters facts state (suc before) known.place t.0 sound t.1 in
+    let one : t.0.person ≡ known.s.person = (let a = entry.person_at in let b = known.person_at in cc) in
+    let id_is : t.0.person.id.0 ≡ id = ap (λ (z : Person). z.id.0) one ∙ known.id_is in
+    let seat = get_below next.0.seats known.place (omega (arith, below, full, full_seats)) in
+    let sought : seek_then facts state (suc before) id ≡ seek_after standing (Some (place_of list old.prog.0)) = ap (λ o. seek_after standing (place_in list o)) had in
+    record {
+      next = next.0;
+      is = next.1;
+      t = t.0;
+      there = t.1;
+      person_at = entry.person_at;
+      id_is = id_is;
+      leaves = entry.leaves ∙ (ap (λ n. seek_leaves more (seek_then facts state (suc before) n) (list_of facts.lists n)) id_is ∙ ap (λ q. seek_leaves more q list) sought);
+      seat = seat.0;
+      at = seat.1;
+    }
+
+-- a programme of the choice list is one of each matrix
+in_matrix : (facts : SeasonFacts) (state : State) (before id n : ℕ) (old : Seat) → IsCourse facts state → SeatOf facts state before id old
+    → old.prog.0 < length (matrix_of_round facts state n).programmes
+in_matrix facts state before id n old course known =
+    let list = list_of facts.lists id in
+    let in_season = all_at (λ (prog : ProgId). prog.0 < length facts.matrix.programmes) list (place_of list old.prog.0) old.prog known.own.below known.at.there in
+    subst (λ (ps : List (List ℕ × Home)). old.prog.0 < length ps) (sym (course.programmes n)) in_season
+
+-- whoever keeps a seat wants its programme in the next round
+wants_again : (facts : SeasonFacts) (state : State) (before id : ℕ) (old : Seat) → IsCourse facts state → (known : SeatOf facts state before id old)
+    → (back : Returns facts state before id known.place old) → holds (standing_then facts state (suc before) id) ≡ true → place_of back.t.list old.prog.0 < length back.t.list
+wants_again facts state before id old course known back keeps =
+    let standing = standing_then facts state (suc before) id in
+    let list = list_of facts.lists id in
+    let k = place_of list old.prog.0 in
+    let more = matrix_of_round facts state (suc (suc before)) in
+    let again = left_again more list standing k old.prog keeps known.at.there (in_matrix facts state before id (suc (suc before)) old course known) in
+    subst (λ l. place_of l old.prog.0 < length l) (sym back.leaves) (there_left more (seek_after standing (Some k)) list old.prog.0 k old.prog known.at.there refl again)
+
+-- and has a seat in it
+never_without : (facts : SeasonFacts) (state : State) (before id : ℕ) (old : Seat) → IsSound facts → ProgrammesChooseWell → ProgrammesGrow → IsCourse facts state → FitAll facts state before
+    → (known : SeatOf facts state before id old) → (back : Returns facts state before id known.place old) → holds (standing_then facts state (suc before) id) ≡ true → back.seat ≡ None → ⊥
+never_without facts state before id old sound well grow course fit known back keeps none =
+    let table = matrix_of_round facts state (suc before) in
+    let more = matrix_of_round facts state (suc (suc before)) in
+    let made = course.made before known.round known.is in
+    let raised = course.raised (suc before) in
+    let of_table = entrants facts table sound (course.programmes (suc before)) in
+    let fair' : IsFair (rule_of facts.version more) (length table.programmes) (seekers_then facts state (suc before)) back.next.seats =
+    subst (λ (ps : List (List ℕ × Home)). IsFair (rule_of facts.version more) (length ps) (seekers_then facts state (suc before)) back.next.seats)
+    raised.programmes (course.made (suc before) back.next back.is).best.fair in
+    let held : slice_get known.round.seats known.place ≡ Some (Some (seat_at old.prog.0 old.step)) = known.has in
+    let empty : slice_get back.next.seats known.place ≡ Some None = subst (λ o. slice_get back.next.seats known.place ≡ Some o) none back.at in
+    falls.nobody_falls (rule_of facts.version table) (rule_of facts.version more) (MayApplyIn table) (length table.programmes) old.prog.0 known.place
+    (seekers_then facts state before) (seekers_then facts state (suc before)) known.round.seats back.next.seats known.s back.t old.step
+    (market table facts.people (lists_in_order facts) (seeks_then facts state before) (course.seats (suc before)) of_table) (well facts.version table (course.seats (suc before)))
+    (grow facts.version table more (course.seats (suc before)) (course.seats (suc (suc before))) raised) made.best.fair fair'
+    (next_market facts state before known.round sound course fit known.is) (in_matrix facts state before id (suc before) old course known) known.there back.there held
+    (wants_again facts state before id old course known back keeps) empty
+
+-- which is no worse
+no_worse : (facts : SeasonFacts) (state : State) (before id : ℕ) (old new : Seat) → IsCourse facts state → (known : SeatOf facts state before id old)
+    → (back : Returns facts state before id known.place old) → holds (standing_then facts state (suc before) id) ≡ true → back.seat ≡ Some new
+    → IsNoWorse facts (standing_then facts state (suc before) id) id old new
+no_worse facts state before id old new course known back keeps is =
+    let standing = standing_then facts state (suc before) id in
+    let list = list_of facts.lists id in
+    let k = place_of list old.prog.0 in
+    let more = matrix_of_round facts state (suc (suc before)) in
+    let has : slice_get back.next.seats known.place ≡ Some (Some new) = subst (λ o. slice_get back.next.seats known.place ≡ Some o) is back.at in
+    let its : place_of back.t.list new.prog.0 < length back.t.list = (course.made (suc before) back.next back.is).best.fair.allocation.own known.place back.t (Some new) back.there has in
+    let left : place_of (again_list facts state before id old) new.prog.0 < length (again_list facts state before id old) = subst (λ l. place_of l new.prog.0 < length l) back.leaves its in
+    let at_place = seat_at_place more (seek_after standing (Some k)) list new known.own.distinct left in
+    let kept = left_kept more list standing (place_of list new.prog.0) k new.prog old.prog keeps at_place.there known.at.there at_place.left in
+    record {
+      place = kept.place;
+      freeze = kept.freeze;
+      slide = λ e.
+          subst (λ (ps : List (List ℕ × Home)). are_together (slice_get ps new.prog.0) (slice_get ps old.prog.0) ≡ true) (course.programmes (suc (suc before))) (kept.slide e);
+    }
+
 -- the step from the round before a window to the one that its cut publishes
 step_holds : (facts : SeasonFacts) (state : State) (before id : ℕ) → IsSound facts → ProgrammesChooseWell → ProgrammesGrow → IsCourse facts state → suc before < length state.rounds
     → FitAll facts state before → HoldsOn facts state (suc before) id
@@ -217,59 +324,12 @@ step_holds facts state before id sound well grow course less fit keeps =
     let has = held_seat (left_then facts state (suc before) id) standing (seat_in facts state.rounds (suc before) id) (course.answers (suc before) id) (fit id).has keeps in
     let old = some_seat (seat_in facts state.rounds (suc before) id) has in
     let known = seat_is facts state before id old.0 sound course old.1 in
-    let list = list_of facts.lists id in
-    let k = place_of list old.0.prog.0 in
-    let table = matrix_of_round facts state (suc before) in
-    let more = matrix_of_round facts state (suc (suc before)) in
-    let next = get_below state.rounds (suc before) less in
-    let made = course.made before known.round known.is in
-    let made' = course.made (suc before) next.0 next.1 in
-    let raised = course.raised (suc before) in
-    let below_people = below_get facts.people known.place known.s.person known.person_at in
-    let full = full_seekers facts state (suc before) sound in
-    let t = get_below (seekers_then facts state (suc before)) known.place (omega (arith, below_people, full)) in
-    let entry = enters facts state (suc before) known.place t.0 sound t.1 in
-    let one : t.0.person ≡ known.s.person = (let a = entry.person_at in let b = known.person_at in cc) in
-    let id_is : t.0.person.id.0 ≡ id = ap (λ (z : Person). z.id.0) one ∙ known.id_is in
-    let sought : seek_then facts state (suc before) id ≡ seek_after standing (Some k) = ap (λ o. seek_after standing (place_in list o)) old.1 in
-    let leaves : t.0.list ≡ seek_leaves more (seek_after standing (Some k)) list =
-    entry.leaves ∙ (ap (λ n. seek_leaves more (seek_then facts state (suc before) n) (list_of facts.lists n)) id_is ∙ ap (λ q. seek_leaves more q list) sought) in
-    let in_season : old.0.prog.0 < length facts.matrix.programmes = all_at (λ (prog : ProgId). prog.0 < length facts.matrix.programmes) list k old.0.prog known.own.below known.at.there in
-    let in_table : old.0.prog.0 < length table.programmes = subst (λ (ps : List (List ℕ × Home)). old.0.prog.0 < length ps) (sym (course.programmes (suc before))) in_season in
-    let in_more : old.0.prog.0 < length more.programmes = subst (λ (ps : List (List ℕ × Home)). old.0.prog.0 < length ps) (sym (course.programmes (suc (suc before)))) in_season in
-    let again = left_again more list standing k old.0.prog keeps known.at.there in_more in
-    let wanted' = there_left more (seek_after standing (Some k)) list old.0.prog.0 k old.0.prog known.at.there refl again in
-    let wanted : place_of t.0.list old.0.prog.0 < length t.0.list = subst (λ l. place_of l old.0.prog.0 < length l) (sym leaves) wanted' in
-    let full_seats = made'.best.fair.allocation.full in
-    let given = get_below next.0.seats known.place (omega (arith, below_people, full, full_seats)) in
-    let of_table = entrants facts table sound (course.programmes (suc before)) in
-    let fair' : IsFair (rule_of facts.version more) (length table.programmes) (seekers_then facts state (suc before)) next.0.seats =
-    subst (λ (ps : List (List ℕ × Home)). IsFair (rule_of facts.version more) (length ps) (seekers_then facts state (suc before)) next.0.seats) raised.programmes made'.best.fair in
-    let never : given.0 ≡ None → ⊥ = λ none. falls.nobody_falls (rule_of facts.version table) (rule_of facts.version more) (MayApplyIn table) (length table.programmes) old.0.prog.0 known.place
-    (seekers_then facts state before) (seekers_then facts state (suc before)) known.round.seats next.0.seats known.s t.0 old.0.step
-    (market table facts.people (lists_in_order facts) (seeks_then facts state before) (course.seats (suc before)) of_table)
-    (well facts.version table (course.seats (suc before)))
-    (grow facts.version table more (course.seats (suc before)) (course.seats (suc (suc before))) raised)
-    made.best.fair fair' (next_market facts state before known.round sound course fit known.is) in_table known.there t.1
-    (known.has ∙ ap (λ (z : Seat). Some (Some z)) (seat_same old.0 (seat_at old.0.prog.0 old.0.step) refl refl)) wanted (given.1 ∙ ap Some none) in
-    let new = there_is given.0 never in
-    let has' : slice_get next.0.seats known.place ≡ Some (Some new.0) = given.1 ∙ ap Some new.1 in
+    let back = returns facts state before id old.0 sound course less old.1 known in
+    let new = there_is back.seat (never_without facts state before id old.0 sound well grow course fit known back keeps) in
     let seated : seat_in facts state.rounds (suc (suc before)) id ≡ Some new.0 =
-    subst (λ n. seat_in facts state.rounds (suc (suc before)) n ≡ Some new.0) id_is
-    (seat_there facts state.rounds (suc before) known.place next.0 t.0.person (Some new.0) sound next.1 entry.person_at has') in
-    let its : place_of t.0.list new.0.prog.0 < length t.0.list = made'.best.fair.allocation.own known.place t.0 (Some new.0) t.1 has' in
-    let at_place = seat_at_place more (seek_after standing (Some k)) list new.0 known.own.distinct (subst (λ l. place_of l new.0.prog.0 < length l) leaves its) in
-    let kept = left_kept more list standing (place_of list new.0.prog.0) k new.0.prog old.0.prog keeps at_place.there known.at.there at_place.left in (
-      old.0,
-      new.0,
-      old.1,
-      seated,
-      record {
-        place = kept.place;
-        freeze = kept.freeze;
-        slide = λ e. subst (λ (ps : List (List ℕ × Home)). are_together (slice_get ps new.0.prog.0) (slice_get ps old.0.prog.0) ≡ true) (course.programmes (suc (suc before))) (kept.slide e);
-      },
-    )
+    subst (λ n. seat_in facts state.rounds (suc (suc before)) n ≡ Some new.0) back.id_is
+    (seat_there facts state.rounds (suc before) known.place back.next back.t.person back.seat sound back.is back.person_at back.at ∙ new.1) in
+    (old.0, new.0, old.1, seated, no_worse facts state before id old.0 new.0 course known back keeps new.1)
   where
     some_seat : (seat : Option Seat) → IsSome seat → (held : Seat) × (seat ≡ Some held)
     some_seat None h = absurd (not_true h)

@@ -6,9 +6,11 @@ ghost use Rattle.rounds.specs.Round.{IsRound};
 ghost use Rattle.rounds.specs.Rule.{ProgrammesChooseWell, ProgrammesGrow};
 ghost use Rattle.rounds.specs.declared.round.Round.{Round};
 ghost use Rattle.office_moves.specs.Facts.{IsSound, SeasonFacts, lists_in_order};
+ghost use Rattle.office_moves.specs.Laws.{OneNextRound};
 ghost use Rattle.office_moves.specs.Promise.{KeepsItsWord};
 ghost use Rattle.office_moves.specs.State.{State};
 ghost use Rattle.histories.specs.Course.{IsCourse};
+ghost use Rattle.histories.specs.Orderly.{IsOrderly};
 
 /// The programmes of every matrix choose well.
 pub fn programmes_choose_well()
@@ -42,4 +44,11 @@ pub fn one_round()
     open_then_category::laws::one_programme_choice();
     open_then_category::laws::admitted_once();
     slot_cert::laws::one_certificate();
+}
+
+/// A state in which all is in order has one next round at most.
+pub fn one_next_round()
+    ensures { (facts : SeasonFacts) (state : State) → IsSound facts → IsOrderly facts state → OneNextRound facts state }
+{
+    one_round();
 }
