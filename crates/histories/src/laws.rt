@@ -1,11 +1,19 @@
 // The laws of the states that a history reaches. Each is the contract of a function that does nothing.
-ghost use Rattle.std.specs.Prelude.{List};
-ghost use Rattle.office_moves.specs.Facts.{IsSound, SeasonFacts};
+ghost use Rattle.std.specs.Prelude.{◌≡◌, ℕ, List};
+ghost use Rattle.seat_matrix.specs.Matrix.{AreSeats, SeatTable};
+ghost use Rattle.seeks.specs.declared.seek.Seek.{Seek};
+ghost use Rattle.rounds.specs.Round.{IsRound};
+ghost use Rattle.rounds.specs.Rule.{ProgrammesChooseWell, ProgrammesGrow};
+ghost use Rattle.rounds.specs.declared.round.Round.{Round};
+ghost use Rattle.office_moves.specs.Facts.{IsSound, SeasonFacts, lists_in_order};
+ghost use Rattle.office_moves.specs.Laws.{OneNextRound};
+ghost use Rattle.office_moves.specs.Promise.{KeepsItsWord};
 ghost use Rattle.office_moves.specs.State.{State, opening};
 ghost use Rattle.office_moves.specs.History.{Reaches};
 ghost use Rattle.office_moves.specs.declared.moves.Entry.{Entry};
 ghost use Rattle.histories.specs.Course.{IsCourse};
 ghost use Rattle.histories.specs.Laws.{AcceptedByItsAct, HistoryGrows, SeatsOnlyRise, TurnsCount, WindowsPass};
+ghost use Rattle.histories.specs.Orderly.{IsOrderly};
 
 /// A newly accepted request comes to the same as its act, asked by its candidate or by the clerk.
 pub fn accepted_by_its_act()
@@ -39,4 +47,57 @@ pub fn runs_its_course()
     ensures { (facts : SeasonFacts) (entries : List Entry) (state : State) → IsSound facts → Reaches facts opening entries state → IsCourse facts state }
 {
     seats_only_rise();
+}
+
+/// The programmes of every matrix choose well.
+pub fn programmes_choose_well()
+    ensures { ProgrammesChooseWell }
+{
+    open_then_category::laws::chosen_well();
+}
+
+/// And where they have more seats, they admit everybody whom they admitted.
+pub fn programmes_grow()
+    ensures { ProgrammesGrow }
+{
+    open_then_category::laws::grows_with_seats();
+}
+
+/// Over a course of a season the office keeps its word: every round is just, and nobody falls.
+pub fn keeps_its_word()
+    ensures { (facts : SeasonFacts) (state : State) → IsSound facts → IsCourse facts state → KeepsItsWord facts state }
+{
+    programmes_choose_well();
+    programmes_grow();
+}
+
+/// In a state that a history reaches all is in order: the office keeps its word, and its windows, turns, seats and raises fit together.
+pub fn orderly()
+    ensures { (facts : SeasonFacts) (entries : List Entry) (state : State) → IsSound facts → Reaches facts opening entries state → IsOrderly facts state }
+{
+    runs_its_course();
+    turns_count();
+    windows_pass();
+    seats_only_rise();
+    programmes_choose_well();
+    programmes_grow();
+}
+
+/// Two rounds of a season by one matrix, on one seek for each of the people, are one.
+pub fn one_round()
+    ensures { (facts : SeasonFacts) (table : SeatTable) (n : ℕ) (seeks : List Seek) (first second : Round) → IsSound facts → AreSeats table
+        → table.programmes ≡ facts.matrix.programmes → IsRound facts.version table facts.people (lists_in_order facts) n seeks first
+        → IsRound facts.version table facts.people (lists_in_order facts) n seeks second → first ≡ second }
+{
+    programmes_choose_well();
+    open_then_category::laws::one_programme_choice();
+    open_then_category::laws::admitted_once();
+    slot_cert::laws::one_certificate();
+}
+
+/// A state in which all is in order has one next round at most.
+pub fn one_next_round()
+    ensures { (facts : SeasonFacts) (state : State) → IsSound facts → IsOrderly facts state → OneNextRound facts state }
+{
+    one_round();
 }
