@@ -1,7 +1,6 @@
 -- The step from one round to the next: what everybody seeks narrows, and nobody falls.
-use Rattle.std.proofs.Common.{◌≡◌, ◌≢◌, ◌<◌, ◌≤◌, ◌+◌, ℕ, zero, suc, Bool, true, false, List, [], ◌∷◌, Option, Some, None, length, arith, refl, sym, ap, ◌∙◌, subst}
+use Rattle.std.proofs.Common.{◌≡◌, ◌≢◌, ◌<◌, ◌≤◌, ◌+◌, ℕ, zero, suc, true, false, List, [], ◌∷◌, Option, Some, None, length, arith, refl, sym, ap, ◌∙◌, subst}
 use Rattle.std.specs.Prelude.{slice_get, option_map, IsSome, nat_le, ◌&&◌}
-use Rattle.std.proofs.lemmas.Bool.Decides.{nat_tests}
 use Rattle.std.proofs.lemmas.Slice.Eq.{bytes_eq-Decides}
 use Rattle.office_base.specs.Lists.{Pairwise}
 use Rattle.office_base.specs.declared.asks.Seat.{Seat}
@@ -28,7 +27,7 @@ use Rattle.office_moves.specs.Facts.{IsSound, SeasonFacts, lists_in_order}
 use Rattle.office_moves.specs.State.{State, seat_in}
 use Rattle.office_moves.specs.Raised.{matrix_of_round}
 use Rattle.office_moves.specs.Promise.{HoldsOn, IsNoWorse, standing_then}
-use Rattle.office_moves.proofs.Narrows.{FitsLast, holder_narrows, left_there, narrows_applies, there_left}
+use Rattle.office_moves.proofs.Narrows.{both_means, both_true, le_means, le_true, FitsLast, holder_narrows, left_there, narrows_applies, there_left}
 use Rattle.histories.specs.Course.{IsCourse, left_then, seek_then, seeks_then}
 use Rattle.histories.proofs.Entering.{entrants, own_there}
 use Rattle.histories.proofs.Fits.{Answered, SeatOf, FitsCut, below_get, cut_fits, enters, follows, full_seekers, get_below, held_seat, not_true, seat_at_place, seat_is, seat_there, seekers_then, still_waits}
@@ -58,22 +57,6 @@ leaves_same : (table other : SeatTable) (seek : Seek) (progs : List ProgId) → 
 leaves_same table other seek progs same = from_same table other seek progs 0 progs same
 
 -- ---- one candidate
-
-le_means : (m n : ℕ) → nat_le m n ≡ true → m ≤ n
-le_means m n e = grind (arith, nat_tests)
-
-le_true : (m n : ℕ) → m ≤ n → nat_le m n ≡ true
-le_true m n less = grind (arith, nat_tests)
-
-both_true : (a b : Bool) → a ≡ true → b ≡ true → a && b ≡ true
-both_true true true first second = refl
-both_true true false first second = absurd (cc)
-both_true false b first second = absurd (cc)
-
-both_means : (a b : Bool) → a && b ≡ true → (a ≡ true) × (b ≡ true)
-both_means true true e = (refl, refl)
-both_means true false e = absurd (cc)
-both_means false b e = absurd (cc)
 
 -- the place of a seat in a list
 abbrev place_in : List ProgId → Option Seat → Option ℕ

@@ -6,11 +6,14 @@ ghost use Rattle.rounds.specs.Round.{IsRound};
 ghost use Rattle.rounds.specs.Rule.{ProgrammesChooseWell, ProgrammesGrow};
 ghost use Rattle.rounds.specs.declared.round.Round.{Round};
 ghost use Rattle.office_moves.specs.Facts.{IsSound, SeasonFacts, lists_in_order};
-ghost use Rattle.office_moves.specs.Laws.{OneNextRound};
+ghost use Rattle.office_moves.specs.Laws.{NextRoundsAreOne, OneNextRound};
 ghost use Rattle.office_moves.specs.Promise.{KeepsItsWord};
 ghost use Rattle.office_moves.specs.State.{State, opening};
-ghost use Rattle.office_moves.specs.History.{Reaches};
+ghost use Rattle.office_moves.specs.History.{IsHistory, Reaches};
+ghost use Rattle.office_base.specs.declared.asks.Request.{Request};
+ghost use Rattle.office_moves.specs.Moves.{IsMove};
 ghost use Rattle.office_moves.specs.declared.moves.Entry.{Entry};
+ghost use Rattle.office_moves.specs.declared.moves.Reply.{Reply};
 ghost use Rattle.histories.specs.Course.{IsCourse};
 ghost use Rattle.histories.specs.Laws.{AcceptedByItsAct, HistoryGrows, SeatsOnlyRise, TurnsCount, WindowsPass};
 ghost use Rattle.histories.specs.Orderly.{IsOrderly};
@@ -100,4 +103,29 @@ pub fn one_next_round()
     ensures { (facts : SeasonFacts) (state : State) → IsSound facts → IsOrderly facts state → OneNextRound facts state }
 {
     one_round();
+}
+
+/// Each state that a history reaches has one next round at most.
+pub fn next_rounds_are_one()
+    ensures { (facts : SeasonFacts) → IsSound facts → NextRoundsAreOne facts }
+{
+    orderly();
+    one_next_round();
+}
+
+/// A history leads to one state.
+pub fn one_history()
+    ensures { (facts : SeasonFacts) (entries : List Entry) (state other : State) → IsSound facts → IsHistory facts entries state → IsHistory facts entries other → state ≡ other }
+{
+    next_rounds_are_one();
+    office_moves::laws::one_state();
+}
+
+/// And a request after it has one reply, and leads to one state.
+pub fn one_answer()
+    ensures { (facts : SeasonFacts) (entries : List Entry) (state after other : State) (request : Request) (reply again : Reply) → IsSound facts → IsHistory facts entries state
+        → IsMove facts state request reply after → IsMove facts state request again other → (reply ≡ again) × (after ≡ other) }
+{
+    next_rounds_are_one();
+    office_moves::laws::one_reply();
 }
