@@ -12,3 +12,5 @@ pub mod Season
 pub mod SeatLemmas
 pub mod Setting
 mod Whole
+mod InTurn
+mod OneRound

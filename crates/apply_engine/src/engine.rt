@@ -1,5 +1,5 @@
 // The rounds of a season.
-ghost use Rattle.std.specs.Prelude.{◌≡◌, ◌≤◌, ◌+◌, IfOk};
+ghost use Rattle.std.specs.Prelude.{◌≡◌, ◌<◌, ◌≤◌, ◌+◌, IfOk};
 ghost use Rattle.allocations.specs.Course.{places};
 ghost use Rattle.rounds.specs.Round.{IsRound};
 ghost use Rattle.rounds.specs.Rule.{AreSeeks, seekers_of};
@@ -11,7 +11,8 @@ use rounds::{Round, Seeks};
 use season_file::Season;
 use seat_matrix::Matrix;
 use std::alloc::Global;
-use std::sync::ledger::Ledger;
+use std::marker::Brand;
+use std::sync::ledger::{Blank, Ledger};
 
 /// The round of this number over a season, on what each candidate of the register seeks, and over a matrix of the season's
 /// programmes: its own one, or one with raised seats. The round is the best allocation on what the seeks leave of the choice
@@ -42,4 +43,49 @@ pub fn round<L: Ledger>(
         own,
         steps,
     )
+}
+
+/// The round of these seeks, its steps counted in a newly opened ledger.
+fn round_in<L: Ledger>(
+    alloc: Global,
+    season: &Season,
+    matrix: &Matrix,
+    number: u16,
+    seeks: Seeks,
+    blank: Blank,
+) -> Result<Round, OutOfMemory>
+    requires name { blank.name ≡ L.name }
+    requires parts { blank.parts ≡ L.parts }
+    requires some { 0 < blank.parts }
+    requires programmes { matrix.now.programmes ≡ season.now.matrix.programmes }
+    requires sought { AreSeeks (lists_in season.now.choices) seeks }
+    ensures { IfOk result (λ round. IsRound season.now.version matrix.now season.now.register.people (lists_in season.now.choices) number seeks round) }
+{
+    let mut steps: Steps<L> = Steps::new(blank);
+    round_over(
+        alloc,
+        season.version,
+        matrix,
+        &season.register,
+        &season.choices,
+        number,
+        seeks,
+        &mut steps,
+    )
+}
+
+/// The same round as that of `round`, on seeks that it takes over, and no steps are counted. The only error is want of
+/// memory; it leaves nothing.
+pub fn plain_round(
+    alloc: Global,
+    season: &Season,
+    matrix: &Matrix,
+    number: u16,
+    seeks: Seeks,
+) -> Result<Round, OutOfMemory>
+    requires programmes { matrix.now.programmes ≡ season.now.matrix.programmes }
+    requires sought { AreSeeks (lists_in season.now.choices) seeks }
+    ensures round { IfOk result (λ round. IsRound season.now.version matrix.now season.now.register.people (lists_in season.now.choices) number seeks round) }
+{
+    round_in::<Brand>(alloc, season, matrix, number, seeks, Blank::new(1))
 }
