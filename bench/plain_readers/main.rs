@@ -202,6 +202,106 @@ fn choices(body: &str, register: &Register, programmes: &HashMap<&str, Programme
     Some(choices)
 }
 
+#[derive(Clone, Copy)]
+#[allow(dead_code)]
+enum By {
+    Clerk,
+    Nobody,
+    Candidate(u32),
+}
+
+#[derive(Clone, Copy)]
+#[allow(dead_code)]
+enum Choice {
+    Freeze,
+    Float,
+    Slide,
+    Withdraw,
+}
+
+#[allow(dead_code)]
+enum Ask<'a> {
+    Answer { cand: u32, window: u16, turn: u16, choice: Choice },
+    Cut { window: u16 },
+    Raise { window: u16, prog: &'a str, step: u8, seats: u16 },
+    Seat { cand: u32 },
+    Why { cand: u32, prog: &'a str },
+    List { round: u16, prog: &'a str },
+    State,
+}
+
+fn window(text: &str) -> Option<u16> {
+    number(text, 0, 65_535).map(|n| n as u16)
+}
+
+fn code(text: &str) -> Option<&str> {
+    is_code(text).then_some(text)
+}
+
+fn choice(text: &str) -> Option<Choice> {
+    match text {
+        "freeze" => Some(Choice::Freeze),
+        "float" => Some(Choice::Float),
+        "slide" => Some(Choice::Slide),
+        "withdraw" => Some(Choice::Withdraw),
+        _ => None,
+    }
+}
+
+fn step(text: &str) -> Option<u8> {
+    match text {
+        "OPEN" => Some(0),
+        "EWS" | "GEN-EWS" => Some(1),
+        "OBC" | "OBC-NCL" => Some(2),
+        "SC" => Some(3),
+        "ST" => Some(4),
+        _ => None,
+    }
+}
+
+fn ask<'a>(row: &[&'a str]) -> Option<Ask<'a>> {
+    match *row {
+        ["answer", _, id, at, turn, text] => Some(Ask::Answer {
+            cand: number(id, 1, 999_999_999)?,
+            window: window(at)?,
+            turn: number(turn, 1, 65_535)? as u16,
+            choice: choice(text)?,
+        }),
+        ["cut", _, at] => Some(Ask::Cut { window: window(at)? }),
+        ["seat", _, id] => Some(Ask::Seat { cand: number(id, 1, 999_999_999)? }),
+        ["why", _, id, prog] => Some(Ask::Why { cand: number(id, 1, 999_999_999)?, prog: code(prog)? }),
+        ["list", _, at, prog] => Some(Ask::List { round: window(at)?, prog: code(prog)? }),
+        ["state", _] => Some(Ask::State),
+        ["raise", _, at, prog, kind, seats] => Some(Ask::Raise {
+            window: window(at)?,
+            prog: code(prog)?,
+            step: step(kind)?,
+            seats: number(seats, 1, 4_000)? as u16,
+        }),
+        _ => None,
+    }
+}
+
+fn by(text: &str) -> Option<By> {
+    match text {
+        "clerk" => Some(By::Clerk),
+        "nobody" => Some(By::Nobody),
+        id => number(id, 1, 999_999_999).map(By::Candidate),
+    }
+}
+
+/// Each row is a request.
+fn requests(body: &str) -> Option<Vec<(By, Ask<'_>)>> {
+    let mut found = Vec::new();
+    let mut row: Vec<&str> = Vec::new();
+    for line in body.lines().map(without_end).filter(|line| !line.is_empty()) {
+        row.clear();
+        row.extend(line.split(','));
+        found.push((by(row.get(1)?)?, ask(&row)?));
+    }
+    Some(found)
+}
+
 fn check(text: &str) -> Option<String> {
     let text = text.strip_prefix('\u{feff}').unwrap_or(text);
     let (first, rest) = text.split_once('\n')?;
@@ -212,6 +312,7 @@ fn check(text: &str) -> Option<String> {
     let (people, rest) = section(rest, "[register]")?;
     let (seats, rest) = section(rest, "[matrix]")?;
     let (wanted, rest) = section(rest, "[choices]")?;
+    let (script, rest) = if rest.is_empty() { ("", "") } else { section(rest, "[requests]")? };
     if !rest.is_empty() {
         return None;
     }
@@ -229,6 +330,7 @@ fn check(text: &str) -> Option<String> {
     }
     let programmes = matrix(seats)?;
     let choices = choices(wanted, &register, &programmes)?;
+    let _script = requests(script)?;
     let count: usize = choices.ranges.iter().flatten().map(|(start, end)| end - start).sum();
     Some(format!(
         "bundle candidates {} programmes {} choices {count} rounds {}",

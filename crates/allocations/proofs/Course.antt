@@ -64,7 +64,7 @@ get_set_same [] i x y at = absurd (cc)
 get_set_same (z ∷ xs) zero x y at = refl
 get_set_same (z ∷ xs) (suc i) x y at = get_set_same xs i x y at
 
-get_set_other : {X : Type 0} (xs : List X) (i j : ℕ) (x : X) → j ≢ i → slice_get (slice_set xs i x) j ≡ slice_get xs j
+pub get_set_other : {X : Type 0} (xs : List X) (i j : ℕ) (x : X) → j ≢ i → slice_get (slice_set xs i x) j ≡ slice_get xs j
 get_set_other [] i j x other = refl
 get_set_other (y ∷ xs) zero zero x other = absurd (other refl)
 get_set_other (y ∷ xs) zero (suc j) x other = refl
@@ -82,7 +82,7 @@ at_set next i j m n k old at = elim (eqb_tells j i) [
 ]
 
 -- below one more than n is as below n, but for n
-lt_next : (k n : ℕ) → k ≢ n → nat_lt k (n + 1) ≡ nat_lt k n
+pub lt_next : (k n : ℕ) → k ≢ n → nat_lt k (n + 1) ≡ nat_lt k n
 lt_next k n other = grind (arith, nat_tests)
 
 -- who tried another programme is as before
@@ -274,7 +274,7 @@ goes_on rule MayApply count p i n seekers next s market well underway try =
 -- ---- the end
 
 -- where all are settled, whoever tried a programme applies to it
-settled_applicants : (rule : Rule) (MayApply : ℕ → List Person → Type 0) (count p : ℕ) (seekers : List Seeker) (next : List ℕ) (seats : List (Option Seat))
+pub settled_applicants : (rule : Rule) (MayApply : ℕ → List Person → Type 0) (count p : ℕ) (seekers : List Seeker) (next : List ℕ) (seats : List (Option Seat))
     → IsUnderway rule count seekers next → AreSeatsOf rule count seekers next seats
     → ((i n : ℕ) (s : Seeker) → slice_get seekers i ≡ Some s → slice_get next i ≡ Some n → IsSettled rule count seekers next s n)
     → applicants p seekers seats ≡ tried p seekers next

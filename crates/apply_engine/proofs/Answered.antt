@@ -11,8 +11,7 @@ use Rattle.merit_choice.specs.declared.state.Offered.TheVariants.{Taken, Displac
 use Rattle.allocations.specs.Course.{IsUnderway, MayTry, tried}
 use Rattle.allocations.specs.Market.{Seeker, place_of}
 use Rattle.allocations.specs.Rule.{Admits, Refuses}
-use Rattle.allocations.proofs.Course.{get_set_same, goes_on}
-use Rattle.apply_engine.proofs.Settled.{get_set_other}
+use Rattle.allocations.proofs.Course.{get_set_same, goes_on, get_set_other}
 use Rattle.allocations.proofs.Places.{eq_true}
 use Rattle.allocations.proofs.Settled.{not_held, settled_displaced, settled_refused, settled_taken}
 use Rattle.allocations.proofs.Those.{all_at, of_those, same_place}

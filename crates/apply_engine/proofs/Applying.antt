@@ -3,6 +3,7 @@ use Rattle.std.proofs.Common.{◌≡◌, ◌<◌, ◌≤◌, ◌+◌, ◌⊎◌,
 use Rattle.std.specs.Prelude.{slice_get}
 use Rattle.std.proofs.lemmas.Bool.Decides.{eqb_tells}
 use Rattle.std.proofs.lemmas.Option.{slice_get-get_or, get_or_from_slice_get}
+use Rattle.office_base.specs.Limits.{most_candidates}
 use Rattle.office_base.specs.declared.person.Person.{Person}
 use Rattle.office_base.specs.declared.person.ProgId.{ProgId}
 use Rattle.allocations.specs.Course.{HaveNotBegun, places_left}
@@ -13,11 +14,7 @@ use Rattle.rounds.specs.Rule.{rule_of}
 use Rattle.apply_engine.specs.Engine.{Begins, BeginsAt, HasApplied, IsFree, IsGoing, IsSet, IsSettledBut, Leaves, Reads, Setting, seekers_in}
 use Rattle.apply_engine.proofs.Making.{standing}
 use Rattle.apply_engine.proofs.Setting.{length_with, seeker_at}
-
-there_is : {X : Type 0} (xs : List X) (i : ℕ) → i < length xs → (x : X) × (slice_get xs i ≡ Some x)
-there_is [] i less = absurd (omega (arith, less))
-there_is (x ∷ xs) zero less = (x, refl)
-there_is (x ∷ xs) (suc i) less = there_is xs i (omega (arith, less))
+use Rattle.apply_engine.proofs.ListPlaces.{there_is}
 
 -- what is so at each turn of the inner loop
 pub record IsOn (over : Setting) (people : List Person) (lists : List (List ProgId)) (before next : List ℕ) (states : List ProgrammeKept) (first cur steps_before steps : ℕ) : Type 0 where
@@ -63,7 +60,7 @@ reads_on over people lists before next states first cur steps_before steps list 
 }
 
 pub standing_on : (over : Setting) (people : List Person) (lists : List (List ProgId)) (before next : List ℕ) (states : List ProgrammeKept) (first cur steps_before steps : ℕ)
-    → IsOn over people lists before next states first cur steps_before steps → (cur < length lists) × (cur < length next) × (cur < 250000)
+    → IsOn over people lists before next states first cur steps_before steps → (cur < length lists) × (cur < length next) × (cur < most_candidates)
 standing_on over people lists before next states first cur steps_before steps h =
     let st = standing over next cur h.set_is h.free in
     (subst (λ l. cur < length l) h.lists_is st.in_lists, st.in_next, st.few)

@@ -1,6 +1,7 @@
 -- The applications begin with nobody admitted, and end.
 use Rattle.std.proofs.Common.{◌≡◌, ◌<◌, ◌≤◌, ◌+◌, ◌++◌, inl, ℕ, zero, suc, List, [], ◌∷◌, Some, length, arith, refl, sym, ap, ◌∙◌, subst, nat_lt}
 use Rattle.std.specs.Prelude.{slice_get, replicate}
+use Rattle.std.proofs.lemmas.Option.{slice_get_within}
 use Rattle.office_base.specs.Lists.{IsAmong}
 use Rattle.office_base.specs.declared.person.Person.{Person}
 use Rattle.office_base.specs.declared.person.ProgId.{ProgId}
@@ -95,7 +96,7 @@ enters over version table people lists next states e begun zeros =
           full = begun.full ∙ ap (λ (t : SeatTable). length t.programmes) (sym table_is);
           each = λ p state at.
               let is = begun.each p state at in
-              let below : p < length over.table.programmes = (let less = length_at states p state at in let f = begun.full in let g = ap (λ (t : SeatTable). length t.programmes) table_is in omega (arith, less, f, g)) in
+              let below : p < length over.table.programmes = (let less = slice_get_within states p state at in let f = begun.full in let g = ap (λ (t : SeatTable). length t.programmes) table_is in omega (arith, less, f, g)) in
               let may = tried_may (rule_of over.version over.table) (MayApplyIn over.table) (length over.table.programmes) p (seekers_in over) next e.set_is.market well below full underway.within in
               let nobody_tried = none_tried p (seekers_in over) next none in
               let choice = choice_from_none over p e.set_is below (subst (λ people. MayApplyIn over.table p people) nobody_tried may) in
@@ -110,11 +111,6 @@ enters over version table people lists next states e begun zeros =
       settled = λ j m t less. absurd (omega (arith, less));
       not_begun = λ j m far at. none j m at;
     }
-  where
-    length_at : {X : Type 0} (xs : List X) (i : ℕ) (x : X) → slice_get xs i ≡ Some x → i < length xs
-    length_at [] i x at = absurd (cc)
-    length_at (y ∷ xs) zero x at = omega arith
-    length_at (y ∷ xs) (suc i) x at = let less = length_at xs i x at in omega (arith, less)
 
 -- And end.
 pub ended : (over : Setting) (version : ℕ) (table : SeatTable) (people : List Person) (lists : List (List ProgId)) (before next : List ℕ) (states : List ProgrammeKept) (steps_before steps : ℕ)

@@ -1,18 +1,18 @@
 -- The end of a round: what the lists of the programmes show, and that the seats are the best allocation.
-use Rattle.std.proofs.Common.{◌≡◌, ◌<◌, ◌≤◌, ◌+◌, ℕ, zero, suc, List, [], ◌∷◌, Option, Some, length, arith, refl, sym, ap, ◌∙◌, subst, nat_lt}
+use Rattle.std.proofs.Common.{◌≡◌, ◌<◌, ◌≤◌, ◌+◌, ℕ, List, [], ◌∷◌, Option, Some, length, arith, refl, sym, ap, ◌∙◌, subst, nat_lt}
 use Rattle.std.specs.Prelude.{slice_get}
-use Rattle.std.specs.List.{AllByRecursion, AllZip}
+use Rattle.std.specs.List.{AllByRecursion}
+use Rattle.std.proofs.lemmas.Option.{slice_get_within}
 use Rattle.office_base.specs.Merit.{in_merit}
 use Rattle.office_base.specs.Lists.{IsAmong}
 use Rattle.office_base.specs.declared.asks.Seat.{Seat}
 use Rattle.office_base.specs.declared.person.Person.{Person}
 use Rattle.office_base.specs.declared.person.ProgId.{ProgId}
 use Rattle.office_base.specs.declared.step.StepKind.{StepKind}
-use Rattle.office_base.specs.declared.step.StepKind.TheVariants.{Open, Ews, Obc, Sc, St, Dereserved}
+use Rattle.placements.proofs.Zips.{zip_at, zip_back, zip_length}
 use Rattle.allocations.specs.Course.{AreSeatsOf, IsSettled, tried}
 use Rattle.allocations.specs.Market.{Seeker, applicants, place_of, seat_at}
-use Rattle.allocations.proofs.Course.{ends_best, tried_may}
-use Rattle.apply_engine.proofs.Settled.{settled_applicants}
+use Rattle.allocations.proofs.Course.{ends_best, tried_may, settled_applicants}
 use Rattle.allocations.proofs.Places.{one_place}
 use Rattle.allocations.proofs.Those.{of_those, same_place}
 use Rattle.programme_lists.specs.Chosen.{ChoosesFrom, ShowsFrom}
@@ -23,51 +23,14 @@ use Rattle.programme_lists.specs.declared.programme.StepList.{StepList}
 use Rattle.rounds.specs.Rule.{MayApplyIn, rule_of}
 use Rattle.seat_matrix.specs.Fields.{step_number}
 use Rattle.seat_matrix.specs.Matrix.{seats_in}
+use Rattle.seat_matrix.proofs.StepNumbers.{kinds, kind_at, number_at}
 use Rattle.seeks.specs.declared.seek.Seek.{Seek}
 use Rattle.apply_engine.specs.Engine.{HasEnded, IsMade, IsSet, Setting, seekers_in}
 use Rattle.apply_engine.specs.Made.{AreGiven, AreInOrder, AreListed, AreRows, AreShown, admitted_of, persons_at, rows_from, shown}
 use Rattle.apply_engine.proofs.Offers.{admitted_is_there, held_tried, rule_shows}
 use Rattle.apply_engine.proofs.RowLemmas.{rows_below, rows_tried}
 use Rattle.apply_engine.proofs.Setting.{chooses_well, length_with, made_at, seeker_at}
-
-abbrev kinds : List StepKind
-kinds = Open ∷ Ews ∷ Obc ∷ Sc ∷ St ∷ Dereserved ∷ []
-
-zip_at : {A B : Type 0} (R : A → B → Type 0) (xs : List A) (ys : List B) (j : ℕ) (x : A) → AllZip R xs ys → slice_get xs j ≡ Some x → (y : B) × (slice_get ys j ≡ Some y) × R x y
-zip_at R [] ys j x all at = absurd (cc)
-zip_at R (z ∷ xs) [] j x all at = absurd all
-zip_at R (z ∷ xs) (y ∷ ys) zero x all at = let same : z ≡ x = cc in (y, refl, subst (λ w. R w y) same all.0)
-zip_at R (z ∷ xs) (y ∷ ys) (suc j) x all at = zip_at R xs ys j x all.1 at
-
-zip_back : {A B : Type 0} (R : A → B → Type 0) (xs : List A) (ys : List B) (j : ℕ) (y : B) → AllZip R xs ys → slice_get ys j ≡ Some y → (x : A) × (slice_get xs j ≡ Some x) × R x y
-zip_back R [] [] j y all at = absurd (cc)
-zip_back R [] (z ∷ ys) j y all at = absurd all
-zip_back R (x ∷ xs) [] j y all at = absurd all
-zip_back R (x ∷ xs) (z ∷ ys) zero y all at = let same : z ≡ y = cc in (x, refl, subst (λ w. R x w) same all.0)
-zip_back R (x ∷ xs) (z ∷ ys) (suc j) y all at = zip_back R xs ys j y all.1 at
-
-zip_length : {A B : Type 0} (R : A → B → Type 0) (xs : List A) (ys : List B) → AllZip R xs ys → length ys ≡ length xs
-zip_length R [] [] all = refl
-zip_length R [] (y ∷ ys) all = absurd all
-zip_length R (x ∷ xs) [] all = absurd all
-zip_length R (x ∷ xs) (y ∷ ys) all = ap suc (zip_length R xs ys all.1)
-
-kind_at : (kind : StepKind) → slice_get kinds (step_number kind) ≡ Some kind
-kind_at Open = refl
-kind_at Ews = refl
-kind_at Obc = refl
-kind_at Sc = refl
-kind_at St = refl
-kind_at Dereserved = refl
-
-number_at : (j : ℕ) (kind : StepKind) → slice_get kinds j ≡ Some kind → step_number kind ≡ j
-number_at zero kind at = ap step_number (let same : Open ≡ kind = cc in sym same)
-number_at (suc zero) kind at = ap step_number (let same : Ews ≡ kind = cc in sym same)
-number_at (suc (suc zero)) kind at = ap step_number (let same : Obc ≡ kind = cc in sym same)
-number_at (suc (suc (suc zero))) kind at = ap step_number (let same : Sc ≡ kind = cc in sym same)
-number_at (suc (suc (suc (suc zero)))) kind at = ap step_number (let same : St ≡ kind = cc in sym same)
-number_at (suc (suc (suc (suc (suc zero))))) kind at = ap step_number (let same : Dereserved ≡ kind = cc in sym same)
-number_at (suc (suc (suc (suc (suc (suc j)))))) kind at = absurd (cc)
+use Rattle.apply_engine.proofs.ListPlaces.{there_is}
 
 -- what the lists of a programme show
 pub record ShownAt (over : Setting) (next : List ℕ) (p : ℕ) (programme : Programme) : Type 0 where
@@ -100,16 +63,6 @@ pub record Run (over : Setting) (next : List ℕ) (rows : List (List ℕ)) (prog
   pub rows_are : AreRows (length over.table.programmes) over.lists next rows
   pub listed : AreListed over.version over.table over.people rows programmes
 
-length_at : {X : Type 0} (xs : List X) (i : ℕ) (x : X) → slice_get xs i ≡ Some x → i < length xs
-length_at [] i x at = absurd (cc)
-length_at (y ∷ xs) zero x at = omega arith
-length_at (y ∷ xs) (suc i) x at = let less = length_at xs i x at in omega (arith, less)
-
-there_is : {X : Type 0} (xs : List X) (i : ℕ) → i < length xs → (x : X) × (slice_get xs i ≡ Some x)
-there_is [] i less = absurd (omega (arith, less))
-there_is (x ∷ xs) zero less = (x, refl)
-there_is (x ∷ xs) (suc i) less = there_is xs i (omega (arith, less))
-
 -- the persons of a row are those who tried
 pub row_tried : (over : Setting) (next : List ℕ) (rows : List (List ℕ)) (p : ℕ) (row : List ℕ) → IsSet over → AreRows (length over.table.programmes) over.lists next rows → slice_get rows p ≡ Some row
     → persons_at over.people row ≡ tried p (seekers_in over) next
@@ -123,7 +76,7 @@ may_of over next p set ended below =
 at_programme : (over : Setting) (next : List ℕ) (rows : List (List ℕ)) (programmes : List Programme) (p : ℕ) (programme : Programme) → Run over next rows programmes → slice_get programmes p ≡ Some programme
     → (p < length over.table.programmes) × ShownAt over next p programme
 at_programme over next rows programmes p programme r at =
-    let less : p < length rows = (let short = length_at programmes p programme at in let f = r.listed.full in omega (arith, short, f)) in
+    let less : p < length rows = (let short = slice_get_within programmes p programme at in let f = r.listed.full in omega (arith, short, f)) in
     let row = there_is rows p less in
     let shows = r.listed.each p row.0 programme row.1 at in
     let same = row_tried over next rows p row.0 r.set_is r.rows_are row.1 in
@@ -200,7 +153,7 @@ are_seats over next rows programmes seats r given =
     record {
       full = (let g = given.full in omega (arith, g, size));
       below = λ i seat has.
-          let person = there_is over.people i (let short = length_at seats i (Some seat) has in let g = given.full in omega (arith, short, g)) in
+          let person = there_is over.people i (let short = slice_get_within seats i (Some seat) has in let g = given.full in omega (arith, short, g)) in
           let only = given.only i person.0 seat person.1 has in
           (let less = only.0 in omega (arith, less, count));
       each = λ p i s kind below there.
@@ -224,7 +177,7 @@ are_seats over next rows programmes seats r given =
 all_settled : (over : Setting) (next : List ℕ) → IsSet over → HasEnded over next → (i n : ℕ) (s : Seeker) → slice_get (seekers_in over) i ≡ Some s → slice_get next i ≡ Some n
     → IsSettled (rule_of over.version over.table) (length over.table.programmes) (seekers_in over) next s n
 all_settled over next set ended i n s there at =
-    ended.settled i n s (length_at over.people i s.person (seeker_at over.people over.lists i s there).person_at) there at
+    ended.settled i n s (slice_get_within over.people i s.person (seeker_at over.people over.lists i s there).person_at) there at
 
 -- The round of a run.
 pub made : (over : Setting) (next : List ℕ) (rows : List (List ℕ)) (programmes : List Programme) (seats : List (Option Seat)) (n : ℕ) (seeks : List Seek) → Run over next rows programmes
@@ -239,7 +192,7 @@ made over next rows programmes seats n seeks r given =
           (chooses_well over.version over.table r.set_is.laws r.set_is.seats) r.ended.underway are settled;
       count = r.listed.full ∙ r.rows_are.full;
       shown = λ p programme at.
-          let less : p < length rows = (let short = length_at programmes p programme at in let f = r.listed.full in omega (arith, short, f)) in
+          let less : p < length rows = (let short = slice_get_within programmes p programme at in let f = r.listed.full in omega (arith, short, f)) in
           let row = there_is rows p less in
           let same : persons_at over.people row.0 ≡ applicants p (seekers_in over) seats =
           row_tried over next rows p row.0 r.set_is r.rows_are row.1
@@ -259,10 +212,10 @@ pub row_may : (over : Setting) (next : List ℕ) (rows : List (List ℕ)) (p : �
     → slice_get rows p ≡ Some row → MayApplyIn over.table p (persons_at over.people row)
 row_may over next rows p row set ended are at =
     subst (λ people. MayApplyIn over.table p people) (sym (row_tried over next rows p row set are at))
-    (may_of over next p set ended (let less = length_at rows p row at in let f = are.full in omega (arith, less, f)))
+    (may_of over next p set ended (let less = slice_get_within rows p row at in let f = are.full in omega (arith, less, f)))
 
 -- how many programmes of the list are tried is within it
 pub tried_within : (over : Setting) (next : List ℕ) → IsSet over → HasEnded over next → (i n : ℕ) (list : List ProgId) → slice_get over.lists i ≡ Some list → slice_get next i ≡ Some n → n ≤ length list
 tried_within over next set ended i n list at at' =
-    let person = there_is over.people i (let less = length_at over.lists i list at in let f = set.full in omega (arith, less, f)) in
+    let person = there_is over.people i (let less = slice_get_within over.lists i list at in let f = set.full in omega (arith, less, f)) in
     ended.underway.within i n (record { person = person.0; list = list }) (made_at over.people over.lists i person.0 list person.1 at) at'

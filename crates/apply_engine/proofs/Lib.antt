@@ -2,6 +2,7 @@ pub mod Answered
 pub mod Applying
 pub mod Ending
 pub mod Finishing
+pub mod ListPlaces
 pub mod MadeLemmas
 pub mod Making
 pub mod Offers
@@ -11,6 +12,5 @@ pub mod Season
 pub mod SeatLemmas
 pub mod Setting
 mod Whole
-mod Settled
 mod InTurn
 mod OneRound

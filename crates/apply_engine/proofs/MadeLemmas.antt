@@ -2,13 +2,12 @@
 use Rattle.std.proofs.Common.{◌≡◌, ◌<◌, ◌+◌, ◌⊎◌, inl, inr, ℕ, zero, suc, List, [], ◌∷◌, ◌++◌, Option, Some, None, length, drop, take, slice_set, arith, refl, sym, ap, ◌∙◌, subst, add-one, append_assoc, length-set, get_or}
 use Rattle.std.specs.Prelude.{slice_get, option_map}
 use Rattle.std.proofs.lemmas.Bool.Decides.{eqb_tells}
-use Rattle.std.proofs.lemmas.Option.{slice_get-get_or}
+use Rattle.std.proofs.lemmas.Option.{slice_get-get_or, slice_get_within}
 use Rattle.office_base.specs.Lists.{IsAmong, Pairwise}
 use Rattle.office_base.specs.declared.asks.Seat.{Seat}
 use Rattle.office_base.specs.declared.person.Person.{Person}
 use Rattle.office_base.specs.declared.person.ProgId.{ProgId}
-use Rattle.allocations.proofs.Course.{get_set_same}
-use Rattle.apply_engine.proofs.Settled.{get_set_other}
+use Rattle.allocations.proofs.Course.{get_set_same, get_set_other}
 use Rattle.allocations.proofs.Those.{all_at}
 use Rattle.choice_lists.specs.Choices.{Lists}
 use Rattle.rank_lists.specs.Register.{row_of}
@@ -18,6 +17,7 @@ use Rattle.seeks.specs.declared.seek.Seek.{Seek}
 use Rattle.apply_engine.specs.Engine.{lists_in}
 use Rattle.apply_engine.specs.Made.{AreOf, IsPut, leaves_along}
 use Rattle.apply_engine.proofs.Answered.{row_at}
+use Rattle.apply_engine.proofs.ListPlaces.{there_is}
 
 -- the list at a place of the register
 pub list_at_row : (lists : Lists) (i : ℕ) → slice_get (lists_in lists) i ≡ option_map (λ (held : ℕ × List ProgId). held.1) (slice_get lists i)
@@ -80,21 +80,11 @@ one_row (x ∷ people) (suc i) zero person rising at at' = absurd (
     omega (arith, less, e))
 one_row (x ∷ people) (suc i) (suc j) person rising at at' = ap suc (one_row people i j person rising.1 at at')
 
-within_list : {X : Type 0} (xs : List X) (i : ℕ) (x : X) → slice_get xs i ≡ Some x → i < length xs
-within_list [] i x at = absurd (cc)
-within_list (y ∷ xs) zero x at = omega arith
-within_list (y ∷ xs) (suc i) x at = let less = within_list xs i x at in omega (arith, less)
-
-there_is : {X : Type 0} (xs : List X) (i : ℕ) → i < length xs → (x : X) × (slice_get xs i ≡ Some x)
-there_is [] i less = absurd (omega (arith, less))
-there_is (x ∷ xs) zero less = (x, refl)
-there_is (x ∷ xs) (suc i) less = there_is xs i (omega (arith, less))
-
 -- one person more is given the seat
 pub put_more : (people : List Person) (seat : Seat) (some : List Person) (old seats : List (Option Seat)) (at : ℕ) (person : Person) → Pairwise (λ (a b : Person). a.id.0 < b.id.0) people
     → length old ≡ length people → slice_get people at ≡ Some person → IsPut people seat some old seats → IsPut people seat (some ++ person ∷ []) old (slice_set seats at (Some seat))
 put_more people seat some old seats at person rising full there put =
-    let less : at < length seats = (let short = within_list people at person there in omega (arith, short, full, put.full)) in
+    let less : at < length seats = (let short = slice_get_within people at person there in omega (arith, short, full, put.full)) in
     let before = there_is seats at less in
     record {
       full = length-set seats at (Some seat) ∙ put.full;

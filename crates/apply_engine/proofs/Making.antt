@@ -1,7 +1,8 @@
 -- The offer that the engine makes next.
-use Rattle.std.proofs.Common.{◌≡◌, ◌<◌, ◌+◌, ℕ, zero, suc, List, [], ◌∷◌, Some, None, length, slice_set, slice_index, arith, sym, ap, ◌∙◌, subst, get_or}
+use Rattle.std.proofs.Common.{◌≡◌, ◌<◌, ◌+◌, ℕ, List, [], ◌∷◌, Some, None, length, slice_set, slice_index, arith, sym, ap, ◌∙◌, subst, get_or}
 use Rattle.std.specs.Prelude.{slice_get}
-use Rattle.std.proofs.lemmas.Option.{slice_get-get_or, get_or_from_slice_get}
+use Rattle.std.proofs.lemmas.Option.{slice_get-get_or, get_or_from_slice_get, slice_get_within}
+use Rattle.office_base.specs.Limits.{most_candidates, most_programmes}
 use Rattle.office_base.specs.declared.person.CandId.{CandId}
 use Rattle.office_base.specs.declared.person.Person.{Person}
 use Rattle.office_base.specs.declared.person.ProgId.{ProgId}
@@ -18,26 +19,21 @@ use Rattle.apply_engine.specs.Engine.{IsFree, IsSet, Leaves, Reads, Setting, see
 use Rattle.apply_engine.proofs.Answered.{Given, Offer, leaves_displaced, may_be_offered}
 use Rattle.apply_engine.proofs.Setting.{seeker_at}
 
-length_at : {X : Type 0} (xs : List X) (i : ℕ) (x : X) → slice_get xs i ≡ Some x → i < length xs
-length_at [] i x at = absurd (cc)
-length_at (y ∷ xs) zero x at = omega arith
-length_at (y ∷ xs) (suc i) x at = let less = length_at xs i x at in omega (arith, less)
-
 -- who is free stands in the register, with a list and a place
 pub record Standing (over : Setting) (next : List ℕ) (cur : ℕ) : Type 0 where
   pub in_people : cur < length over.people
   pub in_lists : cur < length over.lists
   pub in_next : cur < length next
-  pub few : cur < 250000
+  pub few : cur < most_candidates
 
 pub standing : (over : Setting) (next : List ℕ) (cur : ℕ) → IsSet over → IsFree over next cur → Standing over next cur
 standing over next cur set free =
     let at = seeker_at over.people over.lists cur free.s free.there in
-    let here = length_at over.people cur free.s.person at.person_at in
+    let here = slice_get_within over.people cur free.s.person at.person_at in
     record {
       in_people = here;
-      in_lists = length_at over.lists cur free.s.list at.list_at;
-      in_next = length_at next cur free.n free.at;
+      in_lists = slice_get_within over.lists cur free.s.list at.list_at;
+      in_next = slice_get_within next cur free.n free.at;
       few = (let short = set.few in omega (arith, here, short));
     }
 
@@ -77,7 +73,7 @@ pub offer_of : (over : Setting) (people : List Person) (lists : List (List ProgI
 offer_of over people lists next states cur p old r m at = record { set_is = r.set_is; going = r.going; try = m.try; at = at }
 
 pub known : (over : Setting) (people : List Person) (lists : List (List ProgId)) (next : List ℕ) (states : List ProgrammeKept) (cur p : ℕ) → Reads over people lists next states cur
-    → Making over next states cur p → (p < length states) × (p < 2000)
+    → Making over next states cur p → (p < length states) × (p < most_programmes)
 known over people lists next states cur p r m =
     let below = m.try.below in
     let full = r.going.shows.full in

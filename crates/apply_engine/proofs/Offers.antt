@@ -15,8 +15,7 @@ use Rattle.allocations.specs.Course.{IsUnderway, IsWith as IsWithOne, MayTry, tr
 use Rattle.allocations.specs.Fair.{IsMarket}
 use Rattle.allocations.specs.Market.{Seeker}
 use Rattle.allocations.specs.Rule.{Admits, ChoosesWell, Refuses}
-use Rattle.allocations.proofs.Course.{tried_may, tried_with, get_set_same}
-use Rattle.apply_engine.proofs.Settled.{get_set_other}
+use Rattle.allocations.proofs.Course.{tried_may, tried_with, get_set_same, get_set_other}
 use Rattle.allocations.proofs.Settled.{other_programmes}
 use Rattle.open_then_category.specs.State.{ProgrammeKept}
 use Rattle.programme_lists.specs.Chosen.{ChoosesFrom, IsAdmitted, IsRefused, everybody}

@@ -3,14 +3,13 @@ use Rattle.std.proofs.Common.{◌≡◌, ◌≢◌, ◌<◌, ◌≤◌, ◌+◌,
 use Rattle.std.specs.Prelude.{slice_get, replicate}
 use Rattle.std.specs.List.{AllByRecursion}
 use Rattle.std.proofs.lemmas.Bool.Decides.{nat_tests, eqb_tells}
-use Rattle.std.proofs.lemmas.Option.{slice_get-get_or}
+use Rattle.std.proofs.lemmas.Option.{slice_get-get_or, slice_get_within}
 use Rattle.office_base.specs.Lists.{Pairwise}
 use Rattle.office_base.specs.declared.person.Person.{Person}
 use Rattle.office_base.specs.declared.person.ProgId.{ProgId}
 use Rattle.allocations.specs.Course.{tried}
 use Rattle.allocations.specs.Market.{place_of}
-use Rattle.allocations.proofs.Course.{get_set_same}
-use Rattle.apply_engine.proofs.Settled.{get_set_other, lt_next}
+use Rattle.allocations.proofs.Course.{get_set_same, get_set_other, lt_next}
 use Rattle.allocations.proofs.Places.{place_read, lt_true}
 use Rattle.rounds.proofs.Entrants.{place_at}
 use Rattle.apply_engine.specs.Engine.{seekers_with}
@@ -56,7 +55,7 @@ one_row_more list at place old rows prog row distinct there is h =
         | inr e ↦
             let at_p'' : slice_get rows p ≡ Some after = sym (get_set_other rows prog.0 p (row ++ place ∷ []) e.1) ∙ at_p' in
             let elsewhere : place_of list p ≢ at = λ same.
-            let less : place_of list p < length list = (let short = within_list list at prog there in omega (arith, same, short)) in
+            let less : place_of list p < length list = (let short = slice_get_within list at prog there in omega (arith, same, short)) in
             let read = place_read list p less in
             let read' : slice_get list at ≡ Some read.0 = subst (λ k. slice_get list k ≡ Some read.0) same read.1 in
             let one : read.0 ≡ prog = cc in
@@ -64,11 +63,6 @@ one_row_more list at place old rows prog row distinct there is h =
             h.each p before after at_p at_p'' ∙ ap (λ b. before ++ (if b then place ∷ [] else [])) (sym (lt_next (place_of list p) at elsewhere))
       ];
     }
-  where
-    within_list : {X : Type 0} (xs : List X) (i : ℕ) (x : X) → slice_get xs i ≡ Some x → i < length xs
-    within_list [] i x at = absurd (cc)
-    within_list (y ∷ xs) zero x at = omega arith
-    within_list (y ∷ xs) (suc i) x at = let less = within_list xs i x at in omega (arith, less)
 
 pub replicate_next : {X : Type 0} (n : ℕ) (x : X) → replicate n x ++ x ∷ [] ≡ replicate (n + 1) x
 replicate_next zero x = refl
@@ -206,17 +200,12 @@ pub rows_go_on : (count at n : ℕ) (lists : List (List ProgId)) (next : List �
 rows_go_on count at n lists next list rows more there is h one = record {
   full = one.full ∙ h.full;
   each = λ p row at_p.
-      let before = slice_get-get_or rows p [] (let short = length_at more p row at_p in omega (arith, short, one.full)) in
+      let before = slice_get-get_or rows p [] (let short = slice_get_within more p row at_p in omega (arith, short, one.full)) in
       let row_is = one.each p (get_or rows p []) row before at_p in
       let old = h.each p (get_or rows p []) before in
       let rest = rows_from p (drop (at + 1) lists) (drop (at + 1) next) (at + 1) in
       ap (λ z. z ++ rest) row_is ∙ (append_assoc (get_or rows p []) (when_tried p list n at) rest ∙ (ap (λ z. get_or rows p [] ++ z) (sym (rows_next p at n lists next list there is)) ∙ old));
 }
-  where
-    length_at : {X : Type 0} (xs : List X) (i : ℕ) (x : X) → slice_get xs i ≡ Some x → i < length xs
-    length_at [] i x at = absurd (cc)
-    length_at (y ∷ xs) zero x at = omega arith
-    length_at (y ∷ xs) (suc i) x at = let less = length_at xs i x at in omega (arith, less)
 
 drop_end : {X : Type 0} (xs : List X) (n : ℕ) → length xs ≤ n → drop n xs ≡ []
 drop_end [] zero far = refl

@@ -13,46 +13,8 @@ use Rattle.allocations.specs.Market.{seat_at}
 use Rattle.programme_lists.specs.declared.programme.Programme.{Programme}
 use Rattle.programme_lists.specs.declared.programme.StepList.{StepList}
 use Rattle.seat_matrix.specs.Fields.{step_number}
+use Rattle.seat_matrix.proofs.StepNumbers.{one_number, below_six}
 use Rattle.apply_engine.specs.Made.{AreGiven, AreInOrder, AreOf, ArePut, AreShown, IsPut, IsShownOnce, admitted_of, shown}
-
--- a step is told by its number
-pub one_number : (kind other : StepKind) → step_number kind ≡ step_number other → kind ≡ other
-one_number Open Open e = refl
-one_number Open Ews e = absurd (omega (arith, e))
-one_number Open Obc e = absurd (omega (arith, e))
-one_number Open Sc e = absurd (omega (arith, e))
-one_number Open St e = absurd (omega (arith, e))
-one_number Open Dereserved e = absurd (omega (arith, e))
-one_number Ews Open e = absurd (omega (arith, e))
-one_number Ews Ews e = refl
-one_number Ews Obc e = absurd (omega (arith, e))
-one_number Ews Sc e = absurd (omega (arith, e))
-one_number Ews St e = absurd (omega (arith, e))
-one_number Ews Dereserved e = absurd (omega (arith, e))
-one_number Obc Open e = absurd (omega (arith, e))
-one_number Obc Ews e = absurd (omega (arith, e))
-one_number Obc Obc e = refl
-one_number Obc Sc e = absurd (omega (arith, e))
-one_number Obc St e = absurd (omega (arith, e))
-one_number Obc Dereserved e = absurd (omega (arith, e))
-one_number Sc Open e = absurd (omega (arith, e))
-one_number Sc Ews e = absurd (omega (arith, e))
-one_number Sc Obc e = absurd (omega (arith, e))
-one_number Sc Sc e = refl
-one_number Sc St e = absurd (omega (arith, e))
-one_number Sc Dereserved e = absurd (omega (arith, e))
-one_number St Open e = absurd (omega (arith, e))
-one_number St Ews e = absurd (omega (arith, e))
-one_number St Obc e = absurd (omega (arith, e))
-one_number St Sc e = absurd (omega (arith, e))
-one_number St St e = refl
-one_number St Dereserved e = absurd (omega (arith, e))
-one_number Dereserved Open e = absurd (omega (arith, e))
-one_number Dereserved Ews e = absurd (omega (arith, e))
-one_number Dereserved Obc e = absurd (omega (arith, e))
-one_number Dereserved Sc e = absurd (omega (arith, e))
-one_number Dereserved St e = absurd (omega (arith, e))
-one_number Dereserved Dereserved e = refl
 
 -- the list at a place shows whom it admits
 pub shows_at : (programme : Programme) (j : ℕ) (list : StepList) → AreInOrder programme → slice_get programme.steps j ≡ Some list → shown programme list.kind ≡ list.admitted
@@ -91,19 +53,6 @@ step_more people p j programme list old seats new order once at h put =
     cases m zero less = inr (omega (arith, less))
     cases zero (suc n) less = inl (omega arith)
     cases (suc m) (suc n) less = elim (cases m n (omega (arith, less))) [ inl h ↦ inl (omega (arith, h)) | inr h ↦ inr (ap suc h) ]
-
-length_at : {X : Type 0} (xs : List X) (i : ℕ) (x : X) → slice_get xs i ≡ Some x → i < length xs
-length_at [] i x at = absurd (cc)
-length_at (y ∷ xs) zero x at = omega arith
-length_at (y ∷ xs) (suc i) x at = let less = length_at xs i x at in omega (arith, less)
-
-below_six : (kind : StepKind) → step_number kind < 6
-below_six Open = omega arith
-below_six Ews = omega arith
-below_six Obc = omega arith
-below_six Sc = omega arith
-below_six St = omega arith
-below_six Dereserved = omega arith
 
 -- whoever has a seat before anything was given: nobody
 pub nothing_given : (people : List Person) (programmes : List Programme) (seats : List (Option Seat)) → length seats ≡ length people

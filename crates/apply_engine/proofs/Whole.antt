@@ -2,6 +2,8 @@
 use Rattle.std.proofs.Common.{◌≡◌, ◌<◌, ◌≤◌, ◌+◌, ◌∙◌, ℕ, zero, suc, List, [], ◌∷◌, Option, Some, None, length, arith, refl, sym, ap, subst}
 use Rattle.std.specs.Prelude.{slice_get, IsTrue}
 use Rattle.std.specs.List.{AllByRecursion}
+use Rattle.std.proofs.lemmas.Option.{slice_get_within}
+use Rattle.office_base.specs.Limits.{most_row_choices}
 use Rattle.office_base.specs.declared.person.Person.{Person}
 use Rattle.office_base.specs.declared.person.ProgId.{ProgId}
 use Rattle.allocations.specs.Course.{places}
@@ -22,6 +24,7 @@ use Rattle.seeks.specs.declared.seek.Seek.{Seek}
 use Rattle.apply_engine.specs.Engine.{AreLawful, IsMade, IsSet, MayRun, Setting, lists_in, seekers_with}
 use Rattle.apply_engine.specs.Made.{leaves_along}
 use Rattle.apply_engine.proofs.Season.{aligned_length, entrants, length_lists, list_at_place}
+use Rattle.apply_engine.proofs.ListPlaces.{there_is}
 
 pub seekers_same : (table : SeatTable) (people : List Person) (lists : List (List ProgId)) (seeks : List Seek) → seekers_with people (leaves_along table lists seeks) ≡ seekers_of table people lists seeks
 seekers_same table [] [] seeks = refl
@@ -51,30 +54,20 @@ left_at table (list ∷ lists) (seek ∷ seeks) (suc i) left at =
     let rest = left_at table lists seeks i left at in
     record { list = rest.list; seek = rest.seek; at = rest.at; left_is = rest.left_is }
 
-there_is : {X : Type 0} (xs : List X) (i : ℕ) → i < length xs → (x : X) × (slice_get xs i ≡ Some x)
-there_is [] i less = absurd (omega (arith, less))
-there_is (x ∷ xs) zero less = (x, refl)
-there_is (x ∷ xs) (suc i) less = there_is xs i (omega (arith, less))
-
-length_at : {X : Type 0} (xs : List X) (i : ℕ) (x : X) → slice_get xs i ≡ Some x → i < length xs
-length_at [] i x at = absurd (cc)
-length_at (y ∷ xs) zero x at = omega arith
-length_at (y ∷ xs) (suc i) x at = let less = length_at xs i x at in omega (arith, less)
-
 -- the setting of a round
 abbrev pub setting : ℕ → SeatTable → Ranks → Lists → List Seek → Setting
 setting version table ranks lists seeks = record { version = version; table = table; people = ranks.people; lists = leaves_along table (lists_in lists) seeks }
 
 record OwnAt (table : SeatTable) (i : ℕ) (person : Person) (list : List ProgId) : Type 0 where
   own : IsOwnList table person list
-  short : length list ≤ 1000
+  short : length list ≤ most_row_choices
 
 own_at : (version : ℕ) (table : SeatTable) (ranks : Ranks) (lists : Lists) (seeks : List Seek) (i : ℕ) (left : List ProgId) → MayRun version table ranks lists seeks → AreRanks ranks
     → slice_get (leaves_along table (lists_in lists) seeks) i ≡ Some left → (person : Person) × OwnAt table i person left
 own_at version table ranks lists seeks i left may sound at =
     let found = left_at table (lists_in lists) seeks i left at in
     let less : i < length ranks.people =
-    (let short = length_at (lists_in lists) i found.list found.at in let a = length_lists lists in let b = aligned_length lists ranks.people may.aligned in omega (arith, short, a, b)) in
+    (let short = slice_get_within (lists_in lists) i found.list found.at in let a = length_lists lists in let b = aligned_length lists ranks.people may.aligned in omega (arith, short, a, b)) in
     let person = there_is ranks.people i less in
     let own = (entrants ranks table lists sound may.choices may.aligned).own i person.0 found.list person.1 found.at in
     let same = list_at_place lists ranks.people i person.0 found.list may.aligned sound.rising person.1 found.at in
@@ -112,7 +105,7 @@ pub lists_below : (version : ℕ) (table : SeatTable) (ranks : Ranks) (lists : L
     → slice_get (lists_in lists) i ≡ Some list → AreBelow (length table.programmes) list
 lists_below version table ranks lists seeks may sound i list at =
     let less : i < length ranks.people =
-    (let short = length_at (lists_in lists) i list at in let a = length_lists lists in let b = aligned_length lists ranks.people may.aligned in omega (arith, short, a, b)) in
+    (let short = slice_get_within (lists_in lists) i list at in let a = length_lists lists in let b = aligned_length lists ranks.people may.aligned in omega (arith, short, a, b)) in
     let person = there_is ranks.people i less in
     all_below (length table.programmes) list ((entrants ranks table lists sound may.choices may.aligned).own i person.0 list person.1 at).below
 

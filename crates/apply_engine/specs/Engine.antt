@@ -1,6 +1,7 @@
 -- What is so while applications go on.
 use Rattle.std.specs.Prelude.{◌≡◌, ◌≢◌, ◌<◌, ◌≤◌, ◌+◌, ◌∷◌, ℕ, List, [], Option, Some, None, length, map, slice_get, slice_index}
 use Rattle.std.specs.List.{AllByRecursion}
+use Rattle.office_base.specs.Limits.{most_candidates, most_row_choices}
 use Rattle.office_base.specs.Lists.{Pairwise}
 use Rattle.office_base.specs.Version.{IsVersion}
 use Rattle.office_base.specs.declared.person.Person.{Person}
@@ -57,8 +58,8 @@ pub record IsSet (set : Setting) : Type 0 where
   pub market : IsMarket (MayApplyIn set.table) (length set.table.programmes) (seekers_in set)
   pub rising : Pairwise (λ a b. a.id.0 < b.id.0) set.people
   pub full : length set.lists ≡ length set.people
-  pub few : length set.people ≤ 250000
-  pub short : (i : ℕ) (list : List ProgId) → slice_get set.lists i ≡ Some list → length list ≤ 1000
+  pub few : length set.people ≤ most_candidates
+  pub short : (i : ℕ) (list : List ProgId) → slice_get set.lists i ≡ Some list → length list ≤ most_row_choices
   pub distinct : (i : ℕ) (list : List ProgId) → slice_get set.lists i ≡ Some list → Pairwise (λ a b. a.0 ≢ b.0) list
   pub below : (i : ℕ) (list : List ProgId) → slice_get set.lists i ≡ Some list → AllByRecursion (λ prog. prog.0 < length set.table.programmes) list
 

@@ -1,5 +1,6 @@
 -- What is made before and after the applications: the effective lists, who tried which programme, and the seats from the lists of the programmes.
 use Rattle.std.specs.Prelude.{◌≡◌, ◌<◌, ◌≤◌, ◌+◌, ℕ, List, [], ◌∷◌, ◌++◌, Option, Some, None, length, slice_get, nat_lt, if◌then◌else◌}
+use Rattle.office_base.specs.Limits.{most_programmes}
 use Rattle.office_base.specs.Lists.{IsAmong}
 use Rattle.office_base.specs.declared.asks.Seat.{Seat}
 use Rattle.office_base.specs.declared.person.Person.{Person}
@@ -100,7 +101,7 @@ pub record AreGiven (people : List Person) (programmes : List Programme) (p : �
 
 -- What the programmes of a round show: in order, each person of the register, and once in all.
 pub record AreShown (people : List Person) (programmes : List Programme) : Type 0 where
-  pub few : length programmes ≤ 2000
+  pub few : length programmes ≤ most_programmes
   pub in_order : (p : ℕ) (programme : Programme) → slice_get programmes p ≡ Some programme → AreInOrder programme
   pub of_people : (p : ℕ) (programme : Programme) (kind : StepKind) → slice_get programmes p ≡ Some programme → AreOf people (shown programme kind)
   pub once : (p q : ℕ) (programme other : Programme) (person : Person) (kind next : StepKind) → slice_get programmes p ≡ Some programme → slice_get programmes q ≡ Some other

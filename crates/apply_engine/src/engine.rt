@@ -16,9 +16,8 @@ use std::sync::ledger::{Blank, Ledger};
 
 /// The round of this number over a season, on what each candidate of the register seeks, and over a matrix of the season's
 /// programmes: its own one, or one with raised seats. The round is the best allocation on what the seeks leave of the choice
-/// lists (candidate-proposing deferred acceptance; Baswana and others 2019, section 4), with the six lists of each programme from
-/// its applicants. Steps rise by one with each application, at most by the lengths of what the seeks leave. The only error is
-/// want of memory; it leaves nothing but the steps.
+/// lists (candidates propose, and acceptance is deferred), with the six lists of each programme from its applicants. Steps rise
+/// at most by the lengths of what the seeks leave. The only error is want of memory; it leaves nothing but the steps.
 pub fn round<L: Ledger>(
     alloc: Global,
     season: &Season,

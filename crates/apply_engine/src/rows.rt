@@ -1,6 +1,7 @@
 // Who tried which programme, by their places in the register.
 ghost use Rattle.std.specs.Prelude.{◌≡◌, ◌≢◌, ◌<◌, ◌≤◌, ◌+◌, ◌++◌, [], ℕ, List, Some, IfOk, OnOk, length, slice_get, replicate};
 ghost use Rattle.std.specs.List.{AllByRecursion};
+ghost use Rattle.office_base.specs.Limits.{most_candidates};
 ghost use Rattle.office_base.specs.Lists.{Pairwise};
 ghost use Rattle.apply_engine.specs.Made.{AreRows, HaveMore, persons_at, rows_from};
 
@@ -65,7 +66,7 @@ pub(crate) fn who_tried(
     next: &[u16],
 ) -> Result<Vec<Places>, OutOfMemory>
     requires full { length next.now ≡ length lists.now }
-    requires few { length lists.now ≤ 250000 }
+    requires few { length lists.now ≤ most_candidates }
     requires within { (i n : ℕ) (list : List ProgId) → slice_get lists.now i ≡ Some list → slice_get next.now i ≡ Some n → n ≤ length list }
     requires distinct { (i : ℕ) (list : List ProgId) → slice_get lists.now i ≡ Some list → Pairwise (λ a b. a.0 ≢ b.0) list }
     requires below { (i : ℕ) (list : List ProgId) → slice_get lists.now i ≡ Some list → AllByRecursion (λ prog. prog.0 < count) list }

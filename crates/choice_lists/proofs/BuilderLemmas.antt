@@ -5,6 +5,7 @@ use Rattle.std.specs.List.{AllByRecursion}
 use Rattle.std.proofs.lemmas.Bool.{eqb-false, eqb-true, eq-eqb, ne_eqb}
 use Rattle.std.proofs.lemmas.List.{length-drop, length-replicate}
 use Rattle.std.proofs.lemmas.Option.{get_or_from_slice_get, slice_get_within}
+use Rattle.office_base.specs.Limits.{most_choices, most_row_choices}
 use Rattle.office_base.specs.Lists.{Pairwise}
 use Rattle.office_base.specs.declared.person.Person.{Person}
 use Rattle.office_base.specs.declared.person.ProgId.{ProgId}
@@ -319,7 +320,7 @@ marks_others (m ∷ named) (suc k) id (suc n) q e f = marks_others named k id n 
 
 -- How the candidate of a row is tested.
 pub candidate_tests : (ranks : Ranks) (entries : List Entry) (row : Row) (person : Person) → Some person ≡ person_of ranks (field row 0)
-    → new_candidate ranks entries row ≡ unless (is_some (list_at person.id.0 entries)) RepeatedCandidate (unless (nat_lt 1000 (length row - 1)) TooLong (unless (nat_lt 5000000 (all_choices entries + (length row - 1))) TooMany (Ok person)))
+    → new_candidate ranks entries row ≡ unless (is_some (list_at person.id.0 entries)) RepeatedCandidate (unless (nat_lt most_row_choices (length row - 1)) TooLong (unless (nat_lt most_choices (all_choices entries + (length row - 1))) TooMany (Ok person)))
 candidate_tests ranks entries row person e = rw (← e) refl
 
 pub tests_had : (ranks : Ranks) (entries : List Entry) (row : Row) (person : Person) → Some person ≡ person_of ranks (field row 0) → is_some (list_at person.id.0 entries) ≡ true
@@ -327,23 +328,23 @@ pub tests_had : (ranks : Ranks) (entries : List Entry) (row : Row) (person : Per
 tests_had ranks entries row person e f = candidate_tests ranks entries row person e ∙ (rw f refl)
 
 pub tests_long : (ranks : Ranks) (entries : List Entry) (row : Row) (person : Person) → Some person ≡ person_of ranks (field row 0) → is_some (list_at person.id.0 entries) ≡ false
-    → 1000 < length row - 1 → new_candidate ranks entries row ≡ Err TooLong
+    → most_row_choices < length row - 1 → new_candidate ranks entries row ≡ Err TooLong
 tests_long ranks entries row person e f g =
-    let long : nat_lt 1000 (length row - 1) ≡ true = lt-ltb 1000 (length row - 1) g in
+    let long : nat_lt most_row_choices (length row - 1) ≡ true = lt-ltb most_row_choices (length row - 1) g in
     candidate_tests ranks entries row person e ∙ (rw (f, long) refl)
 
 pub tests_many : (ranks : Ranks) (entries : List Entry) (row : Row) (person : Person) → Some person ≡ person_of ranks (field row 0) → is_some (list_at person.id.0 entries) ≡ false
-    → length row - 1 ≤ 1000 → 5000000 < all_choices entries + (length row - 1) → new_candidate ranks entries row ≡ Err TooMany
+    → length row - 1 ≤ most_row_choices → most_choices < all_choices entries + (length row - 1) → new_candidate ranks entries row ≡ Err TooMany
 tests_many ranks entries row person e f g h =
-    let short : nat_lt 1000 (length row - 1) ≡ false = le-ltb 1000 (length row - 1) g in
-    let many : nat_lt 5000000 (all_choices entries + (length row - 1)) ≡ true = lt-ltb 5000000 (all_choices entries + (length row - 1)) h in
+    let short : nat_lt most_row_choices (length row - 1) ≡ false = le-ltb most_row_choices (length row - 1) g in
+    let many : nat_lt most_choices (all_choices entries + (length row - 1)) ≡ true = lt-ltb most_choices (all_choices entries + (length row - 1)) h in
     candidate_tests ranks entries row person e ∙ (rw (f, short, many) refl)
 
 pub tests_none : (ranks : Ranks) (entries : List Entry) (row : Row) (person : Person) → Some person ≡ person_of ranks (field row 0) → is_some (list_at person.id.0 entries) ≡ false
-    → length row - 1 ≤ 1000 → all_choices entries + (length row - 1) ≤ 5000000 → new_candidate ranks entries row ≡ Ok person
+    → length row - 1 ≤ most_row_choices → all_choices entries + (length row - 1) ≤ most_choices → new_candidate ranks entries row ≡ Ok person
 tests_none ranks entries row person e f g h =
-    let short : nat_lt 1000 (length row - 1) ≡ false = le-ltb 1000 (length row - 1) g in
-    let few : nat_lt 5000000 (all_choices entries + (length row - 1)) ≡ false = le-ltb 5000000 (all_choices entries + (length row - 1)) h in
+    let short : nat_lt most_row_choices (length row - 1) ≡ false = le-ltb most_row_choices (length row - 1) g in
+    let few : nat_lt most_choices (all_choices entries + (length row - 1)) ≡ false = le-ltb most_choices (all_choices entries + (length row - 1)) h in
     candidate_tests ranks entries row person e ∙ (rw (f, short, few) refl)
 
 -- No lists, beside a register and a matrix.

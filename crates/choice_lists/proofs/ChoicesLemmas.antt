@@ -7,6 +7,7 @@ use Rattle.std.proofs.Math.Numerals.{add-one}
 use Rattle.std.proofs.Math.Seq.{drop-cons}
 use Rattle.std.proofs.lemmas.Bool.{eq-eqb, eqb-true, ltb-false}
 use Rattle.std.proofs.lemmas.Option.{slice_get_within}
+use Rattle.office_base.specs.Limits.{last_id, most_choices, most_row_choices}
 use Rattle.office_base.specs.declared.person.Person.{Person}
 use Rattle.office_base.specs.declared.person.ProgId.{ProgId}
 use Rattle.section_rows.specs.Rows.{Row, field}
@@ -49,22 +50,22 @@ known ranks person (Some n) e = found_self n ranks.people person e
 pub record IsNew (ranks : Ranks) (entries : List Entry) (row : Row) (person : Person) : Type 0 where
   pub known : find_person person.id.0 ranks.people ≡ Some person
   pub fresh : list_at person.id.0 entries ≡ None
-  pub short : length row - 1 ≤ 1000
-  pub room : all_choices entries + (length row - 1) ≤ 5000000
+  pub short : length row - 1 ≤ most_row_choices
+  pub room : all_choices entries + (length row - 1) ≤ most_choices
 
 pub new_candidate_ok : (ranks : Ranks) (entries : List Entry) (row : Row) (person : Person) → new_candidate ranks entries row ≡ Ok person → IsNew ranks entries row person
 new_candidate_ok ranks entries row person e =
     let (p, e1, e2) = needs_ok (person_of ranks (field row 0)) UnknownCandidate
-    (λ p. unless (is_some (list_at p.id.0 entries)) RepeatedCandidate (unless (nat_lt 1000 (length row - 1)) TooLong (unless (nat_lt 5000000 (all_choices entries + (length row - 1))) TooMany (Ok p)))) person e in
-    let (fresh, e3) = unless_ok (is_some (list_at p.id.0 entries)) RepeatedCandidate (unless (nat_lt 1000 (length row - 1)) TooLong (unless (nat_lt 5000000 (all_choices entries + (length row - 1))) TooMany (Ok p))) person e2 in
-    let (short, e4) = unless_ok (nat_lt 1000 (length row - 1)) TooLong (unless (nat_lt 5000000 (all_choices entries + (length row - 1))) TooMany (Ok p)) person e3 in
-    let (room, e5) = unless_ok (nat_lt 5000000 (all_choices entries + (length row - 1))) TooMany (Ok p) person e4 in
+    (λ p. unless (is_some (list_at p.id.0 entries)) RepeatedCandidate (unless (nat_lt most_row_choices (length row - 1)) TooLong (unless (nat_lt most_choices (all_choices entries + (length row - 1))) TooMany (Ok p)))) person e in
+    let (fresh, e3) = unless_ok (is_some (list_at p.id.0 entries)) RepeatedCandidate (unless (nat_lt most_row_choices (length row - 1)) TooLong (unless (nat_lt most_choices (all_choices entries + (length row - 1))) TooMany (Ok p))) person e2 in
+    let (short, e4) = unless_ok (nat_lt most_row_choices (length row - 1)) TooLong (unless (nat_lt most_choices (all_choices entries + (length row - 1))) TooMany (Ok p)) person e3 in
+    let (room, e5) = unless_ok (nat_lt most_choices (all_choices entries + (length row - 1))) TooMany (Ok p) person e4 in
     let same : p ≡ person = cc e5 in
     subst (IsNew ranks entries row) same (record {
-      known = known ranks p (number_within 1 999999999 (field row 0)) e1;
+      known = known ranks p (number_within 1 last_id (field row 0)) e1;
       fresh = none_from (list_at p.id.0 entries) fresh;
-      short = ltb-false 1000 (length row - 1) short;
-      room = ltb-false 5000000 (all_choices entries + (length row - 1)) room;
+      short = ltb-false most_row_choices (length row - 1) short;
+      room = ltb-false most_choices (all_choices entries + (length row - 1)) room;
     })
 
 not_false : (b : Bool) → not b ≡ false → b ≡ true
@@ -129,7 +130,7 @@ all_map P Q [] f all = tt
 all_map P Q (x ∷ xs) f all = (f x all.0, all_map P Q xs f all.1)
 
 -- Good programmes are a sound list of the person.
-pub good_choice : (ranks : Ranks) (seats : SeatTable) (person : Person) (progs : List ProgId) → find_person person.id.0 ranks.people ≡ Some person → AreGood seats person progs → length progs ≤ 1000
+pub good_choice : (ranks : Ranks) (seats : SeatTable) (person : Person) (progs : List ProgId) → find_person person.id.0 ranks.people ≡ Some person → AreGood seats person progs → length progs ≤ most_row_choices
     → IsChoice ranks seats person.id.0 progs
 good_choice ranks seats person progs known good short = record {
   distinct = good.distinct;

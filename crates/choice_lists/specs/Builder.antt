@@ -1,5 +1,6 @@
 -- What choices in the making know of the entries so far.
 use Rattle.std.specs.Prelude.{◌≡◌, ◌≤◌, ◌==◌, [], ℕ, false, List, Option, Some, None, Ok, Err, IsSome, is_some, length, map, drop, slice_index_or}
+use Rattle.office_base.specs.Limits.{most_choices}
 use Rattle.office_base.specs.declared.person.Person.{Person}
 use Rattle.office_base.specs.declared.person.ProgId.{ProgId}
 use Rattle.section_rows.specs.Rows.{Row}
@@ -24,7 +25,7 @@ pub record Keeps (entries : List Entry) (builder : ChoicesBuilder) : Type 0 wher
   pub named_last : (n candidate : ℕ) → 1 ≤ candidate → list_at candidate entries ≡ None → (slice_index_or builder.named_last.items n 0 == candidate) ≡ false
   pub guesses : length builder.guesses.items ≡ 65536
   pub total : builder.total ≡ all_choices entries
-  pub few : all_choices entries ≤ 5000000
+  pub few : all_choices entries ≤ most_choices
 
 -- the fields of a row after the first give these programmes, or have this fault
 abbrev pub AreGiven : SeatTable → Person → Row → List ProgId → Option ChoiceKind → Type 0

@@ -2,18 +2,19 @@
 use Rattle.std.specs.Prelude.{◌≡◌, ◌<◌, ◌≤◌, ◌+◌, ◌-◌, ℕ, Bool, false, not, ◌==◌, ◌||◌, nat_lt, List, [], ◌∷◌, ◌++◌, is_some, IsTrue, Option, Some, None, Result, Ok, length, map, drop, slice_get, bytes_eq, codes, position}
 use Rattle.std.specs.List.{AllByRecursion}
 use Rattle.std.specs.Option.{option_and_then}
+use Rattle.office_base.specs.Limits.{last_id, most_choices, most_row_choices}
 use Rattle.office_base.specs.Lists.{Pairwise}
 use Rattle.office_base.specs.Person.{number_in}
 use Rattle.office_base.specs.declared.person.Person.{Person}
 use Rattle.office_base.specs.declared.person.ProgId.{ProgId}
 use Rattle.office_text.specs.FirstFault.{Judge, IsFaultless}
+use Rattle.office_text.specs.Names.{code_of}
 use Rattle.office_text.specs.Number.{number_within}
 use Rattle.section_rows.specs.Rows.{Row, field}
 use Rattle.section_rows.specs.Steps.{after, first_of, needs, unless}
 use Rattle.section_rows.specs.Table.{IsTableFault, Reading, entries_of, table_judge}
 use Rattle.section_rows.specs.declared.fault.TableFault.{TableFault}
 use Rattle.rank_lists.specs.Register.{Ranks, find_person}
-use Rattle.seat_matrix.specs.Fields.{code_of}
 use Rattle.seat_matrix.specs.Matrix.{SeatTable}
 use Rattle.seat_matrix.specs.declared.entry.Home.{Home}
 use Rattle.choice_lists.specs.declared.fault.ChoiceKind.{ChoiceKind}
@@ -47,7 +48,7 @@ all_choices entries = choices_after 0 entries
 
 -- the person whose id a text spells
 abbrev pub person_of : Ranks → List ℕ → Option Person
-person_of ranks text = option_and_then (λ id. find_person id ranks.people) (number_within 1 999999999 text)
+person_of ranks text = option_and_then (λ id. find_person id ranks.people) (number_within 1 last_id text)
 
 -- the number of the programme whose code a text spells
 abbrev pub programme_of : SeatTable → List ℕ → Option ℕ
@@ -81,7 +82,7 @@ choices seats person chosen (text ∷ texts) = after (choice seats person chosen
 abbrev pub new_candidate : Ranks → List Entry → Row → Result Person ChoiceKind
 new_candidate ranks entries row =
     needs (person_of ranks (field row 0)) UnknownCandidate (λ person. unless (is_some (list_at person.id.0 entries)) RepeatedCandidate
-    (unless (nat_lt 1000 (length row - 1)) TooLong (unless (nat_lt 5000000 (all_choices entries + (length row - 1))) TooMany (Ok person))))
+    (unless (nat_lt most_row_choices (length row - 1)) TooLong (unless (nat_lt most_choices (all_choices entries + (length row - 1))) TooMany (Ok person))))
 
 -- What a row gives after these entries, or the first of its faults.
 unfoldable pub reading : Ranks → SeatTable → Reading Entry ChoiceKind
@@ -105,7 +106,7 @@ is_ranked_there seats (Some person) n = is_ranked seats person n
 -- A candidate's list names distinct programmes of the matrix, at most 1,000, in whose merit lists the candidate has a place.
 pub record IsChoice (ranks : Ranks) (seats : SeatTable) (candidate : ℕ) (progs : List ProgId) : Type 0 where
   pub distinct : AreDistinct progs
-  pub short : length progs ≤ 1000
+  pub short : length progs ≤ most_row_choices
   pub numbers : AllByRecursion (λ prog. prog.0 < length seats.programmes) progs
   pub ranked : AllByRecursion (λ prog. IsTrue (is_ranked_there seats (find_person candidate ranks.people) prog.0)) progs
 
@@ -123,7 +124,7 @@ AreChoices ranks seats lists = (candidate : ℕ) → IsChoice ranks seats candid
 
 -- What holds of all choices: the lists are short and name distinct programmes.
 abbrev pub AreLists : Lists → Type 0
-AreLists lists = (candidate : ℕ) → AreDistinct (list_of lists candidate) × (length (list_of lists candidate) ≤ 1000)
+AreLists lists = (candidate : ℕ) → AreDistinct (list_of lists candidate) × (length (list_of lists candidate) ≤ most_row_choices)
 
 -- candidates by these ids, with these lists
 abbrev pub lists_along : List ℕ → List (List ProgId) → Lists

@@ -3,6 +3,7 @@ use Rattle.std.specs.Prelude.{◌<◌, ◌≤◌, ℕ, List, [], ◌∷◌, IsTr
 use Rattle.std.specs.Coded.{×_prop, Π_prop, →_prop, Unit-prop, le_prop}
 use Rattle.std.specs.List.{AllByRecursion, AllByRecursion-prop}
 use mathlib.Core.Bool.{Bool-set}
+use Rattle.office_base.specs.Limits.{most_row_choices}
 use Rattle.office_base.specs.Lists.{Pairwise}
 use Rattle.office_base.specs.declared.person.ProgId.{ProgId}
 use Rattle.rank_lists.specs.Register.{Ranks, find_person}
@@ -16,7 +17,7 @@ Pairwise-prop R each (x ∷ xs) = ×_prop (AllByRecursion-prop (R x) (each x) xs
 IsChoice-prop : (ranks : Ranks) (seats : SeatTable) (candidate : ℕ) (progs : List ProgId) → IsProp (IsChoice ranks seats candidate progs)
 IsChoice-prop ranks seats candidate progs x y =
     let distinct : IsProp (AreDistinct progs) = Pairwise-prop _ (λ a b. →_prop (λ p q. absurd p)) progs in
-    let short : IsProp (length progs ≤ 1000) = le_prop in
+    let short : IsProp (length progs ≤ most_row_choices) = le_prop in
     let numbers : IsProp (AllByRecursion (λ prog. prog.0 < length seats.programmes) progs) = AllByRecursion-prop _ (λ prog. le_prop) progs in
     let ranked : IsProp (AllByRecursion (λ prog. IsTrue (is_ranked_there seats (find_person candidate ranks.people) prog.0)) progs) = AllByRecursion-prop _ (λ prog. Bool-set _ _) progs in
     λ i. record {

@@ -9,21 +9,13 @@ ghost use Rattle.choice_lists.specs.Builder.{AreGiven};
 use crate::choices::Choices;
 use crate::fault::ChoiceKind;
 use crate::flat::FlatLists;
+use office_base::limits::{LAST_ID, MOST_CHOICES, MOST_ROW_CHOICES};
 use office_base::{CandId, Code, OutOfMemory, Person, ProgId};
 use office_text::read_number;
 use rank_lists::Register;
 use seat_matrix::Matrix;
 use section_rows::{Rows, TableBuilder};
 use std::alloc::{AllocError, Global};
-
-/// The greatest id.
-const LAST_ID: u32 = 999_999_999;
-
-/// The most programmes of a row.
-const MOST_OF_A_ROW: usize = 1_000;
-
-/// The most programmes of all rows.
-const MOST_OF_ALL: usize = 5_000_000;
 
 /// How many places for guesses there are.
 const GUESSES: usize = 65_536;
@@ -84,10 +76,10 @@ impl<'a> ChoicesBuilder<'a> {
             return Err(ChoiceKind::RepeatedCandidate);
         }
         let count = row.len().saturating_sub(1);
-        if count > MOST_OF_A_ROW {
+        if count > MOST_ROW_CHOICES {
             return Err(ChoiceKind::TooLong);
         }
-        if self.total + count > MOST_OF_ALL {
+        if self.total + count > MOST_CHOICES {
             return Err(ChoiceKind::TooMany);
         }
         Ok((at, person))

@@ -1,5 +1,6 @@
 // The choice lists, as the layers above see them.
 ghost use Rattle.std.specs.Prelude.{◌≡◌, ◌<◌, ◌≤◌, Some, IfOk, IfErr, length, map, option_map, slice_get};
+ghost use Rattle.office_base.specs.Limits.{most_row_choices};
 ghost use Rattle.section_rows.specs.Rows.{rows_of};
 ghost use Rattle.choice_lists.specs.Choices.{IsRead, IsFault, AreChoices, AreDistinct, list_of};
 
@@ -53,7 +54,7 @@ impl Choices {
     pub fn list(&self, cand: CandId) -> &[ProgId]
         ensures list { result.now ≡ list_of self.now cand.0 }
         ensures distinct { AreDistinct result.now }
-        ensures short { length result.now ≤ 1000 }
+        ensures short { length result.now ≤ most_row_choices }
     {
         match self.ids.binary_search(&cand.0) {
             Ok(at) => self.lists.at(at),

@@ -2,7 +2,7 @@
 use Rattle.std.proofs.Common.{◌≡◌, ℕ, zero, suc, not, take, Bool, true, false, Option, Some, None, List, [], ◌∷◌, length, refl, sym, ap, ◌∙◌, subst, inl, inr, if◌then◌else◌}
 use Rattle.std.specs.Prelude.{option_to_list, slice_get}
 use Rattle.std.specs.Option.{option_and_then, option_map}
-use Rattle.std.specs.List.{AllByRecursion, AllZip, filter}
+use Rattle.std.specs.List.{AllByRecursion, filter}
 use Rattle.office_base.specs.Lists.{IsAmong}
 use Rattle.office_base.specs.Merit.{in_merit, with_person}
 use Rattle.office_base.specs.Person.{IsBetter, is_common}
@@ -16,20 +16,24 @@ use Rattle.office_base.specs.declared.step.StepKind.{StepKind}
 use Rattle.office_base.specs.declared.step.StepKind.TheVariants.{Open, Ews as EwsStep, Obc as ObcStep, Sc as ScStep, St as StStep, Dereserved}
 use Rattle.placements.specs.Ranks.{without as without_one}
 use Rattle.placements.proofs.Exchange.{all_joined}
-use Rattle.placements.proofs.Ranks.{pairwise_sublist}
-use Rattle.placements.proofs.Sublists.{AllByRecursion-sublist}
+use Rattle.placements.proofs.Ranks.{ranked_sublist}
+use Rattle.placements.proofs.Zips.{zip_at, zipped}
+use Rattle.placements.proofs.Filters.{filter-sublist, among_filter_from}
 use Rattle.merit_choice.specs.InMerit.{InMeritRanks, RankedPart, WithPersonRanks}
 use Rattle.merit_choice.specs.Laws.{ChoiceSize, OneChoice, SeatsForAll}
 use Rattle.programme_lists.specs.Listing.{ShowsStep, seats_filled}
 use Rattle.programme_lists.specs.Programme.{Admissions, IsProgrammeChoice, admitted_by, is_of, is_same, is_taken, left_over, people_of, step_of, unfilled, without}
 use Rattle.programme_lists.specs.declared.programme.Programme.{Programme}
 use Rattle.programme_lists.specs.declared.programme.StepList.{StepList}
+use Rattle.programme_lists.proofs.Categories.{same_itself}
 use Rattle.reasons.specs.declared.reason.StepWhy.{StepWhy}
 use Rattle.seat_matrix.specs.Seats.{AreProgrammeSeats, seats_of}
 use Rattle.seat_matrix.specs.declared.seats.ProgrammeSeats.{ProgrammeSeats}
+use Rattle.seat_matrix.specs.Fields.{step_number}
+use Rattle.seat_matrix.proofs.StepNumbers.{kinds, kind_at}
 use Rattle.explain.specs.Just.{ReasonsAreJust, StandsAgainst, WasApplicant, told}
-use Rattle.explain.specs.Reason.{admitted_in, category_step, reason_from, refusal, step_place, step_why, why_at}
-use Rattle.explain.proofs.Lists.{filter_sublist, left_by_take, none_taken, not_listed, passes, stays, tells_worse}
+use Rattle.explain.specs.Reason.{admitted_in, category_step, reason_from, refusal, step_why, why_at}
+use Rattle.explain.proofs.Lists.{left_by_take, none_taken, not_listed, stays, tells_worse}
 use Rattle.explain.proofs.Step.{IsRefusedBy, all_taken, each, fewer_honoured, not_both}
 
 -- the laws of the choice of a step that this rests on
@@ -43,51 +47,13 @@ pub record AreLaws : Type 0 where
 
 -- a filter of ranked people is ranked
 filter_ranked : (list : ListId) (p : Person → Bool) (people : List Person) → AreRanked list people → AreRanked list (filter p people)
-filter_ranked list p people ranked = record {
-  traits = AllByRecursion-sublist _ _ _ (filter_sublist p people) ranked.traits;
-  placed = AllByRecursion-sublist _ _ _ (filter_sublist p people) ranked.placed;
-  in_order = pairwise_sublist _ _ _ (filter_sublist p people) ranked.in_order;
-  distinct = pairwise_sublist _ _ _ (filter_sublist p people) ranked.distinct;
-}
+filter_ranked list p people ranked = ranked_sublist list (filter p people) people ranked (filter-sublist p people)
 
 -- who is at a place of a list
 at_place : {X : Type 0} (xs : List X) (n : ℕ) (x : X) → slice_get xs n ≡ Some x → IsAmong x xs
 at_place [] n x at = absurd (cc)
 at_place (y ∷ xs) zero x at = inl (let same : y ≡ x = cc in sym same)
 at_place (y ∷ xs) (suc n) x at = inr (at_place xs n x at)
-
--- a list shows the step of the kind whose place it has
-zipped : {A B : Type 0} (R : A → B → Type 0) (xs : List A) (ys : List B) (n : ℕ) (x : A) (y : B) → AllZip R xs ys → slice_get xs n ≡ Some x → slice_get ys n ≡ Some y → R x y
-zipped R [] [] n x y all first second = absurd (cc)
-zipped R [] (b ∷ ys) n x y all first second = absurd all
-zipped R (a ∷ xs) [] n x y all first second = absurd all
-zipped {A} {B} R (a ∷ xs) (b ∷ ys) zero x y all first second = let e : a ≡ x = cc in let f : b ≡ y = cc in subst (R x) f (subst (λ (z : A). R z b) e all.0)
-zipped R (a ∷ xs) (b ∷ ys) (suc n) x y all first second = zipped R xs ys n x y all.1 first second
-
--- where the kind stands, a list stands too
-there : {A B : Type 0} (R : A → B → Type 0) (xs : List A) (ys : List B) (n : ℕ) (x : A) → AllZip R xs ys → slice_get xs n ≡ Some x → (y : B) × (slice_get ys n ≡ Some y)
-there R [] ys n x all first = absurd (cc)
-there R (a ∷ xs) [] n x all first = absurd all
-there R (a ∷ xs) (b ∷ ys) zero x all first = (b, refl)
-there R (a ∷ xs) (b ∷ ys) (suc n) x all first = there R xs ys n x all.1 first
-
-same_category : (category : Category) → is_same category category ≡ true
-same_category Gen = refl
-same_category Ews = refl
-same_category Obc = refl
-same_category Sc = refl
-same_category St = refl
-
-abbrev kinds : List StepKind
-kinds = Open ∷ EwsStep ∷ ObcStep ∷ ScStep ∷ StStep ∷ Dereserved ∷ []
-
-kind_at : (kind : StepKind) → slice_get kinds (step_place kind) ≡ Some kind
-kind_at Open = refl
-kind_at EwsStep = refl
-kind_at ObcStep = refl
-kind_at ScStep = refl
-kind_at StStep = refl
-kind_at Dereserved = refl
 
 module _ (laws : AreLaws) (seats : ProgrammeSeats) (programme : Programme) (person : Person) (sound : AreProgrammeSeats seats) (was : WasApplicant seats programme person)
     (refused : admitted_in programme.steps person ≡ None) where
@@ -106,16 +72,16 @@ module _ (laws : AreLaws) (seats : ProgrammeSeats) (programme : Programme) (pers
   present : IsAmong person applicants
   present = each (λ (x : Person). IsAmong x applicants) person was.people was.among (laws.merit seats.list was.people was.may).1
 
-  shown_at : (kind : StepKind) (shown : StepList) → slice_get programme.steps (step_place kind) ≡ Some shown → ShowsStep was.version seats applicants admissions kind shown
-  shown_at kind shown at = zipped (ShowsStep was.version seats applicants admissions) kinds programme.steps (step_place kind) kind shown was.shows.2 (kind_at kind) at
+  shown_at : (kind : StepKind) (shown : StepList) → slice_get programme.steps (step_number kind) ≡ Some shown → ShowsStep was.version seats applicants admissions kind shown
+  shown_at kind shown at = zipped (ShowsStep was.version seats applicants admissions) kinds programme.steps (step_number kind) kind shown was.shows.2 (kind_at kind) at
 
   -- no list has the person
-  not_on : (kind : StepKind) (shown : StepList) → slice_get programme.steps (step_place kind) ≡ Some shown → is_taken shown.admitted person ≡ false
-  not_on kind shown at = each (λ (l : StepList). is_taken l.admitted person ≡ false) shown programme.steps (at_place programme.steps (step_place kind) shown at) (not_listed programme.steps person refused)
+  not_on : (kind : StepKind) (shown : StepList) → slice_get programme.steps (step_number kind) ≡ Some shown → is_taken shown.admitted person ≡ false
+  not_on kind shown at = each (λ (l : StepList). is_taken l.admitted person ≡ false) shown programme.steps (at_place programme.steps (step_number kind) shown at) (not_listed programme.steps person refused)
 
   -- each of the six steps is shown
-  shown_of : (kind : StepKind) → (shown : StepList) × (slice_get programme.steps (step_place kind) ≡ Some shown)
-  shown_of kind = there (ShowsStep was.version seats applicants admissions) kinds programme.steps (step_place kind) kind was.shows.2 (kind_at kind)
+  shown_of : (kind : StepKind) → (shown : StepList) × (slice_get programme.steps (step_number kind) ≡ Some shown)
+  shown_of kind = let found = zip_at (ShowsStep was.version seats applicants admissions) kinds programme.steps (step_number kind) kind was.shows.2 (kind_at kind) in (found.0, found.1)
 
   -- and none takes the person
   not_taken : (kind : StepKind) → is_taken (admitted_by admissions kind) person ≡ false
@@ -145,8 +111,8 @@ module _ (laws : AreLaws) (seats : ProgrammeSeats) (programme : Programme) (pers
 
   member : (category : Category) → person.category ≡ category → IsAmong person (filter (is_of category) (without applicants admissions.open_step))
   member category same =
-      passes (is_of category) person (without applicants admissions.open_step) (stays applicants admissions.open_step person present (not_taken Open))
-      (subst (λ (c : Category). is_same category c ≡ true) (sym same) (same_category category))
+      among_filter_from (is_of category) person (without applicants admissions.open_step) (stays applicants admissions.open_step person present (not_taken Open))
+      (subst (λ (c : Category). is_same category c ≡ true) (sym same) (same_itself category))
 
   -- whoever is refused stands before the de-reserved step
   left : IsAmong person (left_over applicants admissions)
@@ -159,7 +125,7 @@ module _ (laws : AreLaws) (seats : ProgrammeSeats) (programme : Programme) (pers
   abbrev Against : StepList → Type 0
   Against shown = StandsAgainst seats programme person (step_why seats.list person shown)
 
-  own_step : (kind : StepKind) (shown : StepList) → slice_get programme.steps (step_place kind) ≡ Some shown
+  own_step : (kind : StepKind) (shown : StepList) → slice_get programme.steps (step_number kind) ≡ Some shown
       → IsStepChoice (step_of seats applicants admissions kind) (admitted_by admissions kind) → IsAmong person (people_of seats.list applicants admissions kind)
       → seats_filled was.version seats admissions kind ≡ (seats_of seats kind).seats → Against shown
   own_step kind shown at chosen among filled =
@@ -169,7 +135,7 @@ module _ (laws : AreLaws) (seats : ProgrammeSeats) (programme : Programme) (pers
       let r : IsRefusedBy step admitted person = record { is_step = is_step kind; choice = chosen; among = among; refused = not_among kind } in
       record {
         shown = shown;
-        listed = at_place programme.steps (step_place kind) shown at;
+        listed = at_place programme.steps (step_number kind) shown at;
         of_kind = refl;
         seats_told = refl;
         full = ap length shows.persons ∙ all_taken step admitted person r laws.one laws.size laws.for_all ∙ sym filled ∙ sym shows.of_seats;
@@ -183,18 +149,18 @@ module _ (laws : AreLaws) (seats : ProgrammeSeats) (programme : Programme) (pers
       }
 
   -- nobody worse is on a de-reserved seat
-  dereserved_step : (shown : StepList) → slice_get programme.steps (step_place Dereserved) ≡ Some shown → is_common seats.list person ≡ true → Against shown
+  dereserved_step : (shown : StepList) → slice_get programme.steps (step_number Dereserved) ≡ Some shown → is_common seats.list person ≡ true → Against shown
   dereserved_step shown at common =
       let shows = shown_at Dereserved shown at in
       let people = people_of seats.list applicants admissions Dereserved in
       let count = unfilled was.version seats admissions in
-      let among : IsAmong person people = passes (is_common seats.list) person (left_over applicants admissions) left common in
+      let among : IsAmong person people = among_filter_from (is_common seats.list) person (left_over applicants admissions) left common in
       let by = left_by_take seats.list count people person (people_ranked Dereserved).in_order among (λ h. not_among Dereserved (subst (IsAmong person) (sym choice.dereserved) h)) in
       let same : shown.admitted ≡ take count people = shows.persons ∙ choice.dereserved in
       let all_better = subst (AllByRecursion (λ (x : Person). IsBetter seats.list x person)) (sym same) by.1 in
       record {
         shown = shown;
-        listed = at_place programme.steps (step_place Dereserved) shown at;
+        listed = at_place programme.steps (step_number Dereserved) shown at;
         of_kind = refl;
         seats_told = refl;
         full = ap length same ∙ by.0 ∙ sym shows.of_seats;
@@ -207,7 +173,7 @@ module _ (laws : AreLaws) (seats : ProgrammeSeats) (programme : Programme) (pers
   abbrev Told : Option StepWhy → Type 0
   Told why = AllByRecursion (StandsAgainst seats programme person) (option_to_list why)
 
-  told_at : (kind : StepKind) → ((shown : StepList) → slice_get programme.steps (step_place kind) ≡ Some shown → Against shown) → Told (why_at seats.list programme person kind)
+  told_at : (kind : StepKind) → ((shown : StepList) → slice_get programme.steps (step_number kind) ≡ Some shown → Against shown) → Told (why_at seats.list programme person kind)
   told_at kind against =
       let s = shown_of kind in
       subst Told (sym (ap (option_map (step_why seats.list person)) s.1)) (against s.0 s.1, tt)
@@ -217,7 +183,7 @@ module _ (laws : AreLaws) (seats : ProgrammeSeats) (programme : Programme) (pers
   told_where false why h = tt
 
   told_open : is_common seats.list person ≡ true → Told (why_at seats.list programme person Open)
-  told_open common = told_at Open (λ shown at. own_step Open shown at choice.open_step (passes (is_common seats.list) person applicants present common) refl)
+  told_open common = told_at Open (λ shown at. own_step Open shown at choice.open_step (among_filter_from (is_common seats.list) person applicants present common) refl)
 
   told_category : (category : Category) → person.category ≡ category → Told (option_and_then (why_at seats.list programme person) (category_step category))
   told_category Gen same = tt

@@ -1,37 +1,20 @@
--- Who passes a filter, who is taken, and who is left out of the first of some people.
-use Rattle.std.proofs.Common.{◌≡◌, ◌⊎◌, ◌==◌, ℕ, zero, suc, Bool, true, false, not, Option, Some, None, List, [], ◌∷◌, length, take, refl, sym, ap, ◌∙◌, subst, inl, inr, arith}
+-- Who is taken, and who is left out of the first of some people.
+use Rattle.std.proofs.Common.{◌≡◌, ◌⊎◌, ◌==◌, ℕ, zero, suc, Bool, true, false, not, Option, Some, None, List, [], ◌∷◌, length, take, refl, sym, ap, ◌∙◌, inl, inr, arith}
 use Rattle.std.specs.Prelude.{◌||◌, IsTrue, ◌↔◌}
-use Rattle.std.specs.List.{AllByRecursion, filter}
+use Rattle.std.specs.List.{AllByRecursion}
 use Rattle.std.proofs.lemmas.Bool.{cases_Bool, cond-true, cond-false}
 use Rattle.std.proofs.lemmas.Bool.Decides.{nat_tests}
-use Rattle.office_base.specs.Lists.{AnyByRecursion, IsAmong, IsSublist, Pairwise}
+use Rattle.office_base.specs.Lists.{AnyByRecursion, IsAmong, Pairwise}
 use Rattle.office_base.specs.Merit.{is_ahead}
 use Rattle.office_base.specs.Person.{IsAhead, IsBetter, number_in}
 use Rattle.office_base.specs.declared.person.ListId.{ListId}
 use Rattle.office_base.specs.declared.person.Person.{Person}
+use Rattle.placements.proofs.Merit.{ahead_true}
+use Rattle.placements.proofs.Filters.{among_filter_from}
 use Rattle.programme_lists.specs.Programme.{is_taken, without}
 use Rattle.programme_lists.specs.declared.programme.StepList.{StepList}
 use Rattle.explain.specs.Reason.{admitted_in, has_worse}
-use Rattle.explain.proofs.Step.{ahead_means, each, not_ahead_means}
-
--- ---- filters
-
-pub filter_sublist : (p : Person → Bool) (xs : List Person) → IsSublist (filter p xs) xs
-filter_sublist p [] = refl
-filter_sublist p (x ∷ xs) = elim (cases_Bool (p x)) [
-  | inl holds ↦ inr (filter p xs, cond-true _ _ _ holds, filter_sublist p xs)
-  | inr fails ↦ inl (subst (λ (l : List Person). IsSublist l xs) (sym (cond-false _ _ _ fails)) (filter_sublist p xs))
-]
-
-pub passes : (p : Person → Bool) (person : Person) (xs : List Person) → IsAmong person xs → p person ≡ true → IsAmong person (filter p xs)
-passes p person [] among holds = absurd among
-passes p person (x ∷ xs) among holds = elim among [
-  | inl here ↦ subst (IsAmong person) (sym (cond-true _ _ _ (ap p (sym here) ∙ holds))) (inl here)
-  | inr later ↦ elim (cases_Bool (p x)) [
-    | inl too ↦ subst (IsAmong person) (sym (cond-true _ _ _ too)) (inr (passes p person xs later holds))
-    | inr not_it ↦ subst (IsAmong person) (sym (cond-false _ _ _ not_it)) (passes p person xs later holds)
-  ]
-]
+use Rattle.explain.proofs.Step.{each, not_ahead_means}
 
 -- ---- who is taken
 
@@ -63,7 +46,7 @@ none_taken taken person fails among = absurd (let e : false ≡ true = sym fails
 
 -- and is left without them
 pub stays : (people taken : List Person) (person : Person) → IsAmong person people → is_taken taken person ≡ false → IsAmong person (without people taken)
-stays people taken person among fails = passes (λ (x : Person). not (is_taken taken x)) person people among (ap not fails)
+stays people taken person among fails = among_filter_from (λ (x : Person). not (is_taken taken x)) person people among (ap not fails)
 
 -- no list has whoever no list admits
 pub not_listed : (lists : List StepList) (person : Person) → admitted_in lists person ≡ None → AllByRecursion (λ list. is_taken list.admitted person ≡ false) lists
@@ -87,7 +70,7 @@ tells_worse list person admitted = (means admitted, shows admitted)
     means : (people : List Person) → has_worse list person people ≡ true → AnyByRecursion (IsBetter list person) people
     means [] told = absurd (let e : false ≡ true = told in cc)
     means (other ∷ people) told = elim (or_means _ _ told) [
-      | inl here ↦ inl (ahead_means (number_in list person) (number_in list other) here)
+      | inl here ↦ inl (ahead_true (number_in list person) (number_in list other) here)
       | inr later ↦ inr (means people later)
     ]
 

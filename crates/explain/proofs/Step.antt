@@ -1,8 +1,8 @@
 -- Whoever a step refuses: all its seats are taken, and in place of somebody worse the person would leave fewer honoured.
-use Rattle.std.proofs.Common.{◌≡◌, ◌≢◌, ◌<◌, ◌≤◌, ℕ, suc, true, false, Option, Some, None, List, [], ◌∷◌, length, refl, sym, ap, ◌∙◌, subst, inl, inr, arith}
+use Rattle.std.proofs.Common.{◌≡◌, ◌≢◌, ◌<◌, ◌≤◌, ℕ, suc, false, Option, Some, None, List, [], ◌∷◌, length, refl, sym, ap, ◌∙◌, subst, inl, inr, arith}
 use Rattle.std.specs.Prelude.{IsSome}
 use Rattle.std.specs.List.{AllByRecursion}
-use Rattle.std.proofs.lemmas.Bool.{ltb-true, ltb-false, cases_Bool, cases_lt, cond-true, cond-false}
+use Rattle.std.proofs.lemmas.Bool.{ltb-false, cases_Bool, cases_lt, cond-true, cond-false}
 use Rattle.office_base.specs.Lists.{IsAmong, Pairwise}
 use Rattle.office_base.specs.Merit.{is_ahead, is_better, with_person, IsNewTo}
 use Rattle.office_base.specs.Person.{IsAhead, IsBetter, IsTraitSet, number_in}
@@ -16,25 +16,11 @@ use Rattle.placements.proofs.Exchange.{all_weaker}
 use Rattle.placements.proofs.Ranks.{any_among, any_weaker, among_again, among_itself, among_sublist, one_person, pairwise_sublist}
 use Rattle.placements.proofs.Sublists.{AllByRecursion-sublist}
 use Rattle.placements.proofs.Without.{all_without, length_without, pairwise_without, without_among, without_later}
+use Rattle.placements.proofs.Merit.{ahead_again, not_ahead, ahead_true}
 use Rattle.merit_choice.specs.InMerit.{RankedPart, WithPersonRanks}
 use Rattle.merit_choice.specs.Laws.{ChoiceSize, OneChoice, SeatsForAll}
 
 -- ---- the order of two
-
-pub not_ahead : (n : Option ℕ) → IsAhead n n → ⊥
-not_ahead None ahead = ahead
-not_ahead (Some m) ahead = absurd (omega (arith, ahead))
-
-pub ahead_again : (first second third : Option ℕ) → IsAhead first second → IsAhead second third → IsAhead first third
-ahead_again None second third one two = absurd one
-ahead_again (Some m) None third one two = absurd one
-ahead_again (Some m) (Some n) None one two = absurd two
-ahead_again (Some m) (Some n) (Some k) one two = omega (arith, one, two)
-
-pub ahead_means : (first second : Option ℕ) → is_ahead first second ≡ true → IsAhead first second
-ahead_means None second told = absurd (let e : false ≡ true = told in cc)
-ahead_means (Some m) None told = absurd (let e : false ≡ true = told in cc)
-ahead_means (Some m) (Some n) told = ltb-true m n told
 
 pub not_ahead_means : (first second : Option ℕ) → is_ahead first second ≡ false → IsAhead first second → ⊥
 not_ahead_means None second told ahead = ahead
@@ -91,7 +77,7 @@ pub somewhere_worse : (list : ListId) (chosen : List Person) (person other : Per
 somewhere_worse list [] person other order distinct among better no_worse = among
 somewhere_worse list (one ∷ chosen) person other order distinct among better no_worse = elim (cases_Bool (is_better list person one)) [
   | inl holds ↦
-      let ahead : IsBetter list person one = ahead_means (number_in list person) (number_in list one) holds in
+      let ahead : IsBetter list person one = ahead_true (number_in list person) (number_in list one) holds in
       let all : AllByRecursion (IsBetter list person) (one ∷ chosen) =
       (ahead, all_weaker (IsBetter list one) (IsBetter list person) (λ (x : Person) h. better_again list person one x ahead h) chosen order.0) in
       let first = first_of_all list person (without other.id (one ∷ chosen)) (all_without (IsBetter list person) other.id (one ∷ chosen) all) in

@@ -1,5 +1,5 @@
 -- The reason of one person at one programme, from the programme's six lists.
-use Rattle.std.specs.Prelude.{ℕ, Bool, false, List, [], ◌∷◌, Option, Some, None, ◌||◌, if◌then◌else◌, slice_get}
+use Rattle.std.specs.Prelude.{Bool, false, List, [], ◌∷◌, Option, Some, None, ◌||◌, if◌then◌else◌, slice_get}
 use Rattle.std.specs.Option.{option_and_then, option_map}
 use Rattle.office_base.specs.Merit.{is_better}
 use Rattle.office_base.specs.Person.{is_common}
@@ -9,6 +9,7 @@ use Rattle.office_base.specs.declared.person.ListId.{ListId}
 use Rattle.office_base.specs.declared.person.Person.{Person}
 use Rattle.office_base.specs.declared.step.StepKind.{StepKind}
 use Rattle.office_base.specs.declared.step.StepKind.TheVariants.{Open, Ews as EwsStep, Obc as ObcStep, Sc as ScStep, St as StStep, Dereserved}
+use Rattle.seat_matrix.specs.Fields.{step_number}
 use Rattle.programme_lists.specs.Programme.{is_taken}
 use Rattle.programme_lists.specs.declared.programme.Programme.{Programme}
 use Rattle.programme_lists.specs.declared.programme.StepList.{StepList}
@@ -26,22 +27,13 @@ abbrev pub has_worse : ListId → Person → List Person → Bool
 has_worse list person [] = false
 has_worse list person (other ∷ admitted) = is_better list person other || has_worse list person admitted
 
--- the place of a step among the six
-abbrev pub step_place : StepKind → ℕ
-step_place Open = 0
-step_place EwsStep = 1
-step_place ObcStep = 2
-step_place ScStep = 3
-step_place StStep = 4
-step_place Dereserved = 5
-
 -- what stood against the person at the step that this list shows: its seats, and whether somebody worse was admitted
 abbrev pub step_why : ListId → Person → StepList → StepWhy
 step_why list person shown = record { kind = shown.kind; seats = shown.seats; worse = has_worse list person shown.admitted }
 
 -- what stood against the person at a step
 abbrev pub why_at : ListId → Programme → Person → StepKind → Option StepWhy
-why_at list programme person kind = option_map (step_why list person) (slice_get programme.steps (step_place kind))
+why_at list programme person kind = option_map (step_why list person) (slice_get programme.steps (step_number kind))
 
 -- the step of a category
 abbrev pub category_step : Category → Option StepKind

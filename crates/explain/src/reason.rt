@@ -2,15 +2,16 @@
 ghost use Rattle.std.specs.Prelude.{◌≡◌, ◌<◌, Option, length};
 ghost use Rattle.std.specs.List.{AllByRecursion, list_any};
 ghost use Rattle.office_base.specs.Merit.{is_ahead};
-ghost use Rattle.office_base.specs.Person.{IsList, is_common, number_in};
+ghost use Rattle.office_base.specs.Person.{IsList, number_in};
 ghost use Rattle.programme_lists.specs.Programme.{is_taken};
 ghost use Rattle.seat_matrix.specs.Matrix.{list_in};
-ghost use Rattle.explain.specs.Reason.{admitted_in, at_category, category_step, has_worse, reason_of, refusal, step_place, why_at};
+ghost use Rattle.explain.specs.Reason.{admitted_in, at_category, category_step, has_worse, reason_of, refusal, why_at};
 
-use office_base::{Category, ListId, Person, Place, ProgId, StepKind};
+use dereserve::is_common;
+use office_base::{Category, ListId, Person, ProgId, StepKind};
 use programme_lists::{Programme, StepList};
 use reasons::{Reason, StepWhy};
-use seat_matrix::Matrix;
+use seat_matrix::{Matrix, step_number};
 
 /// Under which step the programme admits the person, or what stood against the person at each step for whose seats the person stood.
 /// It takes no memory.
@@ -30,7 +31,7 @@ fn refusal(list: ListId, programme: &Programme, person: &Person) -> Reason
     requires { IsList list }
     ensures { result ≡ refusal list programme.now person.now }
 {
-    let common = is_common(list, person);
+    let common = is_common(person, list);
     Reason::Refused {
         at_open: if common {
             why_at(list, programme, person, StepKind::Open)
@@ -62,7 +63,7 @@ fn why_at(list: ListId, programme: &Programme, person: &Person, kind: StepKind) 
     requires { IsList list }
     ensures { result ≡ why_at list programme.now person.now kind }
 {
-    let shown = programme.steps.get(step_place(kind))?;
+    let shown = programme.steps.get(usize::from(step_number(kind)))?;
     Some(StepWhy {
         kind: shown.kind,
         seats: shown.seats,
@@ -80,31 +81,6 @@ fn category_step(category: Category) -> Option<StepKind>
         Category::Obc => Some(StepKind::Obc),
         Category::Sc => Some(StepKind::Sc),
         Category::St => Some(StepKind::St),
-    }
-}
-
-/// The place of a step among the six.
-fn step_place(kind: StepKind) -> usize
-    ensures { result ≡ step_place kind }
-{
-    match kind {
-        StepKind::Open => 0,
-        StepKind::Ews => 1,
-        StepKind::Obc => 2,
-        StepKind::Sc => 3,
-        StepKind::St => 4,
-        StepKind::Dereserved => 5,
-    }
-}
-
-/// Whether the person has a common place in the list.
-fn is_common(list: ListId, person: &Person) -> bool
-    requires { IsList list }
-    ensures { result ≡ is_common list person.now }
-{
-    match person.place(list) {
-        Place::Common(_) => true,
-        Place::Absent | Place::Relaxed(_) => false,
     }
 }
 

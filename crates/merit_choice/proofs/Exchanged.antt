@@ -7,11 +7,11 @@ use Rattle.office_base.specs.declared.person.ListId.{ListId}
 use Rattle.office_base.specs.declared.person.Person.{Person}
 use Rattle.office_base.specs.declared.step.Protections.{Protections}
 use Rattle.placements.specs.Ranks.{AreAmong, AreDistinct, CanBePlaced, without}
-use Rattle.placements.proofs.Ranks.{among_longer, among_itself, among_again, one_person, exchange}
+use Rattle.placements.proofs.Ranks.{among_longer, among_itself, among_again, one_person, exchange, are_among}
 use Rattle.placements.proofs.Without.{is_numbered, without_first, without_later, without_among, without_apart, among_without, length_without, distinct_without}
+use Rattle.placements.proofs.Merit.{ahead_again, not_ahead}
 use Rattle.merit_choice.specs.Laws.{IsAmong}
 use Rattle.merit_choice.specs.Needed.{AreNeeded}
-use Rattle.merit_choice.proofs.InMerit.{not_ahead, ahead_again, are_among}
 use Rattle.merit_choice.proofs.OneByOne.{better_or_worse, has_number}
 use Rattle.merit_choice.proofs.Needed.{among_more, among_rejoined, other_number, nobody_of, decides, apart_of, apart_some, placed_part}
 

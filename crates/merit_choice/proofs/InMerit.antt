@@ -2,7 +2,7 @@
 use Rattle.std.proofs.Common.{◌≡◌, ◌≢◌, ◌≤◌, ◌⊎◌, ℕ, suc, Bool, true, false, cond, Option, Some, None, List, [], ◌∷◌, length, refl, sym, ap, ◌∙◌, subst, inl, inr, arith}
 use Rattle.std.specs.Prelude.{IsSome}
 use Rattle.std.specs.List.{AllByRecursion}
-use Rattle.std.proofs.lemmas.Bool.{ltb-true, ltb-false, cases_Bool}
+use Rattle.std.proofs.lemmas.Bool.{ltb-false, cases_Bool}
 use Rattle.office_base.specs.Lists.{AnyByRecursion, IsSublist, Pairwise}
 use Rattle.office_base.specs.Person.{IsAhead, IsBetter, IsTraitSet, number_in}
 use Rattle.office_base.specs.StepChoice.{AreRanked}
@@ -11,16 +11,11 @@ use Rattle.office_base.specs.declared.person.Person.{Person}
 use Rattle.placements.proofs.Sublists.{IsSublist-nil, IsSublist-same, length-sublist}
 use Rattle.placements.specs.Ranks.{AreAmong, AreDistinct}
 use Rattle.placements.proofs.Exchange.{all_weaker}
-use Rattle.placements.proofs.Ranks.{any_all, all_both, among_longer, among_itself, among_again}
+use Rattle.placements.proofs.Ranks.{any_all, all_both, among_longer, among_itself, among_again, are_among, all_among}
+use Rattle.placements.proofs.Merit.{ahead_again, not_ahead, ahead_true}
 use Rattle.merit_choice.specs.InMerit.{is_ahead, is_better, with_person, in_merit, CanBeRanked, IsNewTo, InMeritRanks, OneMeritOrder, SameMeritOrder, PartCanBeRanked, PartInMerit, RankedInMerit, RankedPart, WithPersonRanks}
 
 -- ---- the order of two
-
--- whoever is ahead is so by the test
-pub ahead_true : (first second : Option ℕ) → is_ahead first second ≡ true → IsAhead first second
-ahead_true None second told = absurd (let e : false ≡ true = told in cc)
-ahead_true (Some m) None told = absurd (let e : false ≡ true = told in cc)
-ahead_true (Some m) (Some n) told = ltb-true m n told
 
 -- of two other numbers that are there, the second is ahead where the first is not
 pub ahead_false : (first second : Option ℕ) → IsSome first → IsSome second → first ≢ second → is_ahead first second ≡ false → IsAhead second first
@@ -30,18 +25,6 @@ ahead_false (Some m) (Some n) here there other told =
     let le = ltb-false m n told in
     let apart : m ≢ n = λ e. other (ap (λ (k : ℕ). Some k) e) in
     omega arith
-
--- nobody is ahead of themselves
-pub not_ahead : (first : Option ℕ) → IsAhead first first → ⊥
-not_ahead None ahead = ahead
-not_ahead (Some m) ahead = absurd (omega arith)
-
--- ahead of one who is ahead is ahead
-pub ahead_again : (first second third : Option ℕ) → IsAhead first second → IsAhead second third → IsAhead first third
-ahead_again None second third one two = absurd one
-ahead_again (Some m) None third one two = absurd one
-ahead_again (Some m) (Some n) None one two = absurd two
-ahead_again (Some m) (Some n) (Some k) one two = omega arith
 
 -- ahead is another
 pub ahead_other : (first second : Option ℕ) → IsAhead first second → first ≢ second
@@ -138,11 +121,6 @@ ranked_with list person people ranked new = record {
   in_order = in_order_with list person people new.placed ranked.placed new.numbers ranked.in_order;
   distinct = pairwise_with (λ a b. a.id ≢ b.id) list person people (λ a b apart same. apart (sym same)) new.distinct ranked.distinct;
 }
-
--- a list is among another where each of its people is
-pub are_among : (some all : List Person) → ((person : Person) → AnyByRecursion (λ other. person ≡ other) some → AnyByRecursion (λ other. person ≡ other) all) → AreAmong some all
-are_among [] all each = tt
-are_among (person ∷ some) all each = (each person (inl refl), are_among some all (λ one there. each one (inr there)))
 
 -- they are the person and the people
 pub among_with : (list : ListId) (person : Person) (people : List Person) → AreAmong (person ∷ people) (with_person list person people)
@@ -298,12 +276,6 @@ two_of R (person ∷ all) back each a b in_a in_b apart = elim in_a [
     | inr too ↦ two_of R all back each.1 a b later too apart
   ]
 ]
-
--- what holds of each of all holds of those among them
-pub all_among : (P : Person → Type 0) (some all : List Person) → AreAmong some all → AllByRecursion P all → AllByRecursion P some
-all_among P some all among each =
-    all_weaker (λ one. AnyByRecursion (λ other. one ≡ other) all) P
-    (λ one there. let found = any_all (λ other. one ≡ other) P all there each in subst P (sym found.1) found.2) some among
 
 pub part_can_be_ranked : PartCanBeRanked
 part_can_be_ranked list some all distinct can among = record {

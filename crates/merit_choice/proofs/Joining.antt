@@ -10,9 +10,10 @@ use Rattle.office_base.specs.declared.person.ListId.{ListId}
 use Rattle.office_base.specs.declared.person.Person.{Person}
 use Rattle.office_base.specs.declared.step.Protections.{Protections}
 use Rattle.placements.specs.Ranks.{AreDistinct, CanBePlaced, without}
-use Rattle.placements.proofs.Ranks.{any_all, any_append, among_again, among_back, among_front, among_itself, one_person, front_among_end, end_among_front, placed_end, placed_front}
+use Rattle.placements.proofs.Ranks.{any_all, any_append, among_again, among_back, among_front, among_itself, one_person, front_among_end, end_among_front, placed_end, placed_front, all_among}
 use Rattle.placements.proofs.Replace.{distinct_push}
 use Rattle.placements.proofs.Without.{without_among, without_apart, among_without}
+use Rattle.placements.proofs.Merit.{ahead_again}
 use Rattle.slot_matching.specs.Augmented.{CanReplace, IsWorstFor}
 use Rattle.slot_matching.specs.Kept.{Kept, MayJoin, with_member, without_member}
 use Rattle.merit_choice.specs.InMerit.{IsNewTo}
@@ -20,7 +21,6 @@ use Rattle.merit_choice.specs.Laws.{IsAmong}
 use Rattle.merit_choice.specs.Needed.{AreNeeded}
 use Rattle.merit_choice.specs.State.{IsMatched}
 use Rattle.merit_choice.proofs.Exchanged.{Replaces, needed_exchanged}
-use Rattle.merit_choice.proofs.InMerit.{all_among, ahead_again}
 use Rattle.merit_choice.proofs.Needed.{among_more, apart_some, nobody_of, other_number, needed_again, needed_joined, needed_kept}
 use Rattle.merit_choice.proofs.OneByOne.{has_number}
 use Rattle.merit_choice.proofs.Places.{among_at, told_again, told_without}

@@ -3,7 +3,7 @@ use Rattle.std.proofs.Common.{◌≡◌, ◌≢◌, ◌<◌, ◌+◌, ℕ, suc, 
 use Rattle.std.proofs.lemmas.List.{length-append, take-append-drop}
 use Rattle.std.proofs.Math.Seq.{take-suc, drop-cons}
 use Rattle.std.specs.List.{AllByRecursion}
-use Rattle.office_base.specs.Lists.{AnyByRecursion, Pairwise}
+use Rattle.office_base.specs.Lists.{Pairwise}
 use Rattle.std.specs.Prelude.{IsSome}
 use Rattle.office_base.specs.Person.{IsAhead, IsBetter, IsTraitSet, number_in}
 use Rattle.office_base.specs.Placement.{IsHonoured}
@@ -14,7 +14,7 @@ use Rattle.office_base.specs.declared.step.Protections.{Protections}
 use Rattle.office_base.specs.declared.step.Step.{Step}
 use Rattle.placements.specs.Ranks.{AreAmong, AreDistinct, CanBePlaced}
 use Rattle.placements.proofs.Exchange.{all_weaker}
-use Rattle.placements.proofs.Ranks.{any_all, among_longer, among_itself, among_again, among_joined, among_front, among_back, placed_again, taken, refused}
+use Rattle.placements.proofs.Ranks.{among_longer, among_itself, among_again, among_joined, among_front, among_back, placed_again, taken, refused, all_among}
 use Rattle.slot_matching.specs.Kept.{Kept, MayJoin}
 use Rattle.merit_choice.specs.Marks.{marked, IsRaise, AreRaises, IsJoined}
 use Rattle.merit_choice.proofs.Raises.{onto, AreNew, apart_part, new-from_nobody, raise_from, no_raise_from, honoured_nobody}
@@ -25,12 +25,6 @@ use Rattle.merit_choice.proofs.Raises.{onto, AreNew, apart_part, new-from_nobody
 all_middle : {X : Type 0} (P : X → Type 0) (front : List X) (x : X) (back : List X) → AllByRecursion P (front ++ x ∷ back) → P x
 all_middle P [] x back all = all.0
 all_middle P (y ∷ front) x back all = all_middle P front x back all.1
-
--- what holds of each of all holds of those among them
-all_among : (P : Person → Type 0) (some all : List Person) → AreAmong some all → AllByRecursion P all → AllByRecursion P some
-all_among P some all among each =
-    all_weaker (λ one. AnyByRecursion (λ other. one ≡ other) all) P
-    (λ one there. let found = any_all (λ other. one ≡ other) P all there each in subst P (sym found.1) found.2) some among
 
 -- one more of the people, in front of those before
 pub onto-snoc : (front before : List Person) (person : Person) → onto (front ++ person ∷ []) before ≡ person ∷ onto front before

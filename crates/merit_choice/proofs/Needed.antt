@@ -16,12 +16,12 @@ use Rattle.office_base.specs.declared.step.Step.{Step}
 use Rattle.placements.specs.Ranks.{AreAmong, AreDistinct, CanBePlaced, without}
 use Rattle.placements.proofs.Exchange.{Stands, all_weaker}
 use Rattle.placements.proofs.Greatest.{honoured-exists}
-use Rattle.placements.proofs.Ranks.{any_all, all_both, any_among, among_longer, among_itself, among_again, among_sublist, one_person, finds_person, everybody_stands, chosen_pairs, narrowed, no_more_than_people, no_more_than_pairs, monotone, exchange, extension}
+use Rattle.placements.proofs.Ranks.{any_all, all_both, any_among, among_longer, among_itself, among_again, among_sublist, one_person, finds_person, everybody_stands, chosen_pairs, narrowed, no_more_than_people, no_more_than_pairs, monotone, exchange, extension, are_among}
 use Rattle.placements.proofs.Without.{is_numbered, without_first, without_later, without_among, without_apart, among_without, length_without, distinct_without}
+use Rattle.placements.proofs.Merit.{ahead_again, not_ahead}
 use Rattle.merit_choice.specs.Laws.{IsAmong}
 use Rattle.merit_choice.specs.Needed.{AreNeeded}
 use Rattle.merit_choice.proofs.ByHand.{honoured_placed, placed_nobody}
-use Rattle.merit_choice.proofs.InMerit.{not_ahead, ahead_again, are_among}
 use Rattle.merit_choice.proofs.OneByOne.{has_number, one_too_many}
 
 -- ---- who is who

@@ -1,7 +1,7 @@
 -- One person comes to a step: what it holds then.
 use Rattle.std.proofs.Common.{◌≡◌, ◌≢◌, ◌≤◌, ◌<◌, ◌⊎◌, ℕ, zero, suc, sum, Bool, true, false, cond, List, [], ◌∷◌, ◌++◌, length, take, drop, refl, sym, ap, ◌∙◌, subst, inl, inr, arith, Some}
 use Rattle.std.specs.List.{AllByRecursion, AllZip, insert, remove}
-use Rattle.office_base.specs.Lists.{AnyByRecursion, IsSublist, Pairwise}
+use Rattle.office_base.specs.Lists.{IsSublist, Pairwise}
 use Rattle.office_base.specs.Person.{IsBetter, number_in}
 use Rattle.office_base.specs.StepChoice.{AreRanked, IsStep, IsStepChoice}
 use Rattle.office_base.specs.declared.person.ListId.{ListId}
@@ -9,8 +9,9 @@ use Rattle.office_base.specs.declared.person.Person.{Person}
 use Rattle.office_base.specs.declared.step.Protections.{Protections}
 use Rattle.office_base.specs.declared.step.Step.{Step}
 use Rattle.placements.specs.Ranks.{AreAmong, AreDistinct, CanBePlaced, without}
-use Rattle.placements.proofs.Ranks.{any_all, among_itself, among_again, placed_end}
+use Rattle.placements.proofs.Ranks.{any_all, among_itself, among_again, placed_end, ranked_sublist, are_among}
 use Rattle.placements.proofs.Without.{without_first, without_later, without_sublist, without_among, among_without, length_without}
+use Rattle.placements.proofs.Merit.{ahead_again, not_ahead}
 use Rattle.slot_matching.specs.Kept.{Kept}
 use Rattle.merit_choice.specs.Held.{AreAllSet, IsLeft}
 use Rattle.merit_choice.specs.InMerit.{is_better, IsNewTo, with_person}
@@ -20,9 +21,9 @@ use Rattle.merit_choice.specs.State.{HandsOn, IsAnswered, IsMatched, IsStepKept,
 use Rattle.merit_choice.specs.declared.state.Offered.TheVariants.{Displaced, Refused}
 use Rattle.merit_choice.proofs.ByHand.{honoured_placed}
 use Rattle.merit_choice.proofs.Filled.{honoured_within}
-use Rattle.merit_choice.proofs.InMerit.{ahead_again, not_ahead, among_with, with_among, with_any, are_among, length-with_person, ranked_with}
+use Rattle.merit_choice.proofs.InMerit.{among_with, with_among, with_any, length-with_person, ranked_with}
 use Rattle.merit_choice.proofs.Needed.{among_more, other_number, nobody_of, apart_of, needed_again, needed_choice, needed_kept, needed_left, placed_part}
-use Rattle.merit_choice.proofs.OneByOne.{has_number, ranked_sublist, seats_for_all}
+use Rattle.merit_choice.proofs.OneByOne.{has_number, seats_for_all}
 use Rattle.merit_choice.proofs.Places.{among_at, zip_insert, zip_remove, zip_length, free_at, all_needed, last_is_worst, free_inside, remove-without}
 
 -- A person has come to those held, and the matching and the marks tell of all of them.

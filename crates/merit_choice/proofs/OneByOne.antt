@@ -1,22 +1,22 @@
 -- One person too many, and people who come one by one.
 use Rattle.std.proofs.Common.{◌≡◌, ◌≢◌, ◌⊎◌, ℕ, suc, List, [], ◌∷◌, length, refl, sym, ap, ◌∙◌, subst, inl, inr, arith}
-use Rattle.std.specs.Prelude.{IsSome}
 use Rattle.std.specs.List.{AllByRecursion}
 use Rattle.office_base.specs.Lists.{AnyByRecursion, IsSublist, Pairwise}
-use Rattle.office_base.specs.Person.{IsBetter, IsTraitSet, number_in}
+use Rattle.office_base.specs.Person.{IsBetter, number_in}
 use Rattle.office_base.specs.Placement.{IsHonoured}
-use Rattle.office_base.specs.StepChoice.{AreRanked, IsStep, IsNoWorse, MayAdmit, IsStepChoice}
+use Rattle.office_base.specs.StepChoice.{IsStep, IsNoWorse, MayAdmit, IsStepChoice}
 use Rattle.office_base.specs.declared.person.ListId.{ListId}
 use Rattle.office_base.specs.declared.person.Person.{Person}
 use Rattle.office_base.specs.declared.step.Step.{Step}
 use Rattle.placements.proofs.Sublists.{AllByRecursion-sublist}
 use Rattle.placements.specs.Ranks.{AreDistinct, without}
 use Rattle.placements.proofs.Greatest.{honoured-exists}
-use Rattle.placements.proofs.Ranks.{any_all, any_among, among_sublist, monotone, pairwise_sublist}
+use Rattle.placements.proofs.Ranks.{any_all, any_among, among_sublist, monotone, pairwise_sublist, ranked_sublist, are_among}
 use Rattle.placements.proofs.Without.{is_numbered, without_first, without_later, without_sublist, length_without}
+use Rattle.placements.proofs.Merit.{ahead_again, not_ahead}
 use Rattle.merit_choice.specs.InMerit.{CanBeRanked, IsNewTo, in_merit, with_person}
 use Rattle.merit_choice.specs.Laws.{IsAmong, HasMorePeople, OneTooMany, SeatsForAll, RefusedBefore, OneByOne}
-use Rattle.merit_choice.proofs.InMerit.{not_ahead, ahead_again, all_in_merit, with_any, any_with, are_among, ranked_in_order, ranked_with, sublist_with, whole_sublist}
+use Rattle.merit_choice.proofs.InMerit.{all_in_merit, with_any, any_with, ranked_in_order, ranked_with, sublist_with, whole_sublist}
 use Rattle.merit_choice.proofs.StepLaws.{choice_exists, choice_size, refused_stays_refused, leaving_out_refused}
 
 -- ---- everybody
@@ -142,15 +142,6 @@ refused_before step small more chosen some others first second was now all gone 
     leaving_out_refused small more some others second now all (λ person in_more out there.
     let before = gone person in_more out in
     refused_stays_refused step more chosen others person first was all before.0 before.1 there)
-
--- part of the ranked is ranked
-pub ranked_sublist : (list : ListId) (some all : List Person) → AreRanked list all → IsSublist some all → AreRanked list some
-ranked_sublist list some all ranked sub = record {
-  traits = AllByRecursion-sublist (λ (person : Person). IsTraitSet person.traits) some all sub ranked.traits;
-  placed = AllByRecursion-sublist (λ (person : Person). IsSome (number_in list person)) some all sub ranked.placed;
-  in_order = pairwise_sublist (IsBetter list) some all sub ranked.in_order;
-  distinct = pairwise_sublist (λ (a : Person) (b : Person). a.id ≢ b.id) some all sub ranked.distinct;
-}
 
 -- who is new to all is new to some
 pub new_to_part : (list : ListId) (some all : List Person) (person : Person) → IsSublist some all → IsNewTo list all person → IsNewTo list some person

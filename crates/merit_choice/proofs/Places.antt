@@ -13,11 +13,12 @@ use Rattle.office_base.specs.declared.person.Person.{Person}
 use Rattle.placements.specs.Ranks.{AreAmong, AreDistinct, without}
 use Rattle.placements.proofs.Ranks.{any_all}
 use Rattle.placements.proofs.Without.{without_first, without_later}
+use Rattle.placements.proofs.Merit.{ahead_again, not_ahead, ahead_true}
 use Rattle.merit_choice.specs.Held.{IsLastFree, AreAllSet}
 use Rattle.merit_choice.specs.InMerit.{is_ahead, is_better, with_person}
 use Rattle.merit_choice.specs.Laws.{IsAmong}
 use Rattle.merit_choice.specs.Needed.{Tells}
-use Rattle.merit_choice.proofs.InMerit.{ahead_true, ahead_false, ahead_again, not_ahead}
+use Rattle.merit_choice.proofs.InMerit.{ahead_false}
 
 -- ---- the place of a new person
 

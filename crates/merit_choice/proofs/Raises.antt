@@ -9,7 +9,7 @@ use Rattle.office_base.specs.declared.step.Protections.{Protections}
 use Rattle.placements.specs.Ranks.{AreAmong, AreDistinct}
 use Rattle.placements.proofs.Exchange.{all_weaker}
 use Rattle.placements.proofs.Greatest.{honoured-exists, honoured-one}
-use Rattle.placements.proofs.Ranks.{all_both, any_all, any_among, among_longer, among_again, among_itself, among_front, among_back, among_joined, one_step, monotone, outside, same_people, diminishing, no_more_than_people}
+use Rattle.placements.proofs.Ranks.{all_both, any_all, any_among, among_longer, among_again, among_itself, among_front, among_back, among_joined, one_step, monotone, outside, same_people, diminishing, no_more_than_people, are_among}
 use Rattle.merit_choice.specs.Laws.{IsAmong}
 use Rattle.merit_choice.specs.Marks.{marked, kept, IsRaise, AreRaises}
 use Rattle.merit_choice.proofs.Marks.{Covers, AreFewer, AreNoFewerLater}
@@ -131,11 +131,6 @@ onto_among person (other ∷ people) before one = elim (onto_among person people
   | inl later ↦ inl (inr later)
   | inr there ↦ elim there [ inl here ↦ inl (inl here) | inr before ↦ inr before ]
 ]
-
--- a list is among another where each of its people is
-pub are_among : (some all : List Person) → ((person : Person) → IsAmong person some → IsAmong person all) → AreAmong some all
-are_among [] all each = tt
-are_among (person ∷ some) all each = (each person (inl refl), are_among some all (λ one there. each one (inr there)))
 
 -- the people one after another are the people
 pub honoured_again : (protections : Protections) (people : List Person) (n : ℕ) → IsHonoured protections (onto people []) n → IsHonoured protections people n

@@ -8,7 +8,7 @@ use Rattle.office_base.specs.declared.person.ListId.{ListId}
 use Rattle.office_base.specs.declared.person.Person.{Person}
 use Rattle.office_base.specs.declared.step.Step.{Step}
 use Rattle.office_base.specs.declared.step.Protections.{Protections}
-use Rattle.placements.proofs.Sublists.{length-sublist}
+use Rattle.placements.proofs.Sublists.{length-sublist, sublist_again}
 use Rattle.placements.proofs.Greatest.{honoured-exists}
 use Rattle.placements.proofs.Ranks.{pairwise_sublist, any_among, monotone, among_sublist}
 use Rattle.merit_choice.specs.Laws.{IsAmong, HasMorePeople, OneChoice, ChoiceExists, ChoiceSize, RefusedStaysRefused, NoFewer, LeavingOutRefused, MoreSeats}
@@ -128,17 +128,6 @@ no_fewer step more chosen others both one other =
     omega arith
 
 -- ---- some people left out
-
--- a sublist of a sublist is one
-sublist_again : (xs ys zs : List Person) → IsSublist xs ys → IsSublist ys zs → IsSublist xs zs
-sublist_again xs ys [] first second = subst (λ (people : List Person). IsSublist xs people) second first
-sublist_again xs ys (z ∷ zs) first second = elim second [
-  | inl later ↦ inl (sublist_again xs ys zs first later)
-  | inr now ↦ elim (subst (λ (people : List Person). IsSublist xs people) now.1 first) [
-    | inl later ↦ inl (sublist_again xs now.0 zs later now.2)
-    | inr begins ↦ inr (begins.0, begins.1, sublist_again begins.0 now.0 zs begins.2 now.2)
-  ]
-]
 
 -- the choice from more people is that from some of them, if it is among those
 choice_of_some : (step more : Step) (others : List Person) → HasMorePeople step more → IsStepChoice more others → IsSublist others step.people → IsStepChoice step others

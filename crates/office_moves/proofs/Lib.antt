@@ -1,7 +1,7 @@
-mod Chains
-mod Grows
-mod Narrows
-mod OneState
+pub mod Chains
+pub mod Grows
+pub mod Narrows
+pub mod OneState
 mod OwnView
-mod Repeats
-mod Rising
+pub mod Repeats
+pub mod Rising

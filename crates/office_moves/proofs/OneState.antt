@@ -40,7 +40,7 @@ one_result facts old (TellList number prog) reply other after then one first sec
 one_result facts old TellState reply other after then one first second = both _ _ _ _ _ _ first second
 
 -- an act more at the end
-reaches_more : (facts : SeasonFacts) (old mid new : State) (entries : List Entry) (entry : Entry) (reply : Reply) → Reaches facts old entries mid
+pub reaches_more : (facts : SeasonFacts) (old mid new : State) (entries : List Entry) (entry : Entry) (reply : Reply) → Reaches facts old entries mid
     → newly mid.now (decided facts mid (asked facts entry.act)) ≡ Some entry.act → IsMove facts mid (asked facts entry.act) reply new → Reaches facts old (entries ++ entry ∷ []) new
 reaches_more facts old mid new [] entry reply same accepted moves =
     (new, reply, subst (λ s. newly s.now (decided facts s (asked facts entry.act)) ≡ Some entry.act) same accepted, subst (λ s. IsMove facts s (asked facts entry.act) reply new) same moves, refl)

@@ -1,33 +1,18 @@
 -- A matrix with raises is sound, has the same programmes and protections, and no fewer seats.
-use Rattle.std.proofs.Common.{◌≡◌, ◌<◌, ◌≤◌, ◌+◌, ◌⊎◌, inl, inr, ℕ, zero, suc, Bool, true, false, List, [], ◌∷◌, ◌++◌, length, arith, refl, sym, ap, ◌∙◌, subst, ◌==◌, length-set}
+use Rattle.std.proofs.Common.{◌≡◌, ◌<◌, ◌≤◌, ◌+◌, ◌⊎◌, inl, inr, ℕ, Bool, true, false, List, [], ◌∷◌, ◌++◌, length, arith, refl, sym, ap, ◌∙◌, subst, ◌==◌, length-set}
+use Rattle.office_base.specs.Limits.{most_step_seats}
 use Rattle.allocations.proofs.Places.{eq_means, eq_true}
 use Rattle.office_base.specs.declared.step.StepKind.{StepKind}
-use Rattle.office_base.specs.declared.step.StepKind.TheVariants.{Open, Ews, Obc, Sc, St, Dereserved}
 use Rattle.keeper_mem.specs.declared.rows.RaiseRow.{RaiseRow}
 use Rattle.seat_matrix.specs.Fields.{step_number}
 use Rattle.seat_matrix.specs.Laws.{OneStepChanges}
 use Rattle.seat_matrix.specs.Matrix.{AreSeats, HasSeating, SeatTable, matrix_with, seating_in}
 use Rattle.seat_matrix.specs.Seats.{IsSeated, is_dereserved}
+use Rattle.seat_matrix.proofs.StepNumbers.{one_number}
 use Rattle.rounds.specs.Rule.{IsRaised}
 use Rattle.office_moves.specs.Raised.{raised, raised_to}
 
 -- ---- steps are told apart by their numbers
-
-abbrev step_of : ℕ → StepKind
-step_of zero = Open
-step_of (suc zero) = Ews
-step_of (suc (suc zero)) = Obc
-step_of (suc (suc (suc zero))) = Sc
-step_of (suc (suc (suc (suc zero)))) = St
-step_of (suc (suc (suc (suc (suc n))))) = Dereserved
-
-of_number : (step : StepKind) → step_of (step_number step) ≡ step
-of_number Open = refl
-of_number Ews = refl
-of_number Obc = refl
-of_number Sc = refl
-of_number St = refl
-of_number Dereserved = refl
 
 two_ways : (b : Bool) → (b ≡ true) ⊎ (b ≡ false)
 two_ways true = inl refl
@@ -36,7 +21,7 @@ two_ways false = inr refl
 same_place : (p prog : ℕ) (kind step : StepKind) → ((p ≡ prog) × (kind ≡ step)) ⊎ (p ≡ prog → kind ≡ step → ⊥)
 same_place p prog kind step = elim (two_ways (p == prog)) [
   | inl e ↦ elim (two_ways (step_number kind == step_number step)) [
-    | inl f ↦ inl (eq_means p prog e, sym (of_number kind) ∙ (ap step_of (eq_means _ _ f) ∙ of_number step))
+    | inl f ↦ inl (eq_means p prog e, one_number kind step (eq_means _ _ f))
     | inr f ↦ inr (λ g h. let same = eq_true (step_number kind) (step_number step) (ap step_number h) in cc)
   ]
   | inr e ↦ inr (λ g h. let same = eq_true p prog g in cc)
@@ -49,7 +34,7 @@ pub record IsLift (table : SeatTable) (row : RaiseRow) : Type 0 where
   pub below : row.prog.0 < length table.programmes
   pub own : is_dereserved row.step ≡ false
   pub more : (seating_in table row.prog.0 row.step).seats ≤ row.seats
-  pub most : row.seats ≤ 4000
+  pub most : row.seats ≤ most_step_seats
 
 abbrev pub with_raise : SeatTable → RaiseRow → SeatTable
 with_raise table row = matrix_with table row.prog.0 row.step (raised_to (seating_in table row.prog.0 row.step) row.seats)

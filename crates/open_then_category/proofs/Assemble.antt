@@ -9,6 +9,7 @@ use Rattle.office_base.specs.declared.person.Person.{Person}
 use Rattle.office_base.specs.declared.step.StepKind.{StepKind}
 use Rattle.office_base.specs.declared.step.StepKind.TheVariants.{Open, Ews as EwsStep, Obc as ObcStep, Sc as ScStep, St as StStep, Dereserved}
 use Rattle.placements.proofs.Sublists.{length-sublist}
+use Rattle.placements.proofs.Filters.{filter-sublist}
 use Rattle.programme_lists.specs.Listing.{Shows, ShowsChoice}
 use Rattle.seat_matrix.specs.Unfilled.{left_unfilled}
 use Rattle.office_base.specs.Person.{is_common}
@@ -16,7 +17,6 @@ use Rattle.programme_lists.specs.Programme.{Admissions, is_of, without, step_wit
 use Rattle.seat_matrix.specs.Seats.{no_protections, seats_of}
 use Rattle.programme_lists.specs.declared.programme.StepList.{StepList}
 use Rattle.seat_matrix.specs.declared.seats.ProgrammeSeats.{ProgrammeSeats}
-use Rattle.open_then_category.proofs.Lists.{filter-sublist}
 use Rattle.open_then_category.proofs.Walk.{ranked_without}
 
 -- those whom four steps left of the rest

@@ -3,11 +3,11 @@ use Rattle.std.proofs.Common.{◌≡◌, ◌⊎◌, ℕ, true, List, [], ◌∷�
 use Rattle.std.proofs.lemmas.Bool.{both_ways, cases_Bool, cases_eq}
 use Rattle.office_base.specs.Lists.{IsAmong}
 use Rattle.office_base.specs.declared.person.Category.{Category}
-use Rattle.office_base.specs.declared.person.Category.TheVariants.{Gen, Ews, Obc, Sc, St}
 use Rattle.office_base.specs.declared.person.Person.{Person}
 use Rattle.office_base.specs.declared.person.Place.{Place}
 use Rattle.office_base.specs.declared.person.Place.TheVariants.{Absent, Common, Relaxed}
 use Rattle.programme_lists.specs.Programme.{is_same}
+use Rattle.programme_lists.proofs.Categories.{same_itself}
 use Rattle.open_then_category.proofs.Walk.{same_category}
 
 -- a statement holds or does not
@@ -52,13 +52,6 @@ one_places (a ∷ more) (b ∷ others) = elim (one_place a b) [
   ]
   | inr differs ↦ inr (λ e. differs (ap head e))
 ]
-
-same_itself : (a : Category) → is_same a a ≡ true
-same_itself Gen = refl
-same_itself Ews = refl
-same_itself Obc = refl
-same_itself Sc = refl
-same_itself St = refl
 
 one_category : (a b : Category) → Decided (a ≡ b)
 one_category a b = elim (cases_Bool (is_same a b)) [

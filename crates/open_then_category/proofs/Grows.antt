@@ -12,7 +12,8 @@ use Rattle.office_base.specs.declared.step.StepKind.{StepKind}
 use Rattle.office_base.specs.declared.step.StepKind.TheVariants.{Open, Ews as EwsStep, Obc as ObcStep, Sc as ScStep, St as StStep, Dereserved}
 use Rattle.placements.proofs.Sublists.{IsSublist-same, IsSublist-take, length-sublist}
 use Rattle.placements.specs.Ranks.{AreAmong, AreDistinct}
-use Rattle.placements.proofs.Ranks.{any_among, among_sublist, among_itself}
+use Rattle.placements.proofs.Ranks.{any_among, among_sublist, among_itself, ranked_sublist}
+use Rattle.placements.proofs.Filters.{filter_mono, filter-sublist, among_filter, among_filter_from}
 use Rattle.seat_matrix.specs.Seats.{AreProgrammeSeats, HaveMoreSeats, IsSeated, of_step}
 use Rattle.seat_matrix.specs.declared.seats.ProgrammeSeats.{ProgrammeSeats}
 use Rattle.seat_matrix.specs.declared.seats.Seating.{Seating}
@@ -20,7 +21,7 @@ use Rattle.seat_matrix.specs.declared.seats.Seatings.{Seatings}
 use Rattle.programme_lists.specs.Chosen.{IsAdmitted}
 use Rattle.programme_lists.specs.Programme.{Admissions, admitted_by, is_of, without, left_over, people_of, step_with, unfilled, IsProgrammeChoice}
 use Rattle.open_then_category.proofs.Decide.{is_among_or_not}
-use Rattle.open_then_category.proofs.Lists.{filter_mono, filter-sublist, among_filter_from, among_best, among_filter, ranked_sublist, without_mono, among_without_from}
+use Rattle.open_then_category.proofs.Lists.{among_best, without_mono, among_without_from}
 use Rattle.open_then_category.proofs.ProgrammeLaws.{Stage, all_among, among_left, chosen_among, chosen_passes, filtered_step, is_left, last_sublist, rest_of, stage_refused, without_among}
 use Rattle.open_then_category.specs.StepLaws.{AreLawful}
 

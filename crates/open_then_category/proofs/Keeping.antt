@@ -13,8 +13,9 @@ use Rattle.office_base.specs.declared.person.Person.{Person}
 use Rattle.office_base.specs.declared.step.StepKind.{StepKind}
 use Rattle.office_base.specs.declared.step.StepKind.TheVariants.{Open, Ews as EwsStep, Obc as ObcStep, Sc as ScStep, St as StStep, Dereserved}
 use Rattle.placements.specs.Ranks.{AreDistinct}
-use Rattle.placements.proofs.Ranks.{among_again, among_sublist}
-use Rattle.placements.proofs.Sublists.{IsSublist-take}
+use Rattle.placements.proofs.Ranks.{among_again, among_sublist, ranked_sublist, are_among, widen}
+use Rattle.placements.proofs.Sublists.{IsSublist-take, sublist_again}
+use Rattle.placements.proofs.Filters.{filter-sublist}
 use Rattle.merit_choice.specs.State.{StepKept}
 use Rattle.merit_choice.specs.declared.state.Offered.TheVariants.{Taken, Displaced, Refused}
 use Rattle.seat_matrix.specs.Seats.{AreProgrammeSeats, seats_of}
@@ -26,9 +27,8 @@ use Rattle.programme_lists.specs.Programme.{Admissions, admitted_by, is_of, left
 use Rattle.open_then_category.specs.State.{IsAnswered, IsPassed, IsProgrammeKept, LeavesOut, ProgrammeKept, count, nobody, step_kept}
 use Rattle.open_then_category.specs.StepLaws.{AreLawful}
 use Rattle.open_then_category.proofs.Leaving.{falls_by_one, has_number, passed_count, passed_size}
-use Rattle.open_then_category.proofs.Lists.{filter-sublist, ranked_sublist, sublist_again}
 use Rattle.open_then_category.proofs.Once.{in_everybody}
-use Rattle.open_then_category.proofs.Passing.{Joins, from_each, key_apart, new_to, passes, starts, widen, without_joins}
+use Rattle.open_then_category.proofs.Passing.{Joins, key_apart, new_to, passes, starts, without_joins}
 use Rattle.open_then_category.proofs.ProgrammeLaws.{last_sublist, rest_of}
 use Rattle.open_then_category.proofs.SetLaws as sets
 use Rattle.open_then_category.proofs.Walk.{members_sublist, obc_there, sc_there, st_there}
@@ -217,7 +217,7 @@ answer_refused laws before after person gone leaver stays kept may choice e same
     let held = everybody before.admissions in
     let all = person ∷ held in
     let left = subst (λ (o : Option Person). LeavesOut before.admissions person o after.admissions) e out in
-    let part = from_each held all (λ other here. inr here) in
+    let part = are_among held all (λ other here. inr here) in
     let equal : before.admissions ≡ after.admissions = sets.leaving_out_the_refused laws before.version before.seats held all before.admissions after.admissions
     (record { are_seats = kept.are_seats; distinct = may.distinct.1; may = may; part = part; choice = kept.choice; more_choice = choice })
     (λ other here gone_too kind there. elim here [

@@ -12,7 +12,7 @@ use Rattle.office_base.specs.declared.step.StepKind.{StepKind}
 use Rattle.office_base.specs.declared.step.StepKind.TheVariants.{Open, Ews as EwsStep, Obc as ObcStep, Sc as ScStep, St as StStep, Dereserved}
 use Rattle.placements.proofs.Sublists.{length-sublist}
 use Rattle.placements.specs.Ranks.{AreAmong, AreDistinct}
-use Rattle.placements.proofs.Ranks.{among_again}
+use Rattle.placements.proofs.Ranks.{among_again, are_among, widen}
 use Rattle.placements.proofs.Without.{length_without}
 use Rattle.seat_matrix.specs.Seats.{seats_of}
 use Rattle.seat_matrix.specs.declared.seats.ProgrammeSeats.{ProgrammeSeats}
@@ -22,7 +22,7 @@ use Rattle.programme_lists.specs.Programme.{Admissions, admitted_by, is_of, peop
 use Rattle.open_then_category.specs.State.{HandsOn, IsPassed, IsTried, LeavesOut, OffersLeaveOne, count, entered, left_last, passing}
 use Rattle.open_then_category.specs.StepLaws.{AreLawful}
 use Rattle.open_then_category.proofs.Once.{from_everybody, in_everybody, ranked_once}
-use Rattle.open_then_category.proofs.Passing.{Joins, course, from_each, last_joins, offers_keep_choices, starts, widen}
+use Rattle.open_then_category.proofs.Passing.{Joins, course, last_joins, offers_keep_choices, starts}
 
 -- ---- lengths
 
@@ -158,7 +158,7 @@ module _ (laws : AreLawful) where
       let now = everybody after in
       let people = in_merit list held in
       let more = in_merit list all in
-      let held_may = laws.part_can_be_ranked list held all may.distinct.1 may (from_each held all (λ other here. inr here)) in
+      let held_may = laws.part_can_be_ranked list held all may.distinct.1 may (are_among held all (λ other here. inr here)) in
       let held_ranks = laws.in_merit_ranks list held held_may in
       let ranks = laws.in_merit_ranks list all may in
       let j = starts laws list held person may in
@@ -252,7 +252,7 @@ module _ (laws : AreLawful) where
           → length now + 1 ≡ length all → IsAmong other now → ⊥
       fewer list all now other may distinct within each short here =
           let now_may = laws.part_can_be_ranked list now all distinct may within in
-          let back : AreAmong all now = from_each all now (λ one there. elim (each one there) [ inl found ↦ found | inr e ↦ (let is : other ≡ one = cc e in subst (λ (p : Person). IsAmong p now) is here) ]) in
+          let back : AreAmong all now = are_among all now (λ one there. elim (each one there) [ inl found ↦ found | inr e ↦ (let is : other ≡ one = cc e in subst (λ (p : Person). IsAmong p now) is here) ]) in
           let sub = length-sublist (in_merit list all) (in_merit list now) (laws.part_in_merit list all now may.distinct now_may back) in
           let one = (laws.in_merit_ranks list all may).3 in
           let two = (laws.in_merit_ranks list now now_may).3 in

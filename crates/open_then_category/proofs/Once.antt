@@ -14,7 +14,8 @@ use Rattle.office_base.specs.declared.step.StepKind.TheVariants.{Open, Ews as Ew
 use Rattle.placements.proofs.Sublists.{IsSublist-same, IsSublist-take}
 use Rattle.placements.specs.Ranks.{AreAmong, AreDistinct}
 use Rattle.placements.proofs.Hall.{small_trait}
-use Rattle.placements.proofs.Ranks.{among_again, among_back, among_front, among_itself, among_joined, among_sublist, any_all, any_among, any_append, one_person, pairwise_sublist}
+use Rattle.placements.proofs.Ranks.{among_again, among_back, among_front, among_itself, among_joined, among_sublist, any_all, any_among, any_append, one_person, pairwise_sublist, all_among}
+use Rattle.placements.proofs.Filters.{filter-sublist, among_filter}
 use Rattle.seat_matrix.specs.Seats.{seats_of}
 use Rattle.seat_matrix.specs.declared.seats.ProgrammeSeats.{ProgrammeSeats}
 use Rattle.programme_lists.specs.Chosen.{everybody}
@@ -22,7 +23,7 @@ use Rattle.programme_lists.specs.Listing.{ShowsChoice, ShowsStep}
 use Rattle.programme_lists.specs.Programme.{Admissions, IsProgrammeChoice, admitted_by, is_of, left_over, people_of, unfilled}
 use Rattle.programme_lists.specs.declared.programme.Programme.{Programme}
 use Rattle.programme_lists.specs.declared.programme.StepList.{StepList}
-use Rattle.open_then_category.proofs.Lists.{among_filter, among_without, filter-sublist}
+use Rattle.open_then_category.proofs.Lists.{among_without}
 use Rattle.open_then_category.proofs.ProgrammeLaws.{IsLeft, chosen_passes, is_left, last_sublist, rest_of}
 use Rattle.open_then_category.proofs.Walk.{same_category}
 
@@ -235,13 +236,6 @@ from_everybody admissions person here =
 
 -- ---- slots
 
--- what holds of all people holds of some of them
-all_of_some : (P : Person → Type 0) (some all : List Person) → AreAmong some all → AllByRecursion P all → AllByRecursion P some
-all_of_some P [] all within each = tt
-all_of_some P (person ∷ some) all within each =
-    let found = any_all (λ other. person ≡ other) P all within.0 each in
-    (subst P (sym found.1) found.2, all_of_some P some all within.1 each)
-
 -- the slots of pairs that people fill are traits
 pairs_small : (people : List Person) (pairs : List Pair) → AllByRecursion (λ person. IsTraitSet person.traits) people → AllByRecursion (λ pair. AnyByRecursion (Fills pair) people) pairs
     → AllByRecursion (λ pair. pair.slot < 6) pairs
@@ -263,5 +257,5 @@ pub ranked_slots : (version : ℕ) (seats : ProgrammeSeats) (people : List Perso
 ranked_slots version seats people programme ranked shown =
     all_second (ShowsStep version seats people shown.0) (λ (list : StepList). AllByRecursion (λ pair. pair.slot < 6) list.cert.pairs)
     (λ kind list shows. pairs_small (admitted_by shown.0 kind) list.cert.pairs
-    (all_of_some (λ person. IsTraitSet person.traits) (admitted_by shown.0 kind) people (each_sound version seats people shown.0 kind ranked.distinct shown.1).within ranked.traits) shows.certificate.placement.held)
+    (all_among (λ person. IsTraitSet person.traits) (admitted_by shown.0 kind) people (each_sound version seats people shown.0 kind ranked.distinct shown.1).within ranked.traits) shows.certificate.placement.held)
     (Open ∷ EwsStep ∷ ObcStep ∷ ScStep ∷ StStep ∷ Dereserved ∷ []) programme.steps shown.2

@@ -13,11 +13,12 @@ use Rattle.office_base.specs.declared.person.ListId.{ListId}
 use Rattle.office_base.specs.declared.person.Person.{Person}
 use Rattle.office_base.specs.declared.step.StepKind.{StepKind}
 use Rattle.office_base.specs.declared.step.StepKind.TheVariants.{Open, Ews as EwsStep, Obc as ObcStep, Sc as ScStep, St as StStep, Dereserved}
-use Rattle.placements.proofs.Sublists.{IsSublist-take}
+use Rattle.placements.proofs.Sublists.{IsSublist-take, sublist_again}
 use Rattle.placements.specs.Ranks.{AreAmong, AreDistinct}
 use Rattle.placements.specs.Ranks as words
-use Rattle.placements.proofs.Ranks.{among_again, among_itself, among_sublist, any_all, any_among}
+use Rattle.placements.proofs.Ranks.{among_again, among_itself, among_sublist, any_all, ranked_sublist, are_among, widen}
 use Rattle.placements.proofs.Without.{among_without as among_others, without_among as others_among, without_apart}
+use Rattle.placements.proofs.Filters.{filter-sublist, among_filter, among_filter_from}
 use Rattle.seat_matrix.specs.Seats.{AreProgrammeSeats, IsSeated, seats_of}
 use Rattle.seat_matrix.specs.declared.seats.ProgrammeSeats.{ProgrammeSeats}
 use Rattle.seat_matrix.specs.declared.seats.Seating.{Seating}
@@ -26,7 +27,7 @@ use Rattle.programme_lists.specs.Programme.{Admissions, IsProgrammeChoice, admit
 use Rattle.open_then_category.specs.State.{HandsOn, IsOffered, IsPassed, IsTried, OffersKeepChoices, entered, passing}
 use Rattle.open_then_category.specs.StepLaws.{AreLawful}
 use Rattle.open_then_category.proofs.Decide.{is_among_or_not}
-use Rattle.open_then_category.proofs.Lists.{among_filter, among_filter_from, among_without, among_without_from, filter-sublist, ranked_sublist, sublist_again}
+use Rattle.open_then_category.proofs.Lists.{among_without, among_without_from}
 use Rattle.open_then_category.proofs.Once.{from_everybody}
 use Rattle.open_then_category.proofs.ProgrammeLaws.{is_left, last_sublist, rest_of}
 use Rattle.open_then_category.proofs.Walk.{members_sublist, obc_there, ranked_without, same_category, sc_there, st_there}
@@ -52,13 +53,6 @@ none_passing test None fails = refl
 none_passing test (Some person) fails = cond-false (test person) (Some person) None (fails person refl)
 
 -- ---- sets of people
-
-pub from_each : (some all : List Person) → ((person : Person) → IsAmong person some → IsAmong person all) → AreAmong some all
-from_each [] all each = tt
-from_each (person ∷ some) all each = (each person (inl refl), from_each some all (λ other here. each other (inr here)))
-
-pub widen : (person : Person) (some all : List Person) → AreAmong some all → IsAmong person some → IsAmong person all
-widen person some all within here = any_among (λ one. person ≡ one) some all within here
 
 -- nobody of distinct people without one of a number is that one
 gone_apart : (leaver : Person) (people : List Person) → AreDistinct people → IsAmong leaver (words.without leaver.id people) → ⊥
@@ -111,7 +105,7 @@ filter_joins : (list : ListId) (test : Person → Bool) (before after : List Per
 filter_joins list test before after coming j = record {
   ranked = ranked_sublist list (filter test before) before j.ranked (filter-sublist test before);
   more_ranked = ranked_sublist list (filter test after) after j.more_ranked (filter-sublist test after);
-  part = from_each (filter test before) (filter test after) (λ person here.
+  part = are_among (filter test before) (filter test after) (λ person here.
       let found = among_filter test person before here in
       among_filter_from test person after (widen person before after j.part found.0) found.1);
   here = λ person e. let found = passing_some test coming person e in among_filter_from test person after (j.here person found.0) found.1;
@@ -128,14 +122,14 @@ filter_joins list test before after coming j = record {
 pub without_joins : (list : ListId) (before after old new : List Person) (coming leaver : Option Person) → Joins list before after coming → AreAmong old before → Passes old coming leaver new
     → Joins list (without before old) (without after new) leaver
 without_joins list before after old new coming leaver j within p =
-    let new_within : AreAmong new after = from_each new after (λ person here. elim (p.back person (inl here)) [
+    let new_within : AreAmong new after = are_among new after (λ person here. elim (p.back person (inl here)) [
       | inl held ↦ widen person before after j.part (widen person old before within held)
       | inr came ↦ j.here person came
     ]) in
     record {
       ranked = ranked_without list before old j.ranked;
       more_ranked = ranked_without list after new j.more_ranked;
-      part = from_each (without before old) (without after new) (λ person here.
+      part = are_among (without before old) (without after new) (λ person here.
           let found = among_without person before old here in
           among_without_from after after new person j.more_ranked.distinct (among_itself after) new_within (widen person before after j.part found.0)
           (λ there. elim (p.back person (inl there)) [ inl held ↦ found.1 held | inr came ↦ j.fresh person came found.0 ]));
@@ -267,7 +261,7 @@ module _ (laws : AreLawful) where
       → IsStepChoice (step_with list seats before) old → ChosenWith list seats old coming new → IsStepChoice (step_with list seats after) new
   joined_choice list seats before after old new None is_list seated j choice same =
       let one = ranked_same list before after j.ranked j.more_ranked j.part
-      (from_each after before (λ person here. elim (j.nobody_else person here) [ inl there ↦ there | inr came ↦ cc came ])) in
+      (are_among after before (λ person here. elim (j.nobody_else person here) [ inl there ↦ there | inr came ↦ cc came ])) in
       subst (λ (people : List Person). IsStepChoice (step_with list seats people) new) one (subst (IsStepChoice (step_with list seats before)) (sym same) choice)
   joined_choice list seats before after old new (Some person) is_list seated j choice chosen =
       let within = among_sublist old before choice.may.people in
@@ -279,7 +273,7 @@ module _ (laws : AreLawful) where
       let small_step : IsStep (step_with list seats small) = record { list = is_list; people = with_one.0; protections = seated.protections } in
       let more_step : IsStep (step_with list seats after) = record { list = is_list; people = j.more_ranked; protections = seated.protections } in
       let whole = laws.choice_exists (step_with list seats after) more_step in
-      let small_within : AreAmong small after = from_each small after (λ other here. elim (widen other small (person ∷ old) with_one.2 here) [
+      let small_within : AreAmong small after = are_among small after (λ other here. elim (widen other small (person ∷ old) with_one.2 here) [
         | inl same ↦ subst (λ (one : Person). IsAmong one after) (sym same) (j.here person refl)
         | inr held ↦ widen other before after j.part (widen other old before within held)
       ]) in
@@ -296,14 +290,14 @@ module _ (laws : AreLawful) where
   -- whoever joins people who are ranked, put in at the merit place
   joined_people : (list : ListId) (before after : List Person) (coming : Option Person) → Joins list before after coming → after ≡ entered list before coming
   joined_people list before after None j =
-      sym (ranked_same list before after j.ranked j.more_ranked j.part (from_each after before (λ person here. elim (j.nobody_else person here) [ inl there ↦ there | inr came ↦ cc came ])))
+      sym (ranked_same list before after j.ranked j.more_ranked j.part (are_among after before (λ person here. elim (j.nobody_else person here) [ inl there ↦ there | inr came ↦ cc came ])))
   joined_people list before after (Some person) j =
       let fresh = new_to list after before person j.more_ranked j.part (j.here person refl) (j.fresh person refl) in
       let with_one = laws.with_person_ranks list before person j.ranked fresh in
       ranked_same list after (with_person list person before) j.more_ranked with_one.0
-      (from_each after (with_person list person before) (λ other here. widen other (person ∷ before) (with_person list person before) with_one.1
+      (are_among after (with_person list person before) (λ other here. widen other (person ∷ before) (with_person list person before) with_one.1
       (elim (j.nobody_else other here) [ inl there ↦ inr there | inr came ↦ (let is : person ≡ other = cc came in inl (sym is)) ])))
-      (from_each (with_person list person before) after (λ other here. elim (widen other (with_person list person before) (person ∷ before) with_one.2 here) [
+      (are_among (with_person list person before) after (λ other here. elim (widen other (with_person list person before) (person ∷ before) with_one.2 here) [
         | inl same ↦ subst (λ (one : Person). IsAmong one after) (sym same) (j.here person refl)
         | inr there ↦ widen other before after j.part there
       ]))
@@ -341,7 +335,7 @@ module _ (laws : AreLawful) where
       let whole_ranked = ranked_sublist seats.list whole people ranked (last_sublist seats.list people admissions) in
       let sub : IsSublist admissions.dereserved whole = subst (λ (some : List Person). IsSublist some whole) (sym choice.dereserved) (IsSublist-take n whole) in
       ranked_same seats.list admissions.dereserved whole (ranked_sublist seats.list admissions.dereserved whole whole_ranked sub) whole_ranked (among_sublist admissions.dereserved whole sub)
-      (from_each whole admissions.dereserved (λ person here.
+      (are_among whole admissions.dereserved (λ person here.
       let left = is_left person people admissions (among_filter (is_common seats.list) person (left_over people admissions) here).0 in
       let found = from_everybody admissions person (widen person people (everybody admissions) all left.here) in
       elim found.0 as (λ (kind : StepKind). IsAmong person (admitted_by admissions kind) → IsAmong person admissions.dereserved) [
@@ -460,12 +454,12 @@ module _ (laws : AreLawful) where
   pub starts : (list : ListId) (held : List Person) (person : Person) → AreApplicants list (person ∷ held) → Joins list (in_merit list held) (in_merit list (person ∷ held)) (Some person)
   starts list held person may =
       let ranks = laws.in_merit_ranks list (person ∷ held) may in
-      let held_may = laws.part_can_be_ranked list held (person ∷ held) may.distinct.1 may (from_each held (person ∷ held) (λ other here. inr here)) in
+      let held_may = laws.part_can_be_ranked list held (person ∷ held) may.distinct.1 may (are_among held (person ∷ held) (λ other here. inr here)) in
       let held_ranks = laws.in_merit_ranks list held held_may in
       record {
         ranked = held_ranks.0;
         more_ranked = ranks.0;
-        part = from_each (in_merit list held) (in_merit list (person ∷ held)) (λ other here. widen other (person ∷ held) (in_merit list (person ∷ held)) ranks.1 (inr (widen other (in_merit list held) held held_ranks.2 here)));
+        part = are_among (in_merit list held) (in_merit list (person ∷ held)) (λ other here. widen other (person ∷ held) (in_merit list (person ∷ held)) ranks.1 (inr (widen other (in_merit list held) held held_ranks.2 here)));
         here = λ other e. (let is : person ≡ other = cc e in widen other (person ∷ held) (in_merit list (person ∷ held)) ranks.1 (inl (sym is)));
         nobody_else = λ other here. elim (widen other (in_merit list (person ∷ held)) (person ∷ held) ranks.2 here) [
           | inl same ↦ inr (ap (λ (one : Person). Some one) (sym same))
@@ -483,7 +477,7 @@ module _ (laws : AreLawful) where
   offers_keep_choices version seats before after person ok may choice offered =
       let list = seats.list in
       let held = everybody before in
-      let held_may = laws.part_can_be_ranked list held (person ∷ held) may.distinct.1 may (from_each held (person ∷ held) (λ other here. inr here)) in
+      let held_may = laws.part_can_be_ranked list held (person ∷ held) may.distinct.1 may (are_among held (person ∷ held) (λ other here. inr here)) in
       let held_ranks = laws.in_merit_ranks list held held_may in
       let j = starts list held person may in
       ranked_offer version seats (in_merit list held) (in_merit list (person ∷ held)) before after person ok j held_ranks.2 choice offered

@@ -11,9 +11,10 @@ use Rattle.office_base.specs.declared.person.ListId.{ListId}
 use Rattle.office_base.specs.declared.person.Person.{Person}
 use Rattle.office_base.specs.declared.step.StepKind.{StepKind}
 use Rattle.office_base.specs.declared.step.StepKind.TheVariants.{Open, Ews as EwsStep, Obc as ObcStep, Sc as ScStep, St as StStep, Dereserved}
-use Rattle.placements.proofs.Sublists.{IsSublist-same, IsSublist-take, length-sublist}
+use Rattle.placements.proofs.Sublists.{IsSublist-same, IsSublist-take, length-sublist, sublist_again}
 use Rattle.placements.specs.Ranks.{AreAmong, AreDistinct}
-use Rattle.placements.proofs.Ranks.{any_among, among_sublist, among_again, among_itself}
+use Rattle.placements.proofs.Ranks.{any_among, among_sublist, among_again, among_itself, ranked_sublist}
+use Rattle.placements.proofs.Filters.{filter_mono, filter-sublist, among_filter, among_filter_from}
 use Rattle.merit_choice.specs.Laws.{HasMorePeople}
 use Rattle.seat_matrix.specs.Seats.{AreProgrammeSeats, IsSeated, seats_of}
 use Rattle.seat_matrix.specs.Unfilled.{left_unfilled}
@@ -21,7 +22,7 @@ use Rattle.seat_matrix.specs.declared.seats.ProgrammeSeats.{ProgrammeSeats}
 use Rattle.seat_matrix.specs.declared.seats.Seating.{Seating}
 use Rattle.programme_lists.specs.Chosen.{IsRefused}
 use Rattle.programme_lists.specs.Programme.{Admissions, admitted_by, is_of, without, left_over, people_of, step_with, unfilled, IsProgrammeChoice}
-use Rattle.open_then_category.proofs.Lists.{filter_mono, filter-sublist, sublist_again, among_filter, among_filter_from, among_without, among_without_from, without_mono, among_or_not, among_best, best_of_some, ranked_sublist}
+use Rattle.open_then_category.proofs.Lists.{among_without, among_without_from, without_mono, among_or_not, among_best, best_of_some}
 use Rattle.open_then_category.specs.StepLaws.{AreLawful}
 use Rattle.open_then_category.proofs.RankedWords.{RankedOneProgrammeChoice, RankedProgrammeChoiceExists, RankedFromMore, RankedRefusedFromMore, RankedUnfilledFalls, RankedNoFewerAdmitted, RankedLeavingOutTheRefused, RankedEachRefusedAllRefused}
 

@@ -6,7 +6,7 @@ use Rattle.office_base.specs.declared.person.ListId.{ListId}
 use Rattle.office_base.specs.declared.person.Person.{Person}
 use Rattle.office_base.specs.declared.step.StepKind.{StepKind}
 use Rattle.placements.specs.Ranks.{AreAmong, AreDistinct}
-use Rattle.placements.proofs.Ranks.{among_again, among_sublist, any_among, pairwise_sublist}
+use Rattle.placements.proofs.Ranks.{among_again, among_sublist, any_among, pairwise_sublist, are_among, widen}
 use Rattle.seat_matrix.specs.Seats.{AreProgrammeSeats, HaveMoreSeats}
 use Rattle.seat_matrix.specs.declared.seats.ProgrammeSeats.{ProgrammeSeats}
 use Rattle.seat_matrix.specs.declared.seats.Seatings.{Seatings}
@@ -26,15 +26,6 @@ admitted_or_refused admissions person = elim (is_among_or_not person (everybody 
   | inl here ↦ inl (from_everybody admissions person here)
   | inr gone ↦ inr (λ kind here. gone (any_among (λ one. person ≡ one) (admitted_by admissions kind) (everybody admissions) (in_everybody admissions kind) here))
 ]
-
--- each of these is one of those
-from_each : (some all : List Person) → ((person : Person) → IsAmong person some → IsAmong person all) → AreAmong some all
-from_each [] all each = tt
-from_each (person ∷ some) all each = (each person (inl refl), from_each some all (λ other here. each other (inr here)))
-
--- one of some people is one of all
-widen : (person : Person) (some all : List Person) → AreAmong some all → IsAmong person some → IsAmong person all
-widen person some all within here = any_among (λ one. person ≡ one) some all within here
 
 module _ (laws : AreLawful) where
   -- people by merit are the people
@@ -128,7 +119,7 @@ module _ (laws : AreLawful) where
 
   pub resumes : Resumes
   resumes version seats some all person before after ok distinct may joined fresh one two =
-      let part = from_each some all joined.part in
+      let part = are_among some all joined.part in
       let once = admitted_once version seats some before ok (some_may seats.list some all distinct may part) one in
       let within = among_again (everybody before) some all once.1 part in
       let small_part : AreAmong (person ∷ everybody before) all = (joined.here, within) in

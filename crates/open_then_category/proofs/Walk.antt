@@ -8,13 +8,14 @@ use Rattle.office_base.specs.declared.person.Category.TheVariants.{Gen, Ews, Obc
 use Rattle.office_base.specs.StepChoice.{AreRanked}
 use Rattle.office_base.specs.declared.person.ListId.{ListId}
 use Rattle.office_base.specs.declared.person.Person.{Person}
-use Rattle.placements.proofs.Sublists.{IsSublist-nil}
+use Rattle.placements.proofs.Sublists.{IsSublist-nil, sublist_again}
 use Rattle.placements.specs.Ranks.{AreAmong, AreDistinct}
 use Rattle.placements.proofs.Convert.{same_cand}
-use Rattle.placements.proofs.Ranks.{any_all, any_among, among_again, among_sublist}
+use Rattle.placements.proofs.Ranks.{any_all, any_among, among_again, among_sublist, ranked_sublist}
+use Rattle.placements.proofs.Filters.{filter-sublist, among_filter}
 use Rattle.merit_choice.specs.Laws.{IsAmong}
 use Rattle.programme_lists.specs.Programme.{is_taken, is_same, is_of, without}
-use Rattle.open_then_category.proofs.Lists.{taken_number, taken_among, among_filter, filter-sublist, sublist_again, ranked_sublist}
+use Rattle.open_then_category.proofs.Lists.{taken_number, taken_among}
 
 -- the people who are left where those taken stand in the order of the people
 abbrev pub minus : List Person → List Person → List Person

@@ -1,6 +1,7 @@
 // The choice of a programme, step by step.
 ghost use Rattle.std.specs.Prelude.{◌≡◌, ◌≤◌, ◌<◌, List, IfOk, length, take};
 ghost use Rattle.std.specs.List.{filter};
+ghost use Rattle.office_base.specs.Limits.{most_step_seats};
 ghost use Rattle.office_base.specs.Person.{IsList, is_common};
 ghost use Rattle.office_base.specs.StepChoice.{AreRanked, IsStep, IsStepChoice};
 ghost use Rattle.office_base.specs.Version.{IsVersion};
@@ -116,7 +117,7 @@ fn dereserved_step(
 
 /// How many persons a step of a programme admitted.
 fn held_by(list: &StepList) -> u16
-    requires { length list.now.admitted ≤ 4000 }
+    requires { length list.now.admitted ≤ most_step_seats }
     ensures { result ≡ length list.now.admitted }
 {
     list.admitted.len() as u16

@@ -1,5 +1,6 @@
 // The choice of a programme from applicants who come one at a time.
 ghost use Rattle.std.specs.Prelude.{◌≡◌, ◌≤◌, ◌<◌, ◌+◌, [], ◌∷◌, List, Some, length, take, slice_get, vec_len, vec_capacity, IfOk};
+ghost use Rattle.office_base.specs.Limits.{most_step_seats};
 ghost use Rattle.office_base.specs.Lists.{IsAmong};
 ghost use Rattle.office_base.specs.Merit.{IsNewTo};
 ghost use Rattle.office_base.specs.Person.{IsList, is_common};
@@ -143,7 +144,7 @@ fn step_state(alloc: Global, list: ListId, seating: Seating) -> Result<StepState
 
 /// How many a step holds.
 fn held_by(step: &StepState) -> u16
-    requires { step.now.seats ≤ 4000 }
+    requires { step.now.seats ≤ most_step_seats }
     ensures held { result ≡ length step.now.held }
     ensures few { length step.now.held ≤ step.now.seats }
 {

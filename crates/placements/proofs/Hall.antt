@@ -1,5 +1,5 @@
 -- People can all be placed exactly where no set of traits is asked for, and nothing else, by more of them than it has positions.
-use Rattle.std.proofs.Common.{◌≡◌, ◌∙◌, ◌≢◌, ◌<◌, ◌≤◌, ◌+◌, ◌*◌, ◌^◌, ◌⊎◌, ◌&&◌, ℕ, zero, suc, min, max, List, [], ◌∷◌, length, leb, cond, not, Bool, true, false, refl, ap, sym, subst, inl, inr, arith, get_or, take, sum, add-one, lit<, bit_and, bit_or}
+use Rattle.std.proofs.Common.{◌≡◌, ◌∙◌, ◌≢◌, ◌<◌, ◌≤◌, ◌+◌, ◌*◌, ◌^◌, ◌⊎◌, ◌&&◌, ℕ, zero, suc, min, max, List, [], ◌∷◌, length, leb, cond, not, Bool, true, false, refl, ap, sym, subst, inl, inr, arith, take, sum, add-one, lit<, bit_and, bit_or}
 use Rattle.std.proofs.lemmas.Bool.{eqb-true, eqb-false, cases_Bool, cases_lt, cases_eq, leb-true, leb-false, eq-eqb, and_parts, and_cases, not-true, not-false, both_ways}
 use Rattle.std.proofs.lemmas.Nat.{pow_pos, or_lt, and_le_l}
 use Rattle.std.proofs.lemmas.List.{get_or_past, take_all}
@@ -543,12 +543,3 @@ positions_below_few n protections set =
               let same : sum (take (suc k) protections.counts) ≡ sum (take k protections.counts) =
               ap sum (take_all (suc k) protections.counts (omega arith) ∙ sym (take_all k protections.counts past)) in omega arith)
         ]
-
--- and one trait more of the set stays within them
-pub position_added : (n k : ℕ) (protections : Protections) (set : TraitSet) → has_trait set n ≡ true → k ≡ n
-    → positions_below n protections set + get_or protections.counts k 0 ≤ sum protections.counts
-position_added n k protections set has same =
-    let few = positions_below_few (suc n) protections set in
-    let e = counted set n (protected protections n) in
-    let f = ap (λ b. b * protected protections n) (bit_one set n has) in
-    let g = ap (λ i. get_or protections.counts i 0) same in omega arith

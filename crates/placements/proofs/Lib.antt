@@ -1,10 +1,13 @@
 pub mod Convert
 pub mod Exchange
+pub mod Filters
 pub mod Greatest
 pub mod Hall
+pub mod Merit
 pub mod Outside
 pub mod Ranks
 pub mod Replace
 pub mod Slots
 pub mod Sublists
 pub mod Without
+pub mod Zips

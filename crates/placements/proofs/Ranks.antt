@@ -2,9 +2,13 @@
 use Rattle.std.proofs.Common.{◌≡◌, ◌∙◌, ◌≢◌, ◌<◌, ◌≤◌, ◌+◌, ◌-◌, ◌⊎◌, ℕ, zero, suc, List, [], ◌∷◌, ◌++◌, length, eqb, refl, ap, sym, subst, inl, inr, arith, length-append}
 use Rattle.std.proofs.lemmas.Bool.{eqb-true, eqb-false, cases_Bool, cases_lt}
 use Rattle.std.specs.List.{AllByRecursion}
-use Rattle.office_base.specs.Lists.{AnyByRecursion, Pairwise, IsSublist}
+use Rattle.std.specs.Prelude.{IsSome}
+use Rattle.office_base.specs.Lists.{AnyByRecursion, IsAmong, Pairwise, IsSublist}
+use Rattle.office_base.specs.Person.{IsBetter, IsTraitSet, number_in}
 use Rattle.office_base.specs.Placement.{IsPlacement, IsHonoured, Fills, placed_on}
+use Rattle.office_base.specs.StepChoice.{AreRanked}
 use Rattle.office_base.specs.declared.person.CandId.{CandId}
+use Rattle.office_base.specs.declared.person.ListId.{ListId}
 use Rattle.office_base.specs.declared.person.Person.{Person}
 use Rattle.office_base.specs.declared.step.Pair.{Pair}
 use Rattle.office_base.specs.declared.step.Protections.{Protections}
@@ -37,6 +41,21 @@ any_at P x xs one p = any_weaker (λ y. x ≡ y) P (λ y e. subst P e p) xs one
 pub any_among : (P : Person → Type 0) (some all : List Person) → AreAmong some all → AnyByRecursion P some → AnyByRecursion P all
 any_among P some all among one =
     let found = any_all P (λ person. AnyByRecursion (λ other. person ≡ other) all) some one among in any_at P found.0 all found.2 found.1
+
+-- so each of the first people is one of the second
+pub widen : (person : Person) (some all : List Person) → AreAmong some all → IsAmong person some → IsAmong person all
+widen person some all among here = any_among (λ other. person ≡ other) some all among here
+
+-- a list is among another where each of its people is
+pub are_among : (some all : List Person) → ((person : Person) → IsAmong person some → IsAmong person all) → AreAmong some all
+are_among [] all each = tt
+are_among (person ∷ some) all each = (each person (inl refl), are_among some all (λ one there. each one (inr there)))
+
+-- what holds of each of all holds of those among them
+pub all_among : (P : Person → Type 0) (some all : List Person) → AreAmong some all → AllByRecursion P all → AllByRecursion P some
+all_among P some all among each =
+    all_weaker (λ one. AnyByRecursion (λ other. one ≡ other) all) P
+    (λ one there. let found = any_all (λ other. one ≡ other) P all there each in subst P (sym found.1) found.2) some among
 
 -- everybody is among a list with one more in front
 pub among_longer : (person : Person) (some all : List Person) → AreAmong some all → AreAmong some (person ∷ all)
@@ -592,3 +611,12 @@ placed_end protections person people can = placed_again protections (person ∷ 
 pub placed_front : (protections : Protections) (person : Person) (people : List Person) → CanBePlaced protections (people ++ person ∷ []) → CanBePlaced protections (person ∷ people)
 placed_front protections person people can = placed_again protections (people ++ person ∷ []) (person ∷ people) (end_among_front person people)
     (let e = length-append people (person ∷ []) in omega arith) can
+
+-- a sublist of ranked people is ranked
+pub ranked_sublist : (list : ListId) (some all : List Person) → AreRanked list all → IsSublist some all → AreRanked list some
+ranked_sublist list some all ranked sub = record {
+  traits = AllByRecursion-sublist (λ (person : Person). IsTraitSet person.traits) some all sub ranked.traits;
+  placed = AllByRecursion-sublist (λ (person : Person). IsSome (number_in list person)) some all sub ranked.placed;
+  in_order = pairwise_sublist (IsBetter list) some all sub ranked.in_order;
+  distinct = pairwise_sublist (λ (a : Person) (b : Person). a.id ≢ b.id) some all sub ranked.distinct;
+}

@@ -45,3 +45,14 @@ AllByRecursion-sublist P xs (y ∷ ys) s all =
       | inl later ↦ AllByRecursion-sublist P xs ys later all.1
       | inr now ↦ subst (λ (zs : List _). AllByRecursion P zs) (sym now.1) (all.0, AllByRecursion-sublist P now.0 ys now.2 all.1)
     ]
+
+-- a sublist of a sublist is one
+pub sublist_again : {X : Type 0} (xs ys zs : List X) → IsSublist xs ys → IsSublist ys zs → IsSublist xs zs
+sublist_again xs ys [] first second = subst (λ (list : List _). IsSublist xs list) second first
+sublist_again xs ys (z ∷ zs) first second = elim second [
+  | inl later ↦ inl (sublist_again xs ys zs first later)
+  | inr now ↦ elim (subst (λ (list : List _). IsSublist xs list) now.1 first) [
+    | inl later ↦ inl (sublist_again xs now.0 zs later now.2)
+    | inr begins ↦ inr (begins.0, begins.1, sublist_again begins.0 now.0 zs begins.2 now.2)
+  ]
+]

@@ -38,3 +38,22 @@ impl StepList {
         })
     }
 }
+
+impl Programme {
+    /// The same six lists.
+    pub fn copy(&self, alloc: Global) -> Result<Programme, OutOfMemory>
+        ensures { IfOk result (λ programme. programme ≡ self.now) }
+    {
+        let [open, ews, obc, sc, st, dereserved] = &self.steps;
+        Ok(Programme {
+            steps: [
+                open.copy(alloc)?,
+                ews.copy(alloc)?,
+                obc.copy(alloc)?,
+                sc.copy(alloc)?,
+                st.copy(alloc)?,
+                dereserved.copy(alloc)?,
+            ],
+        })
+    }
+}

@@ -12,6 +12,7 @@ use Rattle.std.proofs.lemmas.Bool.{leb-false, ne_eqb}
 use Rattle.std.proofs.lemmas.Map.Text.{is_eq-slice_cmp}
 use Rattle.std.proofs.lemmas.Option.{cond_some}
 use Rattle.std.proofs.lemmas.Slice.Eq.{bytes_eq-Decides}
+use Rattle.office_base.specs.Limits.{last_id, most_candidates}
 use Rattle.office_base.specs.declared.person.Person.{Person}
 use Rattle.office_base.specs.declared.person.Place.{Place}
 use Rattle.office_base.specs.Codes.{is_token}
@@ -103,7 +104,7 @@ keyed-insert k v (held ∷ es) e all = by (nat_cmp k held.0) refl (keyed-insert 
 
 -- What a row gave is new to the entries, and within its ranges.
 pub record IsAccepted (entries : List Entry) (entry : Entry) : Type 0 where
-  pub few : length entries < 250000
+  pub few : length entries < most_candidates
   pub fresh : person_at entry.person.id.0 entries ≡ None
   pub unheld : holder_at entry.token entries ≡ None
   pub four : (a : Place) × (b : Place) × (c : Place) × (d : Place) × (entry.person.places ≡ a ∷ b ∷ c ∷ d ∷ [])
@@ -162,14 +163,14 @@ abbrev with_id : List Entry → Row → ℕ → Result Entry RankKind
 with_id entries row id = needs (category_of (field row 1)) BadCategory (with_category entries row id)
 
 -- a new id is new and within its range
-id_accepted : (entries : List Entry) (row : Row) (id : ℕ) → new_id entries row ≡ Ok id → (length entries < 250000) × (1 ≤ id) × (id ≤ 999999999) × (person_at id entries ≡ None)
+id_accepted : (entries : List Entry) (row : Row) (id : ℕ) → new_id entries row ≡ Ok id → (length entries < most_candidates) × (1 ≤ id) × (id ≤ last_id) × (person_at id entries ≡ None)
 id_accepted entries row id e =
-    let (many, e1) = unless_ok (nat_le 250000 (length entries)) TooMany (needs (number_within 1 999999999 (field row 0)) BadId (λ n. unless (is_some (person_at n entries)) RepeatedId (Ok n))) id e in
-    let (n, e2, e3) = needs_ok (number_within 1 999999999 (field row 0)) BadId (λ n. unless (is_some (person_at n entries)) RepeatedId (Ok n)) id e1 in
+    let (many, e1) = unless_ok (nat_le most_candidates (length entries)) TooMany (needs (number_within 1 last_id (field row 0)) BadId (λ n. unless (is_some (person_at n entries)) RepeatedId (Ok n))) id e in
+    let (n, e2, e3) = needs_ok (number_within 1 last_id (field row 0)) BadId (λ n. unless (is_some (person_at n entries)) RepeatedId (Ok n)) id e1 in
     let (fresh, e4) = unless_ok (is_some (person_at n entries)) RepeatedId (Ok n) id e3 in
     let same : n ≡ id = cc e4 in
-    let range = within_range 1 999999999 n (field row 0) e2 in
-    (leb-false 250000 (length entries) many, omega (arith, range.0, same), omega (arith, range.1, same), subst (λ (k : ℕ). person_at k entries ≡ None) same (none_from (person_at n entries) fresh))
+    let range = within_range 1 last_id n (field row 0) e2 in
+    (leb-false most_candidates (length entries) many, omega (arith, range.0, same), omega (arith, range.1, same), subst (λ (k : ℕ). person_at k entries ≡ None) same (none_from (person_at n entries) fresh))
 
 -- four places
 places_accepted : (row : Row) (places : List Place) → places_of row ≡ Ok places → (a : Place) × (b : Place) × (c : Place) × (d : Place) × (places ≡ a ∷ b ∷ c ∷ d ∷ [])

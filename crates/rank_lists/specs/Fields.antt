@@ -1,5 +1,6 @@
 -- How the fields of a row are spelled.
 use Rattle.std.specs.Prelude.{◌-◌, ℕ, ◌==◌, ◌||◌, List, Option, Some, None, length, take, slice_index, bytes_eq, codes, if◌then◌else◌}
+use Rattle.office_base.specs.Limits.{last_place}
 use Rattle.office_base.specs.declared.person.Category.{Category}
 use Rattle.office_base.specs.declared.person.Category.TheVariants.{Gen, Ews, Obc, Sc, St}
 use Rattle.office_base.specs.declared.person.Place.{Place}
@@ -19,7 +20,7 @@ category_of text =
 
 -- the number of a place
 abbrev pub place_number : List ℕ → Option ℕ
-place_number text = number_within 1 9999999 text
+place_number text = number_within 1 last_place text
 
 -- the place that a text spells: nothing for none, a number for a common place, a number with R for a relaxed one
 abbrev pub place_of : List ℕ → Option Place

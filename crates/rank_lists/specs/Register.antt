@@ -1,6 +1,7 @@
 -- The grammar of the register: what a row gives behind the entries of the rows before it, or what is wrong with it.
 use Rattle.std.specs.Prelude.{◌≡◌, ◌<◌, ◌≤◌, ◌+◌, ℕ, Bool, true, false, ◌==◌, ◌&&◌, ◌||◌, nat_le, List, [], ◌∷◌, is_some, IsSome, IsTrue, Option, Some, None, Result, Ok, length, slice_index_or, bytes_eq, codes, option_map, if◌then◌else◌}
 use Rattle.office_base.specs.Codes.{is_token}
+use Rattle.office_base.specs.Limits.{last_id, most_candidates}
 use Rattle.office_base.specs.Lists.{Pairwise}
 use Rattle.office_base.specs.Person.{number_of, place_in, IsBetter, IsTraitSet}
 use Rattle.office_base.specs.declared.person.CandId.{CandId}
@@ -70,8 +71,8 @@ is_general St = false
 -- a new id: the number of candidates, the spelling of the id, and the ids of the entries
 abbrev pub new_id : List Entry → Row → Result ℕ RankKind
 new_id entries row =
-    unless (nat_le 250000 (length entries)) TooMany
-    (needs (number_within 1 999999999 (field row 0)) BadId (λ id. unless (is_some (person_at id entries)) RepeatedId (Ok id)))
+    unless (nat_le most_candidates (length entries)) TooMany
+    (needs (number_within 1 last_id (field row 0)) BadId (λ id. unless (is_some (person_at id entries)) RepeatedId (Ok id)))
 
 -- four places, where each is spelled and no field follows
 abbrev pub places_of : Row → Result (List Place) RankKind
@@ -141,20 +142,20 @@ AreApart person = (i j list n : ℕ) (a b : Person) → person i ≡ Some a → 
 -- a candidate's number, traits and places are within their ranges, and a general candidate has no relaxed place
 pub record IsRegistered (person : Person) : Type 0 where
   pub low : 1 ≤ person.id.0
-  pub high : person.id.0 ≤ 999999999
+  pub high : person.id.0 ≤ last_id
   pub traits : IsTraitSet person.traits
   pub general : (is_general person.category && any_relaxed person.places) ≡ false
 
 -- What holds of the entries of every register.
 pub record AreEntries (entries : List Entry) : Type 0 where
-  pub few : length entries ≤ 250000
+  pub few : length entries ≤ most_candidates
   pub apart : AreApart (λ id. person_at id entries)
   pub registered : (id : ℕ) (person : Person) → person_at id entries ≡ Some person → IsRegistered person
   pub tokens : (token : List ℕ) → IsSome (holder_at token entries) → IsTrue (is_token token)
 
 -- What holds of every register.
 pub record AreRanks (ranks : Ranks) : Type 0 where
-  pub few : length ranks.people ≤ 250000
+  pub few : length ranks.people ≤ most_candidates
   pub rising : Pairwise (λ a b. a.id.0 < b.id.0) ranks.people
   pub apart : AreApart (λ id. find_person id ranks.people)
   pub registered : (id : ℕ) (person : Person) → find_person id ranks.people ≡ Some person → IsRegistered person

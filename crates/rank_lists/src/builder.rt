@@ -12,17 +12,12 @@ use crate::entry::Entry;
 use crate::fault::RankKind;
 use crate::fields::{read_category, read_place};
 use crate::register::Register;
+use office_base::limits::{LAST_ID, MOST_CANDIDATES};
 use office_base::{CandId, Category, OutOfMemory, Person, Place, Token};
 use office_text::{read_number, read_traits};
 use section_rows::{Rows, TableBuilder};
 use std::alloc::{AllocError, Global};
 use std::collections::{BTreeMap, BTreeSet};
-
-/// The most candidates that a register has.
-const MOST: usize = 250_000;
-
-/// The greatest id.
-const LAST_ID: u32 = 999_999_999;
 
 /// A register in the making: the candidates so far by id, who holds which token, and the numbers taken in each list, counted from 0.
 #[derive(Drop)]
@@ -52,7 +47,7 @@ impl RegisterBuilder {
     fn new_id(&self, row: &Rows<'_>) -> Result<u32, RankKind>
         ensures { (entries : List Entry) → Keeps entries self.now → result ≡ new_id entries row.now.row }
     {
-        if self.people.len() >= MOST {
+        if self.people.len() >= MOST_CANDIDATES {
             return Err(RankKind::TooMany);
         }
         let Some(id) = read_number(row.field(0), 1, LAST_ID) else {

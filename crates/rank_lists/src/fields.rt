@@ -2,11 +2,9 @@
 ghost use Rattle.std.specs.Prelude.{◌≡◌};
 ghost use Rattle.rank_lists.specs.Fields.{category_of, place_of};
 
+use office_base::limits::LAST_PLACE;
 use office_base::{Category, Place};
 use office_text::read_number;
-
-/// The greatest number of a place.
-const LAST_PLACE: u32 = 9_999_999;
 
 /// The category that a text spells.
 pub(crate) fn read_category(text: &[u8]) -> Option<Category>

@@ -13,15 +13,17 @@ use Rattle.std.proofs.lemmas.List.{length-map}
 use Rattle.std.proofs.lemmas.Map.Text.{is_eq-slice_cmp}
 use Rattle.std.proofs.lemmas.Slice.Eq.{bytes_eq-Decides}
 use Rattle.indexmap.specs.IndexMap.{insert_entry}
+use Rattle.office_base.specs.Limits.{most_matrix_seats, most_programmes, most_step_seats}
 use Rattle.office_base.specs.Person.{IsList}
 use Rattle.office_base.specs.declared.step.StepKind.{StepKind}
 use Rattle.office_base.specs.declared.step.StepKind.TheVariants.{Open, Ews, Obc, Sc, St, Dereserved}
 use Rattle.seat_matrix.proofs.Codes.{Distinct, code_apart, codes-distinct}
 use Rattle.office_text.specs.Number.{number_within}
+use Rattle.office_text.specs.Names.{code_of, step_of}
 use Rattle.section_rows.specs.Rows.{Row, field}
 use Rattle.section_rows.specs.Steps.{after, needs, unless}
 use Rattle.section_rows.proofs.StepsLemmas.{after_ok, flip, found_cases, nat_at, needs_ok, none_from, number_decides, number_found, step, then_found, unless_ok, within_range}
-use Rattle.seat_matrix.specs.Fields.{code_of, count_of, protections_of, seating_of, step_number, step_of}
+use Rattle.seat_matrix.specs.Fields.{count_of, protections_of, seating_of, step_number}
 use Rattle.seat_matrix.specs.Laws.{OneStepChanges}
 use Rattle.seat_matrix.specs.Matrix.{AreEntries, AreSeats, IsMatrix, SeatTable, all_seats, codes_after, codes_in, codes_of, find_home, first_list, given, home_at, matrix_with, new_row, reading, seating_at, seating_in, seatings_in, seats_after, settles, steps_in, with_code}
 use Rattle.seat_matrix.specs.Seats.{IsSeated, is_dereserved, no_seatings, of_step, with_seating}
@@ -95,12 +97,12 @@ pub record IsAccepted (entries : List Entry) (entry : Entry) : Type 0 where
   pub fresh : seating_at entry.programme (step_number entry.step) entries ≡ None
   pub seated : IsSeated entry.seating
   pub list : IsList entry.home.list
-  pub few : home_at entry.programme entries ≡ None → length (codes_of entries) < 2000
-  pub total : all_seats entries + entry.seating.seats ≤ 1000000
+  pub few : home_at entry.programme entries ≡ None → length (codes_of entries) < most_programmes
+  pub total : all_seats entries + entry.seating.seats ≤ most_matrix_seats
 
 -- the steps of reading a row, one behind the other
 abbrev with_home : List Entry → Row → List ℕ × List ℕ × StepKind → Seating → Home → Result Entry MatrixKind
-with_home entries row p seating home = unless (nat_lt 1000000 (all_seats entries + seating.seats)) TooMany (Ok (record { programme = p.0; home = home; step = p.2; seating = seating }))
+with_home entries row p seating home = unless (nat_lt most_matrix_seats (all_seats entries + seating.seats)) TooMany (Ok (record { programme = p.0; home = home; step = p.2; seating = seating }))
 
 abbrev with_list : List Entry → Row → List ℕ × List ℕ × StepKind → Seating → ℕ → Result Entry MatrixKind
 with_list entries row p seating list = after (settles (home_at p.0 entries) (length (codes_of entries)) (record { institute = p.1; list = record { 0 = list } })) (with_home entries row p seating)
@@ -130,20 +132,20 @@ row_accepted entries row p e = by (code_of (field row 0)) (code_of (field row 1)
         subst (λ (q : List ℕ × List ℕ × StepKind). seating_at q.0 (step_number q.2) entries ≡ None) one (none_from (seating_at a (step_number s) entries) fresh)
 
 -- seats are at most 4,000
-seats_within : (row : Row) (seating : Seating) → seating_of row ≡ Some seating → seating.seats ≤ 4000
+seats_within : (row : Row) (seating : Seating) → seating_of row ≡ Some seating → seating.seats ≤ most_step_seats
 seats_within row seating e = by (count_of (field row 4)) refl (protections_of row) e
   where
     by : (o : Option ℕ) → count_of (field row 4) ≡ o → (p : Option (List ℕ))
-        → option_and_then (λ seats. option_and_then (λ counts. Some (record { seats = seats; protections = record { counts = counts } })) p) o ≡ Some seating → seating.seats ≤ 4000
+        → option_and_then (λ seats. option_and_then (λ counts. Some (record { seats = seats; protections = record { counts = counts } })) p) o ≡ Some seating → seating.seats ≤ most_step_seats
     by None f p h = cc h
     by (Some n) f None h = cc h
-    by (Some n) f (Some counts) h = let same : n ≡ seating.seats = cc (ap (λ (o : Option Seating). option_and_then (λ s. Some s.seats) o) h) in omega (arith, (within_range 0 4000 n (field row 4) f).1, same)
+    by (Some n) f (Some counts) h = let same : n ≡ seating.seats = cc (ap (λ (o : Option Seating). option_and_then (λ s. Some s.seats) o) h) in omega (arith, (within_range 0 most_step_seats n (field row 4) f).1, same)
 
 -- a home that settles is the one asked for, and a new programme finds room
-settled : (o : Option Home) (count : ℕ) (home result : Home) → settles o count home ≡ Ok result → (home ≡ result) × (o ≡ None → count < 2000)
+settled : (o : Option Home) (count : ℕ) (home result : Home) → settles o count home ≡ Ok result → (home ≡ result) × (o ≡ None → count < most_programmes)
 settled None count home result e =
-    let (many, same) = unless_ok (nat_le 2000 count) TooMany (Ok home) result e in
-    ((cc same), λ _. leb-false 2000 count many)
+    let (many, same) = unless_ok (nat_le most_programmes count) TooMany (Ok home) result e in
+    ((cc same), λ _. leb-false most_programmes count many)
 settled (Some known) count home result e =
     let (one, e1) = unless_ok (not (bytes_eq known.institute home.institute)) TwoInstitutes (unless (not (known.list.0 == home.list.0)) TwoLists (Ok home)) result e in
     let (two, same) = unless_ok (not (known.list.0 == home.list.0)) TwoLists (Ok home) result e1 in
@@ -158,7 +160,7 @@ accepted entries row entry e =
     let (covered, r3) = unless_ok (nat_lt seating.seats (sum seating.protections.counts)) ProtectionsExceedSeats (with_protections entries row p seating) entry r2 in
     let (list, e4, r4) = needs_ok (number_within 1 4 (field row 2)) UnknownList (with_list entries row p seating) entry r3 in
     let (home, e5, r5) = after_ok (settles (home_at p.0 entries) (length (codes_of entries)) (record { institute = p.1; list = record { 0 = list } })) (with_home entries row p seating) entry r4 in
-    let (within, r6) = unless_ok (nat_lt 1000000 (all_seats entries + seating.seats)) TooMany (Ok (record { programme = p.0; home = home; step = p.2; seating = seating })) entry r5 in
+    let (within, r6) = unless_ok (nat_lt most_matrix_seats (all_seats entries + seating.seats)) TooMany (Ok (record { programme = p.0; home = home; step = p.2; seating = seating })) entry r5 in
     let asked : Home = record { institute = p.1; list = record { 0 = list } } in
     let here = settled (home_at p.0 entries) (length (codes_of entries)) asked home e5 in
     let made : Entry = record { programme = p.0; home = home; step = p.2; seating = seating } in
@@ -170,11 +172,11 @@ accepted entries row entry e =
       seated = record { protections = ltb-false seating.seats (sum seating.protections.counts) covered; seats = seats_within row seating e2 };
       list = subst (λ (h : Home). IsList h.list) here.0 listed;
       few = here.1;
-      total = ltb-false 1000000 (all_seats entries + seating.seats) within;
+      total = ltb-false most_matrix_seats (all_seats entries + seating.seats) within;
     })
 
 -- there is room for the codes with one more
-with_code-few : (codes : List (List ℕ)) (code : List ℕ) (o : Option Home) → is_some o ≡ list_any (bytes_eq code) codes → length codes ≤ 2000 → (o ≡ None → length codes < 2000) → length (with_code codes code) ≤ 2000
+with_code-few : (codes : List (List ℕ)) (code : List ℕ) (o : Option Home) → is_some o ≡ list_any (bytes_eq code) codes → length codes ≤ most_programmes → (o ≡ None → length codes < most_programmes) → length (with_code codes code) ≤ most_programmes
 with_code-few codes code None e few room = rw (← e) (omega (arith, room refl, length-append codes (code ∷ [])))
 with_code-few codes code (Some home) e few room = rw (← e) few
 

@@ -1,22 +1,12 @@
 -- How the fields of a row are spelled.
-use Rattle.std.specs.Prelude.{ℕ, ◌==◌, ◌||◌, nat_le, List, [], ◌∷◌, Option, Some, None, length, bytes_eq, codes, if◌then◌else◌}
+use Rattle.std.specs.Prelude.{ℕ, ◌==◌, nat_le, List, [], ◌∷◌, Option, Some, None, length, if◌then◌else◌}
 use Rattle.std.specs.Option.{option_and_then}
-use Rattle.office_base.specs.Codes.{is_code}
+use Rattle.office_base.specs.Limits.{most_step_seats}
 use Rattle.office_base.specs.declared.step.StepKind.{StepKind}
 use Rattle.office_base.specs.declared.step.StepKind.TheVariants.{Open, Ews, Obc, Sc, St, Dereserved}
 use Rattle.office_text.specs.Number.{number_within}
 use Rattle.section_rows.specs.Rows.{Row, field}
 use Rattle.seat_matrix.specs.declared.seats.Seating.{Seating}
-
--- the step that a text spells
-abbrev pub step_of : List ℕ → Option StepKind
-step_of text =
-    if bytes_eq text (codes "OPEN") then Some Open
-    else if bytes_eq text (codes "EWS") || bytes_eq text (codes "GEN-EWS") then Some Ews
-    else if bytes_eq text (codes "OBC") || bytes_eq text (codes "OBC-NCL") then Some Obc
-    else if bytes_eq text (codes "SC") then Some Sc
-    else if bytes_eq text (codes "ST") then Some St
-    else None
 
 -- the number of a step; seats that a category left unfilled are no step of the matrix
 abbrev pub step_number : StepKind → ℕ
@@ -27,13 +17,9 @@ step_number Sc = 3
 step_number St = 4
 step_number Dereserved = 5
 
--- the code that a text spells
-abbrev pub code_of : List ℕ → Option (List ℕ)
-code_of text = if is_code text then Some text else None
-
 -- how many seats a text spells
 abbrev pub count_of : List ℕ → Option ℕ
-count_of text = number_within 0 4000 text
+count_of text = number_within 0 most_step_seats text
 
 -- how many protections a text spells; nothing is 0
 abbrev pub protection_of : List ℕ → Option ℕ

@@ -2,18 +2,20 @@
 use Rattle.std.specs.Prelude.{◌≡◌, ◌≢◌, ◌≤◌, ◌<◌, ◌+◌, ℕ, Bool, not, ◌==◌, ◌&&◌, nat_le, nat_lt, sum, List, [], ◌∷◌, ◌++◌, is_some, Option, Some, None, Result, Ok, length, map, slice_get, slice_index_or, slice_set, option_map, bytes_eq, codes, if◌then◌else◌}
 use Rattle.std.specs.List.{list_any}
 use Rattle.std.specs.Option.{unwrap_or}
+use Rattle.office_base.specs.Limits.{most_matrix_seats, most_programmes}
 use Rattle.office_base.specs.Lists.{Pairwise}
 use Rattle.office_base.specs.Person.{IsList}
 use Rattle.office_base.specs.declared.person.ListId.{ListId}
 use Rattle.office_base.specs.declared.step.StepKind.{StepKind}
 use Rattle.office_base.specs.declared.step.StepKind.TheVariants.{Open, Ews, Obc, Sc, St}
 use Rattle.office_text.specs.FirstFault.{Judge, IsFaultless}
+use Rattle.office_text.specs.Names.{code_of, step_of}
 use Rattle.office_text.specs.Number.{number_within}
 use Rattle.section_rows.specs.Rows.{Row, field}
 use Rattle.section_rows.specs.Steps.{after, first_of, needs, unless}
 use Rattle.section_rows.specs.Table.{IsTableFault, Reading, entries_of, table_judge}
 use Rattle.section_rows.specs.declared.fault.TableFault.{TableFault}
-use Rattle.seat_matrix.specs.Fields.{code_of, seating_of, step_number, step_of}
+use Rattle.seat_matrix.specs.Fields.{seating_of, step_number}
 use Rattle.seat_matrix.specs.declared.entry.Entry.{Entry}
 use Rattle.seat_matrix.specs.declared.entry.Home.{Home}
 use Rattle.seat_matrix.specs.declared.fault.MatrixKind.{MatrixKind}
@@ -57,7 +59,7 @@ all_seats entries = seats_after 0 entries
 
 -- a programme may be a new one, or stands where it stood and has the list that it had
 abbrev pub settles : Option Home → ℕ → Home → Result Home MatrixKind
-settles None count home = unless (nat_le 2000 count) TooMany (Ok home)
+settles None count home = unless (nat_le most_programmes count) TooMany (Ok home)
 settles (Some known) count home = unless (not (bytes_eq known.institute home.institute)) TwoInstitutes (unless (not (known.list.0 == home.list.0)) TwoLists (Ok home))
 
 -- a programme and a step that no earlier row has
@@ -72,7 +74,7 @@ reading entries row =
     after (new_row entries row) (λ p. needs (seating_of row) BadNumber (λ seating.
     unless (nat_lt seating.seats (sum seating.protections.counts)) ProtectionsExceedSeats (needs (number_within 1 4 (field row 2)) UnknownList (λ list.
     after (settles (home_at p.0 entries) (length (codes_of entries)) (record { institute = p.1; list = record { 0 = list } })) (λ home.
-    unless (nat_lt 1000000 (all_seats entries + seating.seats)) TooMany (Ok (record { programme = p.0; home = home; step = p.2; seating = seating })))))))
+    unless (nat_lt most_matrix_seats (all_seats entries + seating.seats)) TooMany (Ok (record { programme = p.0; home = home; step = p.2; seating = seating })))))))
 
 -- what is wrong with a row of a matrix
 abbrev pub judge : Judge Row MatrixKind
@@ -116,8 +118,8 @@ pub record IsMatrix (entries : List Entry) (table : SeatTable) : Type 0 where
 pub record AreEntries (entries : List Entry) : Type 0 where
   pub seated : (code : List ℕ) (step : ℕ) (seating : Seating) → seating_at code step entries ≡ Some seating → IsSeated seating
   pub lists : (code : List ℕ) (home : Home) → home_at code entries ≡ Some home → IsList home.list
-  pub few : length (codes_of entries) ≤ 2000
-  pub total : all_seats entries ≤ 1000000
+  pub few : length (codes_of entries) ≤ most_programmes
+  pub total : all_seats entries ≤ most_matrix_seats
 
 -- the first of the merit lists
 abbrev pub first_list : ListId
@@ -142,7 +144,7 @@ seating_in table prog step = of_step (steps_in table prog) step
 -- What holds of every matrix: no code stands twice, and the seats of each programme are sound.
 pub record AreSeats (table : SeatTable) : Type 0 where
   pub codes : Pairwise (λ a b. a ≢ b) (codes_in table.programmes)
-  pub few : length table.programmes ≤ 2000
+  pub few : length table.programmes ≤ most_programmes
   pub steps : length table.steps ≡ length table.programmes
   pub sound : (prog : ℕ) → prog < length table.programmes → AreProgrammeSeats (seats_in table prog)
 

@@ -1,5 +1,6 @@
 -- The seats of a programme.
 use Rattle.std.specs.Prelude.{◌≡◌, ◌≤◌, Bool, true, false, sum, [], ◌∷◌}
+use Rattle.office_base.specs.Limits.{most_step_seats}
 use Rattle.office_base.specs.Person.{IsList}
 use Rattle.office_base.specs.declared.step.Protections.{Protections}
 use Rattle.office_base.specs.declared.step.StepKind.{StepKind}
@@ -54,7 +55,7 @@ with_seating steps Dereserved seating = steps
 -- the protections are among the seats, and these are at most 4,000
 pub record IsSeated (seating : Seating) : Type 0 where
   pub protections : sum seating.protections.counts ≤ seating.seats
-  pub seats : seating.seats ≤ 4000
+  pub seats : seating.seats ≤ most_step_seats
 
 -- what the seats of a programme have to be
 pub record AreProgrammeSeats (seats : ProgrammeSeats) : Type 0 where

@@ -2,27 +2,23 @@
 ghost use Rattle.std.specs.Prelude.{◌≡◌, ◌≤◌, ◌∷◌, ◌++◌, [], List, OnOk, ℕ, nat_eq, bytes_eq, Some, None, if◌then◌else◌};
 ghost use Rattle.std.specs.Cmp.Lexicographic.{pointwise};
 ghost use Rattle.indexmap.specs.IndexMap as index;
+ghost use Rattle.office_base.specs.Limits.{most_matrix_seats};
 ghost use Rattle.section_rows.specs.Rows.{Row};
 ghost use Rattle.section_rows.specs.Steps.{or_else};
 ghost use Rattle.seat_matrix.specs.Matrix.{with_code};
 
 use crate::entry::{Entry, Home};
 use crate::fault::MatrixKind;
-use crate::fields::{protected, read_seating, read_step, step_number};
+use crate::fields::{protected, read_seating, step_number};
 use crate::matrix::Matrix;
 use crate::seats::{Seating, Seatings};
 use indexmap::IndexMap;
+use office_base::limits::{MOST_MATRIX_SEATS, MOST_PROGRAMMES};
 use office_base::{Code, ListId, OutOfMemory, StepKind};
-use office_text::read_number;
+use office_text::{read_number, read_step};
 use section_rows::{Rows, TableBuilder};
 use std::alloc::Global;
 use std::collections::BTreeMap;
-
-/// The most programmes that a matrix has.
-const MOST_PROGRAMMES: usize = 2_000;
-
-/// The most seats of all rows.
-const MOST_SEATS: u32 = 1_000_000;
 
 /// A matrix in the making: the programmes so far in the order in which they first appeared, the seats of their steps, and all seats.
 #[derive(Drop)]
@@ -96,7 +92,7 @@ impl MatrixBuilder {
     /// What a row gives, or the first of its faults.
     #[tactic(auto, unfolding(crate::specs::Matrix::reading))]
     fn read(&self, row: &Rows<'_>) -> Result<Entry, MatrixKind>
-        requires { self.now.total ≤ 1000000 }
+        requires { self.now.total ≤ most_matrix_seats }
         ensures { (entries : List Entry) → Keeps entries self.now → result ≡ reading entries row.now.row }
     {
         let (programme, institute, step) = self.new_row(row)?;
@@ -116,7 +112,7 @@ impl MatrixBuilder {
                 list: ListId(list as u8),
             },
         )?;
-        if self.total + u32::from(seating.seats) > MOST_SEATS {
+        if self.total + u32::from(seating.seats) > MOST_MATRIX_SEATS {
             return Err(MatrixKind::TooMany);
         }
         Ok(Entry {
@@ -129,7 +125,7 @@ impl MatrixBuilder {
 
     /// Puts in what a row gave. Where there is no memory for it, the builder is of no use any more.
     fn add(&mut self, entry: Entry) -> Result<(), OutOfMemory>
-        requires { self.old.total ≤ 1000000 }
+        requires { self.old.total ≤ most_matrix_seats }
         ensures { OnOk result ((entries : List Entry) (row : Row) → Keeps entries self.old → reading entries row ≡ Ok entry → Keeps (entries ++ entry ∷ []) self.new) }
     {
         self.steps

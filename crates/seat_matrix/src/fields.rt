@@ -1,36 +1,15 @@
 // The fields of a row of the matrix.
 ghost use Rattle.std.specs.Prelude.{◌≡◌, ◌<◌, sum};
-ghost use Rattle.seat_matrix.specs.Fields.{step_of, step_number, count_of, protection_of, protections_of, seating_of};
+ghost use Rattle.seat_matrix.specs.Fields.{step_number, count_of, protection_of, protections_of, seating_of};
 
 use crate::seats::Seating;
+use office_base::limits::MOST_STEP_SEATS;
 use office_base::{Protections, StepKind};
 use office_text::read_number;
 use section_rows::Rows;
 
-/// The most seats of a step.
-const MOST_SEATS: u32 = 4_000;
-
-/// The step that a text spells.
-pub(crate) fn read_step(text: &[u8]) -> Option<StepKind>
-    ensures { result ≡ step_of text.now }
-{
-    if text == b"OPEN".as_slice() {
-        Some(StepKind::Open)
-    } else if text == b"EWS".as_slice() || text == b"GEN-EWS".as_slice() {
-        Some(StepKind::Ews)
-    } else if text == b"OBC".as_slice() || text == b"OBC-NCL".as_slice() {
-        Some(StepKind::Obc)
-    } else if text == b"SC".as_slice() {
-        Some(StepKind::Sc)
-    } else if text == b"ST".as_slice() {
-        Some(StepKind::St)
-    } else {
-        None
-    }
-}
-
-/// The number of a step.
-pub(crate) fn step_number(step: StepKind) -> u8
+/// The number of a step among the six, from 0.
+pub fn step_number(step: StepKind) -> u8
     ensures { result ≡ step_number step }
 {
     match step {
@@ -47,7 +26,7 @@ pub(crate) fn step_number(step: StepKind) -> u8
 fn read_count(text: &[u8]) -> Option<u16>
     ensures { result ≡ count_of text.now }
 {
-    let count = read_number(text, 0, MOST_SEATS)?;
+    let count = read_number(text, 0, MOST_STEP_SEATS)?;
     Some(count as u16)
 }
 

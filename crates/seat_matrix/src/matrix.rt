@@ -2,7 +2,8 @@
 ghost use Rattle.std.specs.Prelude.{◌≡◌, ◌<◌, ◌≤◌, Some, IfOk, IfErr, length, map, option_map, position, slice_get, sum, bytes_eq, false, IsTrue};
 ghost use Rattle.office_base.specs.Person.{IsList};
 ghost use Rattle.section_rows.specs.Rows.{rows_of};
-ghost use Rattle.seat_matrix.specs.Fields.{code_of};
+ghost use Rattle.office_base.specs.Limits.{most_step_seats};
+ghost use Rattle.office_text.specs.Names.{code_of};
 ghost use Rattle.seat_matrix.specs.Matrix.{IsRead, IsFault, HasSeating, list_in, matrix_with, seating_in, seats_in, steps_in};
 ghost use Rattle.seat_matrix.specs.Seats.{AreProgrammeSeats, IsSeated, is_dereserved};
 
@@ -110,7 +111,7 @@ impl Matrix {
     pub fn seats(&self, prog: ProgId, step: StepKind) -> u16
         requires { prog.0 < length self.now.programmes }
         ensures seats { result ≡ (seating_in self.now prog.0 step).seats }
-        ensures most { result ≤ 4000 }
+        ensures most { result ≤ most_step_seats }
     {
         self.seating(prog, step).seats
     }
@@ -143,7 +144,7 @@ impl Matrix {
         requires programme { prog.0 < length self.old.programmes }
         requires step { is_dereserved step ≡ false }
         requires more { (seating_in self.old prog.0 step).seats ≤ seats }
-        requires most { seats ≤ 4000 }
+        requires most { seats ≤ most_step_seats }
         ensures whole { self.new ≡ matrix_with self.old prog.0 step (record { seats = seats; protections = (seating_in self.old prog.0 step).protections }) }
         ensures seats { HasSeating self.old prog.0 step (record { seats = seats; protections = (seating_in self.old prog.0 step).protections }) self.new }
     {
@@ -156,7 +157,7 @@ impl Matrix {
         requires programme { prog.0 < length self.old.programmes }
         requires step { is_dereserved step ≡ false }
         requires protections { sum protections.counts ≤ seats }
-        requires most { seats ≤ 4000 }
+        requires most { seats ≤ most_step_seats }
         ensures whole { self.new ≡ matrix_with self.old prog.0 step (record { seats = seats; protections = protections }) }
         ensures seats { HasSeating self.old prog.0 step (record { seats = seats; protections = protections }) self.new }
     {

@@ -1,31 +1,10 @@
 // Bounds on how many people can be placed, one for each of the 64 sets of traits, by the numbers of the sets.
-ghost use Rattle.std.specs.Prelude.{◌≡◌, ◌<◌, ◌≤◌, ◌+◌, ◌*◌, ℕ, true, length, slice_index, MatchBool, if◌then◌else◌};
-ghost use Rattle.office_base.specs.Person.{IsTraitSet, has_trait};
-ghost use Rattle.placements.specs.Demand.{is_within, asking_outside, positions};
+ghost use Rattle.std.specs.Prelude.{◌≡◌, ◌<◌, ◌≤◌, ◌+◌, ℕ, true, length, slice_index, MatchBool, if◌then◌else◌};
+ghost use Rattle.office_base.specs.Person.{has_trait};
+ghost use Rattle.placements.specs.Demand.{is_within, asking_outside};
 
-use office_base::{Person, Protections, TraitSet};
-
-/// How many positions the traits of the set have.
-pub(crate) fn positions(set: TraitSet, protections: &Protections) -> usize
-    requires { IsTraitSet set }
-    ensures value { result ≡ positions protections.now set }
-    ensures small { result < 6 * 65536 }
-{
-    let mut sum = 0;
-    for t in 0..6 {
-        if set.has(t) {
-            sum += usize::from(protections.counts[usize::from(t)]);
-        }
-    }
-    sum
-}
-
-/// Whether each of the traits is in the set.
-pub(crate) fn is_within(traits: TraitSet, set: TraitSet) -> bool
-    ensures { result ≡ is_within traits set }
-{
-    traits.0 & set.0 == traits.0
-}
+use office_base::{Person, TraitSet};
+use placements::is_within;
 
 /// How many of the people hold a trait outside the set.
 pub(crate) fn count_outside(people: &[Person], set: TraitSet) -> usize

@@ -6,8 +6,9 @@ ghost use Rattle.office_base.specs.Person.{IsTraitSet};
 ghost use Rattle.office_base.specs.declared.person.Person.{Person};
 ghost use Rattle.placements.specs.Ranks.{AreDistinct};
 
-use crate::bounds::{count_outside, keeps, least, leave, positions, take};
+use crate::bounds::{count_outside, keeps, least, leave, take};
 use office_base::{OutOfMemory, Pair, Pairs, Person, Protections, TraitSet};
+use placements::positions;
 use std::alloc::Global;
 
 /// The pairs of the certificate of the admitted, who stand in merit order: the longest placement there is, and of
@@ -59,7 +60,8 @@ impl Search {
         let mut bounds = [0; 64];
         for n in 0..64 {
             let set = TraitSet(n);
-            bounds[usize::from(n)] = positions(set, protections) + count_outside(people, set);
+            bounds[usize::from(n)] = positions(protections, set) as usize
+                + count_outside(people, set);
         }
         Search {
             room: Protections {

@@ -5,7 +5,7 @@ use Rattle.std.proofs.lemmas.List.{take_all}
 use Rattle.std.proofs.Math.Seq.{take-suc}
 use Rattle.std.specs.List.{AllByRecursion}
 use Rattle.office_base.specs.Lists.{AnyByRecursion}
-use Rattle.office_base.specs.Person.{IsBetter, IsAhead, number_in}
+use Rattle.office_base.specs.Person.{IsBetter, number_in}
 use Rattle.office_base.specs.declared.person.CandId.{CandId}
 use Rattle.office_base.specs.declared.person.ListId.{ListId}
 use Rattle.office_base.specs.declared.person.Person.{Person}
@@ -14,6 +14,7 @@ use Rattle.placements.specs.Demand.{is_within}
 use Rattle.placements.specs.Ranks.{without}
 use Rattle.placements.proofs.Without.{length_without}
 use Rattle.placements.proofs.Replace.{all_push}
+use Rattle.placements.proofs.Merit.{ahead_again, not_ahead}
 use Rattle.slot_matching.specs.Members.{IsWorstWithin}
 
 -- past the end nobody was found, so nobody was there
@@ -25,17 +26,6 @@ nobody_found cand members n one past same =
     let size = ap (λ (l : List Person). length l) same in
     let sum = length-append (take n members) (without cand (drop n members)) in
     omega (arith, shorter, whole, size, sum)
-
--- of numbers, better than better is better, and none is better than itself
-ahead_again : (a b c : Option ℕ) → IsAhead a b → IsAhead b c → IsAhead a c
-ahead_again (Some m) (Some n) (Some k) first second = omega arith
-ahead_again (Some m) (Some n) None first second = second
-ahead_again (Some m) None c first second = absurd first
-ahead_again None b c first second = absurd first
-
-not_ahead : (a : Option ℕ) → IsAhead a a → ⊥
-not_ahead (Some m) h = omega arith
-not_ahead None h = h
 
 -- one of them at the end
 any_end : (member : Person) (members : List Person) → AnyByRecursion (λ other. member ≡ other) (members ++ member ∷ [])

@@ -8,8 +8,9 @@ ghost use Rattle.slot_matching.specs.Augmented.{IsAugmented};
 ghost use Rattle.slot_matching.specs.Kept.{IsKept, MayJoin, with_member, without_member};
 
 use crate::members::{id_of, place_of, worst_within};
-use crate::spare::{all_spare, give_spare, has_spare, least_full, positions, take_spare};
+use crate::spare::{all_spare, give_spare, has_spare, least_full, take_spare};
 use office_base::{CandId, ListId, OutOfMemory, Person, Protections, TraitSet};
+use placements::positions;
 use std::alloc::Global;
 use std::marker::Model;
 
@@ -61,7 +62,7 @@ impl Matching {
         Ok(Matching {
             protections,
             list,
-            members: Vec::with_capacity(alloc, usize::from(room))?,
+            members: Vec::with_capacity(alloc, room as usize)?,
             spare,
         })
     }

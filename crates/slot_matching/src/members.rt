@@ -6,8 +6,8 @@ ghost use Rattle.office_base.specs.Person.{IsList, IsBetter};
 ghost use Rattle.placements.specs.Ranks.{without};
 ghost use Rattle.slot_matching.specs.Members.{IsWorstWithin, id_of};
 
-use crate::spare::is_within;
 use office_base::{CandId, ListId, Person, TraitSet, better};
+use placements::is_within;
 
 /// The place of the member with this number.
 pub(crate) fn place_of(members: &[Person], cand: CandId) -> Option<usize>

@@ -2,36 +2,14 @@
 //
 // A person can be placed with the members exactly where each set that holds the person's traits has one to spare.
 ghost use Rattle.std.specs.Prelude.{◌≡◌, ◌≤◌, ◌<◌, ◌+◌, ℕ, length, sum, slice_index, IsTrue, true, ◌↔◌, if◌then◌else◌};
-ghost use Rattle.office_base.specs.Person.{IsTraitSet};
 ghost use Rattle.placements.specs.Demand.{is_within, positions};
 ghost use Rattle.slot_matching.specs.Full.{AreClosed, HasSpareBelow, IsLeastOf, met};
 
 use office_base::{Protections, TraitSet};
+use placements::{is_within, positions};
 
 /// How many sets of six traits there are.
 pub(crate) const SETS: u8 = 64;
-
-/// Whether each trait of the first set is in the second.
-pub(crate) fn is_within(traits: TraitSet, set: TraitSet) -> bool
-    ensures { result ≡ is_within traits set }
-{
-    traits.0 & set.0 == traits.0
-}
-
-/// How many positions are protected for the traits of a set.
-pub(crate) fn positions(protections: &Protections, set: TraitSet) -> u16
-    requires few { sum protections.now.counts ≤ 65535 }
-    requires set { IsTraitSet set }
-    ensures { result ≡ positions protections.now set }
-{
-    let mut total = 0;
-    for t in 0..6u8 {
-        if set.has(t) {
-            total += protections.counts[usize::from(t)];
-        }
-    }
-    total
-}
 
 /// What each set has to spare before anybody came: its positions.
 pub(crate) fn all_spare(protections: &Protections) -> [u16; 64]
@@ -41,7 +19,7 @@ pub(crate) fn all_spare(protections: &Protections) -> [u16; 64]
 {
     let mut spare = [0; 64];
     for set in 0..SETS {
-        spare[usize::from(set)] = positions(protections, TraitSet(set));
+        spare[usize::from(set)] = positions(protections, TraitSet(set)) as u16;
     }
     spare
 }

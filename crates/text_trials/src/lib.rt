@@ -14,9 +14,13 @@ mod limits;
 #[cfg(test)]
 mod matrices;
 #[cfg(test)]
+mod plain_scripts;
+#[cfg(test)]
 mod published;
 #[cfg(test)]
 mod registers;
+#[cfg(test)]
+mod replies;
 #[cfg(test)]
 mod requests;
 #[cfg(test)]

@@ -3,10 +3,10 @@ use Rattle.std.specs.List.{filter}
 use Rattle.office_base.specs.StepChoice.{IsStep}
 use Rattle.office_base.specs.declared.person.Person.{Person}
 use Rattle.placements.proofs.Sublists.{length-sublist}
+use Rattle.placements.proofs.Filters.{filter-sublist}
 use Rattle.programme_lists.specs.Programme.{is_of, step_with}
 use Rattle.seat_matrix.specs.Seats.{seats_of}
 use Rattle.seat_matrix.specs.declared.seats.Seating.{Seating}
-use Rattle.open_then_category.proofs.Lists.{filter-sublist}
 use Rattle.open_then_category.proofs.ProgrammeLaws.{filtered_step}
 use Rattle.open_then_category.proofs.choice.category_step.Goals as goal
 

@@ -4,9 +4,10 @@ use Rattle.office_base.specs.Lists.{IsSublist}
 use Rattle.office_base.specs.Person.{is_common}
 use Rattle.office_base.specs.StepChoice.{AreRanked}
 use Rattle.office_base.specs.declared.person.Person.{Person}
+use Rattle.placements.proofs.Sublists.{sublist_again}
+use Rattle.placements.proofs.Filters.{filter-sublist}
 use Rattle.programme_lists.specs.Programme.{without}
 use Rattle.open_then_category.proofs.Assemble.{length-without}
-use Rattle.open_then_category.proofs.Lists.{filter-sublist, sublist_again}
 use Rattle.open_then_category.proofs.Walk.{ranked_without}
 use Rattle.open_then_category.proofs.choice.choose_in_order.Goals as goal
 

@@ -4,8 +4,9 @@ use Rattle.office_base.specs.StepChoice.{AreRanked}
 use Rattle.office_base.specs.declared.person.ListId.{ListId}
 use Rattle.office_base.specs.declared.person.Person.{Person}
 use Rattle.placements.proofs.Sublists.{IsSublist-take, length-sublist}
+use Rattle.placements.proofs.Ranks.{ranked_sublist}
+use Rattle.placements.proofs.Filters.{filter-sublist}
 use Rattle.office_base.specs.Person.{is_common}
-use Rattle.open_then_category.proofs.Lists.{filter-sublist, ranked_sublist}
 use Rattle.open_then_category.proofs.choice.dereserved_step.Goals as goal
 
 -- the best of those who pass are ranked

@@ -4,11 +4,11 @@ use Rattle.office_base.specs.StepChoice.{IsStep}
 use Rattle.office_base.specs.declared.person.Person.{Person}
 use Rattle.office_base.specs.declared.step.StepKind.TheVariants.{Open}
 use Rattle.placements.proofs.Sublists.{length-sublist}
+use Rattle.placements.proofs.Filters.{filter-sublist}
 use Rattle.office_base.specs.Person.{is_common}
 use Rattle.programme_lists.specs.Programme.{step_with}
 use Rattle.seat_matrix.specs.Seats.{seats_of}
 use Rattle.seat_matrix.specs.declared.seats.Seating.{Seating}
-use Rattle.open_then_category.proofs.Lists.{filter-sublist}
 use Rattle.open_then_category.proofs.ProgrammeLaws.{filtered_step}
 use Rattle.open_then_category.proofs.choice.open_step.Goals as goal
 

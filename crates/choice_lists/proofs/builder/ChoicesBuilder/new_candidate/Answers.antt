@@ -7,22 +7,22 @@ returns-then-index-clause-given c = λ entries keeps.
     tests_had c.args.self.now.register.now entries c.args.row.now.row c.in-Some.person (rw c.field.ensures at c.in-Some.ensures.person)
     (had_at entries c.args.self.now c.in-Some.person.id.0 c.in-Some.at _ _ keeps c.in-Some.ensures.row c.index.ensures ∙ c.if-index.true)
 
-pub returns-then-count-gt-MOST_OF_A_ROW-clause-given : goal.returns-then-count-gt-MOST_OF_A_ROW-clause-given
-returns-then-count-gt-MOST_OF_A_ROW-clause-given c = λ entries keeps.
+pub returns-then-count-gt-MOST_ROW_CHOICES-clause-given : goal.returns-then-count-gt-MOST_ROW_CHOICES-clause-given
+returns-then-count-gt-MOST_ROW_CHOICES-clause-given c = λ entries keeps.
     tests_long c.args.self.now.register.now entries c.args.row.now.row c.in-Some.person (rw c.field.ensures at c.in-Some.ensures.person)
     (had_at entries c.args.self.now c.in-Some.person.id.0 c.in-Some.at _ _ keeps c.in-Some.ensures.row c.index.ensures ∙ c.if-index.false)
-    (omega (arith, c.len.ensures, c.saturating_sub-count.ensures, c.if-count-gt-MOST_OF_A_ROW.true))
+    (omega (arith, c.len.ensures, c.saturating_sub-count.ensures, c.if-count-gt-MOST_ROW_CHOICES.true))
 
-pub returns-then-self-count-gt-MOST_OF_ALL-clause-given : goal.returns-then-self-count-gt-MOST_OF_ALL-clause-given
-returns-then-self-count-gt-MOST_OF_ALL-clause-given c = λ entries keeps.
+pub returns-then-self-count-gt-MOST_CHOICES-clause-given : goal.returns-then-self-count-gt-MOST_CHOICES-clause-given
+returns-then-self-count-gt-MOST_CHOICES-clause-given c = λ entries keeps.
     tests_many c.args.self.now.register.now entries c.args.row.now.row c.in-Some.person (rw c.field.ensures at c.in-Some.ensures.person)
     (had_at entries c.args.self.now c.in-Some.person.id.0 c.in-Some.at _ _ keeps c.in-Some.ensures.row c.index.ensures ∙ c.if-index.false)
-    (omega (arith, c.len.ensures, c.saturating_sub-count.ensures, c.if-count-gt-MOST_OF_A_ROW.false))
-    (omega (arith, keeps.total, c.len.ensures, c.saturating_sub-count.ensures, c.if-self-count-gt-MOST_OF_ALL.true))
+    (omega (arith, c.len.ensures, c.saturating_sub-count.ensures, c.if-count-gt-MOST_ROW_CHOICES.false))
+    (omega (arith, keeps.total, c.len.ensures, c.saturating_sub-count.ensures, c.if-self-count-gt-MOST_CHOICES.true))
 
 pub returns-clause-given : goal.returns-clause-given
 returns-clause-given c = λ entries keeps.
     tests_none c.args.self.now.register.now entries c.args.row.now.row c.in-Some.person (rw c.field.ensures at c.in-Some.ensures.person)
     (had_at entries c.args.self.now c.in-Some.person.id.0 c.in-Some.at _ _ keeps c.in-Some.ensures.row c.index.ensures ∙ c.if-index.false)
-    (omega (arith, c.len.ensures, c.saturating_sub-count.ensures, c.if-count-gt-MOST_OF_A_ROW.false))
-    (omega (arith, keeps.total, c.len.ensures, c.saturating_sub-count.ensures, c.if-self-count-gt-MOST_OF_ALL.false))
+    (omega (arith, c.len.ensures, c.saturating_sub-count.ensures, c.if-count-gt-MOST_ROW_CHOICES.false))
+    (omega (arith, keeps.total, c.len.ensures, c.saturating_sub-count.ensures, c.if-self-count-gt-MOST_CHOICES.false))

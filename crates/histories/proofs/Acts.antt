@@ -1,0 +1,139 @@
+-- A newly accepted request comes to what its act does, asked by its candidate or by the clerk; so a history goes on with it.
+use Rattle.std.proofs.Common.{◌≡◌, ◌<◌, inl, inr, ℕ, Bool, true, false, not, List, [], ◌∷◌, ◌++◌, Option, Some, None, length, map, refl, sym, ap, ◌∙◌, subst, nat_lt, ◌==◌, ◌&&◌, ◌||◌, if◌then◌else◌}
+use Rattle.office_moves.specs.Facts.{SeasonFacts, find_programme}
+use Rattle.histories.specs.Laws.{AcceptedByItsAct, HistoryGrows}
+use Rattle.office_base.specs.Numbered.{last_from, rises}
+use Rattle.office_base.specs.declared.asks.Ask.{Ask}
+use Rattle.office_base.specs.declared.asks.Ask.TheVariants.{Answer as AskAnswer, Cut as AskCut, Seat, Why, List as AskList, State as AskState, Raise as AskRaise}
+use Rattle.office_base.specs.declared.asks.By.{By}
+use Rattle.office_base.specs.declared.asks.By.TheVariants.{Candidate, Clerk}
+use Rattle.office_base.specs.declared.asks.Request.{Request}
+use Rattle.office_base.specs.declared.person.ProgId.{ProgId}
+use Rattle.office_base.specs.declared.step.StepKind.{StepKind}
+use Rattle.keeper_mem.specs.declared.rows.AnswerRow.{AnswerRow}
+use Rattle.keeper_mem.specs.declared.rows.RaiseRow.{RaiseRow}
+use Rattle.allocations.proofs.Places.{eq_true, lt_true}
+use Rattle.office_moves.specs.State.{State, opening, view_of}
+use Rattle.office_moves.specs.Judge.{is_candidate, is_clerk, judge_answer, judge_cut, judge_new_answer, judge_new_seats, not_open, once_more, refuse_as, refuse_if, with_programme}
+use Rattle.office_moves.specs.Decided.{answer_looks, decide_raise, decided, decided_by, is_chosen_by, is_known, raise_looks}
+use Rattle.office_moves.specs.Moves.{Does, IsMove}
+use Rattle.office_moves.specs.History.{IsHistory, asked, grown, newly}
+use Rattle.office_moves.specs.declared.decide.AnswerLooks.{AnswerLooks}
+use Rattle.office_moves.specs.declared.decide.Decision.{Decision}
+use Rattle.office_moves.specs.declared.decide.Decision.TheVariants.{Refuse, NotedAgain, RaisedAgain, CutAgain, Note, Lift, Publish, Finish, TellSeat, TellWhy, TellList, TellState}
+use Rattle.office_moves.specs.declared.refusal.Refusal.TheVariants.{Ahead, Denied, LastWindow, UnknownCandidate}
+use Rattle.office_moves.specs.declared.moves.Act.{Act}
+use Rattle.office_moves.specs.declared.moves.Act.TheVariants.{Answer, Raise, Cut}
+use Rattle.office_moves.specs.declared.moves.Entry.{Entry}
+use Rattle.office_moves.specs.declared.moves.Reply.{Reply}
+use Rattle.office_moves.proofs.Chains.{answer_new, cut_new, list_old, raise_new, seat_old, why_old, with_new}
+use Rattle.office_moves.proofs.OneState.{reaches_more}
+use Rattle.histories.proofs.Changes.{same_act, was_found}
+
+-- ---- who asks
+
+by_candidate : (looks : AnswerLooks) (by : By) (row : AnswerRow) → is_candidate by row.cand ≡ true → judge_answer looks (Candidate row.cand) row ≡ judge_answer looks by row
+by_candidate looks by row own =
+    ap (λ (given : Bool). refuse_if (not looks.known) UnknownCandidate (refuse_if (not given) (Denied 1) (once_more looks.kept row (judge_new_answer looks row))))
+    (eq_true row.cand.0 row.cand.0 refl ∙ sym own)
+
+by_clerk : (by : By) (now rounds window : ℕ) → is_clerk by ≡ true → window ≡ now → judge_cut Clerk now rounds now ≡ judge_cut by now rounds window
+by_clerk by now rounds window clerk open_now =
+    ap (judge_cut Clerk now rounds) (sym open_now)
+    ∙ ap (λ (given : Bool). refuse_if (not given) (Denied 2)
+    (if nat_lt window now then CutAgain window else refuse_if (nat_lt now window || nat_lt rounds window) (Ahead now) (if window == rounds then Finish else Publish))) (sym clerk)
+
+-- a raise of a programme, by whether the clerk asks
+abbrev raise_when : SeasonFacts → State → ℕ → StepKind → ℕ → Bool → ProgId → Decision
+raise_when facts state window step seats clerk prog =
+    let row : RaiseRow = record { window = window; prog = prog; step = step; seats = seats } in
+    refuse_if (not clerk) (Denied 4)
+    (if (raise_looks facts state row).again then RaisedAgain row
+    else refuse_as (not_open state.now facts.rounds window) (refuse_if (window == facts.rounds) LastWindow (judge_new_seats (raise_looks facts state row) row)))
+
+raise_by_clerk : (facts : SeasonFacts) (state : State) (by : By) (window : ℕ) (code : List ℕ) (step : StepKind) (seats : ℕ) → is_clerk by ≡ true
+    → decide_raise facts state Clerk window code step seats ≡ decide_raise facts state by window code step seats
+raise_by_clerk facts state by window code step seats clerk =
+    ap (λ (given : Bool). with_programme (find_programme facts code) (raise_when facts state window step seats given)) (sym clerk)
+
+-- ---- the act of a newly accepted request
+
+accepted_by : (facts : SeasonFacts) (state : State) (by : By) (ask : Ask) (act : Act) → newly state.now (decided_by facts state by ask) ≡ Some act
+    → decided facts state (asked facts act) ≡ decided_by facts state by ask
+accepted_by facts state by (AskAnswer cand window turn choice) act h =
+    let row : AnswerRow = record { window = window; cand = cand; turn = turn; choice = choice } in
+    let n = answer_new state.now (answer_looks facts (view_of state cand.0) row) by row act h in
+    let same : act ≡ Answer row = same_act _ _ (sym (ap (newly state.now) n.noted) ∙ h) in
+    subst (λ (a : Act). decided facts state (asked facts a) ≡ decided_by facts state by (AskAnswer cand window turn choice)) (sym same)
+    (by_candidate (answer_looks facts (view_of state cand.0) row) by row n.own)
+accepted_by facts state by (AskCut window) act h =
+    let n = cut_new by state.now facts.rounds window act h in
+    let same : act ≡ Cut state.now = elim n.ends [
+      | inl e ↦ same_act _ _ (sym (ap (newly state.now) e.0) ∙ h)
+      | inr e ↦ same_act _ _ (sym (ap (newly state.now) e.0) ∙ h)
+    ] in
+    subst (λ (a : Act). decided facts state (asked facts a) ≡ decided_by facts state by (AskCut window)) (sym same) (by_clerk by state.now facts.rounds window n.clerk n.opened)
+accepted_by facts state by (Seat cand) act h = absurd (let e = seat_old state.now (is_known facts cand) by cand in cc)
+accepted_by facts state by (Why cand code) act h =
+    absurd (let e = why_old state.now (is_known facts cand) (find_programme facts code) (is_chosen_by facts cand (find_programme facts code)) (length state.rounds) by cand in cc)
+accepted_by facts state by (AskList round code) act h = absurd (let e = list_old state.now (find_programme facts code) (length state.rounds) round in cc)
+accepted_by facts state by AskState act h = absurd (cc)
+accepted_by facts state by (AskRaise window code step seats) act h =
+    let found = with_new state.now (find_programme facts code) _ act h in
+    let row : RaiseRow = record { window = window; prog = found.0; step = step; seats = seats } in
+    let n = raise_new state.now (raise_looks facts state row) by row act found.2 in
+    let same : act ≡ Raise row = same_act _ _ (sym (ap (newly state.now) (found.3 ∙ n.lifted)) ∙ h) in
+    subst (λ (a : Act). decided facts state (asked facts a) ≡ decided_by facts state by (AskRaise window code step seats)) (sym same)
+    (ap (λ (c : List ℕ). decide_raise facts state Clerk window c step seats) (was_found facts code found.0 found.1).own ∙ raise_by_clerk facts state by window code step seats n.clerk)
+
+pub accepted_by_its_act : (facts : SeasonFacts) → AcceptedByItsAct facts
+accepted_by_its_act facts state request act h = accepted_by facts state request.by request.ask act h
+
+-- ---- a history goes on
+
+both_true : (a b : Bool) → a ≡ true → b ≡ true → a && b ≡ true
+both_true true b e f = f
+both_true false b e f = absurd (cc)
+
+both_means : (a b : Bool) → a && b ≡ true → (a ≡ true) × (b ≡ true)
+both_means true b e = (refl, e)
+both_means false b e = absurd (cc)
+
+rises_more : (before number : ℕ) (act : Act) (entries : List Entry) → rises before (map (λ (entry : Entry). entry.number) entries) ≡ true
+    → last_from before (map (λ (entry : Entry). entry.number) entries) < number
+    → rises before (map (λ (entry : Entry). entry.number) (entries ++ record { number = number; act = act } ∷ [])) ≡ true
+rises_more before number act [] e less = both_true _ _ (lt_true before number less) refl
+rises_more before number act (entry ∷ entries) e less =
+    let both = both_means (nat_lt before entry.number) (rises entry.number (map (λ (entry : Entry). entry.number) entries)) e in
+    both_true _ _ both.0 (rises_more entry.number number act entries both.1 less)
+
+-- what is not newly accepted leaves the state
+unmoved : (facts : SeasonFacts) (old : State) (decision : Decision) (reply : Reply) (new : State) → newly old.now decision ≡ None → Does facts old decision reply new → new ≡ old
+unmoved facts old (Refuse refusal) reply new e does = does.1
+unmoved facts old (NotedAgain row) reply new e does = does.1
+unmoved facts old (RaisedAgain row) reply new e does = does.1
+unmoved facts old (CutAgain window) reply new e does = does.1
+unmoved facts old (Note row) reply new e does = absurd (cc)
+unmoved facts old (Lift row) reply new e does = absurd (cc)
+unmoved facts old Publish reply new e does = absurd (cc)
+unmoved facts old Finish reply new e does = absurd (cc)
+unmoved facts old (TellSeat cand) reply new e does = does.1
+unmoved facts old (TellWhy cand prog) reply new e does = does.1
+unmoved facts old (TellList number prog) reply new e does = does.3
+unmoved facts old TellState reply new e does = does.1
+
+grows_by : (facts : SeasonFacts) (entries : List Entry) (old new : State) (request : Request) (reply : Reply) (number : ℕ) (found : Option Act) → IsHistory facts entries old
+    → last_from 0 (map (λ (entry : Entry). entry.number) entries) < number → IsMove facts old request reply new → newly old.now (decided facts old request) ≡ found
+    → IsHistory facts (grown entries number found) new
+grows_by facts entries old new request reply number None history less moves h =
+    subst (λ (s : State). IsHistory facts entries s) (sym (unmoved facts old (decided facts old request) reply new h moves)) history
+grows_by facts entries old new request reply number (Some act) history less moves h =
+    let same = accepted_by_its_act facts old request act h in
+    record {
+      numbers = rises_more 0 number act entries history.numbers less;
+      reached = reaches_more facts opening old new entries (record { number = number; act = act }) reply history.reached (ap (newly old.now) same ∙ h)
+          (subst (λ (d : Decision). Does facts old d reply new) (sym same) moves);
+    }
+
+pub history_grows : (facts : SeasonFacts) → HistoryGrows facts
+history_grows facts entries old new request reply number history less moves = grows_by facts entries old new request reply number _ history less moves refl

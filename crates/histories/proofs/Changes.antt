@@ -1,0 +1,113 @@
+-- What a newly accepted request changes in a state.
+use Rattle.std.proofs.Common.{◌≡◌, ◌<◌, inl, inr, ℕ, zero, suc, List, [], ◌∷◌, Option, Some, None, length, arith, refl, sym, ap, ◌∙◌, subst, get_or}
+use Rattle.std.specs.Prelude.{map, option_map, position, slice_get, bytes_eq}
+use Rattle.std.specs.Option.{unwrap_or}
+use Rattle.std.proofs.lemmas.List.Quantifiers.{position-Some}
+use Rattle.std.proofs.lemmas.Slice.Eq.{bytes_eq-Decides}
+use Rattle.office_base.specs.declared.asks.Ask.{Ask}
+use Rattle.office_base.specs.declared.asks.Ask.TheVariants.{Answer as AskAnswer, Cut as AskCut, Seat, Why, List as AskList, State as AskState, Raise as AskRaise}
+use Rattle.office_base.specs.declared.asks.By.{By}
+use Rattle.office_base.specs.declared.person.ProgId.{ProgId}
+use Rattle.keeper_mem.specs.declared.rows.AnswerRow.{AnswerRow}
+use Rattle.keeper_mem.specs.declared.rows.RaiseRow.{RaiseRow}
+use Rattle.seat_matrix.specs.declared.entry.Home.{Home}
+use Rattle.rounds.specs.declared.round.Round.{Round}
+use Rattle.office_moves.specs.Facts.{SeasonFacts, code_in, find_programme}
+use Rattle.office_moves.specs.State.{State, view_of, with_finals, with_raise, with_round, with_row}
+use Rattle.office_moves.specs.Decided.{answer_looks, decided_by, is_chosen_by, is_known, raise_looks}
+use Rattle.office_moves.specs.Moves.{Does, IsNextRound, final_rows}
+use Rattle.office_moves.specs.History.{Reaches, asked, newly}
+use Rattle.office_moves.specs.declared.moves.Act.{Act}
+use Rattle.office_moves.specs.declared.moves.Act.TheVariants.{Answer, Raise, Cut}
+use Rattle.office_moves.specs.declared.moves.Entry.{Entry}
+use Rattle.office_moves.specs.declared.moves.Reply.{Reply}
+use Rattle.office_moves.proofs.Chains.{IsNewAnswer, IsNewCut, IsNewRaise, answer_new, cut_new, list_old, raise_new, seat_old, why_old, with_new}
+
+-- ---- codes of programmes
+
+code_at : (programmes : List (List ℕ × Home)) (prog : ℕ) → unwrap_or (option_map (λ held. held.0) (slice_get programmes prog)) [] ≡ get_or (map (λ held. held.0) programmes) prog []
+code_at [] prog = refl
+code_at (held ∷ programmes) zero = refl
+code_at (held ∷ programmes) (suc prog) = code_at programmes prog
+
+length_codes : (programmes : List (List ℕ × Home)) → length (map (λ (held : List ℕ × Home). held.0) programmes) ≡ length programmes
+length_codes [] = refl
+length_codes (held ∷ programmes) = ap suc (length_codes programmes)
+
+found_number : (found : Option ℕ) (prog : ProgId) → option_map (λ n. record { 0 = n }) found ≡ Some prog → found ≡ Some prog.0
+found_number None prog e = absurd (cc)
+found_number (Some n) prog e = ap (option_map (λ (p : ProgId). p.0)) e
+
+-- a programme that was found by a code is one of the matrix, and the code is its own
+pub record IsFound (facts : SeasonFacts) (code : List ℕ) (prog : ProgId) : Type 0 where
+  pub below : prog.0 < length facts.matrix.programmes
+  pub own : code_in facts prog.0 ≡ code
+
+pub was_found : (facts : SeasonFacts) (code : List ℕ) (prog : ProgId) → find_programme facts code ≡ Some prog → IsFound facts code prog
+was_found facts code prog e =
+    let number = found_number (position (bytes_eq code) (map (λ held. held.0) facts.matrix.programmes)) prog e in
+    let there = position-Some (bytes_eq code) (map (λ (held : List ℕ × Home). held.0) facts.matrix.programmes) prog.0 [] number in
+    record {
+      below = (let same = length_codes facts.matrix.programmes in let less = there.0 in omega (arith, same, less));
+      own = code_at facts.matrix.programmes prog.0 ∙ sym ((bytes_eq-Decides code _).0 there.1);
+    }
+
+-- ---- what a decision that newly accepts does
+
+-- What was newly accepted, by whom, and what it made of the state.
+pub data Change (facts : SeasonFacts) (old : State) (by : By) (ask : Ask) (act : Act) (new : State) : Type 0 where
+  Answered : (row : AnswerRow) → ask ≡ AskAnswer row.cand row.window row.turn row.choice → act ≡ Answer row → IsNewAnswer (answer_looks facts (view_of old row.cand.0) row) by row
+      → new ≡ with_row old row → Change facts old by ask act new
+  Raised : (row : RaiseRow) (code : List ℕ) → ask ≡ AskRaise row.window code row.step row.seats → IsFound facts code row.prog → find_programme facts code ≡ Some row.prog → act ≡ Raise row
+      → IsNewRaise (raise_looks facts old row) by row → new ≡ with_raise old row → Change facts old by ask act new
+  Publishes : (window : ℕ) (round : Round) → ask ≡ AskCut window → act ≡ Cut old.now → IsNewCut by old.now facts.rounds window → old.now < facts.rounds → IsNextRound facts old round
+      → new ≡ with_round old round → Change facts old by ask act new
+  Finishes : (window : ℕ) → ask ≡ AskCut window → act ≡ Cut old.now → IsNewCut by old.now facts.rounds window → old.now ≡ facts.rounds → new ≡ with_finals old (final_rows facts old)
+      → Change facts old by ask act new
+
+pub same_act : (act other : Act) → Some act ≡ Some other → other ≡ act
+same_act act other e = cc
+
+pub changes : (facts : SeasonFacts) (old : State) (by : By) (ask : Ask) (act : Act) (reply : Reply) (new : State) → newly old.now (decided_by facts old by ask) ≡ Some act
+    → Does facts old (decided_by facts old by ask) reply new → Change facts old by ask act new
+changes facts old by (AskAnswer cand window turn choice) act reply new h does =
+    let row : AnswerRow = record { window = window; cand = cand; turn = turn; choice = choice } in
+    let n = answer_new old.now (answer_looks facts (view_of old cand.0) row) by row act h in
+    let did = subst (λ d. Does facts old d reply new) n.noted does in
+    Answered row refl (same_act _ _ (sym (ap (newly old.now) n.noted) ∙ h)) n did.1
+changes facts old by (AskCut window) act reply new h does =
+    let n = cut_new by old.now facts.rounds window act h in
+    elim n.ends [
+      | inl e ↦
+          let did = subst (λ d. Does facts old d reply new) e.0 does in
+          Finishes window refl (same_act _ _ (sym (ap (newly old.now) e.0) ∙ h)) n e.1 did.1
+      | inr e ↦
+          let did = subst (λ d. Does facts old d reply new) e.0 does in
+          Publishes window did.0 refl (same_act _ _ (sym (ap (newly old.now) e.0) ∙ h)) n e.1 did.1 did.3
+    ]
+changes facts old by (Seat cand) act reply new h does = absurd (let e = seat_old old.now (is_known facts cand) by cand in cc)
+changes facts old by (Why cand code) act reply new h does =
+    absurd (let e = why_old old.now (is_known facts cand) (find_programme facts code) (is_chosen_by facts cand (find_programme facts code)) (length old.rounds) by cand in cc)
+changes facts old by (AskList round code) act reply new h does = absurd (let e = list_old old.now (find_programme facts code) (length old.rounds) round in cc)
+changes facts old by AskState act reply new h does = absurd (cc)
+changes facts old by (AskRaise window code step seats) act reply new h does =
+    let found = with_new old.now (find_programme facts code) _ act h in
+    let row : RaiseRow = record { window = window; prog = found.0; step = step; seats = seats } in
+    let n = raise_new old.now (raise_looks facts old row) by row act found.2 in
+    let lifted = found.3 ∙ n.lifted in
+    let did = subst (λ d. Does facts old d reply new) lifted does in
+    Raised row code refl (was_found facts code found.0 found.1) found.1 (same_act _ _ (sym (ap (newly old.now) lifted) ∙ h)) n did.1
+
+-- ---- along a history
+
+-- what an entry of a history makes of a state
+abbrev pub Follows : SeasonFacts → State → Act → State → Type 0
+Follows facts old act new = Change facts old (asked facts act).by (asked facts act).ask act new
+
+-- what holds before and is kept by each entry holds after
+pub along : (facts : SeasonFacts) (P : State → Type 0) → ((old new : State) (act : Act) → P old → Follows facts old act new → P new)
+    → (entries : List Entry) (old new : State) → P old → Reaches facts old entries new → P new
+along facts P keeps [] old new here same = subst P (sym same) here
+along facts P keeps (entry ∷ entries) old new here reached =
+    along facts P keeps entries reached.0 new
+    (keeps old reached.0 entry.act here (changes facts old (asked facts entry.act).by (asked facts entry.act).ask entry.act reached.1 reached.0 reached.2 reached.3)) reached.4

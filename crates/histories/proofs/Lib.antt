@@ -1,0 +1,17 @@
+mod Acts
+mod Answered
+mod Changes
+mod Choosing
+mod Coursed
+mod Entering
+mod Falls
+mod Fits
+mod InOrder
+mod Made
+mod OneRound
+mod Raises
+mod Stays
+mod Steps
+mod Turns
+mod Windows
+mod Word

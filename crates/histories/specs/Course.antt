@@ -1,0 +1,56 @@
+-- The course of a season, window by window, as a state shows it.
+use Rattle.std.specs.Prelude.{◌≡◌, ◌≤◌, ◌+◌, ◌⊎◌, ℕ, suc, true, List, Some, IsSome, length, map, option_map, slice_get}
+use Rattle.office_base.specs.declared.asks.Choice.{Choice}
+use Rattle.office_base.specs.declared.asks.Choice.TheVariants.{Withdraw}
+use Rattle.keeper_mem.specs.declared.rows.AllotRow.{AllotRow}
+use Rattle.allocations.specs.Market.{place_of}
+use Rattle.choice_lists.specs.Choices.{list_of}
+use Rattle.seat_matrix.specs.Matrix.{AreSeats}
+use Rattle.seeks.specs.declared.seek.Seek.{Seek}
+use Rattle.rounds.specs.Round.{IsRound}
+use Rattle.rounds.specs.Rule.{IsRaised}
+use Rattle.rounds.specs.declared.round.Round.{Round}
+use Rattle.round_options.specs.Options.{may_follow, seek_after, standing_of}
+use Rattle.round_options.specs.declared.standing.Standing.{Standing}
+use Rattle.office_moves.specs.Facts.{SeasonFacts, lists_in_order}
+use Rattle.office_moves.specs.State.{State, left_by, seat_in, view_of}
+use Rattle.office_moves.specs.Raised.{matrix_of_round}
+use Rattle.office_moves.specs.Moves.{rows_along}
+use Rattle.office_moves.specs.Promise.{kept_to_the_end, standing_then}
+
+-- how the cuts before a window left a candidate
+abbrev pub left_then : SeasonFacts → State → ℕ → ℕ → Standing
+left_then facts state window id = left_by facts (view_of state id) id window
+
+-- what a candidate sought at the cut of a window, by the standing then and the seat of the round before it
+abbrev pub seek_then : SeasonFacts → State → ℕ → ℕ → Seek
+seek_then facts state window id =
+    seek_after (standing_then facts state window id) (option_map (λ seat. place_of (list_of facts.lists id) seat.prog.0) (seat_in facts state.rounds window id))
+
+-- what everybody sought then, along the people
+abbrev pub seeks_then : SeasonFacts → State → ℕ → List Seek
+seeks_then facts state window = map (λ person. seek_then facts state window person.id.0) facts.people
+
+-- The answers of a window left the standing, or led to one that may follow what the cuts before left; and only a withdrawal was taken of a candidate without a
+-- seat.
+abbrev pub AnsweredWell : SeasonFacts → State → ℕ → ℕ → Type 0
+AnsweredWell facts state window id = (standing_then facts state window id ≡ left_then facts state window id)
+    ⊎ ((choice : Choice) × (may_follow (left_then facts state window id) choice ≡ true) × (standing_then facts state window id ≡ standing_of choice)
+    × ((choice ≡ Withdraw) ⊎ IsSome (seat_in facts state.rounds window id)))
+
+-- What the moves of a history make of a season.
+pub record IsCourse (facts : SeasonFacts) (state : State) : Type 0 where
+  -- each cut published a round, but for the last
+  pub order : state.now ≤ facts.rounds → length state.rounds ≡ state.now
+  pub few : length state.rounds ≤ facts.rounds
+  -- each round was made by the matrix and the seeks at its cut
+  pub made : (before : ℕ) (round : Round) → slice_get state.rounds before ≡ Some round
+      → IsRound facts.version (matrix_of_round facts state (suc before)) facts.people (lists_in_order facts) (before + 1) (seeks_then facts state before) round
+  pub answers : (window id : ℕ) → AnsweredWell facts state window id
+  -- seats only rise
+  pub seats : (n : ℕ) → AreSeats (matrix_of_round facts state n)
+  pub raised : (n : ℕ) → IsRaised (matrix_of_round facts state n) (matrix_of_round facts state (suc n))
+  pub programmes : (n : ℕ) → (matrix_of_round facts state n).programmes ≡ facts.matrix.programmes
+  -- the final rows are those of the last cut
+  pub finals : (rows : List AllotRow) → state.finals ≡ Some rows → rows ≡ rows_along (facts.rounds + 1) (kept_to_the_end facts state) facts.people
+  pub last : IsSome state.finals → length state.rounds ≡ facts.rounds

@@ -1,0 +1,140 @@
+-- The texts of replies. Each line ends with LF.
+use Rattle.std.specs.Prelude.{◌≡◌, ◌<◌, ℕ, List, [], ◌∷◌, ◌++◌, length, Option, Some, None, IfSome, codes}
+use Rattle.std.specs.Fmt.{decimal}
+use Rattle.std.specs.List.{AllByRecursion}
+use Rattle.keeper_mem.specs.declared.rows.AllotRow.{AllotRow}
+use Rattle.office_base.specs.declared.asks.Choice.{Choice}
+use Rattle.office_base.specs.declared.asks.Choice.TheVariants.{Freeze as ToFreeze, Float as ToFloat, Slide as ToSlide, Withdraw as ToWithdraw}
+use Rattle.office_base.specs.declared.asks.Seat.{Seat}
+use Rattle.office_base.specs.declared.person.Person.{Person}
+use Rattle.programme_lists.specs.declared.programme.Programme.{Programme}
+use Rattle.published_texts.specs.Texts.{AreSeatsOf, IsAnswerOf, IsSeatOf, code_in, final_text, list_text, reason_text, round_text}
+use Rattle.round_options.specs.declared.standing.Standing.{Standing}
+use Rattle.round_options.specs.declared.standing.Standing.TheVariants.{Waiting, Offered, Freeze, Float, Slide, Withdrawn, NoShow}
+use Rattle.rounds.specs.declared.round.Round.{Round}
+use Rattle.seat_matrix.specs.Matrix.{SeatTable}
+use Rattle.step_lines.specs.Lines.{step_name}
+use Rattle.office_moves.specs.Refusals.{name_of, number_of}
+use Rattle.office_moves.specs.declared.moves.Reply.{Reply}
+use Rattle.office_moves.specs.declared.moves.Reply.TheVariants.{Noted, Raised, Published, Final, SeatIs, WhyIs, ListIs, StateIs, Refused}
+use Rattle.office_moves.specs.declared.refusal.Refusal.{Refusal}
+use Rattle.office_moves.specs.declared.refusal.Refusal.TheVariants.{UnknownCandidate, UnknownProgramme, Denied, TurnUsed, Late, Ahead, Gap, Gone, NoSeat, Widening, TooManyTurns, NotChosen, NoSuchRound, LastWindow, StepFixed, Falling, SeatLimit}
+
+-- ---- words
+
+abbrev pub choice_name : Choice → List ℕ
+choice_name ToFreeze = codes "freeze"
+choice_name ToFloat = codes "float"
+choice_name ToSlide = codes "slide"
+choice_name ToWithdraw = codes "withdraw"
+
+abbrev pub standing_name : Standing → List ℕ
+standing_name Waiting = codes "waiting"
+standing_name Offered = codes "offered"
+standing_name Freeze = codes "freeze"
+standing_name Float = codes "float"
+standing_name Slide = codes "slide"
+standing_name Withdrawn = codes "withdrawn"
+standing_name NoShow = codes "noshow"
+
+-- ---- refusals
+
+-- what a refusal carries, after its name
+abbrev pub detail : Refusal → List ℕ
+detail UnknownCandidate = []
+detail UnknownProgramme = []
+detail (Denied rule) = codes " rule " ++ decimal rule
+detail (TurnUsed kept) = codes " kept " ++ choice_name kept
+detail (Late window) = codes " now " ++ decimal window
+detail (Ahead window) = codes " now " ++ decimal window
+detail (Gap last) = codes " last " ++ decimal last
+detail (Gone how) = codes " " ++ standing_name how
+detail NoSeat = []
+detail (Widening standing) = codes " standing " ++ choice_name standing
+detail TooManyTurns = []
+detail NotChosen = []
+detail (NoSuchRound published) = codes " published " ++ decimal published
+detail LastWindow = []
+detail StepFixed = []
+detail (Falling seats) = codes " seats " ++ decimal seats
+detail (SeatLimit total) = codes " total " ++ decimal total
+
+-- the line of a refusal: its number, its name and what it carries
+abbrev pub refusal_line : Refusal → List ℕ
+refusal_line refusal = codes "refused " ++ decimal (number_of refusal) ++ codes " " ++ name_of refusal ++ detail refusal ++ codes "\n"
+
+-- ---- receipts and readings
+
+-- the line of an accepted answer
+abbrev pub noted_line : ℕ → ℕ → ℕ → Choice → List ℕ
+noted_line cand window turn choice =
+    codes "noted " ++ decimal cand ++ codes " window " ++ decimal window ++ codes " turn " ++ decimal turn ++ codes " " ++ choice_name choice ++ codes "\n"
+
+-- the first line of a cut that published a round
+abbrev pub published_line : ℕ → ℕ → List ℕ
+published_line number seated = codes "published " ++ decimal number ++ codes " seated " ++ decimal seated ++ codes "\n"
+
+-- the first line of the last cut
+abbrev pub final_line : ℕ → List ℕ
+final_line admitted = codes "final admitted " ++ decimal admitted ++ codes "\n"
+
+-- the seat, or that there is none
+abbrev pub seat_words : SeatTable → Option Seat → List ℕ
+seat_words table None = codes " none\n"
+seat_words table (Some seat) = codes " " ++ code_in table seat.prog.0 ++ codes " " ++ step_name seat.step ++ codes "\n"
+
+-- the line of a candidate's standing and seat
+abbrev pub standing_line : SeatTable → ℕ → ℕ → Standing → Option Seat → List ℕ
+standing_line table cand number standing seat =
+    codes "seat " ++ decimal cand ++ codes " round " ++ decimal number ++ codes " " ++ standing_name standing ++ seat_words table seat
+
+-- the line of how far the office is
+abbrev pub state_line : ℕ → ℕ → ℕ → List ℕ
+state_line window rounds published = codes "state window " ++ decimal window ++ codes " rounds " ++ decimal rounds ++ codes " published " ++ decimal published ++ codes "\n"
+
+-- the line of an accepted raise
+abbrev pub raised_line : SeatTable → ℕ → ℕ → List ℕ → ℕ → List ℕ
+raised_line table window prog step seats =
+    codes "raised " ++ code_in table prog ++ codes " " ++ step ++ codes " window " ++ decimal window ++ codes " seats " ++ decimal seats ++ codes "\n"
+
+-- ---- replies
+
+-- the text of the round that a cut published
+abbrev pub text_of_round : SeatTable → List Person → Option Round → List ℕ
+text_of_round table people None = []
+text_of_round table people (Some round) = round_text table people round
+
+-- The text of a reply. The round is the one that a cut published, and the rows are the final admissions; only the replies to these cuts show them.
+abbrev pub reply_text : SeatTable → List Person → Option Round → List AllotRow → Reply → List ℕ
+reply_text table people round rows (Noted cand window turn choice) = noted_line cand.0 window turn choice
+reply_text table people round rows (Raised window prog step seats) = raised_line table window prog.0 (step_name step) seats
+reply_text table people round rows (Published number seated) = published_line number seated ++ text_of_round table people round
+reply_text table people round rows (Final admitted) = final_line admitted ++ final_text table rows
+reply_text table people round rows (SeatIs cand number standing seat) = standing_line table cand.0 number standing seat
+reply_text table people round rows (WhyIs cand prog answer) = reason_text table cand.0 prog.0 answer
+reply_text table people round rows (ListIs number prog programme) = list_text table number prog.0 programme
+reply_text table people round rows (StateIs window rounds published) = state_line window rounds published
+reply_text table people round rows (Refused refusal) = refusal_line refusal
+
+-- ---- what can be printed
+
+-- each slot of the lists of a programme is the number of a trait
+abbrev pub HasTraitSlots : Programme → Type 0
+HasTraitSlots programme = AllByRecursion (λ list. AllByRecursion (λ pair. pair.slot < 6) list.cert.pairs) programme.steps
+
+-- the round has an entry for each of the people, and its seats are in programmes of the matrix
+pub record IsRoundOf (table : SeatTable) (people : List Person) (round : Round) : Type 0 where
+  pub entries : length round.seats ≡ length people
+  pub programmes : AreSeatsOf table round.seats
+
+-- The programmes that a reply names are of the matrix; so are those of the round or of the rows that its text shows.
+abbrev pub IsReplyOf : SeatTable → List Person → Option Round → List AllotRow → Reply → Type 0
+IsReplyOf table people round rows (Noted cand window turn choice) = Unit {0}
+IsReplyOf table people round rows (Raised window prog step seats) = prog.0 < length table.programmes
+IsReplyOf table people round rows (Published number seated) = IfSome round (IsRoundOf table people)
+IsReplyOf table people round rows (Final admitted) = AllByRecursion (λ row. row.prog.0 < length table.programmes) rows
+IsReplyOf table people round rows (SeatIs cand number standing seat) = IsSeatOf table seat
+IsReplyOf table people round rows (WhyIs cand prog answer) = (prog.0 < length table.programmes) × IsAnswerOf table answer
+IsReplyOf table people round rows (ListIs number prog programme) = (prog.0 < length table.programmes) × HasTraitSlots programme
+IsReplyOf table people round rows (StateIs window rounds published) = Unit {0}
+IsReplyOf table people round rows (Refused refusal) = Unit {0}

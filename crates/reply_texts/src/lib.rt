@@ -1,0 +1,12 @@
+// The texts of the office's replies: receipts, readings and refusals.
+//
+// The commands that handle requests stand on it. `specs/Replies` says each text as a function of values, line by line; the calls give exactly
+// that text. It decides nothing, and must never know how a reply came about, of commands or of sinks.
+#![tactic(auto)]
+
+mod receipts;
+mod refusals;
+mod reply;
+mod words;
+
+pub use reply::reply_text;
