@@ -207,7 +207,7 @@ pub fn judge_list(prog: Option<ProgId>, published: u16, round: u16) -> Decision
 /// What a raise comes to. It takes no memory.
 pub fn judge_raise(looks: &RaiseLooks, by: By, row: RaiseRow) -> Decision
     requires few { looks.now.seats ≤ looks.now.total }
-    requires all { looks.now.total ≤ 1000000 }
+    requires all { looks.now.total ≤ 40000000 }
     ensures { result ≡ judge_raise looks.now by row }
 {
     if by != By::Clerk {
@@ -228,7 +228,7 @@ pub fn judge_raise(looks: &RaiseLooks, by: By, row: RaiseRow) -> Decision
 /// What a raise of the open window comes to, by its seats.
 fn judge_new_seats(looks: &RaiseLooks, row: RaiseRow) -> Decision
     requires few { looks.now.seats ≤ looks.now.total }
-    requires all { looks.now.total ≤ 1000000 }
+    requires all { looks.now.total ≤ 40000000 }
     ensures { result ≡ judge_new_seats looks.now row }
 {
     if row.step == StepKind::Dereserved {
