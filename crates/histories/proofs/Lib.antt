@@ -1,5 +1,5 @@
 mod Acts
 mod Changes
 mod Raises
-mod Turns
+pub mod Turns
 mod Windows
