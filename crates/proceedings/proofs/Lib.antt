@@ -1,1 +1,4 @@
 pub mod Lasts
+pub mod Positions
+pub mod Taken
+pub mod Seated

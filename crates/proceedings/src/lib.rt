@@ -5,5 +5,6 @@
 #![tactic(auto)]
 
 pub mod book;
+mod looks;
 
 pub use book::Proceedings;
