@@ -5,6 +5,8 @@
 #![tactic(auto)]
 
 pub mod book;
+mod decide;
 mod looks;
+mod seats;
 
 pub use book::Proceedings;
