@@ -1,5 +1,17 @@
 mod Acts
-mod Changes
+mod Answered
+pub mod Changes
+mod Choosing
+mod Coursed
+mod Entering
+mod Falls
+mod Fits
+mod InOrder
+mod Made
+mod OneRound
 mod Raises
+mod Stays
+mod Steps
 pub mod Turns
 mod Windows
+mod Word

@@ -211,5 +211,5 @@ seats_rise law facts sound entries state reached =
       whole_programmes = whole.1.programmes;
     }
 
-pub seats_only_rise : (facts : SeasonFacts) → SeatsOnlyRise facts
-seats_only_rise facts law sound entries state reached = seats_rise law facts sound entries state reached
+pub seats_only_rise : OneStepChanges → (facts : SeasonFacts) → SeatsOnlyRise facts
+seats_only_rise law facts sound entries state reached = seats_rise law facts sound entries state reached

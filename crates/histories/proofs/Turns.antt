@@ -175,11 +175,8 @@ was_next facts old row is_open is_turn next =
 
 -- ---- along a history
 
-window_0 : (facts : SeasonFacts) → AreAnswers facts opening
-window_0 facts = record { turns = λ window id. tt; most = λ window id. omega arith; room = λ id here. omega arith; later = λ window id less. refl }
-
-IsIn : State → ℕ → ℕ → List AnswerRow → Type 0
-IsIn state window id rows = in_window window (rows_of id state.answers) ≡ rows
+no_answers : (facts : SeasonFacts) → AreAnswers facts opening
+no_answers facts = record { turns = λ window id. tt; most = λ window id. omega arith; room = λ id here. omega arith; later = λ window id less. refl }
 
 with_answer : (facts : SeasonFacts) (old : State) (row : AnswerRow) → AreAnswers facts old → IsNext facts old row → AreAnswers facts (with_row old row)
 with_answer facts old row here next =
@@ -266,4 +263,4 @@ answers_follow facts old new act here (Finishes window asks is cuts last same) =
     after_window facts old new (ap (λ (s : State). s.answers) same) (ap (λ (s : State). s.now) same) here
 
 pub are_answers : (facts : SeasonFacts) (entries : List Entry) (state : State) → Reaches facts opening entries state → AreAnswers facts state
-are_answers facts entries state reached = along facts (AreAnswers facts) (answers_follow facts) entries opening state (window_0 facts) reached
+are_answers facts entries state reached = along facts (AreAnswers facts) (answers_follow facts) entries opening state (no_answers facts) reached

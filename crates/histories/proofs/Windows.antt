@@ -1,21 +1,10 @@
 -- The windows along a history: each cut but the last publishes a round, and the last one gives the final rows.
-use Rattle.std.proofs.Common.{◌≡◌, ◌<◌, ◌≤◌, ◌+◌, List, [], ◌∷◌, ◌++◌, None, length, arith, refl, sym, ap, ◌∙◌, subst, length-append}
-use Rattle.std.specs.Prelude.{IsSome}
+use Rattle.std.proofs.Common.{◌≡◌, ◌+◌, [], ◌∷◌, ◌++◌, length, arith, refl, sym, ap, ◌∙◌, subst, length-append}
 use Rattle.office_moves.specs.Facts.{SeasonFacts}
 use Rattle.office_moves.specs.State.{State, opening}
-use Rattle.office_moves.specs.History.{Reaches}
 use Rattle.office_moves.specs.declared.moves.Act.{Act}
-use Rattle.office_moves.specs.declared.moves.Entry.{Entry}
-use Rattle.histories.specs.Laws.{WindowsPass}
+use Rattle.histories.specs.Laws.{IsInTime, WindowsPass}
 use Rattle.histories.proofs.Changes.{Answered, Finishes, Publishes, Raised, Follows, along}
-
--- How far a state is: how many windows are over, how many rounds are published, and whether there are final rows.
-pub record IsInTime (facts : SeasonFacts) (state : State) : Type 0 where
-  pub now : state.now ≤ facts.rounds + 1
-  pub order : state.now ≤ facts.rounds → length state.rounds ≡ state.now
-  pub few : length state.rounds ≤ facts.rounds
-  pub unfinished : state.now ≤ facts.rounds → state.finals ≡ None
-  pub finished : facts.rounds < state.now → (length state.rounds ≡ facts.rounds) × IsSome state.finals
 
 at_first : (facts : SeasonFacts) → IsInTime facts opening
 at_first facts = record {
@@ -24,13 +13,14 @@ at_first facts = record {
   few = omega arith;
   unfinished = λ few. refl;
   finished = λ less. absurd (omega (arith, less));
+  last = λ some. absurd (cc);
 }
 
 goes_on : (facts : SeasonFacts) (old new : State) (act : Act) → IsInTime facts old → Follows facts old act new → IsInTime facts new
 goes_on facts old new act here (Answered row asks is accepts same) =
-    subst (λ (s : State). IsInTime facts s) (sym same) (record { now = here.now; order = here.order; few = here.few; unfinished = here.unfinished; finished = here.finished })
+    subst (λ (s : State). IsInTime facts s) (sym same) (record { now = here.now; order = here.order; few = here.few; unfinished = here.unfinished; finished = here.finished; last = here.last })
 goes_on facts old new act here (Raised row code asks found known is accepts same) =
-    subst (λ (s : State). IsInTime facts s) (sym same) (record { now = here.now; order = here.order; few = here.few; unfinished = here.unfinished; finished = here.finished })
+    subst (λ (s : State). IsInTime facts s) (sym same) (record { now = here.now; order = here.order; few = here.few; unfinished = here.unfinished; finished = here.finished; last = here.last })
 goes_on facts old new act here (Publishes window round asks is cuts less next same) =
     let count = here.order (omega (arith, less)) in
     let longer : length (old.rounds ++ round ∷ []) ≡ length old.rounds + 1 = length-append old.rounds (round ∷ []) in
@@ -40,6 +30,7 @@ goes_on facts old new act here (Publishes window round asks is cuts less next sa
       few = omega (arith, longer, count, less);
       unfinished = λ few. here.unfinished (omega (arith, less));
       finished = λ later. absurd (omega (arith, less, later));
+      last = λ some. absurd (let none = here.unfinished (omega (arith, less)) in cc);
     })
 goes_on facts old new act here (Finishes window asks is cuts last same) =
     let count = here.order (omega (arith, last)) in
@@ -49,10 +40,8 @@ goes_on facts old new act here (Finishes window asks is cuts last same) =
       few = here.few;
       unfinished = λ few. absurd (omega (arith, last, few));
       finished = λ later. (count ∙ last, refl);
+      last = λ some. count ∙ last;
     })
 
-pub in_time : (facts : SeasonFacts) (entries : List Entry) (state : State) → Reaches facts opening entries state → IsInTime facts state
-in_time facts entries state reached = along facts (IsInTime facts) (goes_on facts) entries opening state (at_first facts) reached
-
 pub windows_pass : (facts : SeasonFacts) → WindowsPass facts
-windows_pass facts entries state reached = let time = in_time facts entries state reached in (time.now, time.unfinished, time.finished)
+windows_pass facts entries state reached = along facts (IsInTime facts) (goes_on facts) entries opening state (at_first facts) reached

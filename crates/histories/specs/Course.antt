@@ -1,5 +1,5 @@
 -- The course of a season, window by window, as a state shows it.
-use Rattle.std.specs.Prelude.{◌≡◌, ◌<◌, ◌≤◌, ◌+◌, ◌⊎◌, ℕ, suc, true, List, Option, Some, None, IsSome, length, map, option_map, slice_get}
+use Rattle.std.specs.Prelude.{◌≡◌, ◌≤◌, ◌+◌, ◌⊎◌, ℕ, suc, true, List, Some, IsSome, length, map, option_map, slice_get}
 use Rattle.office_base.specs.declared.asks.Choice.{Choice}
 use Rattle.office_base.specs.declared.asks.Choice.TheVariants.{Withdraw}
 use Rattle.keeper_mem.specs.declared.rows.AllotRow.{AllotRow}

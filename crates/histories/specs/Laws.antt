@@ -2,7 +2,6 @@
 use Rattle.std.specs.Prelude.{◌≡◌, ◌<◌, ◌≤◌, ◌+◌, ℕ, suc, List, Some, None, IsSome, length, map}
 use Rattle.office_base.specs.Numbered.{last_of}
 use Rattle.office_base.specs.declared.asks.Request.{Request}
-use Rattle.seat_matrix.specs.Laws.{OneStepChanges}
 use Rattle.seat_matrix.specs.Matrix.{AreSeats}
 use Rattle.rounds.specs.Rule.{IsRaised}
 use Rattle.office_moves.specs.Facts.{IsSound, SeasonFacts}
@@ -31,10 +30,18 @@ HistoryGrows facts = (entries : List Entry) (old new : State) (request : Request
 abbrev pub TurnsCount : SeasonFacts → Type 0
 TurnsCount facts = (entries : List Entry) (state : State) → Reaches facts opening entries state → AreAnswers facts state
 
--- A history goes from window to window up to the last cut; until then there are no final rows, and then there are.
+-- How far a state is: each cut published a round but for the last one, which alone gave the final rows.
+pub record IsInTime (facts : SeasonFacts) (state : State) : Type 0 where
+  pub now : state.now ≤ facts.rounds + 1
+  pub order : state.now ≤ facts.rounds → length state.rounds ≡ state.now
+  pub few : length state.rounds ≤ facts.rounds
+  pub unfinished : state.now ≤ facts.rounds → state.finals ≡ None
+  pub finished : facts.rounds < state.now → (length state.rounds ≡ facts.rounds) × IsSome state.finals
+  pub last : IsSome state.finals → length state.rounds ≡ facts.rounds
+
+-- A history goes from window to window up to the last cut.
 abbrev pub WindowsPass : SeasonFacts → Type 0
-WindowsPass facts = (entries : List Entry) (state : State) → Reaches facts opening entries state
-    → (state.now ≤ facts.rounds + 1) × (state.now ≤ facts.rounds → state.finals ≡ None) × (facts.rounds < state.now → (length state.rounds ≡ facts.rounds) × IsSome state.finals)
+WindowsPass facts = (entries : List Entry) (state : State) → Reaches facts opening entries state → IsInTime facts state
 
 -- The matrices of a state are sound, and their seats only rise.
 pub record SeatsRise (facts : SeasonFacts) (state : State) : Type 0 where
@@ -46,6 +53,6 @@ pub record SeatsRise (facts : SeasonFacts) (state : State) : Type 0 where
   pub whole : AreSeats (matrix_at facts state)
   pub whole_programmes : (matrix_at facts state).programmes ≡ facts.matrix.programmes
 
--- In every state that a history reaches seats have only risen, where one step can be changed alone.
+-- In every state that a history reaches seats have only risen.
 abbrev pub SeatsOnlyRise : SeasonFacts → Type 0
-SeatsOnlyRise facts = OneStepChanges → IsSound facts → (entries : List Entry) (state : State) → Reaches facts opening entries state → SeatsRise facts state
+SeatsOnlyRise facts = IsSound facts → (entries : List Entry) (state : State) → Reaches facts opening entries state → SeatsRise facts state

@@ -1,6 +1,22 @@
 // The laws of the states that a history reaches. Each is the contract of a function that does nothing.
-ghost use Rattle.office_moves.specs.Facts.{SeasonFacts};
+ghost use Rattle.std.specs.Prelude.{◌≡◌, ℕ, List};
+ghost use Rattle.seat_matrix.specs.Matrix.{AreSeats, SeatTable};
+ghost use Rattle.seeks.specs.declared.seek.Seek.{Seek};
+ghost use Rattle.rounds.specs.Round.{IsRound};
+ghost use Rattle.rounds.specs.Rule.{ProgrammesChooseWell, ProgrammesGrow};
+ghost use Rattle.rounds.specs.declared.round.Round.{Round};
+ghost use Rattle.office_moves.specs.Facts.{IsSound, SeasonFacts, lists_in_order};
+ghost use Rattle.office_moves.specs.Laws.{NextRoundsAreOne, OneNextRound};
+ghost use Rattle.office_moves.specs.Promise.{KeepsItsWord};
+ghost use Rattle.office_moves.specs.State.{State, opening};
+ghost use Rattle.office_moves.specs.History.{IsHistory, Reaches};
+ghost use Rattle.office_base.specs.declared.asks.Request.{Request};
+ghost use Rattle.office_moves.specs.Moves.{IsMove};
+ghost use Rattle.office_moves.specs.declared.moves.Entry.{Entry};
+ghost use Rattle.office_moves.specs.declared.moves.Reply.{Reply};
+ghost use Rattle.histories.specs.Course.{IsCourse};
 ghost use Rattle.histories.specs.Laws.{AcceptedByItsAct, HistoryGrows, SeatsOnlyRise, TurnsCount, WindowsPass};
+ghost use Rattle.histories.specs.Orderly.{IsOrderly};
 
 /// A newly accepted request comes to the same as its act, asked by its candidate or by the clerk.
 pub fn accepted_by_its_act()
@@ -17,12 +33,99 @@ pub fn turns_count()
     ensures { (facts : SeasonFacts) → TurnsCount facts }
 {}
 
-/// A history goes from window to window up to the last cut, which alone gives final rows.
+/// A history goes from window to window up to the last cut, which alone gives the final rows.
 pub fn windows_pass()
     ensures { (facts : SeasonFacts) → WindowsPass facts }
 {}
 
-/// Seats only rise, in steps that one raise changes alone.
+/// Seats only rise along a history, and the raised matrix is the one of the next round.
 pub fn seats_only_rise()
     ensures { (facts : SeasonFacts) → SeatsOnlyRise facts }
-{}
+{
+    seat_matrix::laws::one_step_changes();
+}
+
+/// A state that a history reaches has the course of a season.
+pub fn runs_its_course()
+    ensures { (facts : SeasonFacts) (entries : List Entry) (state : State) → IsSound facts → Reaches facts opening entries state → IsCourse facts state }
+{
+    seats_only_rise();
+}
+
+/// The programmes of every matrix choose well.
+pub fn programmes_choose_well()
+    ensures { ProgrammesChooseWell }
+{
+    open_then_category::laws::chosen_well();
+}
+
+/// And where they have more seats, they admit everybody whom they admitted.
+pub fn programmes_grow()
+    ensures { ProgrammesGrow }
+{
+    open_then_category::laws::grows_with_seats();
+}
+
+/// Over a course of a season the office keeps its word: every round is just, and nobody falls.
+pub fn keeps_its_word()
+    ensures { (facts : SeasonFacts) (state : State) → IsSound facts → IsCourse facts state → KeepsItsWord facts state }
+{
+    programmes_choose_well();
+    programmes_grow();
+}
+
+/// In a state that a history reaches all is in order: the office keeps its word, and its windows, turns, seats and raises fit together.
+pub fn orderly()
+    ensures { (facts : SeasonFacts) (entries : List Entry) (state : State) → IsSound facts → Reaches facts opening entries state → IsOrderly facts state }
+{
+    runs_its_course();
+    turns_count();
+    windows_pass();
+    seats_only_rise();
+    programmes_choose_well();
+    programmes_grow();
+}
+
+/// Two rounds of a season by one matrix, on one seek for each of the people, are one.
+pub fn one_round()
+    ensures { (facts : SeasonFacts) (table : SeatTable) (n : ℕ) (seeks : List Seek) (first second : Round) → IsSound facts → AreSeats table
+        → table.programmes ≡ facts.matrix.programmes → IsRound facts.version table facts.people (lists_in_order facts) n seeks first
+        → IsRound facts.version table facts.people (lists_in_order facts) n seeks second → first ≡ second }
+{
+    programmes_choose_well();
+    open_then_category::laws::one_programme_choice();
+    open_then_category::laws::admitted_once();
+    slot_cert::laws::one_certificate();
+}
+
+/// A state in which all is in order has one next round at most.
+pub fn one_next_round()
+    ensures { (facts : SeasonFacts) (state : State) → IsSound facts → IsOrderly facts state → OneNextRound facts state }
+{
+    one_round();
+}
+
+/// Each state that a history reaches has one next round at most.
+pub fn next_rounds_are_one()
+    ensures { (facts : SeasonFacts) → IsSound facts → NextRoundsAreOne facts }
+{
+    orderly();
+    one_next_round();
+}
+
+/// A history leads to one state.
+pub fn one_history()
+    ensures { (facts : SeasonFacts) (entries : List Entry) (state other : State) → IsSound facts → IsHistory facts entries state → IsHistory facts entries other → state ≡ other }
+{
+    next_rounds_are_one();
+    office_moves::laws::one_state();
+}
+
+/// And a request after it has one reply, and leads to one state.
+pub fn one_answer()
+    ensures { (facts : SeasonFacts) (entries : List Entry) (state after other : State) (request : Request) (reply again : Reply) → IsSound facts → IsHistory facts entries state
+        → IsMove facts state request reply after → IsMove facts state request again other → (reply ≡ again) × (after ≡ other) }
+{
+    next_rounds_are_one();
+    office_moves::laws::one_reply();
+}

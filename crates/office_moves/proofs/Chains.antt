@@ -162,7 +162,7 @@ not_either : (a b : Bool) → a || b ≡ false → (a ≡ false) × (b ≡ false
 not_either true b e = absurd (cc)
 not_either false b e = (refl, e)
 
-lt_fails : (m n : ℕ) → nat_lt m n ≡ false → n ≤ m
+pub lt_fails : (m n : ℕ) → nat_lt m n ≡ false → n ≤ m
 lt_fails m n e = grind (arith, nat_tests)
 
 eq_fails : (m n : ℕ) → m == n ≡ false → m ≡ n → ⊥

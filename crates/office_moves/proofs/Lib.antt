@@ -1,6 +1,6 @@
 pub mod Chains
 pub mod Grows
-mod Narrows
+pub mod Narrows
 pub mod OneState
 mod OwnView
 pub mod Repeats

@@ -195,18 +195,18 @@ left_order table seek progs p r distinct less before =
 abbrev pub Narrower : SeatTable → Seek → Seek → List ProgId → ℕ → Type 0
 Narrower table last next progs k = (j : ℕ) (prog : ProgId) → slice_get progs j ≡ Some prog → is_left table next progs j prog ≡ true → (is_left table last progs j prog ≡ true) × (j ≤ k)
 
-le_means : (m n : ℕ) → nat_le m n ≡ true → m ≤ n
+pub le_means : (m n : ℕ) → nat_le m n ≡ true → m ≤ n
 le_means m n e = grind (arith, nat_tests)
 
-le_true : (m n : ℕ) → m ≤ n → nat_le m n ≡ true
+pub le_true : (m n : ℕ) → m ≤ n → nat_le m n ≡ true
 le_true m n less = grind (arith, nat_tests)
 
-both_true : (a b : Bool) → a ≡ true → b ≡ true → a && b ≡ true
+pub both_true : (a b : Bool) → a ≡ true → b ≡ true → a && b ≡ true
 both_true true true first second = refl
 both_true true false first second = absurd (cc)
 both_true false b first second = absurd (cc)
 
-both_means : (a b : Bool) → a && b ≡ true → (a ≡ true) × (b ≡ true)
+pub both_means : (a b : Bool) → a && b ≡ true → (a ≡ true) × (b ≡ true)
 both_means true true e = (refl, refl)
 both_means true false e = absurd (cc)
 both_means false b e = absurd (cc)

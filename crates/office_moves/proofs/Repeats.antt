@@ -40,7 +40,7 @@ Again later reply again after = (again ≡ reply) × (after ≡ later)
 
 -- ---- an answer
 
-rows_when : (b : Bool) (row : AnswerRow) (rows more : List AnswerRow) → (if b then row ∷ (rows ++ more) else rows ++ more) ≡ (if b then row ∷ rows else rows) ++ more
+pub rows_when : (b : Bool) (row : AnswerRow) (rows more : List AnswerRow) → (if b then row ∷ (rows ++ more) else rows ++ more) ≡ (if b then row ∷ rows else rows) ++ more
 rows_when true row rows more = refl
 rows_when false row rows more = refl
 

@@ -1,0 +1,58 @@
+-- The programmes of a matrix choose well, and grow with their seats, by the laws of the choice of a programme.
+use Rattle.std.proofs.Common.{◌≡◌, ◌<◌, ◌≤◌, ◌⊎◌, inl, inr, ℕ, zero, suc, List, [], ◌∷◌, None, length, arith, refl, sym, ap, subst}
+use Rattle.std.specs.Prelude.{slice_get, slice_index_or, option_map}
+use Rattle.std.specs.Option.{unwrap_or}
+use Rattle.office_base.specs.Person.{IsList}
+use Rattle.office_base.specs.declared.step.StepKind.{StepKind}
+use Rattle.office_base.specs.declared.step.StepKind.TheVariants.{Open, Ews, Obc, Sc, St, Dereserved}
+use Rattle.open_then_category.specs.Laws.{ChosenWell, GrowsWithSeats}
+use Rattle.rounds.specs.Rule.{ProgrammesChooseWell, ProgrammesGrow}
+use Rattle.seat_matrix.specs.Matrix.{AreSeats, SeatTable, first_list, list_in, seats_in, steps_in}
+use Rattle.seat_matrix.specs.Seats.{AreProgrammeSeats, IsSeated, no_seating, no_seatings, of_step}
+use Rattle.seat_matrix.specs.declared.seats.Seatings.{Seatings}
+
+-- after the end of a list nothing stands
+get_after : {X : Type 0} (xs : List X) (p : ℕ) → length xs ≤ p → slice_get xs p ≡ None
+get_after [] p far = refl
+get_after (x ∷ xs) zero far = absurd (omega (arith, far))
+get_after (x ∷ xs) (suc p) far = get_after xs p (omega (arith, far))
+
+index_after : {X : Type 0} (xs : List X) (p : ℕ) (x : X) → length xs ≤ p → slice_index_or xs p x ≡ x
+index_after [] p x far = refl
+index_after (y ∷ xs) zero x far = absurd (omega (arith, far))
+index_after (y ∷ xs) (suc p) x far = index_after xs p x (omega (arith, far))
+
+none_seated : IsSeated no_seating
+none_seated = record { protections = omega arith; seats = omega arith }
+
+no_steps : (step : StepKind) → IsSeated (of_step no_seatings step)
+no_steps Open = none_seated
+no_steps Ews = none_seated
+no_steps Obc = none_seated
+no_steps Sc = none_seated
+no_steps St = none_seated
+no_steps Dereserved = none_seated
+
+-- the seats of each programme are sound, and so are those of none
+pub sound_all : (table : SeatTable) → AreSeats table → (p : ℕ) → AreProgrammeSeats (seats_in table p)
+sound_all table seats p = elim (cases p (length table.programmes)) [
+  | inl less ↦ seats.sound p less
+  | inr far ↦ record {
+    list = (let e : list_in table p ≡ first_list = ap (λ home. unwrap_or (option_map (λ held. held.1.list) home) first_list) (get_after table.programmes p far) in
+        subst IsList (sym e) (omega arith, omega arith));
+    steps = λ step.
+        let e : steps_in table p ≡ no_seatings = index_after table.steps p no_seatings (omega (arith, seats.steps, far)) in
+        subst (λ (s : Seatings). IsSeated (of_step s step)) (sym e) (no_steps step);
+  }
+]
+  where
+    cases : (m n : ℕ) → (m < n) ⊎ (n ≤ m)
+    cases m zero = inr (omega arith)
+    cases zero (suc n) = inl (omega arith)
+    cases (suc m) (suc n) = elim (cases m n) [ inl h ↦ inl (omega (arith, h)) | inr h ↦ inr (omega (arith, h)) ]
+
+pub choose_well : ChosenWell → ProgrammesChooseWell
+choose_well well version table seats = well version (λ p. seats_in table p) (sound_all table seats)
+
+pub grow : GrowsWithSeats → ProgrammesGrow
+grow grows version table more seats seats' raised = grows version (λ p. seats_in table p) (λ p. seats_in more p) (sound_all table seats) (sound_all more seats') raised.seats

@@ -1,0 +1,28 @@
+-- A state that a history reaches has the course of a season.
+use Rattle.std.proofs.Common.{◌≡◌, ℕ, suc, List}
+use Rattle.seat_matrix.specs.Matrix.{AreSeats}
+use Rattle.rounds.specs.Rule.{IsRaised}
+use Rattle.office_moves.specs.Facts.{SeasonFacts}
+use Rattle.office_moves.specs.State.{State, opening}
+use Rattle.office_moves.specs.Raised.{matrix_of_round}
+use Rattle.office_moves.specs.History.{Reaches}
+use Rattle.office_moves.specs.declared.moves.Entry.{Entry}
+use Rattle.histories.specs.Course.{IsCourse}
+use Rattle.histories.proofs.Answered.{answered_well}
+use Rattle.histories.proofs.Made.{few_rounds, final_rows_last, last_round, order_of, rounds_made}
+
+-- where its matrices are sound and rise
+pub course_of : (facts : SeasonFacts) (state : State) (entries : List Entry) → Reaches facts opening entries state → ((n : ℕ) → AreSeats (matrix_of_round facts state n))
+    → ((n : ℕ) → IsRaised (matrix_of_round facts state n) (matrix_of_round facts state (suc n)))
+    → ((n : ℕ) → (matrix_of_round facts state n).programmes ≡ facts.matrix.programmes) → IsCourse facts state
+course_of facts state entries reached seats raised programmes = record {
+  order = order_of facts state entries reached;
+  few = few_rounds facts state entries reached;
+  made = rounds_made facts state entries reached;
+  answers = answered_well facts state entries reached;
+  seats = seats;
+  raised = raised;
+  programmes = programmes;
+  finals = final_rows_last facts state entries reached;
+  last = last_round facts state entries reached;
+}

@@ -1,0 +1,47 @@
+-- A course whose windows, answers and raises fit together is in order.
+use Rattle.std.proofs.Common.{◌≡◌, ◌<◌, ◌≤◌, ◌+◌, ◌⊎◌, inl, inr, ℕ, zero, suc, None, length, arith, sym, subst}
+use Rattle.std.specs.Prelude.{IsSome}
+use Rattle.seat_matrix.specs.Matrix.{AreSeats, SeatTable}
+use Rattle.rounds.specs.Rule.{ProgrammesChooseWell, ProgrammesGrow}
+use Rattle.office_moves.specs.Facts.{IsSound, SeasonFacts}
+use Rattle.office_moves.specs.State.{State}
+use Rattle.office_moves.specs.Raised.{matrix_at, matrix_of_round}
+use Rattle.histories.specs.Course.{IsCourse}
+use Rattle.histories.specs.Orderly.{AreAnswers, IsOrderly}
+use Rattle.histories.proofs.Word.{entries_full, keeps_its_word, seated_now, seeks_now_fit}
+
+-- The windows fit the rounds and the final rows.
+pub record AreWindows (facts : SeasonFacts) (state : State) : Type 0 where
+  pub now : state.now ≤ facts.rounds + 1
+  pub unfinished : state.now ≤ facts.rounds → state.finals ≡ None
+  pub finished : facts.rounds < state.now → (length state.rounds ≡ facts.rounds) × IsSome state.finals
+
+-- the last cut published a round, or it was the last cut of the season
+one_more : (facts : SeasonFacts) (state : State) → IsCourse facts state → AreWindows facts state → (state.now ≡ length state.rounds) ⊎ (state.now ≡ suc (length state.rounds))
+one_more facts state course windows = elim (cases state.now facts.rounds) [
+  | inl open_yet ↦ inl (sym (course.order open_yet))
+  | inr over ↦ let all = (windows.finished over).0 in let most = windows.now in inr (omega (arith, all, most, over))
+]
+  where
+    cases : (m n : ℕ) → (m ≤ n) ⊎ (n < m)
+    cases zero n = inl (omega arith)
+    cases (suc m) zero = inr (omega arith)
+    cases (suc m) (suc n) = elim (cases m n) [ inl h ↦ inl (omega (arith, h)) | inr h ↦ inr (omega (arith, h)) ]
+
+-- What holds of a course, with all that is read off it.
+pub in_order : (facts : SeasonFacts) (state : State) → IsSound facts → ProgrammesChooseWell → ProgrammesGrow → IsCourse facts state → AreAnswers facts state → AreWindows facts state
+    → matrix_at facts state ≡ matrix_of_round facts state (suc state.now) → IsOrderly facts state
+in_order facts state sound well grow course answers windows matrix = record {
+  course = course;
+  word = keeps_its_word facts state sound well grow course;
+  answers = answers;
+  now = windows.now;
+  unfinished = windows.unfinished;
+  finished = windows.finished;
+  seated = seated_now facts state sound well grow course (one_more facts state course windows);
+  seeks = seeks_now_fit facts state sound course;
+  entries = λ before round is. entries_full facts state before round sound course is;
+  matrix = matrix;
+  seats = subst (λ (table : SeatTable). AreSeats table) (sym matrix) (course.seats (suc state.now));
+  programmes = subst (λ (table : SeatTable). table.programmes ≡ facts.matrix.programmes) (sym matrix) (course.programmes (suc state.now));
+}

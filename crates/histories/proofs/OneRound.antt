@@ -1,0 +1,154 @@
+-- A round by one matrix on one seek for each of the people is one round.
+use Rattle.std.proofs.Common.{◌≡◌, ◌<◌, ℕ, suc, List, [], ◌∷◌, ◌++◌, Some, length, arith, refl, sym, ap, ◌∙◌, subst, inl, inr}
+use Rattle.std.specs.Prelude.{slice_get}
+use Rattle.std.specs.List.{AllZip}
+use Rattle.office_base.specs.Lists.{IsSublist}
+use Rattle.office_base.specs.Merit.{in_merit}
+use Rattle.office_base.specs.declared.person.Person.{Person}
+use Rattle.office_base.specs.declared.step.Protections.{Protections}
+use Rattle.office_base.specs.declared.step.StepKind.{StepKind}
+use Rattle.office_base.specs.declared.step.StepKind.TheVariants.{Open, Ews, Obc, Sc, St, Dereserved}
+use Rattle.placements.specs.Ranks.{AreDistinct}
+use Rattle.placements.proofs.Ranks.{pairwise_sublist}
+use Rattle.placements.proofs.Sublists.{IsSublist-nil, IsSublist-same}
+use Rattle.slot_cert.specs.Laws.{OneCertificate}
+use Rattle.seat_matrix.specs.Matrix.{AreSeats, SeatTable, seats_in}
+use Rattle.seat_matrix.specs.Seats.{AreProgrammeSeats, seats_of}
+use Rattle.seat_matrix.specs.declared.seats.ProgrammeSeats.{ProgrammeSeats}
+use Rattle.programme_lists.specs.Chosen.{AreApplicants, ShowsFrom, everybody}
+use Rattle.programme_lists.specs.Listing.{Shows, ShowsStep, ShowsSteps, seats_filled}
+use Rattle.programme_lists.specs.Programme.{Admissions, admitted_by, people_of}
+use Rattle.programme_lists.specs.declared.programme.Programme.{Programme}
+use Rattle.programme_lists.specs.declared.programme.StepList.{StepList}
+use Rattle.open_then_category.specs.Laws.{AdmittedOnce, OneProgrammeChoice}
+use Rattle.allocations.specs.Market.{applicants}
+use Rattle.allocations.proofs.Claims.{applicants_may, one_best}
+use Rattle.seeks.specs.declared.seek.Seek.{Seek}
+use Rattle.rounds.specs.Round.{IsRound}
+use Rattle.rounds.specs.Rule.{MayApplyIn, ProgrammesChooseWell, rule_of, seekers_of}
+use Rattle.rounds.specs.declared.round.Round.{Round}
+use Rattle.rounds.proofs.Entrants.{market}
+use Rattle.office_moves.specs.Facts.{IsSound, SeasonFacts, lists_in_order}
+use Rattle.histories.proofs.Entering.{entrants}
+use Rattle.histories.proofs.Fits.{below_get}
+
+-- the laws on which it rests
+pub record ChooseOnce : Type 0 where
+  pub well : ProgrammesChooseWell
+  pub one : OneProgrammeChoice
+  pub once : AdmittedOnce
+  pub certificate : OneCertificate
+
+-- ---- lists
+
+left_part : {X : Type 0} (xs ys : List X) → IsSublist xs (xs ++ ys)
+left_part [] ys = IsSublist-nil ys
+left_part (x ∷ xs) ys = inr (xs, refl, left_part xs ys)
+
+right_part : {X : Type 0} (xs ys zs : List X) → IsSublist zs ys → IsSublist zs (xs ++ ys)
+right_part [] ys zs h = h
+right_part (x ∷ xs) ys zs h = inl (right_part xs ys zs h)
+
+left_distinct : (xs ys : List Person) → AreDistinct (xs ++ ys) → AreDistinct xs
+left_distinct xs ys distinct = pairwise_sublist _ _ _ (left_part xs ys) distinct
+
+right_distinct : (xs ys : List Person) → AreDistinct (xs ++ ys) → AreDistinct ys
+right_distinct xs ys distinct = pairwise_sublist _ _ _ (right_part xs ys ys (IsSublist-same ys)) distinct
+
+-- everybody admitted by the steps up to this one
+abbrev upto_ews : Admissions → List Person
+upto_ews admissions = admissions.open_step ++ admissions.ews
+
+abbrev upto_obc : Admissions → List Person
+upto_obc admissions = upto_ews admissions ++ admissions.obc
+
+abbrev upto_sc : Admissions → List Person
+upto_sc admissions = upto_obc admissions ++ admissions.sc
+
+abbrev upto_st : Admissions → List Person
+upto_st admissions = upto_sc admissions ++ admissions.st
+
+-- those whom a step admits are distinct, where all who are admitted are
+step_distinct : (admissions : Admissions) (kind : StepKind) → AreDistinct (everybody admissions) → AreDistinct (admitted_by admissions kind)
+step_distinct admissions kind distinct = go kind
+  where
+    st : AreDistinct (upto_st admissions)
+    st = left_distinct (upto_st admissions) admissions.dereserved distinct
+
+    sc : AreDistinct (upto_sc admissions)
+    sc = left_distinct (upto_sc admissions) admissions.st st
+
+    obc : AreDistinct (upto_obc admissions)
+    obc = left_distinct (upto_obc admissions) admissions.sc sc
+
+    ews : AreDistinct (upto_ews admissions)
+    ews = left_distinct (upto_ews admissions) admissions.obc obc
+
+    go : (kind : StepKind) → AreDistinct (admitted_by admissions kind)
+    go Open = left_distinct admissions.open_step admissions.ews ews
+    go Ews = right_distinct admissions.open_step admissions.ews ews
+    go Obc = right_distinct (upto_ews admissions) admissions.obc obc
+    go Sc = right_distinct (upto_obc admissions) admissions.sc sc
+    go St = right_distinct (upto_sc admissions) admissions.st st
+    go Dereserved = right_distinct (upto_st admissions) admissions.dereserved distinct
+
+one_along : {X Y : Type 0} (R : X → Y → Type 0) → ((x : X) (y z : Y) → R x y → R x z → y ≡ z) → (xs : List X) (ys zs : List Y) → AllZip R xs ys → AllZip R xs zs → ys ≡ zs
+one_along R one [] [] [] first second = refl
+one_along R one [] [] (z ∷ zs) first second = absurd second
+one_along R one [] (y ∷ ys) zs first second = absurd first
+one_along R one (x ∷ xs) [] zs first second = absurd first
+one_along R one (x ∷ xs) (y ∷ ys) [] first second = absurd second
+one_along R one (x ∷ xs) (y ∷ ys) (z ∷ zs) first second =
+    ap (λ h. h ∷ ys) (one x y z first.0 second.0) ∙ ap (λ rest. z ∷ rest) (one_along R one xs ys zs first.1 second.1)
+
+same_places : {X : Type 0} (xs ys : List X) → length xs ≡ length ys → ((i : ℕ) (x y : X) → slice_get xs i ≡ Some x → slice_get ys i ≡ Some y → x ≡ y) → xs ≡ ys
+same_places [] [] full same = refl
+same_places [] (y ∷ ys) full same = absurd (omega (arith, full))
+same_places (x ∷ xs) [] full same = absurd (omega (arith, full))
+same_places (x ∷ xs) (y ∷ ys) full same =
+    ap (λ h. h ∷ xs) (same 0 x y refl refl) ∙ ap (λ rest. y ∷ rest) (same_places xs ys (omega (arith, full)) (λ i. same (suc i)))
+
+-- ---- programmes
+
+one_list : (kind : StepKind) (seats : ℕ) (protections : Protections) (people admitted : List Person) (a b : StepList) → OneCertificate → AreDistinct admitted
+    → Shows kind seats protections people admitted a → Shows kind seats protections people admitted b → a ≡ b
+one_list kind seats protections people admitted a b certificate distinct first second =
+    let kinds : a.kind ≡ b.kind = first.of_kind ∙ sym second.of_kind in
+    let counts : a.seats ≡ b.seats = first.of_seats ∙ sym second.of_seats in
+    let candidates : a.candidates ≡ b.candidates = first.candidates ∙ sym second.candidates in
+    let persons : a.admitted ≡ b.admitted = first.persons ∙ sym second.persons in
+    let pairs : a.cert.pairs ≡ b.cert.pairs = certificate protections admitted a.cert.pairs b.cert.pairs distinct first.certificate second.certificate in
+    λ i. record { kind = kinds i; seats = counts i; candidates = candidates i; admitted = persons i; cert = record { pairs = pairs i } }
+
+one_programme : (version : ℕ) (seats : ProgrammeSeats) (people : List Person) (a b : Programme) → ChooseOnce → AreProgrammeSeats seats → AreApplicants seats.list people
+    → ShowsFrom version seats people a → ShowsFrom version seats people b → a ≡ b
+one_programme version seats people a b laws sound may first second =
+    let same : second.0 ≡ first.0 = laws.one version seats people second.0 first.0 sound may second.1 first.1 in
+    let distinct = (laws.once version seats people first.0 sound may first.1).0 in
+    let again = subst (λ admissions. ShowsSteps version seats (in_merit seats.list people) admissions b) same second.2 in
+    let steps : a.steps ≡ b.steps = one_along (ShowsStep version seats (in_merit seats.list people) first.0)
+    (λ kind x y. one_list kind (seats_filled version seats first.0 kind) (seats_of seats kind).protections (people_of seats.list (in_merit seats.list people) first.0 kind)
+    (admitted_by first.0 kind) x y laws.certificate (step_distinct first.0 kind distinct)) (Open ∷ Ews ∷ Obc ∷ Sc ∷ St ∷ Dereserved ∷ []) a.steps b.steps first.2 again in
+    λ i. record { steps = steps i }
+
+-- ---- rounds
+
+-- Two rounds by one matrix of the season's programmes, on one seek for each of the people, are one.
+pub one_round : (facts : SeasonFacts) (table : SeatTable) (n : ℕ) (seeks : List Seek) (a b : Round) → ChooseOnce → IsSound facts → AreSeats table → table.programmes ≡ facts.matrix.programmes
+    → IsRound facts.version table facts.people (lists_in_order facts) n seeks a → IsRound facts.version table facts.people (lists_in_order facts) n seeks b → a ≡ b
+one_round facts table n seeks a b laws sound seats same first second =
+    let seekers = seekers_of table facts.people (lists_in_order facts) seeks in
+    let may_seek = market table facts.people (lists_in_order facts) seeks seats (entrants facts table sound same) in
+    let well = laws.well facts.version table seats in
+    let numbers : a.number ≡ b.number = first.number ∙ sym second.number in
+    let sought : a.seeks ≡ b.seeks = first.sought ∙ sym second.sought in
+    let seated : a.seats ≡ b.seats = one_best (rule_of facts.version table) (MayApplyIn table) (length table.programmes) seekers a.seats b.seats may_seek well first.best second.best in
+    let programmes : a.programmes ≡ b.programmes =
+    same_places a.programmes b.programmes (first.count ∙ sym second.count) (λ p x y at at'.
+    let below = below_get a.programmes p x at in
+    let less : p < length table.programmes = omega (arith, below, first.count) in
+    let may = applicants_may (rule_of facts.version table) (MayApplyIn table) (length table.programmes) p seekers a.seats may_seek well less first.best.fair.allocation.full in
+    let shown : ShowsFrom facts.version (seats_in table p) (applicants p seekers a.seats) y =
+    subst (λ s. ShowsFrom facts.version (seats_in table p) (applicants p seekers s) y) (sym seated) (second.shown p y at') in
+    one_programme facts.version (seats_in table p) (applicants p seekers a.seats) x y laws (seats.sound p less) may (first.shown p x at) shown) in
+    λ i. record { number = numbers i; seeks = sought i; seats = seated i; programmes = programmes i }
