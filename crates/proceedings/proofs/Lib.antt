@@ -4,3 +4,8 @@ pub mod Taken
 pub mod Seated
 pub mod Judged
 pub mod Sums
+pub mod HistoryLemmas
+pub mod CutLemmas
+pub mod NoteLemmas
+pub mod NextLemmas
+pub mod ChangeLemmas

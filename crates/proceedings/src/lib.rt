@@ -5,8 +5,11 @@
 #![tactic(auto)]
 
 pub mod book;
+pub mod changes;
 mod decide;
 mod looks;
+pub mod next;
+mod room;
 mod seats;
 
 pub use book::Proceedings;
