@@ -18,6 +18,7 @@ use Rattle.office_moves.specs.State.{State, answered, in_window, left_by, rows_o
 use Rattle.office_moves.specs.Judge.{is_gone}
 use Rattle.office_moves.specs.Promise.{standing_then}
 use Rattle.histories.proofs.Turns.{OfOther, OfWindow, Own, Owns, answered_last, own_row, owns, rows_then}
+use Rattle.window_ends.proofs.OfficeLinks.{AreRising, same_map}
 use Rattle.proceedings.specs.Changes.{StillAfter}
 use Rattle.proceedings.specs.Proceeding.{choices_in, in_after, left_along, still_among, table_along}
 use Rattle.proceedings.proofs.CutLemmas.{AreTables}
@@ -73,10 +74,6 @@ left_same facts state row id (suc window) few =
     ∙ ap (λ (rows : List AnswerRow). after_cut (answered (left_by facts (view_of state id) id window) rows) (seat_of facts (slice_get state.rounds window) id))
     (other_window state row window id (omega (arith, few)))
 
-same_map : {X : Type 0} (f g : Person → X) (people : List Person) → ((p : Person) → f p ≡ g p) → map f people ≡ map g people
-same_map f g [] h = refl
-same_map {X} f g (p ∷ people) h = ap (λ (z : X). z ∷ map f people) (h p) ∙ ap (λ (z : List X). g p ∷ z) (same_map f g people h)
-
 pub left_stays : (facts : SeasonFacts) (state : State) (row : AnswerRow) → row.window ≡ state.now → left_along facts state ≡ left_along facts (with_row state row)
 left_stays facts state row opens =
     same_map (λ p. left_by facts (view_of state p.id.0) p.id.0 state.now) (λ p. left_by facts (view_of (with_row state row) p.id.0) p.id.0 state.now) facts.people
@@ -97,9 +94,6 @@ standing_own facts state row id opens same =
 
 -- ---- who is still in
 
-abbrev AreRising : List Person → Type 0
-AreRising people = Pairwise (λ a b. a.id.0 < b.id.0) people
-
 still_others : (facts : SeasonFacts) (state : State) (row : AnswerRow) (people : List Person) → row.window ≡ state.now → AllByRecursion (λ (p : Person). row.cand.0 < p.id.0) people
     → still_among facts (with_row state row) people ≡ still_among facts state people
 still_others facts state row [] opens all = refl
@@ -108,31 +102,16 @@ still_others facts state row (p ∷ people) opens all =
     ap (λ (s : Standing). in_after (still_among facts (with_row state row) people) s) (standing_other facts state row p.id.0 opens (omega (arith, less)))
     ∙ ap (λ (n : ℕ). in_after n (standing_then facts state state.now p.id.0)) (still_others facts state row people opens all.1)
 
--- by the choice: one fewer after a withdrawal, else as many
-abbrev Counts : Choice → ℕ → ℕ → Type 0
-Counts = StillAfter
+-- of one who was still in
+counted : (gone : Bool) (n : ℕ) → gone ≡ false → (if gone then n else n + 1) ≡ n + 1
+counted true n e = absurd (cc)
+counted false n e = refl
 
 from_gone : (choice : Choice) (n : ℕ) (before : Standing) → is_gone before ≡ false → StillAfter choice (in_after n before) (in_after n (standing_of choice))
-from_gone ToFreeze n before there = sym (by (is_gone before) there)
-  where
-    by : (b : Bool) → b ≡ false → (if b then n else n + 1) ≡ n + 1
-    by true e = absurd (cc)
-    by false e = refl
-from_gone ToFloat n before there = sym (by (is_gone before) there)
-  where
-    by : (b : Bool) → b ≡ false → (if b then n else n + 1) ≡ n + 1
-    by true e = absurd (cc)
-    by false e = refl
-from_gone ToSlide n before there = sym (by (is_gone before) there)
-  where
-    by : (b : Bool) → b ≡ false → (if b then n else n + 1) ≡ n + 1
-    by true e = absurd (cc)
-    by false e = refl
-from_gone ToWithdraw n before there = sym (by (is_gone before) there)
-  where
-    by : (b : Bool) → b ≡ false → (if b then n else n + 1) ≡ n + 1
-    by true e = absurd (cc)
-    by false e = refl
+from_gone ToFreeze n before there = sym (counted (is_gone before) n there)
+from_gone ToFloat n before there = sym (counted (is_gone before) n there)
+from_gone ToSlide n before there = sym (counted (is_gone before) n there)
+from_gone ToWithdraw n before there = sym (counted (is_gone before) n there)
 
 after_more : (choice : Choice) (m n : ℕ) (standing : Standing) → StillAfter choice m n → StillAfter choice (in_after m standing) (in_after n standing)
 after_more ToFreeze m n standing e = ap (λ (k : ℕ). in_after k standing) e

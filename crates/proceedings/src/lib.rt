@@ -5,10 +5,10 @@
 #![tactic(auto)]
 
 pub mod book;
-pub mod changes;
+mod changes;
 mod decide;
 mod looks;
-pub mod next;
+mod next;
 mod room;
 mod seats;
 

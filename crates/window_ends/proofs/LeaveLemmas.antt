@@ -47,10 +47,6 @@ head_of_drop [] (suc at) = refl
 head_of_drop (x ∷ xs) zero = refl
 head_of_drop (x ∷ xs) (suc at) = head_of_drop xs at
 
-one_few : (gone : Bool) → (if gone then 0 else 1) ≤ 1
-one_few true = omega arith
-one_few false = omega arith
-
 pub leave_next : (at : ℕ) (old : List Standing) (table : List (List Choice)) (seats : List (Option Seat)) (now : List Standing) (still : ℕ) (l s : Standing) (seat : Option Seat) (one : ℕ)
     → LeaveSome at old table seats now still → slice_get now at ≡ Some l → option_map (stands l) (slice_get table at) ≡ Some s → slice_get seats at ≡ Some seat → one ≡ one_in (after_cut s seat)
     → LeaveSome (at + 1) old table seats (slice_set now at (after_cut s seat)) (still + one)

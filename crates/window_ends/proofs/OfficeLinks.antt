@@ -61,6 +61,11 @@ rows_made : (number : ℕ) (seat : ℕ → Option Seat) (people : List Person) �
 rows_made number seat [] = refl
 rows_made number seat (p ∷ people) = ap (λ (z : List AllotRow). row_before number p.id (seat p.id.0) z) (rows_made number seat people)
 
+-- two functions that agree give one list
+pub same_map : {X : Type 0} (f g : Person → X) (people : List Person) → ((p : Person) → f p ≡ g p) → map f people ≡ map g people
+same_map f g [] h = refl
+same_map {X} f g (p ∷ people) h = ap (λ (z : X). z ∷ map f people) (h p) ∙ ap (λ (z : List X). g p ∷ z) (same_map f g people h)
+
 -- ---- seats along the people
 
 same_by_place : {X : Type 0} (xs ys : List X) → ((i : ℕ) → slice_get xs i ≡ slice_get ys i) → xs ≡ ys
@@ -175,10 +180,6 @@ one_left facts state round id order =
     (left_before facts state.now (state.now + 1) state.rounds round (rows_of id state.answers) id state.now (omega (arith, order)))
     ∙ ap (λ (o : Option Round). after_cut (standing_at facts (view_of state id) id state.now) (seat_of facts o id))
     (ap (λ (n : ℕ). slice_get (state.rounds ++ round ∷ []) n) (sym order) ∙ get_last state.rounds round))
-
-same_map : {X : Type 0} (f g : Person → X) (people : List Person) → ((p : Person) → f p ≡ g p) → map f people ≡ map g people
-same_map f g [] h = refl
-same_map {X} f g (p ∷ people) h = ap (λ (z : X). z ∷ map f people) (h p) ∙ ap (λ (z : List X). g p ∷ z) (same_map f g people h)
 
 -- the cut that publishes a round
 pub all_left : (facts : SeasonFacts) (state : State) (left : List Standing) (table : List (List Choice)) (round : Round) → AreRising facts.people → left ≡ left_along facts state

@@ -1,6 +1,5 @@
 -- How the candidates stand at the end of a window, in lists along the people.
-use Rattle.std.specs.Prelude.{◌+◌, ℕ, List, [], ◌∷◌, Option, Some, None, replicate, slice_get, if◌then◌else◌}
-use Rattle.std.specs.Option.{option_and_then}
+use Rattle.std.specs.Prelude.{◌+◌, ℕ, List, [], ◌∷◌, Option, Some, None, replicate, if◌then◌else◌}
 use Rattle.office_base.specs.declared.asks.Choice.{Choice}
 use Rattle.office_base.specs.declared.asks.Seat.{Seat}
 use Rattle.rounds.specs.declared.round.Round.{Round}
@@ -39,7 +38,3 @@ seats_given count (Some seats) = seats
 abbrev pub seats_of : ℕ → Option Round → List (Option Seat)
 seats_of count None = replicate count None
 seats_of count (Some round) = round.seats
-
--- the seat at a place
-abbrev pub seat_among : List (Option Seat) → ℕ → Option Seat
-seat_among seats at = option_and_then (λ seat. seat) (slice_get seats at)

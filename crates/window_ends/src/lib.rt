@@ -8,7 +8,7 @@
 pub mod allotting;
 pub mod leaving;
 pub mod seeking;
-pub mod standing;
+mod standing;
 
 pub use allotting::{final_rows, rows_of_round};
 pub use leaving::leave_all;
