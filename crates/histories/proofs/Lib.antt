@@ -1,6 +1,6 @@
 mod Acts
 mod Answered
-mod Changes
+pub mod Changes
 mod Choosing
 mod Coursed
 mod Entering
@@ -12,6 +12,6 @@ mod OneRound
 mod Raises
 mod Stays
 mod Steps
-mod Turns
+pub mod Turns
 mod Windows
 mod Word

@@ -34,7 +34,7 @@ impl Model for TurnTable {
 impl TurnTable {
     ghost use Rattle.std.specs.Prelude.{List};
     ghost use Rattle.office_base.specs.declared.asks.Choice.{Choice};
-    ghost use Rattle.office_turns.specs.Turns.{no_turns};
+    ghost use Rattle.office_turns.specs.Turns.{choice_at, last_choice, no_turns};
 
     /// A table of this many candidates, who have taken no turn.
     pub fn new(alloc: Global, count: usize) -> Result<TurnTable, OutOfMemory>
@@ -56,6 +56,30 @@ impl TurnTable {
         ensures { option_map length (slice_get self.now at) ≡ Some result }
     {
         u16::from(self.slots[at].count)
+    }
+
+    /// The choice of the candidate at this place at a turn, from 1. None exactly where that turn was not taken. It takes no memory.
+    pub fn choice(&self, at: usize, turn: u16) -> Option<Choice>
+        requires { at < length self.now }
+        ensures { option_map (λ choices. choice_at choices turn) (slice_get self.now at) ≡ Some result }
+    {
+        let slot = &self.slots[at];
+        if turn == 0 || turn > u16::from(slot.count) {
+            return None;
+        }
+        Some(slot.choices[usize::from(turn - 1)])
+    }
+
+    /// The choice of the last turn of the candidate at this place. None exactly where no turn was taken. It takes no memory.
+    pub fn last(&self, at: usize) -> Option<Choice>
+        requires { at < length self.now }
+        ensures { option_map last_choice (slice_get self.now at) ≡ Some result }
+    {
+        let slot = &self.slots[at];
+        if slot.count == 0 {
+            return None;
+        }
+        Some(slot.choices[usize::from(slot.count - 1)])
     }
 
     /// One turn more of the candidate at this place. It takes no memory.

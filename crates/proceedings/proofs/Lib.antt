@@ -1,0 +1,11 @@
+pub mod Lasts
+pub mod Positions
+pub mod Taken
+pub mod Seated
+pub mod Judged
+pub mod Sums
+pub mod HistoryLemmas
+pub mod CutLemmas
+pub mod NoteLemmas
+pub mod NextLemmas
+pub mod ChangeLemmas

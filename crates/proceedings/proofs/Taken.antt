@@ -1,0 +1,110 @@
+-- The turns of a candidate in a window, as rows and as choices.
+use Rattle.std.proofs.Common.{◌≡◌, ◌≢◌, ◌<◌, ◌≤◌, ◌+◌, ◌-◌, ◌⊎◌, inl, inr, ℕ, zero, suc, Bool, true, false, List, [], ◌∷◌, Option, Some, None, length, map, arith, refl, sym, ap, ◌∙◌, ◌==◌, nat_lt, if◌then◌else◌, subst}
+use Rattle.std.specs.Prelude.{slice_get, option_map, ◌&&◌}
+use Rattle.std.proofs.lemmas.Bool.{cases_Bool}
+use Rattle.std.proofs.lemmas.List.{length-map}
+use Rattle.std.proofs.lemmas.Option.{slice_get-get_or}
+use Rattle.allocations.proofs.Places.{eq_means, eq_true, lt_means, lt_true}
+use Rattle.office_base.specs.declared.asks.Choice.{Choice}
+use Rattle.keeper_mem.specs.declared.rows.AnswerRow.{AnswerRow}
+use Rattle.round_options.specs.Options.{standing_of}
+use Rattle.round_options.specs.declared.standing.Standing.{Standing}
+use Rattle.office_moves.specs.State.{accepted, answered, greater, in_window, last_turn}
+use Rattle.office_turns.specs.Turns.{choice_at, last_choice}
+use Rattle.histories.specs.Orderly.{AreTurnsAfter}
+use Rattle.proceedings.proofs.Lasts.{last_of_rest}
+
+-- the choices of rows
+abbrev pub choices : List AnswerRow → List Choice
+choices rows = map (λ row. row.choice) rows
+
+eq_other : (m n : ℕ) → m ≢ n → (m == n) ≡ false
+eq_other m n e = elim (cases_Bool (m == n)) [ inl same ↦ absurd (e (eq_means m n same)) | inr other ↦ other ]
+
+-- ---- what was accepted at a turn
+
+none_when : (b : Bool) (turn k : ℕ) (row : AnswerRow) (inside : List AnswerRow) (rest : Option Choice) → AreTurnsAfter k (if b then row ∷ inside else inside)
+    → ((j : ℕ) → turn ≤ j → AreTurnsAfter j inside → rest ≡ None) → turn ≤ k → (if b && row.turn == turn then Some row.choice else rest) ≡ None
+none_when true turn k row inside rest turns later below = rw (eq_other row.turn turn (λ e. absurd (omega (arith, turns.0)))) (later (k + 1) (omega arith) turns.1)
+none_when false turn k row inside rest turns later below = later k below turns
+
+none_before : (window turn k : ℕ) (rows : List AnswerRow) → AreTurnsAfter k (in_window window rows) → turn ≤ k → accepted window turn rows ≡ None
+none_before window turn k [] turns below = refl
+none_before window turn k (row ∷ rows) turns below =
+    none_when (row.window == window) turn k row (in_window window rows) (accepted window turn rows) turns (λ j less after. none_before window turn j rows after less) below
+
+here_when : (b : Bool) (n k turn : ℕ) (row : AnswerRow) (inside : List AnswerRow) (rest : Option Choice) → AreTurnsAfter k (if b then row ∷ inside else inside) → turn ≡ k + n + 1
+    → ((m j : ℕ) → AreTurnsAfter j inside → turn ≡ j + m + 1 → rest ≡ slice_get (choices inside) m)
+    → (if b && row.turn == turn then Some row.choice else rest) ≡ slice_get (choices (if b then row ∷ inside else inside)) n
+here_when true zero k turn row inside rest turns e later = rw (eq_true row.turn turn (omega (arith, turns.0))) refl
+here_when true (suc n) k turn row inside rest turns e later = rw (eq_other row.turn turn (λ same. absurd (omega (arith, turns.0)))) (later n (k + 1) turns.1 (omega arith))
+here_when false n k turn row inside rest turns e later = later n k turns e
+
+accepted_after : (window n k turn : ℕ) (rows : List AnswerRow) → AreTurnsAfter k (in_window window rows) → turn ≡ k + n + 1 → accepted window turn rows ≡ slice_get (choices (in_window window rows)) n
+accepted_after window n k turn [] turns e = refl
+accepted_after window n k turn (row ∷ rows) turns e =
+    here_when (row.window == window) n k turn row (in_window window rows) (accepted window turn rows) turns e (λ m j after same. accepted_after window m j turn rows after same)
+
+-- turns count from 1, so what was accepted at a turn is the choice at that place
+pub accepted_is : (window turn : ℕ) (rows : List AnswerRow) → AreTurnsAfter 0 (in_window window rows) → accepted window turn rows ≡ choice_at (choices (in_window window rows)) turn
+accepted_is window zero rows turns = none_before window 0 0 rows turns (omega arith)
+accepted_is window (suc n) rows turns = accepted_after window n 0 (suc n) rows turns (omega arith)
+
+-- ---- the last turn
+
+greater_up : (m n : ℕ) → m ≤ n → greater m n ≡ n
+greater_up m n e = elim (cases_Bool (nat_lt m n)) [ inl less ↦ rw less refl | inr not_less ↦ rw not_less (omega (arith, not_below m n not_less)) ]
+  where
+    not_below : (m n : ℕ) → nat_lt m n ≡ false → n ≤ m
+    not_below m n e = grind (arith, lt_true)
+
+last_after : (k : ℕ) (rows : List AnswerRow) → AreTurnsAfter k rows → greater k (last_turn rows) ≡ k + length rows
+last_after k [] turns = none k
+  where
+    none : (k : ℕ) → greater k 0 ≡ k + 0
+    none k = elim (cases_Bool (nat_lt k 0)) [ inl less ↦ absurd (omega (arith, lt_means k 0 less)) | inr other ↦ rw other (omega arith) ]
+last_after k (row ∷ rows) turns =
+    let rest : greater row.turn (last_turn rows) ≡ k + 1 + length rows = ap (λ n. greater n (last_turn rows)) turns.0 ∙ last_after (k + 1) rows turns.1 in
+    rw rest (greater_up k (k + 1 + length rows) (omega arith) ∙ omega arith)
+
+pub last_turn_is : (rows : List AnswerRow) → AreTurnsAfter 0 rows → last_turn rows ≡ length (choices rows)
+last_turn_is rows turns = sym (greater_up 0 (last_turn rows) (omega arith)) ∙ (last_after 0 rows turns ∙ omega (arith, length-map rows (λ (row : AnswerRow). row.choice)))
+
+-- ---- the standing after them
+
+-- how a candidate stands after the last of some choices, or as before where there is none
+abbrev pub after_last : Standing → Option Choice → Standing
+after_last left None = left
+after_last left (Some choice) = standing_of choice
+
+answered_last : (left : Standing) (rows : List AnswerRow) (choice : Choice) → last_choice (choices rows) ≡ Some choice → answered left rows ≡ standing_of choice
+answered_last left [] choice e = absurd (cc)
+answered_last left (row ∷ []) choice e = let same : row.choice ≡ choice = cc in ap standing_of same
+answered_last left (row ∷ next ∷ rows) choice e = answered_last (standing_of row.choice) (next ∷ rows) choice (last_of_rest row.choice next.choice (choices rows) choice e)
+
+answered_none : (left : Standing) (rows : List AnswerRow) → last_choice (choices rows) ≡ None → answered left rows ≡ left
+answered_none left [] e = refl
+answered_none left (row ∷ rows) e =
+    let there = slice_get-get_or (choices (row ∷ rows)) (length (choices (row ∷ rows)) - 1) row.choice (omega arith) in
+    absurd (cc)
+
+pub answered_is : (left : Standing) (rows : List AnswerRow) (last : Option Choice) → last_choice (choices rows) ≡ last → answered left rows ≡ after_last left last
+answered_is left rows None e = answered_none left rows e
+answered_is left rows (Some choice) e = answered_last left rows choice e
+
+-- ---- where nothing was answered
+
+pub accepted_none : (window turn : ℕ) (rows : List AnswerRow) → in_window window rows ≡ [] → accepted window turn rows ≡ None
+accepted_none window turn rows none =
+    accepted_is window turn rows (let P : List AnswerRow → Type 0 = λ inside. AreTurnsAfter 0 inside in subst P (sym none) tt)
+    ∙ (ap (λ (inside : List AnswerRow). choice_at (choices inside) turn) none ∙ no_choice turn)
+  where
+    no_choice : (turn : ℕ) → choice_at [] turn ≡ None
+    no_choice zero = refl
+    no_choice (suc n) = refl
+
+pub last_turn_none : (rows : List AnswerRow) → rows ≡ [] → last_turn rows ≡ 0
+last_turn_none rows none = ap last_turn none
+
+pub last_choice_none : (rows : List AnswerRow) → rows ≡ [] → last_choice (choices rows) ≡ None
+last_choice_none rows none = ap (λ (inside : List AnswerRow). last_choice (choices inside)) none

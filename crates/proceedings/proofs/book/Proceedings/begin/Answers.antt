@@ -1,0 +1,40 @@
+use Rattle.std.proofs.Common.{◌≡◌, ◌∷◌, ◌++◌, [], List, None, arith, rules, length, sym, ap, ◌∙◌, subst}
+use Rattle.std.specs.Prelude.{replicate}
+use Rattle.keeper_mem.specs.declared.rows.RaiseRow.{RaiseRow}
+use Rattle.office_turns.specs.Turns.{no_turns}
+use Rattle.round_options.specs.declared.standing.Standing.TheVariants.{Waiting}
+use Rattle.office_moves.specs.Facts.{SeasonFacts}
+use Rattle.office_moves.specs.Raised.{raised}
+use Rattle.office_moves.specs.Season.{facts_of}
+use Rattle.office_moves.specs.State.{State, opening}
+use Rattle.proceedings.specs.Proceeding.{answers_of, left_along, still_of}
+use Rattle.proceedings.proofs.ChangeLemmas.{opening_history, opening_later, opening_left, opening_state, opening_still, opening_tables}
+use Rattle.proceedings.proofs.CutLemmas.{AreTables}
+use Rattle.proceedings.proofs.book.Proceedings.begin.Goals as goal
+
+pub invariant_of-result : goal.invariant_of-result
+invariant_of-result c =
+    let facts : SeasonFacts = facts_of c.args.season in
+    let people : length c.people-count.result.now ≡ length facts.people = ap (λ xs. length xs) c.people-count.ensures.same in
+    let rounds = c.in_ok-rounds.ensures.items in
+    let entries = c.in_ok-entries.ensures.items in
+    let raises = c.new-2.ensures.items in
+    let first : c.push.new.self.items ≡ c.in_ok-new.field-0 ∷ [] = c.in_ok-push.ensures.items ∙ ap (λ xs. xs ++ c.in_ok-new.field-0 ∷ []) c.in_ok-turns.ensures.items in
+    let new : State = record { now = 0; rounds = c.in_ok-rounds.rounds.items; finals = None; answers = answers_of c.in_ok-entries.entries.items; raises = c.new-2.result.items } in
+    let same : new ≡ opening = opening_state c.in_ok-rounds.rounds.items c.in_ok-entries.entries.items c.new-2.result.items rounds entries raises in
+    let history = opening_history facts c.in_ok-entries.entries.items new entries same in
+    let T : State → Type 0 = λ s. AreTables facts s c.push.new.self.items in
+    record {
+      sound = c.says_what_is_sound.ensures;
+      history = history;
+      orderly = c.orderly.ensures facts c.in_ok-entries.entries.items new c.says_what_is_sound.ensures history.reached;
+      raised = c.in_ok-matrix.ensures ∙ ap (λ (rs : List RaiseRow). raised facts.matrix rs) (sym raises);
+      left = opening_left facts c.in_ok-left.left.items (c.in_ok-left.ensures.items_if_clones_equal (λ y h. search rules) ∙ ap (λ n. replicate n Waiting) people) ∙ ap (left_along facts) (sym same);
+      turns = subst T (sym same) (opening_tables facts c.push.new.self.items c.in_ok-new.field-0 first (c.in_ok-new.ensures ∙ ap no_turns people));
+      still = people ∙ (opening_still facts ∙ ap (still_of facts) (sym same));
+      tables = omega (arith, c.in_ok-push.ensures.len, c.in_ok-turns.ensures.len, c.in_ok-rounds.ensures.len);
+      later = λ window id late. opening_later new window id same;
+      withdrawals = omega (arith, c.in_ok-entries.ensures.len, c.in_ok-entries.ensures.capacity);
+      rounds_room = omega (arith, c.in_ok-rounds.ensures.capacity, c.from-rounds.ensures);
+      tables_room = omega (arith, c.in_ok-turns.ensures.capacity, c.in_ok-push.ensures.capacity, c.from-rounds.ensures);
+    }

@@ -1,0 +1,103 @@
+use Rattle.std.proofs.Common.{◌≡◌, ◌<◌, ◌+◌, List, Some, None, map, arith, length, refl, sym, ap, ◌∙◌, subst}
+use Rattle.std.proofs.lemmas.List.{with_items_is}
+use Rattle.std.proofs.lemmas.Option.{slice_get_read}
+use Rattle.office_base.specs.declared.person.Person.{Person}
+use Rattle.keeper_mem.specs.declared.rows.AnswerRow.{AnswerRow}
+use Rattle.office_moves.specs.Decided.{decided}
+use Rattle.office_moves.specs.History.{IsHistory, asked}
+use Rattle.office_moves.specs.Moves.{final_rows}
+use Rattle.office_moves.specs.Season.{facts_of}
+use Rattle.office_moves.specs.State.{State, in_window, rows_of, with_finals}
+use Rattle.office_moves.specs.declared.decide.Decision.TheVariants.{Finish}
+use Rattle.office_moves.specs.declared.moves.Act.TheVariants.{Cut}
+use Rattle.office_moves.specs.declared.moves.Entry.{Entry}
+use Rattle.window_ends.specs.WindowEnd.{seats_given}
+use Rattle.proceedings.specs.Kept.{state_of}
+use Rattle.proceedings.specs.Proceeding.{Proceeding, answers_of, last_of, left_along, table_along}
+use Rattle.proceedings.proofs.ChangeLemmas.{cut_answers, cut_fewer, cut_still, none_moved, finished_last, finished_left, finished_state}
+use Rattle.proceedings.proofs.HistoryLemmas.{finished_on}
+use Rattle.proceedings.proofs.NextLemmas.{left_full, table_full}
+use Rattle.proceedings.proofs.book.Proceedings.finish.Goals as goal
+
+pub leave_all-still-requires-clause-table : goal.leave_all-still-requires-clause-table
+leave_all-still-requires-clause-table c =
+    let a = c.self.inside in
+    let facts = facts_of a.season in
+    let state = state_of a in
+    let inv = c.self.invariant in
+    let P : Proceeding → Type 0 = λ p. decided p.season p.state (asked p.season (Cut p.state.now)) ≡ Finish in
+    let early = finished_last facts state (subst P (sym c.self.view_is) c.requires.decided) in
+    let order = inv.orderly.course.order (omega (arith, early)) in
+    let there = slice_get_read a.turns.items _ c.from.result c.index.result.now refl (omega (arith, a.turns.ok.0, a.rounds.ok.0, order, inv.tables, c.from.ensures)) c.index.ensures in
+    table_full facts state c.from.result c.index.result.now (inv.turns c.from.result c.index.result.now there)
+    ∙ sym (left_full facts state c.as_mut_slice.result.now (c.as_mut_slice.ensures.value ∙ inv.left))
+
+pub invariant_of-self : goal.invariant_of-self
+invariant_of-self c =
+    let a = c.self.inside in
+    let facts = facts_of a.season in
+    let state = state_of a in
+    let inv = c.self.invariant in
+    let rows = c.args.rows in
+    let entries : List Entry = c.put_last.new.items.items in
+    let P : Proceeding → Type 0 = λ p. decided p.season p.state (asked p.season (Cut p.state.now)) ≡ Finish in
+    let is = subst P (sym c.self.view_is) c.requires.decided in
+    let Q : Proceeding → Type 0 = λ p. last_of p.entries < c.args.number in
+    let above = subst Q (sym c.self.view_is) c.requires.number in
+    let R : Proceeding → Type 0 = λ p. p.still < p.room in
+    let space = subst R (sym c.self.view_is) c.requires.space in
+    let N : Proceeding → Type 0 = λ p. rows ≡ final_rows p.season p.state in
+    let next = subst N (sym c.self.view_is) c.requires.rows in
+    let early = finished_last facts state is in
+    let order = inv.orderly.course.order (omega (arith, early)) in
+    let there = slice_get_read a.turns.items _ c.from.result c.index.result.now refl (omega (arith, a.turns.ok.0, a.rounds.ok.0, order, inv.tables, c.from.ensures)) c.index.ensures in
+    let turns : c.index.result.now ≡ table_along facts state state.now = inv.turns c.from.result c.index.result.now there ∙ ap (table_along facts state) c.from.ensures in
+    let so : c.as_mut_slice.result.now ≡ left_along facts state = c.as_mut_slice.ensures.value ∙ inv.left in
+    let answers : answers_of entries ≡ answers_of a.entries.items = cut_answers a.entries.items entries c.args.number a.window c.put_last.ensures.items in
+    let new : State = record { now = a.window + 1; rounds = a.rounds.items; finals = Some rows; answers = answers_of entries; raises = a.raises.items } in
+    let same : new ≡ with_finals state rows = finished_state a.window a.rounds.items a.finals (answers_of a.entries.items) (answers_of entries) a.raises.items rows answers in
+    let H : State → Type 0 = λ s. IsHistory facts entries s in
+    let G : List Entry → Type 0 = λ es. IsHistory facts es (with_finals state rows) in
+    let history : IsHistory facts entries new =
+    subst H (sym same) (subst G (sym c.put_last.ensures.items) (finished_on facts a.entries.items state rows c.args.number (c.history_grows.ensures facts) inv.history above is next)) in
+    let left : c.leave_all-still.new.left ≡ left_along facts new =
+    finished_left facts state c.as_mut_slice.result.now c.index.result.now rows c.leave_all-still.new.left (length c.as_mut_slice.result.now) (left_full facts state c.as_mut_slice.result.now so) so turns order c.leave_all-still.ensures.left ∙ ap (left_along facts) (sym same) in
+    let size : length c.leave_all-still.new.left ≡ a.left.len = left_full facts new c.leave_all-still.new.left left ∙ (sym (left_full facts state a.left.items inv.left) ∙ sym a.left.ok.0) in
+    let fewer = cut_fewer facts state c.as_mut_slice.result.now c.leave_all-still.new.left c.index.result.now (seats_given (length c.as_mut_slice.result.now) None) a.still_in c.leave_all-still.result so turns inv.still c.leave_all-still.ensures.left c.leave_all-still.ensures.still in
+    record {
+      sound = inv.sound;
+      history = history;
+      orderly = c.orderly.ensures facts entries new inv.sound history.reached;
+      raised = inv.raised;
+      left = with_items_is a.left c.leave_all-still.new.left size ∙ left;
+      turns = λ window t here. inv.turns window t here ∙ ap (λ (rows : List AnswerRow). map (λ (p : Person). map (λ (r : AnswerRow). r.choice) (in_window window (rows_of p.id.0 rows))) facts.people) (sym answers);
+      still = cut_still facts new c.leave_all-still.new.left c.leave_all-still.result (λ id. none_moved state new (a.window + 1) id answers (inv.later (a.window + 1) id (omega (arith, a.rounds.ok.0, inv.tables, order)))) left c.leave_all-still.ensures.still;
+      tables = inv.tables;
+      later = λ window id late. none_moved state new window id answers (inv.later window id late);
+      withdrawals = omega (arith, fewer, space, c.put_last.ensures.len, c.put_last.ensures.capacity);
+      rounds_room = inv.rounds_room;
+      tables_room = inv.tables_room;
+    }
+
+pub returns-clause-state : goal.returns-clause-state
+returns-clause-state c =
+    let a = c.self.inside in
+    let answers = cut_answers a.entries.items c.put_last.new.items.items c.args.number a.window c.put_last.ensures.items in
+    finished_state a.window a.rounds.items a.finals (answers_of a.entries.items) (answers_of c.put_last.new.items.items) a.raises.items c.args.rows answers
+    ∙ ap (λ (p : Proceeding). with_finals p.state c.args.rows) c.self.view_is
+
+pub returns-clause-still : goal.returns-clause-still
+returns-clause-still c =
+    let a = c.self.inside in
+    let facts = facts_of a.season in
+    let state = state_of a in
+    let inv = c.self.invariant in
+    let P : Proceeding → Type 0 = λ p. decided p.season p.state (asked p.season (Cut p.state.now)) ≡ Finish in
+    let early = finished_last facts state (subst P (sym c.self.view_is) c.requires.decided) in
+    let order = inv.orderly.course.order (omega (arith, early)) in
+    let there = slice_get_read a.turns.items _ c.from.result c.index.result.now refl (omega (arith, a.turns.ok.0, a.rounds.ok.0, order, inv.tables, c.from.ensures)) c.index.ensures in
+    let turns : c.index.result.now ≡ table_along facts state state.now = inv.turns c.from.result c.index.result.now there ∙ ap (table_along facts state) c.from.ensures in
+    let so : c.as_mut_slice.result.now ≡ left_along facts state = c.as_mut_slice.ensures.value ∙ inv.left in
+    let fewer = cut_fewer facts state c.as_mut_slice.result.now c.leave_all-still.new.left c.index.result.now (seats_given (length c.as_mut_slice.result.now) None) a.still_in c.leave_all-still.result so turns inv.still c.leave_all-still.ensures.left c.leave_all-still.ensures.still in
+    let before = ap (λ (p : Proceeding). p.still) c.self.view_is in
+    omega (arith, fewer, before)

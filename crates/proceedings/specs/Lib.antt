@@ -1,0 +1,3 @@
+pub mod Kept
+pub mod Proceeding
+pub mod Changes

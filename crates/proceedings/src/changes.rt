@@ -1,0 +1,185 @@
+// What changes the proceedings.
+ghost use Rattle.std.specs.Prelude.{◌≡◌, ◌≤◌, ◌<◌, ◌+◌, ◌∷◌, ◌++◌, [], ◌⊎◌, IfOk, OnOk, length};
+ghost use Rattle.office_base.specs.declared.asks.Choice.{Choice as AnyChoice};
+ghost use Rattle.office_moves.specs.Decided.{decided};
+ghost use Rattle.office_moves.specs.History.{asked};
+ghost use Rattle.office_moves.specs.Moves.{IsNextRound, final_rows};
+ghost use Rattle.office_moves.specs.Season.{facts_of};
+ghost use Rattle.office_moves.specs.State.{opening, with_finals, with_raise, with_round, with_row};
+ghost use Rattle.office_turns.specs.Turns.{no_turns};
+ghost use Rattle.proceedings.specs.Changes.{StillAfter};
+
+use crate::book::Proceedings;
+use crate::room::put_last;
+use keeper_mem::{AllotRows, AnswerRow, RaiseRow};
+use office_base::{Choice, OutOfMemory};
+use office_moves::{Act, Decision, Entry, says_what_is_sound};
+use office_turns::TurnTable;
+use round_options::Standing;
+use rounds::Round;
+use season_file::Season;
+use std::alloc::Global;
+use window_ends::leave_all;
+
+/// How many are still in after a choice of one of them.
+fn still_after(still: u32, choice: Choice) -> u32
+    requires { 1 ≤ still }
+    ensures { StillAfter choice still result }
+{
+    match choice {
+        Choice::Withdraw => still - 1,
+        Choice::Freeze | Choice::Float | Choice::Slide => still,
+    }
+}
+
+impl Proceedings {
+    ghost use Rattle.proceedings.specs.Proceeding.{last_of};
+
+    /// The proceedings of a season before everything. There is room for an entry of each candidate, and for all rounds.
+    pub fn begin(alloc: Global, season: Season) -> Result<Proceedings, OutOfMemory>
+        ensures season { IfOk result (λ book. book.season ≡ facts_of season) }
+        ensures entries { IfOk result (λ book. book.entries ≡ []) }
+        ensures state { IfOk result (λ book. book.state ≡ opening) }
+        ensures still { IfOk result (λ book. book.still ≡ length (facts_of season).people) }
+    {
+        says_what_is_sound(&season);
+        histories::laws::orderly();
+        let count = season.register.people().len();
+        let rounds = usize::from(season.rounds);
+        let matrix = season.matrix.copy(alloc)?;
+        let left = vec![in alloc; Standing::Waiting; count]?;
+        let mut turns = Vec::with_capacity(alloc, rounds + 1)?;
+        turns.push(TurnTable::new(alloc, count)?)?;
+        let rounds = Vec::with_capacity(alloc, rounds)?;
+        let entries = Vec::with_capacity(alloc, count)?;
+        Ok(Proceedings {
+            season,
+            matrix,
+            rounds,
+            finals: None,
+            left,
+            turns,
+            entries,
+            raises: Vec::new(alloc),
+            window: 0,
+            still_in: count as u32,
+        })
+    }
+
+    /// Takes room for `n` entries more, and for a raise. After want of memory all is as before, and there is no less room.
+    pub fn reserve(&mut self, n: u32) -> Result<(), OutOfMemory>
+        ensures season { self.new.season ≡ self.old.season }
+        ensures entries { self.new.entries ≡ self.old.entries }
+        ensures state { self.new.state ≡ self.old.state }
+        ensures still { self.new.still ≡ self.old.still }
+        ensures more { self.old.room ≤ self.new.room }
+        ensures more_raises { self.old.raise_room ≤ self.new.raise_room }
+        ensures room { OnOk result (n ≤ self.new.room) }
+        ensures raise_room { OnOk result (1 ≤ self.new.raise_room) }
+    {
+        self.entries.reserve(n as usize)?;
+        self.raises.reserve(1)?;
+        Ok(())
+    }
+
+    /// Takes an answer, as entry of this number. It takes no memory.
+    pub fn note(&mut self, number: u64, row: AnswerRow)
+        requires decided { decided self.old.season self.old.state (asked self.old.season (Act.Answer row)) ≡ Decision.Note row }
+        requires number { last_of self.old.entries < number }
+        requires space { (self.old.still < self.old.room) ⊎ (row.choice ≡ Choice.Withdraw) }
+        ensures state { self.new.state ≡ with_row self.old.state row }
+        ensures entries { self.new.entries ≡ self.old.entries ++ record { number = number; act = Act.Answer row } ∷ [] }
+        ensures season { self.new.season ≡ self.old.season }
+        ensures room { self.old.room ≤ self.new.room + 1 }
+        ensures still { StillAfter row.choice self.old.still self.new.still }
+    {
+        histories::laws::history_grows();
+        histories::laws::orderly();
+        let Some(at) = self.season.register.position(row.cand) else {
+            unreachable!("an accepted answer is of a candidate of the register")
+        };
+        let still = still_after(self.still_in, row.choice);
+        self.turns[usize::from(row.window)].put(at as usize, row.choice);
+        self.still_in = still;
+        let act = Act::Answer(row);
+        put_last(&mut self.entries, Entry { number, act });
+    }
+
+    /// Takes the cut of the open window, which publishes this round, as entry of this number, and opens the next window with this table. It takes no
+    /// memory.
+    pub fn publish(&mut self, number: u64, round: Round, table: TurnTable)
+        requires decided { decided self.old.season self.old.state (asked self.old.season (Act.Cut self.old.state.now)) ≡ Decision.Publish }
+        requires next { IsNextRound self.old.season self.old.state round }
+        requires table { table ≡ no_turns (length self.old.season.people) }
+        requires number { last_of self.old.entries < number }
+        requires space { self.old.still < self.old.room }
+        ensures state { self.new.state ≡ with_round self.old.state round }
+        ensures entries { self.new.entries ≡ self.old.entries ++ record { number = number; act = Act.Cut self.old.state.now } ∷ [] }
+        ensures season { self.new.season ≡ self.old.season }
+        ensures still { self.new.still ≤ self.old.still }
+        ensures room { self.old.room ≤ self.new.room + 1 }
+    {
+        histories::laws::history_grows();
+        histories::laws::orderly();
+        let window = self.window;
+        let seats = Some(round.seats.as_slice());
+        let still = leave_all(
+            self.left.as_mut_slice(),
+            &self.turns[usize::from(window)],
+            seats,
+        );
+        put_last(&mut self.rounds, round);
+        put_last(&mut self.turns, table);
+        let act = Act::Cut { window };
+        put_last(&mut self.entries, Entry { number, act });
+        self.still_in = still;
+        self.window += 1;
+    }
+
+    /// Takes the last cut, with these final rows, as entry of this number. It takes no memory.
+    pub fn finish(&mut self, number: u64, rows: AllotRows)
+        requires decided { decided self.old.season self.old.state (asked self.old.season (Act.Cut self.old.state.now)) ≡ Decision.Finish }
+        requires rows { rows ≡ final_rows self.old.season self.old.state }
+        requires number { last_of self.old.entries < number }
+        requires space { self.old.still < self.old.room }
+        ensures state { self.new.state ≡ with_finals self.old.state rows }
+        ensures entries { self.new.entries ≡ self.old.entries ++ record { number = number; act = Act.Cut self.old.state.now } ∷ [] }
+        ensures season { self.new.season ≡ self.old.season }
+        ensures still { self.new.still ≤ self.old.still }
+        ensures room { self.old.room ≤ self.new.room + 1 }
+    {
+        histories::laws::history_grows();
+        histories::laws::orderly();
+        let window = self.window;
+        let still = leave_all(
+            self.left.as_mut_slice(),
+            &self.turns[usize::from(window)],
+            None,
+        );
+        self.finals = Some(rows);
+        let act = Act::Cut { window };
+        put_last(&mut self.entries, Entry { number, act });
+        self.still_in = still;
+        self.window += 1;
+    }
+
+    /// Takes a raise, as entry of this number. It takes no memory.
+    pub fn lift(&mut self, number: u64, row: RaiseRow)
+        requires decided { decided self.old.season self.old.state (asked self.old.season (Act.Raise row)) ≡ Decision.Lift row }
+        requires number { last_of self.old.entries < number }
+        requires space { self.old.still < self.old.room }
+        requires raise_space { 1 ≤ self.old.raise_room }
+        ensures state { self.new.state ≡ with_raise self.old.state row }
+        ensures entries { self.new.entries ≡ self.old.entries ++ record { number = number; act = Act.Raise row } ∷ [] }
+        ensures season { self.new.season ≡ self.old.season }
+        ensures still { self.new.still ≡ self.old.still }
+        ensures room { self.old.room ≤ self.new.room + 1 }
+    {
+        histories::laws::history_grows();
+        histories::laws::orderly();
+        self.matrix.raise(row.prog, row.step, row.seats);
+        put_last(&mut self.raises, row);
+        let act = Act::Raise(row);
+        put_last(&mut self.entries, Entry { number, act });
+    }
+}

@@ -1,0 +1,4 @@
+pub mod PlaceLemmas
+pub mod LeaveLemmas
+pub mod RowLemmas
+pub mod OfficeLinks
