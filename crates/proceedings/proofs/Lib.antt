@@ -4,3 +4,7 @@ pub mod Taken
 pub mod Seated
 pub mod Judged
 pub mod Sums
+pub mod Fits
+pub mod Published
+pub mod Replies
+pub mod Six

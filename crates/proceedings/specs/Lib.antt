@@ -1,2 +1,4 @@
 pub mod Kept
 pub mod Proceeding
+pub mod Told
+pub mod LastRound

@@ -5,8 +5,11 @@
 #![tactic(auto)]
 
 pub mod book;
+mod copies;
 mod decide;
 mod looks;
 mod seats;
+mod tell;
+mod why;
 
 pub use book::Proceedings;
