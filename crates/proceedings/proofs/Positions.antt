@@ -6,7 +6,7 @@ use Rattle.std.proofs.lemmas.Option.{slice_get-map, slice_get_within}
 use Rattle.office_base.specs.Lists.{Pairwise}
 use Rattle.office_base.specs.Person.{at_person}
 use Rattle.office_base.specs.declared.person.Person.{Person}
-use Rattle.rank_lists.specs.Register.{find_person, row_of}
+use Rattle.rank_lists.specs.Register.{row_of}
 use Rattle.allocations.proofs.Places.{eq_means, eq_true}
 use Rattle.allocations.proofs.Those.{all_at}
 

@@ -1,6 +1,6 @@
 -- Replies, from what was looked up.
-use Rattle.std.proofs.Common.{◌≡◌, ◌<◌, ◌≤◌, ◌+◌, ◌⊎◌, inl, inr, ℕ, zero, suc, Bool, true, false, List, [], ◌∷◌, Option, Some, None, Fits, w32, get_or, length, arith, refl, sym, ap, ◌∙◌, ◌==◌, if◌then◌else◌}
-use Rattle.std.specs.Prelude.{slice_get, option_map}
+use Rattle.std.proofs.Common.{◌≡◌, ◌<◌, ◌≤◌, inl, inr, ℕ, zero, suc, Bool, true, false, List, [], ◌∷◌, Option, Some, None, Fits, w32, get_or, length, arith, refl, sym, ap, ◌∙◌, ◌==◌, if◌then◌else◌}
+use Rattle.std.specs.Prelude.{slice_get}
 use Rattle.std.proofs.lemmas.Option.{slice_get-get_or, slice_get_read}
 use Rattle.office_base.specs.declared.asks.Seat.{Seat}
 use Rattle.office_base.specs.declared.person.CandId.{CandId}
@@ -19,7 +19,6 @@ use Rattle.office_moves.specs.Facts.{SeasonFacts}
 use Rattle.office_moves.specs.State.{State, last_seat, round_at, seat_of, standing_at, view_of}
 use Rattle.office_moves.specs.Moves.{seat_reply, told_seat}
 use Rattle.office_moves.specs.Why.{reason_in, why_answer, why_beside}
-use Rattle.office_moves.specs.declared.moves.Reply.{Reply}
 use Rattle.office_moves.specs.declared.moves.Reply.TheVariants.{SeatIs}
 use Rattle.proceedings.proofs.Positions.{row_cases}
 use Rattle.proceedings.proofs.Published.{there_is}

@@ -1,4 +1,4 @@
-use Rattle.std.proofs.Common.{◌≡◌, subst, ◌∙◌}
+use Rattle.std.proofs.Common.{subst, ◌∙◌}
 use Rattle.office_moves.specs.declared.decide.Decision.{Decision}
 use Rattle.proceedings.proofs.Fits.{Fits, fits}
 use Rattle.proceedings.proofs.book.Proceedings.tell.Goals as goal
