@@ -1,5 +1,5 @@
 -- What was looked up at a candidate's position is what an answer of the candidate is judged by.
-use Rattle.std.proofs.Common.{◌≡◌, ◌+◌, ℕ, Bool, true, false, List, [], ◌∷◌, Option, Some, None, refl, sym, ap, ◌∙◌, subst, ◌==◌, if◌then◌else◌}
+use Rattle.std.proofs.Common.{◌≡◌, ◌+◌, ℕ, Bool, true, false, List, [], ◌∷◌, Option, Some, None, refl, ap, ◌∙◌, ◌==◌, if◌then◌else◌}
 use Rattle.std.specs.Prelude.{is_some, option_map, slice_get}
 use Rattle.office_base.specs.declared.asks.Choice.{Choice}
 use Rattle.office_base.specs.declared.asks.Seat.{Seat}
@@ -10,7 +10,6 @@ use Rattle.round_options.specs.declared.standing.Standing.{Standing}
 use Rattle.office_moves.specs.Facts.{SeasonFacts}
 use Rattle.office_moves.specs.State.{State, accepted, in_window, last_seat, last_turn, left_by, rows_of, standing_at, view_of}
 use Rattle.office_moves.specs.Decided.{answer_looks}
-use Rattle.office_moves.specs.declared.decide.AnswerLooks.{AnswerLooks}
 use Rattle.proceedings.proofs.Positions.{stands, told}
 
 known_when : (b : Bool) (p : Person) (rest : Option ℕ) (found : Option Person) (at : ℕ) → (if b then Some 0 else option_map (λ n. n + 1) rest) ≡ Some at

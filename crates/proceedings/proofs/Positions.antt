@@ -6,7 +6,7 @@ use Rattle.std.proofs.lemmas.Option.{slice_get-map, slice_get_within}
 use Rattle.office_base.specs.Lists.{Pairwise}
 use Rattle.office_base.specs.Person.{at_person}
 use Rattle.office_base.specs.declared.person.Person.{Person}
-use Rattle.rank_lists.specs.Register.{find_person, row_of}
+use Rattle.rank_lists.specs.Register.{row_of}
 use Rattle.allocations.proofs.Places.{eq_means, eq_true}
 use Rattle.allocations.proofs.Those.{all_at}
 
@@ -16,7 +16,7 @@ pub record Stands (id : ℕ) (people : List Person) (at : ℕ) : Type 0 where
   pub there : slice_get people at ≡ Some person
   pub mine : person.id.0 ≡ id
 
-row_cases : (b : Bool) (rest : Option ℕ) (at : ℕ) → (if b then Some 0 else option_map (λ n. n + 1) rest) ≡ Some at
+pub row_cases : (b : Bool) (rest : Option ℕ) (at : ℕ) → (if b then Some 0 else option_map (λ n. n + 1) rest) ≡ Some at
     → ((b ≡ true) × (at ≡ 0)) ⊎ ((n : ℕ) × (b ≡ false) × (rest ≡ Some n) × (at ≡ suc n))
 row_cases true rest at e = inl (refl, cc)
 row_cases false None at e = absurd (cc)

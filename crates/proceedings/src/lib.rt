@@ -6,10 +6,13 @@
 
 pub mod book;
 mod changes;
+mod copies;
 mod decide;
 mod looks;
 mod next;
 mod room;
 mod seats;
+mod tell;
+mod why;
 
 pub use book::Proceedings;

@@ -1,8 +1,6 @@
-use Rattle.std.proofs.Common.{◌≡◌, ◌≤◌, ◌+◌, ℕ, suc, take, length, arith, ap, sym, ◌∙◌, add-one, subst, List}
+use Rattle.std.proofs.Common.{◌≡◌, ◌+◌, ℕ, take, arith, sym, add-one, subst, List}
 use Rattle.std.proofs.lemmas.List.{take_all}
-use Rattle.seat_matrix.specs.Seats.{no_seatings, of_step}
 use Rattle.seat_matrix.specs.declared.seats.Seatings.{Seatings}
-use Rattle.std.specs.Prelude.{slice_index_or}
 use Rattle.office_moves.specs.Raised.{sum_of_seats}
 use Rattle.proceedings.proofs.Sums.{of_sum, sum_more}
 use Rattle.proceedings.proofs.seats.total_seats.Goals as goal
