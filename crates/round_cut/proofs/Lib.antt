@@ -1,0 +1,5 @@
+mod Asked
+mod Counts
+mod Publishing
+mod Standing
+mod StillIn

@@ -1,0 +1,48 @@
+use Rattle.std.proofs.Common.{◌≡◌, ◌∙◌, sym, ap, subst, arith}
+use Rattle.office_moves.specs.Decided.{decided}
+use Rattle.office_moves.specs.Facts.{SeasonFacts}
+use Rattle.office_moves.specs.History.{asked}
+use Rattle.office_moves.specs.Moves.{final_rows}
+use Rattle.office_moves.specs.State.{State, with_finals}
+use Rattle.office_moves.specs.declared.decide.Decision.TheVariants.{Finish}
+use Rattle.office_moves.specs.declared.moves.Act.TheVariants.{Cut}
+use Rattle.keeper_mem.specs.Tables.{AreTold, with_cut}
+use Rattle.round_cut.proofs.Asked.{finishes}
+use Rattle.round_cut.proofs.Publishing.{stand_finals}
+use Rattle.round_cut.proofs.Standing.{stand_moved, stand_told}
+use Rattle.round_cut.proofs.office.Office.finish_season.Goals as goal
+
+pub returns-clause-stands : goal.returns-clause-stands
+returns-clause-stands g c =
+    let facts = c.self.inside.book.season in
+    let state = c.self.inside.book.state in
+    let before = subst (λ o. decided o.season o.state (asked o.season (Cut o.state.now)) ≡ Finish) (sym c.self.view_is) c.requires.decided in
+    let last = finishes facts state before in
+    let none = c.entries-entries.ensures.orderly.unfinished (omega (arith, last)) in
+    let made = ap (λ (f : SeasonFacts). final_rows f c.reserve.new.self.state) c.reserve.ensures.season ∙ ap (λ (s : State). final_rows facts s) c.reserve.ensures.state in
+    let rows = c.in_ok-admissions.ensures ∙ made in
+    let told = subst (λ r. AreTold (with_cut r (g.K.Keeper.tables c.self.inside.keeper)) (g.K.Keeper.tables c.put_cut.new.self)) (c.as_slice.ensures ∙ rows) c.in_ok-put_cut.ensures.ok in
+    let kept = stand_finals facts state (g.K.Keeper.tables c.self.inside.keeper) none c.self.invariant.0 in
+    let after = c.finish.ensures.state ∙ (ap (λ (s : State). with_finals s c.in_ok-admissions.admissions) c.reserve.ensures.state ∙ ap (λ r. with_finals state r) rows) in
+    stand_moved _ _ _ _ _ (c.finish.ensures.season ∙ c.reserve.ensures.season) after (stand_told facts (with_finals state (final_rows facts state)) _ _ told kept)
+
+pub invariant_of-self-2 : goal.invariant_of-self-2
+invariant_of-self-2 g c =
+    let facts = c.self.inside.book.season in
+    let state = c.self.inside.book.state in
+    let before = subst (λ o. decided o.season o.state (asked o.season (Cut o.state.now)) ≡ Finish) (sym c.self.view_is) c.requires.decided in
+    let last = finishes facts state before in
+    let none = c.entries-entries.ensures.orderly.unfinished (omega (arith, last)) in
+    let made = ap (λ (f : SeasonFacts). final_rows f c.reserve.new.self.state) c.reserve.ensures.season ∙ ap (λ (s : State). final_rows facts s) c.reserve.ensures.state in
+    let rows = c.in_ok-admissions.ensures ∙ made in
+    let told = subst (λ r. AreTold (with_cut r (g.K.Keeper.tables c.self.inside.keeper)) (g.K.Keeper.tables c.put_cut.new.self)) (c.as_slice.ensures ∙ rows) c.in_ok-put_cut.ensures.ok in
+    let kept = stand_finals facts state (g.K.Keeper.tables c.self.inside.keeper) none c.self.invariant.0 in
+    let after = c.finish.ensures.state ∙ (ap (λ (s : State). with_finals s c.in_ok-admissions.admissions) c.reserve.ensures.state ∙ ap (λ r. with_finals state r) rows) in (
+      stand_moved _ _ _ _ _ (c.finish.ensures.season ∙ c.reserve.ensures.season) after (stand_told facts (with_finals state (final_rows facts state)) _ _ told kept),
+      λ holds.
+          let few = c.self.invariant.1 (sym c.put_cut.ensures.room ∙ holds) in
+          let spare = c.in_ok-put_cut.ensures.spare in
+          let falls = c.finish.ensures.still in
+          let held = c.reserve.ensures.still in
+          omega (arith, few, spare, falls, held),
+    )

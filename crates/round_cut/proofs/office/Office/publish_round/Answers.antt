@@ -1,0 +1,52 @@
+use Rattle.std.proofs.Common.{◌≡◌, ◌+◌, ◌∙◌, sym, ap, subst, arith}
+use Rattle.office_moves.specs.Decided.{decided}
+use Rattle.office_moves.specs.Facts.{SeasonFacts}
+use Rattle.office_moves.specs.History.{asked}
+use Rattle.office_moves.specs.Moves.{allot_rows}
+use Rattle.office_moves.specs.State.{State, with_round}
+use Rattle.office_moves.specs.declared.decide.Decision.TheVariants.{Publish}
+use Rattle.office_moves.specs.declared.moves.Act.TheVariants.{Cut}
+use Rattle.keeper_mem.specs.Tables.{AreTold, with_cut}
+use Rattle.round_cut.proofs.Asked.{publishes}
+use Rattle.round_cut.proofs.Publishing.{stand_round}
+use Rattle.round_cut.proofs.Standing.{stand_moved, stand_told}
+use Rattle.round_cut.proofs.office.Office.publish_round.Goals as goal
+
+pub returns-clause-stands : goal.returns-clause-stands
+returns-clause-stands g c =
+    let facts = c.self.inside.book.season in
+    let state = c.self.inside.book.state in
+    let round = c.in_ok-round.field-0.round in
+    let before = subst (λ o. decided o.season o.state (asked o.season (Cut o.state.now)) ≡ Publish) (sym c.self.view_is) c.requires.decided in
+    let less = publishes facts state before in
+    let order = c.entries-entries.ensures.orderly.course.order (omega (arith, less)) in
+    let number = c.in_ok-round.ensures.round.number ∙ ap (λ (s : State). s.now + 1) c.reserve.ensures.state in
+    let made = ap (λ (f : SeasonFacts). allot_rows f round) c.reserve.ensures.season in
+    let rows = c.as_slice.ensures ∙ (c.in_ok-round.ensures.rows ∙ made) in
+    let told = subst (λ r. AreTold (with_cut r (g.K.Keeper.tables c.self.inside.keeper)) (g.K.Keeper.tables c.put_cut.new.self)) rows c.in_ok-put_cut.ensures.ok in
+    let kept = stand_round facts state round (g.K.Keeper.tables c.self.inside.keeper) order less number c.self.invariant.0 in
+    stand_moved _ _ _ _ _ (c.publish.ensures.season ∙ c.reserve.ensures.season) (c.publish.ensures.state ∙ ap (λ (s : State). with_round s round) c.reserve.ensures.state)
+    (stand_told facts (with_round state round) _ _ told kept)
+
+pub invariant_of-self-2 : goal.invariant_of-self-2
+invariant_of-self-2 g c =
+    let facts = c.self.inside.book.season in
+    let state = c.self.inside.book.state in
+    let round = c.in_ok-round.field-0.round in
+    let before = subst (λ o. decided o.season o.state (asked o.season (Cut o.state.now)) ≡ Publish) (sym c.self.view_is) c.requires.decided in
+    let less = publishes facts state before in
+    let order = c.entries-entries.ensures.orderly.course.order (omega (arith, less)) in
+    let number = c.in_ok-round.ensures.round.number ∙ ap (λ (s : State). s.now + 1) c.reserve.ensures.state in
+    let made = ap (λ (f : SeasonFacts). allot_rows f round) c.reserve.ensures.season in
+    let rows = c.as_slice.ensures ∙ (c.in_ok-round.ensures.rows ∙ made) in
+    let told = subst (λ r. AreTold (with_cut r (g.K.Keeper.tables c.self.inside.keeper)) (g.K.Keeper.tables c.put_cut.new.self)) rows c.in_ok-put_cut.ensures.ok in
+    let kept = stand_round facts state round (g.K.Keeper.tables c.self.inside.keeper) order less number c.self.invariant.0 in (
+      stand_moved _ _ _ _ _ (c.publish.ensures.season ∙ c.reserve.ensures.season) (c.publish.ensures.state ∙ ap (λ (s : State). with_round s round) c.reserve.ensures.state)
+          (stand_told facts (with_round state round) _ _ told kept),
+      λ holds.
+          let few = c.self.invariant.1 (sym c.put_cut.ensures.room ∙ holds) in
+          let spare = c.in_ok-put_cut.ensures.spare in
+          let after = c.publish.ensures.still in
+          let held = c.reserve.ensures.still in
+          omega (arith, few, spare, after, held),
+    )

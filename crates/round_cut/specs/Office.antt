@@ -1,0 +1,48 @@
+-- What an office is seen as.
+use Rattle.std.specs.Prelude.{◌≡◌, ◌≤◌, ℕ, Bool, true, false, List, Option, Some, None, bytes_eq, if◌then◌else◌}
+use Rattle.office_base.specs.declared.asks.By.{By}
+use Rattle.office_base.specs.declared.asks.By.TheVariants.{Candidate, Clerk, Nobody}
+use Rattle.office_base.specs.declared.person.CandId.{CandId}
+use Rattle.rank_lists.specs.Register.{find_holder}
+use Rattle.office_moves.specs.Facts.{SeasonFacts}
+use Rattle.office_moves.specs.Judge.{is_withdraw}
+use Rattle.office_moves.specs.State.{State}
+use Rattle.office_moves.specs.declared.decide.Decision.{Decision}
+use Rattle.office_moves.specs.declared.decide.Decision.TheVariants.{Refuse, NotedAgain, RaisedAgain, CutAgain, Note, Lift, Publish, Finish, TellSeat, TellWhy, TellList, TellState}
+use Rattle.office_moves.specs.declared.moves.Entry.{Entry}
+
+-- An office: the season, what was accepted, the state to which it led, how many candidates are still in, and the keeper.
+pub record Opened (K : Type 0) : Type 0 where
+  pub season : SeasonFacts
+  pub entries : List Entry
+  pub state : State
+  pub still : ℕ
+  pub keeper : K
+
+-- a keeper that holds room in advance can put a withdrawal of everybody who is still in
+abbrev pub HasRoom : Bool → ℕ → ℕ → Type 0
+HasRoom holds still spare = holds ≡ true → still ≤ spare
+
+-- a withdrawal is newly accepted
+abbrev pub withdraws : Decision → Bool
+withdraws (Refuse refusal) = false
+withdraws (NotedAgain row) = false
+withdraws (RaisedAgain row) = false
+withdraws (CutAgain window) = false
+withdraws (Note row) = is_withdraw row.choice
+withdraws (Lift row) = false
+withdraws Publish = false
+withdraws Finish = false
+withdraws (TellSeat cand) = false
+withdraws (TellWhy cand prog) = false
+withdraws (TellList number prog) = false
+withdraws TellState = false
+
+-- the candidate who holds a token, or nobody
+abbrev pub holder_by : Option CandId → By
+holder_by None = Nobody
+holder_by (Some cand) = Candidate cand
+
+-- whom a token stands for: the clerk's for the clerk, a candidate's for that candidate, any other for nobody
+abbrev pub who_by : SeasonFacts → List ℕ → By
+who_by facts token = if bytes_eq token facts.clerk then Clerk else holder_by (find_holder token facts.holders)

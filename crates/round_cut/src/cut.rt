@@ -1,0 +1,83 @@
+// What a change needs, made before anything is kept.
+ghost use Rattle.std.specs.Prelude.{◌≡◌, ◌<◌, ◌+◌, IfOk, length};
+ghost use Rattle.office_moves.specs.Moves.{IsNextRound, allot_rows, final_rows};
+ghost use Rattle.office_turns.specs.Turns.{no_turns};
+ghost use Rattle.rounds.specs.Round.{seated};
+
+use apply_engine::plain_round;
+use keeper_mem::AllotRows;
+use office_base::OutOfMemory;
+use office_turns::TurnTable;
+use proceedings::Proceedings;
+use rounds::Round;
+use std::alloc::Global;
+
+/// All that a cut needs which publishes a round.
+#[derive(Drop)]
+pub(crate) struct MadeCut {
+    pub(crate) round: Round,
+    pub(crate) rows: AllotRows,
+    pub(crate) table: TurnTable,
+    /// How many have a seat in the round.
+    pub(crate) seated: u32,
+}
+
+/// The next round.
+fn next_round(alloc: Global, book: &Proceedings) -> Result<Round, OutOfMemory>
+    requires { book.now.state.now < book.now.season.rounds }
+    ensures { IfOk result (λ round. IsNextRound book.now.season book.now.state round) }
+{
+    let seeks = book.seeks(alloc)?;
+    let season = book.season();
+    let number = book.now();
+    if number >= season.rounds {
+        unreachable!("there is a round left")
+    }
+    plain_round(alloc, season, book.matrix(), number + 1, seeks)
+}
+
+/// How many have a seat.
+fn count_seated(book: &Proceedings, round: &Round) -> u32
+    requires { IsNextRound book.now.season book.now.state round.now }
+    ensures { result ≡ seated round.now.seats }
+{
+    let _people = book.season().register.people();
+    round.seated() as u32
+}
+
+/// The next round, its rows, and the table of the window that it opens.
+pub(crate) fn make_cut(alloc: Global, book: &Proceedings) -> Result<MadeCut, OutOfMemory>
+    requires { book.now.state.now < book.now.season.rounds }
+    ensures round { IfOk result (λ made. IsNextRound book.now.season book.now.state made.round) }
+    ensures rows { IfOk result (λ made. made.rows ≡ allot_rows book.now.season made.round) }
+    ensures table { IfOk result (λ made. made.table ≡ no_turns (length book.now.season.people)) }
+    ensures seated { IfOk result (λ made. made.seated ≡ seated made.round.seats) }
+{
+    let round = next_round(alloc, book)?;
+    let rows = book.allot_rows(alloc, &round)?;
+    let table = book.next_table(alloc)?;
+    let seated = count_seated(book, &round);
+    Ok(MadeCut {
+        round,
+        rows,
+        table,
+        seated,
+    })
+}
+
+/// How many rows the final admissions have.
+pub(crate) fn count_rows(book: &Proceedings, rows: &AllotRows) -> u32
+    requires { rows.now ≡ final_rows book.now.season book.now.state }
+    ensures { result ≡ length (final_rows book.now.season book.now.state) }
+{
+    let _people = book.season().register.people();
+    rows.len() as u32
+}
+
+/// How many entries there has to be room for: one, beside the withdrawals of all who are still in.
+pub(crate) fn room_wanted(book: &Proceedings) -> u32
+    ensures { result ≡ book.now.still + 1 }
+{
+    let _people = book.season().register.people();
+    book.still_in() + 1
+}

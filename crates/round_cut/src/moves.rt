@@ -1,0 +1,204 @@
+// Requests are answered: what may fail first, then the keeper's put, and then the change, which cannot fail.
+ghost use Rattle.std.specs.Prelude.{◌≡◌, ◌<◌, ◌≤◌, true, Some, IfOk, OnOk, OnErr, IsOk, IsErrOf};
+ghost use Rattle.office_base.specs.Outside.{Rose};
+ghost use Rattle.keeper_mem.specs.Tables.{AreTold};
+ghost use Rattle.office_moves.specs.Decided.{decided};
+ghost use Rattle.office_moves.specs.History.{asked, grown, newly};
+ghost use Rattle.office_moves.specs.Judge.{is_withdraw};
+ghost use Rattle.office_moves.specs.Moves.{Does, IsMove, noted};
+ghost use Rattle.office_moves.specs.Promise.{KeepsItsWord};
+ghost use Rattle.office_moves.specs.Stands.{Stand};
+ghost use Rattle.office_moves.specs.declared.decide.Decision.TheVariants.{Finish, Lift, Note, Publish, TellList};
+ghost use Rattle.office_moves.specs.declared.moves.Act.TheVariants.{Answer, Cut, Raise};
+ghost use Rattle.proceedings.specs.Proceeding.{last_of};
+ghost use Rattle.proceedings.specs.Told.{takes_nothing};
+ghost use Rattle.round_cut.specs.Office.{withdraws};
+
+use crate::cut::{MadeCut, count_rows, make_cut, room_wanted};
+use crate::fault::OfficeFault;
+use crate::office::Office;
+use keeper_mem::{AnswerRow, Keeper, RaiseRow};
+use office_base::{Choice, ProgId, Request};
+use office_moves::{Decision, Reply};
+use std::alloc::Global;
+
+/// The receipt of an answer.
+fn receipt(row: AnswerRow) -> Reply
+    ensures { result ≡ noted row }
+{
+    Reply::Noted {
+        cand: row.cand,
+        window: row.window,
+        turn: row.turn,
+        choice: row.choice,
+    }
+}
+
+impl<K: Keeper> Office<K> {
+    /// Answers a request. What it newly accepts is kept first, and has this number, which has to be above `last_number`. After a fault the office and
+    /// the tables of the keeper are as before.
+    pub fn handle(
+        &mut self,
+        alloc: Global,
+        number: u64,
+        request: &Request,
+    ) -> Result<Reply, OfficeFault>
+        requires { last_of self.old.entries < number }
+        ensures moves { IfOk result (λ reply. IsMove self.old.season self.old.state request.now reply self.new.state) }
+        ensures entries { OnOk result (self.new.entries ≡ grown self.old.entries number (newly self.old.state.now (decided self.old.season self.old.state request.now))) }
+        ensures season { self.new.season ≡ self.old.season }
+        ensures stands { Stand self.new.season self.new.state (K.tables self.new.keeper) }
+        ensures err { OnErr result ((self.new.entries ≡ self.old.entries) × (self.new.state ≡ self.old.state)) }
+        ensures told { OnErr result (AreTold (K.tables self.old.keeper) (K.tables self.new.keeper)) }
+        ensures cause { IsErrOf result OfficeFault.KeeperFault → Rose (K.faults self.old.keeper) (K.faults self.new.keeper) }
+        ensures count { K.faults self.old.keeper ≤ K.faults self.new.keeper }
+        ensures steady { OnOk result (K.faults self.new.keeper ≡ K.faults self.old.keeper) }
+        ensures room { K.holds_room self.new.keeper ≡ K.holds_room self.old.keeper }
+        ensures sure { takes_nothing (decided self.old.season self.old.state request.now) ≡ true → IsOk result }
+        ensures still { takes_nothing (decided self.old.season self.old.state request.now) ≡ true → self.new.keeper ≡ self.old.keeper }
+        ensures withdraw { K.holds_room self.old.keeper ≡ true → withdraws (decided self.old.season self.old.state request.now) ≡ true → IsErrOf result OfficeFault.OutOfMemory → ⊥ }
+        ensures word { KeepsItsWord self.new.season self.new.state }
+    {
+        let _still = self.book.still_in();
+        let answer = match self.book.decide(request) {
+            Decision::Note(row) => self.accept_answer(number, row),
+            Decision::Lift(row) => self.accept_raise(number, row),
+            Decision::Publish => self.publish_round(alloc, number),
+            Decision::Finish => self.finish_season(alloc, number),
+            Decision::TellList { round, prog } => self.tell_list(alloc, request, round, prog),
+            told => Ok(self.book.tell(request, told)),
+        };
+        let _entries = self.book.entries();
+        answer
+    }
+
+    /// The lists of a programme in a round.
+    fn tell_list(
+        &self,
+        alloc: Global,
+        request: &Request,
+        round: u16,
+        prog: ProgId,
+    ) -> Result<Reply, OfficeFault>
+        requires { decided self.now.season self.now.state request.now ≡ TellList round prog }
+        ensures reply { IfOk result (λ reply. Does self.now.season self.now.state (TellList round prog) reply self.now.state) }
+        ensures memory { IsErrOf result OfficeFault.KeeperFault → ⊥ }
+    {
+        Ok(self.book.list(alloc, request, round, prog)?)
+    }
+
+    /// Keeps an answer, and accepts it.
+    fn accept_answer(&mut self, number: u64, row: AnswerRow) -> Result<Reply, OfficeFault>
+        requires decided { decided self.old.season self.old.state (asked self.old.season (Answer row)) ≡ Note row }
+        requires some { 1 ≤ self.old.still }
+        requires number { last_of self.old.entries < number }
+        ensures moves { IfOk result (λ reply. Does self.old.season self.old.state (Note row) reply self.new.state) }
+        ensures entries { OnOk result (self.new.entries ≡ grown self.old.entries number (Some (Answer row))) }
+        ensures season { self.new.season ≡ self.old.season }
+        ensures stands { Stand self.new.season self.new.state (K.tables self.new.keeper) }
+        ensures err { OnErr result ((self.new.entries ≡ self.old.entries) × (self.new.state ≡ self.old.state)) }
+        ensures told { OnErr result (AreTold (K.tables self.old.keeper) (K.tables self.new.keeper)) }
+        ensures cause { IsErrOf result OfficeFault.KeeperFault → Rose (K.faults self.old.keeper) (K.faults self.new.keeper) }
+        ensures count { K.faults self.old.keeper ≤ K.faults self.new.keeper }
+        ensures steady { OnOk result (K.faults self.new.keeper ≡ K.faults self.old.keeper) }
+        ensures room { K.holds_room self.new.keeper ≡ K.holds_room self.old.keeper }
+        ensures withdraw { K.holds_room self.old.keeper ≡ true → is_withdraw row.choice ≡ true → IsErrOf result OfficeFault.OutOfMemory → ⊥ }
+    {
+        if row.choice == Choice::Withdraw {
+            self.keeper.put_answer(row)?;
+            self.book.note(number, row);
+            return Ok(receipt(row));
+        }
+        let wanted = room_wanted(&self.book);
+        self.book.reserve(wanted)?;
+        self.keeper.reserve_answers(wanted)?;
+        self.keeper.put_answer(row)?;
+        self.book.note(number, row);
+        Ok(receipt(row))
+    }
+
+    /// Keeps a raise, and accepts it.
+    fn accept_raise(&mut self, number: u64, row: RaiseRow) -> Result<Reply, OfficeFault>
+        requires decided { decided self.old.season self.old.state (asked self.old.season (Raise row)) ≡ Lift row }
+        requires number { last_of self.old.entries < number }
+        ensures moves { IfOk result (λ reply. Does self.old.season self.old.state (Lift row) reply self.new.state) }
+        ensures entries { OnOk result (self.new.entries ≡ grown self.old.entries number (Some (Raise row))) }
+        ensures season { self.new.season ≡ self.old.season }
+        ensures stands { Stand self.new.season self.new.state (K.tables self.new.keeper) }
+        ensures err { OnErr result ((self.new.entries ≡ self.old.entries) × (self.new.state ≡ self.old.state)) }
+        ensures told { OnErr result (AreTold (K.tables self.old.keeper) (K.tables self.new.keeper)) }
+        ensures cause { IsErrOf result OfficeFault.KeeperFault → Rose (K.faults self.old.keeper) (K.faults self.new.keeper) }
+        ensures count { K.faults self.old.keeper ≤ K.faults self.new.keeper }
+        ensures steady { OnOk result (K.faults self.new.keeper ≡ K.faults self.old.keeper) }
+        ensures room { K.holds_room self.new.keeper ≡ K.holds_room self.old.keeper }
+    {
+        let wanted = room_wanted(&self.book);
+        self.book.reserve(wanted)?;
+        self.keeper.put_raise(row)?;
+        self.book.lift(number, row);
+        Ok(Reply::Raised {
+            window: row.window,
+            prog: row.prog,
+            step: row.step,
+            seats: row.seats,
+        })
+    }
+
+    /// Makes the next round, keeps the cut, and publishes it.
+    fn publish_round(&mut self, alloc: Global, number: u64) -> Result<Reply, OfficeFault>
+        requires decided { decided self.old.season self.old.state (asked self.old.season (Cut self.old.state.now)) ≡ Publish }
+        requires number { last_of self.old.entries < number }
+        ensures moves { IfOk result (λ reply. Does self.old.season self.old.state Publish reply self.new.state) }
+        ensures entries { OnOk result (self.new.entries ≡ grown self.old.entries number (Some (Cut self.old.state.now))) }
+        ensures season { self.new.season ≡ self.old.season }
+        ensures stands { Stand self.new.season self.new.state (K.tables self.new.keeper) }
+        ensures err { OnErr result ((self.new.entries ≡ self.old.entries) × (self.new.state ≡ self.old.state)) }
+        ensures told { OnErr result (AreTold (K.tables self.old.keeper) (K.tables self.new.keeper)) }
+        ensures cause { IsErrOf result OfficeFault.KeeperFault → Rose (K.faults self.old.keeper) (K.faults self.new.keeper) }
+        ensures count { K.faults self.old.keeper ≤ K.faults self.new.keeper }
+        ensures steady { OnOk result (K.faults self.new.keeper ≡ K.faults self.old.keeper) }
+        ensures room { K.holds_room self.new.keeper ≡ K.holds_room self.old.keeper }
+    {
+        let _entries = self.book.entries();
+        let wanted = room_wanted(&self.book);
+        self.book.reserve(wanted)?;
+        let MadeCut {
+            round,
+            rows,
+            table,
+            seated,
+        } = make_cut(alloc, &self.book)?;
+        self.keeper.put_cut(rows.as_slice())?;
+        let published = round.number;
+        self.book.publish(number, round, table);
+        Ok(Reply::Published {
+            round: published,
+            seated,
+        })
+    }
+
+    /// Makes the final admissions, keeps the last cut, and ends the season.
+    fn finish_season(&mut self, alloc: Global, number: u64) -> Result<Reply, OfficeFault>
+        requires decided { decided self.old.season self.old.state (asked self.old.season (Cut self.old.state.now)) ≡ Finish }
+        requires number { last_of self.old.entries < number }
+        ensures moves { IfOk result (λ reply. Does self.old.season self.old.state Finish reply self.new.state) }
+        ensures entries { OnOk result (self.new.entries ≡ grown self.old.entries number (Some (Cut self.old.state.now))) }
+        ensures season { self.new.season ≡ self.old.season }
+        ensures stands { Stand self.new.season self.new.state (K.tables self.new.keeper) }
+        ensures err { OnErr result ((self.new.entries ≡ self.old.entries) × (self.new.state ≡ self.old.state)) }
+        ensures told { OnErr result (AreTold (K.tables self.old.keeper) (K.tables self.new.keeper)) }
+        ensures cause { IsErrOf result OfficeFault.KeeperFault → Rose (K.faults self.old.keeper) (K.faults self.new.keeper) }
+        ensures count { K.faults self.old.keeper ≤ K.faults self.new.keeper }
+        ensures steady { OnOk result (K.faults self.new.keeper ≡ K.faults self.old.keeper) }
+        ensures room { K.holds_room self.new.keeper ≡ K.holds_room self.old.keeper }
+    {
+        let _entries = self.book.entries();
+        let wanted = room_wanted(&self.book);
+        self.book.reserve(wanted)?;
+        let admissions = self.book.final_rows(alloc)?;
+        let admitted = count_rows(&self.book, &admissions);
+        self.keeper.put_cut(admissions.as_slice())?;
+        self.book.finish(number, admissions);
+        Ok(Reply::Final { admitted })
+    }
+}

@@ -1,0 +1,156 @@
+// An office: the proceedings of its season, and the keeper that keeps their records.
+ghost use Rattle.std.specs.Prelude.{◌≡◌, ◌≤◌, [], true, false, None, Some, IfOk, IfErr, OnOk, MatchOption, length, option_copied};
+ghost use Rattle.office_base.specs.Outside.{Rose};
+ghost use Rattle.office_base.specs.declared.asks.By.TheVariants.{Nobody};
+ghost use Rattle.season_file.specs.Season.{IsSeason};
+ghost use Rattle.keeper_mem.specs.Tables.{AreTold, IsFound};
+ghost use Rattle.office_moves.specs.Season.{facts_of};
+ghost use Rattle.office_moves.specs.Stands.{Stand};
+ghost use Rattle.office_moves.specs.State.{opening, round_at};
+ghost use Rattle.proceedings.specs.Proceeding.{last_of};
+ghost use Rattle.round_cut.specs.Office.{who_by};
+
+use crate::fault::BeginFault;
+use keeper_mem::{AllotRow, Keeper};
+use office_base::By;
+use office_moves::Entry;
+use proceedings::Proceedings;
+use rounds::Round;
+use season_file::Season;
+use std::alloc::Global;
+use std::marker::Model;
+
+/// An office over a keeper. The tables of the keeper, where they are told, stand for its state.
+pub struct Office<K: Keeper> {
+    pub(crate) book: Proceedings,
+    pub(crate) keeper: K,
+}
+
+impl<K: Keeper> Model for Office<K> {
+    ghost use Rattle.std.specs.Prelude.{◌≡◌, ◌≤◌, true};
+    ghost use Rattle.office_moves.specs.Stands.{Stand};
+    ghost use Rattle.round_cut.specs.Office.{HasRoom, Opened};
+
+    ghost Value = { Opened K };
+
+    ghost view = { λ a. record { season = a.book.season; entries = a.book.entries; state = a.book.state; still = a.book.still; keeper = a.keeper } };
+
+    ghost invariant = { λ a. Stand a.book.season a.book.state (K.tables a.keeper) × HasRoom (K.holds_room a.keeper) a.book.still (K.spare a.keeper) };
+}
+
+impl<K: Keeper> Office<K> {
+    /// An office over a keeper that holds no season: it keeps this one. The season's text has to read as this season. After a fault the tables of the
+    /// keeper, which is handed back, are as before.
+    pub fn begin(alloc: Global, season: Season, mut keeper: K) -> Result<Office<K>, (K, BeginFault)>
+        requires { IsSeason season.text season }
+        ensures season { IfOk result (λ office. office.season ≡ facts_of season) }
+        ensures entries { IfOk result (λ office. office.entries ≡ []) }
+        ensures state { IfOk result (λ office. office.state ≡ opening) }
+        ensures empty { OnOk result (IsFound false (K.tables keeper)) }
+        ensures not_empty { IfErr result (λ e. e.1 ≡ BeginFault.NotEmpty → IsFound true (K.tables keeper)) }
+        ensures stands { IfOk result (λ office. Stand office.season office.state (K.tables office.keeper)) }
+        ensures err { IfErr result (λ e. AreTold (K.tables keeper) (K.tables e.0)) }
+        ensures cause { IfErr result (λ e. e.1 ≡ BeginFault.KeeperFault → Rose (K.faults keeper) (K.faults e.0)) }
+        ensures count { IfOk result (λ office. K.faults keeper ≤ K.faults office.keeper) }
+        ensures count_err { IfErr result (λ e. K.faults keeper ≤ K.faults e.0) }
+        ensures steady { IfOk result (λ office. K.faults office.keeper ≡ K.faults keeper) }
+        ensures steady_err { IfErr result (λ e. e.1 ≡ BeginFault.NotEmpty → K.faults e.0 ≡ K.faults keeper) }
+        ensures room { IfOk result (λ office. K.holds_room office.keeper ≡ K.holds_room keeper) }
+        ensures room_err { IfErr result (λ e. K.holds_room e.0 ≡ K.holds_room keeper) }
+    {
+        match keeper.has_season() {
+            Ok(false) => {}
+            Ok(true) => return Err((keeper, BeginFault::NotEmpty)),
+            Err(fault) => return Err((keeper, fault.into())),
+        }
+        let book = match Proceedings::begin(alloc, season) {
+            Ok(book) => book,
+            Err(fault) => return Err((keeper, fault.into())),
+        };
+        if let Err(fault) = keeper.reserve_answers(book.still_in()) {
+            return Err((keeper, fault.into()));
+        }
+        if let Err(fault) = keeper.put_season(book.season().text.as_slice()) {
+            return Err((keeper, fault.into()));
+        }
+        Ok(Office { book, keeper })
+    }
+
+    /// The keeper. Its tables stand for the last state.
+    pub fn into_keeper(self) -> K
+        ensures same { result ≡ self.keeper }
+        ensures stands { Stand self.season self.state (K.tables result) }
+    {
+        let Office { book: _, keeper } = self;
+        keeper
+    }
+
+    /// Whom a token stands for. It takes no memory.
+    pub fn who(&self, token: Option<&[u8]>) -> By
+        ensures { MatchOption token.entry (result ≡ Nobody) (λ bytes. result ≡ who_by self.now.season bytes.now) }
+    {
+        let Some(token) = token else {
+            return By::Nobody;
+        };
+        let season = self.book.season();
+        if token == season.clerk.bytes() {
+            return By::Clerk;
+        }
+        match season.register.who(token) {
+            Some(cand) => By::Candidate(cand),
+            None => By::Nobody,
+        }
+    }
+
+    /// How many cuts were made: the number of the open window. After the last cut no window is open, and it is the number of rounds plus 1.
+    pub fn now(&self) -> u16
+        ensures { result ≡ self.now.state.now }
+    {
+        self.book.now()
+    }
+
+    /// How many rounds are published.
+    pub fn published(&self) -> u16
+        ensures { result ≡ length self.now.state.rounds }
+    {
+        self.book.published()
+    }
+
+    /// The published round of this number, from 1. None exactly where the number is 0 or above `published`.
+    pub fn round(&self, number: u16) -> Option<&Round>
+        ensures { option_copied result ≡ round_at self.now.state.rounds number }
+    {
+        self.book.round(number)
+    }
+
+    /// The final admissions, once the last cut was made.
+    pub fn finals(&self) -> Option<&[AllotRow]>
+        ensures { MatchOption result (self.now.state.finals ≡ None) (λ rows. self.now.state.finals ≡ Some rows.now) }
+    {
+        match self.book.finals() {
+            Some(rows) => Some(rows.as_slice()),
+            None => None,
+        }
+    }
+
+    /// What was accepted, in its order.
+    pub fn entries(&self) -> &[Entry]
+        ensures { result.now ≡ self.now.entries }
+    {
+        self.book.entries()
+    }
+
+    /// The season.
+    pub fn season(&self) -> &Season
+        ensures { facts_of result.now ≡ self.now.season }
+    {
+        self.book.season()
+    }
+
+    /// The number of the last entry; 0 where there is none.
+    pub fn last_number(&self) -> u64
+        ensures { result ≡ last_of self.now.entries }
+    {
+        self.book.last_number()
+    }
+}
