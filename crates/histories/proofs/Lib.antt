@@ -3,9 +3,9 @@ mod Answered
 pub mod Changes
 mod Choosing
 mod Coursed
-mod Entering
+pub mod Entering
 mod Falls
-mod Fits
+pub mod Fits
 mod InOrder
 mod Made
 mod OneRound

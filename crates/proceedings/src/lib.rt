@@ -6,7 +6,6 @@
 
 pub mod book;
 mod changes;
-mod copies;
 mod decide;
 mod looks;
 mod next;

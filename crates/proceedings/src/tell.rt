@@ -8,7 +8,6 @@ ghost use Rattle.office_moves.specs.State.{round_at, view_of};
 ghost use Rattle.proceedings.specs.Told.{takes_nothing};
 
 use crate::book::Proceedings;
-use crate::copies::copy_programme;
 use office_base::{CandId, OutOfMemory, ProgId, Request, Seat};
 use office_moves::{Decision, Reply};
 use programme_lists::Programme;
@@ -63,7 +62,7 @@ impl Proceedings {
         requires { decided self.now.season self.now.state request.now ≡ Decision.TellList round prog }
         ensures { IfOk result (λ reply. Does self.now.season self.now.state (Decision.TellList round prog) reply self.now.state) }
     {
-        let programme = copy_programme(alloc, self.shown(round, prog))?;
+        let programme = self.shown(round, prog).copy(alloc)?;
         Ok(Reply::ListIs {
             round,
             prog,

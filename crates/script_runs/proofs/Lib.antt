@@ -1,0 +1,6 @@
+mod Named
+mod OneRun
+mod RunLemmas
+mod Running
+mod Seats
+mod Shown

@@ -1,0 +1,38 @@
+-- What holds of runs, over the definitions alone.
+use Rattle.std.specs.Prelude.{◌≡◌, ℕ, List, [], ◌∷◌, ◌++◌}
+use Rattle.office_base.specs.declared.asks.Request.{Request}
+use Rattle.office_moves.specs.Facts.{IsSound, SeasonFacts}
+use Rattle.office_moves.specs.State.{State}
+use Rattle.office_moves.specs.Moves.{IsMove}
+use Rattle.office_moves.specs.History.{IsHistory}
+use Rattle.office_moves.specs.declared.moves.Entry.{Entry}
+use Rattle.office_moves.specs.declared.moves.Reply.{Reply}
+use Rattle.histories.specs.Orderly.{IsOrderly}
+use Rattle.script_runs.specs.Runs.{Answers, CameOf, CanBeShown, reply_bytes}
+
+-- A run goes on by one request at its end, whose reply comes after the others.
+abbrev pub GoesOn : SeasonFacts → Type 0
+GoesOn facts = (old mid new : State) (requests : List Request) (request : Request) (reply : Reply) (output : List ℕ) → Answers facts old requests output mid
+    → IsMove facts mid request reply new → Answers facts old (requests ++ request ∷ []) (output ++ reply_bytes facts new reply) new
+
+-- A run of some requests and more
+pub record IsSplit (facts : SeasonFacts) (old : State) (requests more : List Request) (output : List ℕ) (new : State) : Type 0 where
+  pub mid : State
+  pub some : List ℕ
+  pub rest : List ℕ
+  pub before : Answers facts old requests some mid
+  pub after : Answers facts mid more rest new
+  pub whole : output ≡ some ++ rest
+
+-- A prefix of a run is a run, and the rest of it is one from there.
+abbrev pub PrefixIsARun : SeasonFacts → Type 0
+PrefixIsARun facts = (old new : State) (requests more : List Request) (output : List ℕ) → Answers facts old (requests ++ more) output new → IsSplit facts old requests more output new
+
+-- Requests that are answered after a history have one output, and leave one state.
+abbrev pub OneRun : SeasonFacts → Type 0
+OneRun facts = IsSound facts → (entries : List Entry) (old new then : State) (requests : List Request) (output other : List ℕ) → IsHistory facts entries old
+    → Answers facts old requests output new → Answers facts old requests other then → (output ≡ other) × (new ≡ then)
+
+-- In a state in which all is in order the reply that led to it can be shown.
+abbrev pub RepliesCanBeShown : SeasonFacts → Type 0
+RepliesCanBeShown facts = IsSound facts → (state : State) (reply : Reply) → IsOrderly facts state → CameOf facts state reply → CanBeShown facts state reply

@@ -1,0 +1,115 @@
+-- Requests that are answered one after another, each reply written before the next request is handled.
+use Rattle.std.specs.Prelude.{◌≡◌, ◌<◌, ◌+◌, ◌⊎◌, ℕ, List, [], ◌∷◌, ◌++◌, Option, Some, None, length, take, slice_get}
+use Rattle.std.specs.Option.{unwrap_or}
+use Rattle.office_base.specs.declared.asks.Request.{Request}
+use Rattle.office_base.specs.Outside.{Appends}
+use Rattle.keeper_mem.specs.Tables.{Tables}
+use Rattle.keeper_mem.specs.declared.rows.AllotRow.{AllotRow}
+use Rattle.rounds.specs.declared.round.Round.{Round}
+use Rattle.office_moves.specs.Facts.{SeasonFacts}
+use Rattle.office_moves.specs.State.{State, round_at}
+use Rattle.office_moves.specs.Decided.{decided}
+use Rattle.office_moves.specs.Moves.{IsMove}
+use Rattle.office_moves.specs.History.{IsHistory, grown, newly}
+use Rattle.office_moves.specs.Promise.{KeepsItsWord}
+use Rattle.office_moves.specs.Stands.{Stand}
+use Rattle.office_moves.specs.declared.moves.Entry.{Entry}
+use Rattle.office_moves.specs.declared.moves.Reply.{Reply}
+use Rattle.office_moves.specs.declared.moves.Reply.TheVariants.{Noted, Raised, Published, Final, SeatIs, WhyIs, ListIs, StateIs, Refused}
+use Rattle.proceedings.specs.Proceeding.{last_of}
+use Rattle.reply_texts.specs.Replies.{IsReplyOf, reply_text}
+
+-- ---- the text of a reply
+
+-- the round that the text of a reply shows: the one that the cut published, and none with any other reply
+abbrev pub round_shown : State → Reply → Option Round
+round_shown state (Noted cand window turn choice) = None
+round_shown state (Raised window prog step seats) = None
+round_shown state (Published number seated) = round_at state.rounds number
+round_shown state (Final admitted) = None
+round_shown state (SeatIs cand number standing seat) = None
+round_shown state (WhyIs cand prog answer) = None
+round_shown state (ListIs number prog programme) = None
+round_shown state (StateIs window rounds published) = None
+round_shown state (Refused refusal) = None
+
+-- the final rows, once they are
+abbrev pub rows_shown : State → List AllotRow
+rows_shown state = unwrap_or state.finals []
+
+-- the text of a reply, in the state after it
+unfoldable pub reply_bytes : SeasonFacts → State → Reply → List ℕ
+reply_bytes facts state reply = reply_text facts.matrix facts.people (round_shown state reply) (rows_shown state) reply
+
+-- a request led to this state, with this reply
+pub record CameOf (facts : SeasonFacts) (state : State) (reply : Reply) : Type 0 where
+  pub old : State
+  pub request : Request
+  pub moves : IsMove facts old request reply state
+
+-- the reply can be shown in the state after it
+unfoldable pub CanBeShown : SeasonFacts → State → Reply → Type 0
+CanBeShown facts state reply = IsReplyOf facts.matrix facts.people (round_shown state reply) (rows_shown state) reply
+
+-- ---- a run
+
+-- requests are answered from a state with this output, and leave this state
+abbrev pub Answers : SeasonFacts → State → List Request → List ℕ → State → Type 0
+Answers facts old [] output new = (output ≡ []) × (new ≡ old)
+Answers facts old (request ∷ requests) output new = (reply : Reply) × (mid : State) × (rest : List ℕ) × IsMove facts old request reply mid
+    × (output ≡ reply_bytes facts mid reply ++ rest) × Answers facts mid requests rest new
+
+-- the entries after requests: each one that was newly accepted is put at the end, under the number after the last one
+abbrev pub Accepts : SeasonFacts → State → List Entry → List Request → State → List Entry → Type 0
+Accepts facts old held [] new kept = (new ≡ old) × (kept ≡ held)
+Accepts facts old held (request ∷ requests) new kept = (reply : Reply) × (mid : State) × IsMove facts old request reply mid
+    × Accepts facts mid (grown held (last_of held + 1) (newly old.now (decided facts old request))) requests new kept
+
+-- The first j requests are answered, with this output: a history leads to the state, in which the office keeps its word, and the tables stand for it.
+pub record AfterSome (facts : SeasonFacts) (start : State) (script : List Request) (j : ℕ) (output : List ℕ) (state : State) (tables : Tables) : Type 0 where
+  pub answers : Answers facts start (take j script) output state
+  pub history : (entries : List Entry) × IsHistory facts entries state
+  pub promise : KeepsItsWord facts state
+  pub stands : Stand facts state tables
+
+-- The first j requests are answered, with this output, and one more, whose reply is not written whole.
+pub record AfterOneMore (facts : SeasonFacts) (start : State) (script : List Request) (j : ℕ) (output : List ℕ) (reply : Reply) (state : State) (tables : Tables) : Type 0 where
+  pub mid : State
+  pub request : Request
+  pub before : Answers facts start (take j script) output mid
+  pub there : slice_get script j ≡ Some request
+  pub moves : IsMove facts mid request reply state
+  pub after : AfterSome facts start script (j + 1) (output ++ reply_bytes facts state reply) state tables
+
+-- ---- how a run ends
+
+-- what is known of an end, by the state and the tables then, and what was written before and after
+pub record Ended : Type 0 where
+  pub state : State
+  pub tables : Tables
+  pub before : Option (List ℕ)
+  pub after : Option (List ℕ)
+
+-- all requests are answered, and all replies are written
+abbrev pub EndsWell : SeasonFacts → State → List Request → Ended → Type 0
+EndsWell facts start script ended =
+    (output : List ℕ) × AfterSome facts start script (length script) output ended.state ended.tables × Appends output ended.before ended.after
+
+-- the next request after the first j is not answered, and their replies are written
+abbrev pub EndsBefore : SeasonFacts → State → List Request → Ended → Type 0
+EndsBefore facts start script ended =
+    (j : ℕ) × (output : List ℕ) × (j < length script) × AfterSome facts start script j output ended.state ended.tables × Appends output ended.before ended.after
+
+-- one more is answered, and of its reply this many bytes are written
+abbrev pub EndsWithin : SeasonFacts → State → List Request → Ended → ℕ → Type 0
+EndsWithin facts start script ended n =
+    (j : ℕ) × (output : List ℕ) × (reply : Reply) × AfterOneMore facts start script j output reply ended.state ended.tables
+    × Appends (output ++ take n (reply_bytes facts ended.state reply)) ended.before ended.after
+
+-- for want of memory a request is not answered, or its reply is not written at all
+abbrev pub EndsShort : SeasonFacts → State → List Request → Ended → Type 0
+EndsShort facts start script ended = EndsBefore facts start script ended ⊎ EndsWithin facts start script ended 0
+
+-- the sink fails: of the reply to the last answered request a prefix is written
+abbrev pub EndsCut : SeasonFacts → State → List Request → Ended → Type 0
+EndsCut facts start script ended = (n : ℕ) × EndsWithin facts start script ended n

@@ -1,0 +1,13 @@
+// The requests of a script, answered over an office: each reply is written before the next request is handled.
+//
+// The command that runs a season stands on it. `specs/Runs` says what a run is, what of it is written, and how it may end; what a request comes to
+// are the words of `office_moves`, and what a reply reads like are those of `reply_texts`. It must never know where requests come from, how records
+// are kept, nor what a sink is.
+#![tactic(auto)]
+
+pub mod laws;
+mod line;
+mod run;
+
+pub use line::reply_line;
+pub use run::{RunEnd, answer_all};

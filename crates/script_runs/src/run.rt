@@ -1,0 +1,146 @@
+// A script, answered request after request.
+ghost use Rattle.std.specs.Prelude.{◌≡◌, ◌≢◌, ◌≤◌, ◌⊎◌, ℕ, IfOk, OnOk, OnErr, IsErrOf, length, take};
+ghost use Rattle.office_base.specs.Outside.{Rose};
+ghost use Rattle.histories.specs.Orderly.{IsOrderly};
+ghost use Rattle.office_moves.specs.History.{IsHistory};
+ghost use Rattle.office_moves.specs.Moves.{IsMove};
+ghost use Rattle.office_moves.specs.Stands.{Stand};
+ghost use Rattle.script_runs.specs.Runs.{Accepts, EndsBefore, EndsCut, EndsShort, EndsWell};
+ghost use Rattle.script_runs.specs.Steps.{HasAccepted, IsAnswered, IsAnsweredInPart, IsUnanswered};
+
+use crate::line::reply_line;
+use keeper_mem::Keeper;
+use office_base::{Request, Sink, write_whole};
+use office_moves::{Reply, says_what_is_sound};
+use round_cut::{Office, OfficeFault};
+use std::alloc::Global;
+
+/// How a run ended.
+#[derive(Clone, Copy, Debug, PartialEq, Eq)]
+pub enum RunEnd {
+    /// All requests are answered, and all replies are written.
+    Done,
+    /// The keeper failed at the next request: its count of faults rose. The replies before it are written.
+    KeeperFault,
+    /// There was no memory for the next request, or for the reply to the last one. The replies before it are written.
+    OutOfMemory,
+    /// The sink failed: its count of faults rose. Of the reply to the last answered request a prefix is written, and those before it whole.
+    WriteFault,
+}
+
+/// Answers the requests one after another, each under the number after the last one, and writes each reply before the next request is handled. The
+/// office has to be in the state to which its entries lead, and so it is at the end.
+pub fn answer_all<P: Keeper, K: Sink>(
+    alloc: Global,
+    office: &mut Office<P>,
+    script: &[Request],
+    sink: &mut K,
+) -> RunEnd
+    requires history { IsHistory office.old.season office.old.entries office.old.state }
+    requires stands { Stand office.old.season office.old.state (P.tables office.old.keeper) }
+    ensures done { result ≡ RunEnd.Done → EndsWell office.old.season office.old.state script.now
+        (record { state = office.new.state; tables = P.tables office.new.keeper; before = K.written sink.old; after = K.written sink.new }) }
+    ensures keeper { result ≡ RunEnd.KeeperFault → EndsBefore office.old.season office.old.state script.now
+        (record { state = office.new.state; tables = P.tables office.new.keeper; before = K.written sink.old; after = K.written sink.new }) }
+    ensures memory { result ≡ RunEnd.OutOfMemory → EndsShort office.old.season office.old.state script.now
+        (record { state = office.new.state; tables = P.tables office.new.keeper; before = K.written sink.old; after = K.written sink.new }) }
+    ensures write { result ≡ RunEnd.WriteFault → EndsCut office.old.season office.old.state script.now
+        (record { state = office.new.state; tables = P.tables office.new.keeper; before = K.written sink.old; after = K.written sink.new }) }
+    ensures entries { (j : ℕ) × Accepts office.old.season office.old.state office.old.entries (take j script.now) office.new.state office.new.entries }
+    ensures season { office.new.season ≡ office.old.season }
+    ensures history { IsHistory office.new.season office.new.entries office.new.state }
+    ensures stands { Stand office.new.season office.new.state (P.tables office.new.keeper) }
+    ensures keeper_cause { result ≡ RunEnd.KeeperFault → Rose (P.faults office.old.keeper) (P.faults office.new.keeper) }
+    ensures keeper_count { P.faults office.old.keeper ≤ P.faults office.new.keeper }
+    ensures keeper_steady { (result ≡ RunEnd.Done) ⊎ (result ≡ RunEnd.WriteFault) → P.faults office.new.keeper ≡ P.faults office.old.keeper }
+    ensures write_cause { result ≡ RunEnd.WriteFault → Rose (K.faults sink.old) (K.faults sink.new) }
+    ensures write_count { K.faults sink.old ≤ K.faults sink.new }
+    ensures write_steady { result ≢ RunEnd.WriteFault → K.faults sink.new ≡ K.faults sink.old }
+    ensures complete { ¬ Rose (P.faults office.old.keeper) (P.faults office.new.keeper) → ¬ Rose (K.faults sink.old) (K.faults sink.new)
+        → (result ≡ RunEnd.Done) ⊎ (result ≡ RunEnd.OutOfMemory) }
+{
+    check_order(office);
+    'requests: for request in script {
+        match answer_one(alloc, office, request, sink) {
+            RunEnd::Done => {}
+            end => return end,
+        }
+    }
+    RunEnd::Done
+}
+
+/// All is in order in the state of the office, to which its entries lead. It takes no memory.
+fn check_order<P: Keeper>(office: &Office<P>)
+    requires { IsHistory office.now.season office.now.entries office.now.state }
+    ensures { IsOrderly office.now.season office.now.state }
+{
+    histories::laws::orderly();
+    says_what_is_sound(office.season());
+}
+
+/// Answers one request, and writes the reply.
+fn answer_one<P: Keeper, K: Sink>(
+    alloc: Global,
+    office: &mut Office<P>,
+    request: &Request,
+    sink: &mut K,
+) -> RunEnd
+    requires history { IsHistory office.old.season office.old.entries office.old.state }
+    requires stands { Stand office.old.season office.old.state (P.tables office.old.keeper) }
+    ensures done { result ≡ RunEnd.Done → IsAnswered office.old.season office.old.state office.old.entries request.now office.new.state office.new.entries (K.written sink.old) (K.written sink.new) }
+    ensures keeper { result ≡ RunEnd.KeeperFault → IsUnanswered office.old.state office.old.entries office.new.state office.new.entries (K.written sink.old) (K.written sink.new) }
+    ensures memory { result ≡ RunEnd.OutOfMemory → IsUnanswered office.old.state office.old.entries office.new.state office.new.entries (K.written sink.old) (K.written sink.new)
+        ⊎ IsAnsweredInPart office.old.season office.old.state office.old.entries request.now office.new.state office.new.entries 0 (K.written sink.old) (K.written sink.new) }
+    ensures write { result ≡ RunEnd.WriteFault → (n : ℕ) × IsAnsweredInPart office.old.season office.old.state office.old.entries request.now office.new.state office.new.entries n (K.written sink.old) (K.written sink.new) }
+    ensures season { office.new.season ≡ office.old.season }
+    ensures history { IsHistory office.new.season office.new.entries office.new.state }
+    ensures orderly { IsOrderly office.new.season office.new.state }
+    ensures stands { Stand office.new.season office.new.state (P.tables office.new.keeper) }
+    ensures keeper_cause { result ≡ RunEnd.KeeperFault → Rose (P.faults office.old.keeper) (P.faults office.new.keeper) }
+    ensures keeper_count { P.faults office.old.keeper ≤ P.faults office.new.keeper }
+    ensures keeper_steady { (result ≡ RunEnd.Done) ⊎ (result ≡ RunEnd.WriteFault) → P.faults office.new.keeper ≡ P.faults office.old.keeper }
+    ensures write_cause { result ≡ RunEnd.WriteFault → Rose (K.faults sink.old) (K.faults sink.new) }
+    ensures write_count { K.faults sink.old ≤ K.faults sink.new }
+    ensures write_steady { result ≢ RunEnd.WriteFault → K.faults sink.new ≡ K.faults sink.old }
+{
+    let reply = match next_reply(alloc, office, request) {
+        Ok(reply) => reply,
+        Err(OfficeFault::KeeperFault) => return RunEnd::KeeperFault,
+        Err(OfficeFault::OutOfMemory) => return RunEnd::OutOfMemory,
+    };
+    let Ok(text) = reply_line(alloc, office, &reply) else {
+        return RunEnd::OutOfMemory;
+    };
+    match write_whole(sink, text.as_slice()) {
+        Ok(()) => RunEnd::Done,
+        Err(_) => RunEnd::WriteFault,
+    }
+}
+
+/// The reply to a request under the number after the last one. Where that number would not fit, it is told as want of memory.
+fn next_reply<P: Keeper>(
+    alloc: Global,
+    office: &mut Office<P>,
+    request: &Request,
+) -> Result<Reply, OfficeFault>
+    requires history { IsHistory office.old.season office.old.entries office.old.state }
+    requires stands { Stand office.old.season office.old.state (P.tables office.old.keeper) }
+    ensures moves { IfOk result (λ reply. IsMove office.old.season office.old.state request.now reply office.new.state) }
+    ensures accepted { OnOk result (HasAccepted office.old.season office.old.state request.now office.old.entries office.new.entries) }
+    ensures err { OnErr result ((office.new.entries ≡ office.old.entries) × (office.new.state ≡ office.old.state)) }
+    ensures season { office.new.season ≡ office.old.season }
+    ensures history { IsHistory office.new.season office.new.entries office.new.state }
+    ensures orderly { IsOrderly office.new.season office.new.state }
+    ensures stands { Stand office.new.season office.new.state (P.tables office.new.keeper) }
+    ensures cause { IsErrOf result OfficeFault.KeeperFault → Rose (P.faults office.old.keeper) (P.faults office.new.keeper) }
+    ensures count { P.faults office.old.keeper ≤ P.faults office.new.keeper }
+    ensures steady { OnOk result (P.faults office.new.keeper ≡ P.faults office.old.keeper) }
+{
+    histories::laws::history_grows();
+    histories::laws::orderly();
+    says_what_is_sound(office.season());
+    let Some(number) = office.last_number().checked_add(1) else {
+        return Err(OfficeFault::OutOfMemory);
+    };
+    office.handle(alloc, number, request)
+}
