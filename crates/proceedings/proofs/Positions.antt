@@ -2,7 +2,7 @@
 use Rattle.std.proofs.Common.{◌≡◌, ◌<◌, ◌+◌, ◌⊎◌, inl, inr, ℕ, zero, suc, Bool, true, false, List, [], ◌∷◌, Option, Some, None, length, map, arith, refl, sym, ap, ◌∙◌, ◌==◌, if◌then◌else◌}
 use Rattle.std.specs.Prelude.{slice_get, option_map}
 use Rattle.std.proofs.lemmas.Bool.{cases_Bool}
-use Rattle.std.proofs.lemmas.Option.{slice_get-map, slice_get_within}
+use Rattle.std.proofs.lemmas.Option.{slice_get-map}
 use Rattle.office_base.specs.Lists.{Pairwise}
 use Rattle.office_base.specs.Person.{at_person}
 use Rattle.office_base.specs.declared.person.Person.{Person}
@@ -28,9 +28,6 @@ stands id (p ∷ people) at e = elim (row_cases (id == p.id.0) (row_of id people
   | inl h ↦ record { person = p; there = rw h.1 refl; mine = sym (eq_means id p.id.0 h.0) }
   | inr h ↦ let rest = stands id people h.0 h.2 in record { person = rest.person; there = rw h.3 rest.there; mine = rest.mine }
 ]
-
-pub within : (id : ℕ) (people : List Person) (at : ℕ) → row_of id people ≡ Some at → at < length people
-within id people at e = let s = stands id people at e in slice_get_within people at s.person s.there
 
 place_when : {X : Type 0} (b : Bool) (x : X) (rest : Option X) (xs : List X) (at : ℕ) → b ≡ true → at ≡ 0 → (if b then Some x else rest) ≡ slice_get (x ∷ xs) at
 place_when true x rest xs at e same = rw same refl
@@ -60,10 +57,6 @@ pub told : {X : Type 0} (f : Person → X) (people : List Person) (at : ℕ) (pe
 told f people at person x e there =
     let same : Some (f person) ≡ Some x = ap (option_map f) (sym there) ∙ e in
     cc
-
--- a look-up in what lies along the people
-pub along : {X : Type 0} (f : Person → X) (people : List Person) (xs : List X) (at : ℕ) (x : X) → xs ≡ map f people → slice_get xs at ≡ Some x → option_map f (slice_get people at) ≡ Some x
-along {X} f people xs at x e there = sym (slice_get-map f people at) ∙ (ap (λ (ys : List X). slice_get ys at) (sym e) ∙ there)
 
 -- a look-up at the position of a person, in what lies along the people, and the same told otherwise
 pub through : {X Y Z : Type 0} (f : Y → X) (g : X → Z) (h : Y → Z) (ys : List Y) (xs : List X) (at : ℕ) (z : Z) → xs ≡ map f ys → ((y : Y) → h y ≡ g (f y)) → option_map g (slice_get xs at) ≡ Some z

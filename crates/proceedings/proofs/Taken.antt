@@ -105,6 +105,3 @@ accepted_none window turn rows none =
 
 pub last_turn_none : (rows : List AnswerRow) → rows ≡ [] → last_turn rows ≡ 0
 last_turn_none rows none = ap last_turn none
-
-pub last_choice_none : (rows : List AnswerRow) → rows ≡ [] → last_choice (choices rows) ≡ None
-last_choice_none rows none = ap (λ (inside : List AnswerRow). last_choice (choices inside)) none
