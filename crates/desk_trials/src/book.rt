@@ -14,6 +14,7 @@ pub struct Row {
 }
 
 /// Rows with rising numbers, beside the name of the book.
+#[derive(Drop)]
 pub struct Book {
     pub rows: Vec<Row>,
     pub name: u64,

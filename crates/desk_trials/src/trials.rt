@@ -1,6 +1,6 @@
 // The desk is tried.
-ghost use Rattle.std.specs.Prelude.{◌≡◌, ◌≤◌, ◌×◌, ◌+◌, ◌^◌};
-ghost use Rattle.std.specs.Thread.{IsSync, IsSend};
+ghost use Rattle.std.specs.Prelude.{◌≡◌, ◌≤◌};
+ghost use Rattle.std.specs.Thread.{IsSync};
 ghost use Rattle.office_desk.specs.Words.{belongs, left_of, shares_of};
 
 use crate::book::{Book, Row};
@@ -42,10 +42,12 @@ fn write_both<R: Threads + Wait + Sync>(
     let (one, two) = join(
         rt,
         || -> (Pass<Book>, Result<(), OutOfMemory>)
-            ensures { belongs desk.now result.0 }
+            requires { IsSync R.row × (belongs desk.now one) × (1000 ≤ left_of one) }
+            ensures { belongs desk.entry.now result.0 }
         { written(rt, desk, one, 1, 1000) },
         || -> (Pass<Book>, Result<(), OutOfMemory>)
-            ensures { belongs desk.now result.0 }
+            requires { IsSync R.row × (belongs desk.now two) × (1000 ≤ left_of two) }
+            ensures { belongs desk.entry.now result.0 }
         { written(rt, desk, two, 2, 1000) },
     );
     (one.0, two.0, one.1.is_ok() && two.1.is_ok())
@@ -71,24 +73,20 @@ fn a_pass_reads_what_another_wrote(rt: HostRuntime) -> Result<(), Fail> {
         assert!(rt; false);
         return Ok(());
     };
-    let number = write(&rt, &desk, &mut first, 1, 0)?;
-    let mut second = first.split(&desk, 10)?;
+    let wrote = write(&rt, &desk, &mut first, 1, 0).is_ok();
+    let Ok(mut second) = first.split(&desk, 10) else {
+        unreachable!()
+    };
     let left = (first.left(), second.left(), first.is_whole());
     let read = count_rows(&rt, &desk, &mut second);
     let after = second.left();
     first.join(&desk, second);
-    assert!(rt; number == 1 && left == ((1 << 40) - 11, 10, false) && read == 1 && after == 9);
-    assert!(rt; first.is_whole() && first.left() == (1 << 40) - 2);
+    assert!(rt; wrote && left == ((1 << 40) - 11, 10, false) && read == 1 && after == 9);
+    assert!(rt; first.left() == (1 << 40) - 2);
+    assert!(rt; first.is_whole());
     let book = desk.close(first);
-    assert!(rt;
-        book.rows.as_slice()
-            == [Row {
-                number: 1,
-                by: 1,
-                nth: 0
-            }]
-            .as_slice()
-    );
+    let rows = book.rows.as_slice();
+    assert!(rt; rows.len() == 1 && rows[0].number == 1 && rows[0].by == 1 && rows[0].nth == 0);
     Ok(())
 }
 
@@ -98,12 +96,17 @@ fn two_threads_write_in_turns(rt: HostRuntime) -> Result<(), Fail> {
         assert!(rt; false);
         return Ok(());
     };
-    let one = first.split(&desk, 1000)?;
-    let two = first.split(&desk, 1000)?;
+    let Ok(one) = first.split(&desk, 1000) else {
+        unreachable!()
+    };
+    let Ok(two) = first.split(&desk, 1000) else {
+        unreachable!()
+    };
     let (one, two, done) = write_both(&rt, &desk, one, two);
     first.join(&desk, one);
     first.join(&desk, two);
-    assert!(rt; done && first.is_whole());
+    assert!(rt; done);
+    assert!(rt; first.is_whole());
     let book = desk.close(first);
     let rows = book.rows.as_slice();
     assert!(rt; rows.len() == 2000 && in_order(rows, 1, 1000) && in_order(rows, 2, 1000));
