@@ -16,6 +16,8 @@ mod matrices;
 #[cfg(test)]
 mod published;
 #[cfg(test)]
+mod readers;
+#[cfg(test)]
 mod registers;
 #[cfg(test)]
 mod requests;
