@@ -53,9 +53,13 @@ pub fn count_rows<W: Wait>(rt: &W, desk: &Desk<Book>, pass: &mut Pass<Book>) -> 
     desk.turn(
         rt,
         pass,
-        |book: &mut Book, _number: u64| -> usize
+        |book: &mut Book, number: u64| -> usize
+            requires { last_of (map (λ r. r.number) book.old.rows.items) < number }
             ensures { (book.new.name ≡ book.old.name) × (book.new.rows.items ≡ book.old.rows.items) × (result ≡ length book.old.rows.items) }
-        { book.rows.len() },
+        {
+            let _turn = number;
+            book.rows.len()
+        },
     )
 }
 
