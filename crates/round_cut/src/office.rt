@@ -4,6 +4,7 @@ ghost use Rattle.office_base.specs.Outside.{Rose};
 ghost use Rattle.office_base.specs.declared.asks.By.TheVariants.{Nobody};
 ghost use Rattle.season_file.specs.Season.{IsSeason};
 ghost use Rattle.keeper_mem.specs.Tables.{AreTold, IsFound};
+ghost use Rattle.office_moves.specs.History.{IsHistory};
 ghost use Rattle.office_moves.specs.Season.{facts_of};
 ghost use Rattle.office_moves.specs.Stands.{Stand};
 ghost use Rattle.office_moves.specs.State.{opening, round_at};
@@ -54,7 +55,7 @@ impl<K: Keeper> Office<K> {
         ensures count { IfOk result (λ office. K.faults keeper ≤ K.faults office.keeper) }
         ensures count_err { IfErr result (λ e. K.faults keeper ≤ K.faults e.0) }
         ensures steady { IfOk result (λ office. K.faults office.keeper ≡ K.faults keeper) }
-        ensures steady_err { IfErr result (λ e. e.1 ≡ BeginFault.NotEmpty → K.faults e.0 ≡ K.faults keeper) }
+        ensures steady_err { IfErr result (λ e. ¬ (e.1 ≡ BeginFault.KeeperFault) → K.faults e.0 ≡ K.faults keeper) }
         ensures room { IfOk result (λ office. K.holds_room office.keeper ≡ K.holds_room keeper) }
         ensures room_err { IfErr result (λ e. K.holds_room e.0 ≡ K.holds_room keeper) }
     {
@@ -133,9 +134,10 @@ impl<K: Keeper> Office<K> {
         }
     }
 
-    /// What was accepted, in its order.
+    /// What was accepted, in its order: a history of the season, which leads to the state.
     pub fn entries(&self) -> &[Entry]
-        ensures { result.now ≡ self.now.entries }
+        ensures same { result.now ≡ self.now.entries }
+        ensures history { IsHistory self.now.season self.now.entries self.now.state }
     {
         self.book.entries()
     }
