@@ -1,5 +1,5 @@
 // An office: the proceedings of its season, and the keeper that keeps their records.
-ghost use Rattle.std.specs.Prelude.{◌≡◌, ◌≤◌, [], true, false, None, Some, IfOk, IfErr, OnOk, MatchOption, length, option_copied};
+ghost use Rattle.std.specs.Prelude.{◌≡◌, ◌≤◌, [], true, false, None, Some, IfOk, IfErr, OnOk, OnErr, IsErrOf, MatchOption, length, option_copied};
 ghost use Rattle.office_base.specs.Outside.{Rose};
 ghost use Rattle.office_base.specs.declared.asks.By.TheVariants.{Nobody};
 ghost use Rattle.season_file.specs.Season.{IsSeason};
@@ -9,7 +9,7 @@ ghost use Rattle.office_moves.specs.Season.{facts_of};
 ghost use Rattle.office_moves.specs.Stands.{Stand};
 ghost use Rattle.office_moves.specs.State.{opening, round_at};
 ghost use Rattle.proceedings.specs.Proceeding.{last_of};
-ghost use Rattle.round_cut.specs.Office.{who_by};
+ghost use Rattle.round_cut.specs.Office.{HasRoom, who_by};
 
 use crate::fault::BeginFault;
 use keeper_mem::{AllotRow, Keeper};
@@ -39,6 +39,40 @@ impl<K: Keeper> Model for Office<K> {
     ghost invariant = { λ a. Stand a.book.season a.book.state (K.tables a.keeper) × HasRoom (K.holds_room a.keeper) a.book.still (K.spare a.keeper) };
 }
 
+/// Whether no season is kept; if one is, that is the fault.
+fn expect_empty<K: Keeper>(keeper: &mut K) -> Result<(), BeginFault>
+    ensures ok { OnOk result (IsFound false (K.tables keeper.old)) }
+    ensures still_none { OnOk result (IsFound false (K.tables keeper.new)) }
+    ensures not_empty { IsErrOf result BeginFault.NotEmpty → IsFound true (K.tables keeper.old) }
+    ensures told { AreTold (K.tables keeper.old) (K.tables keeper.new) }
+    ensures cause { IsErrOf result BeginFault.KeeperFault → Rose (K.faults keeper.old) (K.faults keeper.new) }
+    ensures count { K.faults keeper.old ≤ K.faults keeper.new }
+    ensures steady { ¬ IsErrOf result BeginFault.KeeperFault → K.faults keeper.new ≡ K.faults keeper.old }
+    ensures room { K.holds_room keeper.new ≡ K.holds_room keeper.old }
+{
+    if keeper.has_season()? {
+        return Err(BeginFault::NotEmpty);
+    }
+    Ok(())
+}
+
+/// Takes room for the answers of all who are still in, and keeps the season.
+fn keep_season<K: Keeper>(book: &Proceedings, keeper: &mut K) -> Result<(), BeginFault>
+    requires { IsFound false (K.tables keeper.old) }
+    ensures stands { OnOk result (Stand book.now.season opening (K.tables keeper.new)) }
+    ensures spare { OnOk result (HasRoom (K.holds_room keeper.new) book.now.still (K.spare keeper.new)) }
+    ensures err { OnErr result (AreTold (K.tables keeper.old) (K.tables keeper.new)) }
+    ensures kind { IsErrOf result BeginFault.NotEmpty → ⊥ }
+    ensures cause { IsErrOf result BeginFault.KeeperFault → Rose (K.faults keeper.old) (K.faults keeper.new) }
+    ensures count { K.faults keeper.old ≤ K.faults keeper.new }
+    ensures steady { ¬ IsErrOf result BeginFault.KeeperFault → K.faults keeper.new ≡ K.faults keeper.old }
+    ensures room { K.holds_room keeper.new ≡ K.holds_room keeper.old }
+{
+    keeper.reserve_answers(book.still_in())?;
+    keeper.put_season(book.season().text.as_slice())?;
+    Ok(())
+}
+
 impl<K: Keeper> Office<K> {
     /// An office over a keeper that holds no season: it keeps this one. The season's text has to read as this season. After a fault the tables of the
     /// keeper, which is handed back, are as before.
@@ -59,20 +93,14 @@ impl<K: Keeper> Office<K> {
         ensures room { IfOk result (λ office. K.holds_room office.keeper ≡ K.holds_room keeper) }
         ensures room_err { IfErr result (λ e. K.holds_room e.0 ≡ K.holds_room keeper) }
     {
-        match keeper.has_season() {
-            Ok(false) => {}
-            Ok(true) => return Err((keeper, BeginFault::NotEmpty)),
-            Err(fault) => return Err((keeper, fault.into())),
+        if let Err(fault) = expect_empty(&mut keeper) {
+            return Err((keeper, fault));
         }
-        let book = match Proceedings::begin(alloc, season) {
-            Ok(book) => book,
-            Err(fault) => return Err((keeper, fault.into())),
+        let Ok(book) = Proceedings::begin(alloc, season) else {
+            return Err((keeper, BeginFault::OutOfMemory));
         };
-        if let Err(fault) = keeper.reserve_answers(book.still_in()) {
-            return Err((keeper, fault.into()));
-        }
-        if let Err(fault) = keeper.put_season(book.season().text.as_slice()) {
-            return Err((keeper, fault.into()));
+        if let Err(fault) = keep_season(&book, &mut keeper) {
+            return Err((keeper, fault));
         }
         Ok(Office { book, keeper })
     }
