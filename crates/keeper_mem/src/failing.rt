@@ -91,7 +91,7 @@ impl Keeper for MemKeeper {
         ensures told { AreTold self.old.memory.tables self.new.memory.tables }
         ensures spare { OnOk result (self.new.memory.spare ≡ self.old.memory.spare) }
         ensures spare_err { OnErr result (self.old.memory.spare ≤ self.new.memory.spare) }
-        ensures steady { OnOk result (self.new.faults ≡ self.old.faults) }
+        ensures steady { ¬ IsErrOf result KeepFault.Failed → self.new.faults ≡ self.old.faults }
         ensures count { self.old.faults ≤ self.new.faults }
         ensures cause { IsErrOf result KeepFault.Failed → Rose self.old.faults self.new.faults }
         ensures room { true ≡ true }
@@ -111,7 +111,7 @@ impl Keeper for MemKeeper {
         ensures err { OnErr result (AreTold self.old.memory.tables self.new.memory.tables) }
         ensures spare { OnOk result (self.new.memory.spare ≡ self.old.memory.spare) }
         ensures spare_err { OnErr result (self.old.memory.spare ≤ self.new.memory.spare) }
-        ensures steady { OnOk result (self.new.faults ≡ self.old.faults) }
+        ensures steady { ¬ IsErrOf result KeepFault.Failed → self.new.faults ≡ self.old.faults }
         ensures count { self.old.faults ≤ self.new.faults }
         ensures cause { IsErrOf result KeepFault.Failed → Rose self.old.faults self.new.faults }
         ensures room { true ≡ true }
@@ -130,7 +130,7 @@ impl Keeper for MemKeeper {
         ensures ok { OnOk result (true ≡ true → n ≤ self.new.memory.spare) }
         ensures told { AreTold self.old.memory.tables self.new.memory.tables }
         ensures spare { self.old.memory.spare ≤ self.new.memory.spare }
-        ensures steady { OnOk result (self.new.faults ≡ self.old.faults) }
+        ensures steady { ¬ IsErrOf result KeepFault.Failed → self.new.faults ≡ self.old.faults }
         ensures count { self.old.faults ≤ self.new.faults }
         ensures cause { IsErrOf result KeepFault.Failed → Rose self.old.faults self.new.faults }
         ensures room { true ≡ true }
@@ -152,7 +152,7 @@ impl Keeper for MemKeeper {
         ensures spare { OnOk result (self.new.memory.spare ≡ self.old.memory.spare - 1) }
         ensures spare_err { OnErr result (self.old.memory.spare ≤ self.new.memory.spare) }
         ensures memory { IsErrOf result KeepFault.OutOfMemory → self.old.memory.spare ≡ 0 }
-        ensures steady { OnOk result (self.new.faults ≡ self.old.faults) }
+        ensures steady { ¬ IsErrOf result KeepFault.Failed → self.new.faults ≡ self.old.faults }
         ensures count { self.old.faults ≤ self.new.faults }
         ensures cause { IsErrOf result KeepFault.Failed → Rose self.old.faults self.new.faults }
         ensures room { true ≡ true }
@@ -173,7 +173,7 @@ impl Keeper for MemKeeper {
         ensures err { OnErr result (AreTold self.old.memory.tables self.new.memory.tables) }
         ensures spare { OnOk result (self.new.memory.spare ≡ self.old.memory.spare) }
         ensures spare_err { OnErr result (self.old.memory.spare ≤ self.new.memory.spare) }
-        ensures steady { OnOk result (self.new.faults ≡ self.old.faults) }
+        ensures steady { ¬ IsErrOf result KeepFault.Failed → self.new.faults ≡ self.old.faults }
         ensures count { self.old.faults ≤ self.new.faults }
         ensures cause { IsErrOf result KeepFault.Failed → Rose self.old.faults self.new.faults }
         ensures room { true ≡ true }
@@ -194,7 +194,7 @@ impl Keeper for MemKeeper {
         ensures err { OnErr result (AreTold self.old.memory.tables self.new.memory.tables) }
         ensures spare { OnOk result (self.new.memory.spare ≡ self.old.memory.spare) }
         ensures spare_err { OnErr result (self.old.memory.spare ≤ self.new.memory.spare) }
-        ensures steady { OnOk result (self.new.faults ≡ self.old.faults) }
+        ensures steady { ¬ IsErrOf result KeepFault.Failed → self.new.faults ≡ self.old.faults }
         ensures count { self.old.faults ≤ self.new.faults }
         ensures cause { IsErrOf result KeepFault.Failed → Rose self.old.faults self.new.faults }
         ensures room { true ≡ true }
@@ -214,7 +214,7 @@ impl Keeper for MemKeeper {
         ensures told { AreTold self.old.memory.tables self.new.memory.tables }
         ensures spare { OnOk result (self.new.memory.spare ≡ self.old.memory.spare) }
         ensures spare_err { OnErr result (self.old.memory.spare ≤ self.new.memory.spare) }
-        ensures steady { OnOk result (self.new.faults ≡ self.old.faults) }
+        ensures steady { ¬ IsErrOf result KeepFault.Failed → self.new.faults ≡ self.old.faults }
         ensures count { self.old.faults ≤ self.new.faults }
         ensures cause { IsErrOf result KeepFault.Failed → Rose self.old.faults self.new.faults }
         ensures room { true ≡ true }

@@ -45,7 +45,7 @@ pub trait Keeper {
         ensures told { AreTold (tables self.old) (tables self.new) }
         ensures spare { OnOk result (spare self.new ≡ spare self.old) }
         ensures spare_err { OnErr result (spare self.old ≤ spare self.new) }
-        ensures steady { OnOk result (faults self.new ≡ faults self.old) }
+        ensures steady { ¬ IsErrOf result KeepFault.Failed → faults self.new ≡ faults self.old }
         ensures count { faults self.old ≤ faults self.new }
         ensures cause { IsErrOf result KeepFault.Failed → Rose (faults self.old) (faults self.new) }
         ensures room { holds_room self.new ≡ holds_room self.old };
@@ -57,7 +57,7 @@ pub trait Keeper {
         ensures err { OnErr result (AreTold (tables self.old) (tables self.new)) }
         ensures spare { OnOk result (spare self.new ≡ spare self.old) }
         ensures spare_err { OnErr result (spare self.old ≤ spare self.new) }
-        ensures steady { OnOk result (faults self.new ≡ faults self.old) }
+        ensures steady { ¬ IsErrOf result KeepFault.Failed → faults self.new ≡ faults self.old }
         ensures count { faults self.old ≤ faults self.new }
         ensures cause { IsErrOf result KeepFault.Failed → Rose (faults self.old) (faults self.new) }
         ensures room { holds_room self.new ≡ holds_room self.old };
@@ -67,7 +67,7 @@ pub trait Keeper {
         ensures ok { OnOk result (holds_room self.old ≡ true → n ≤ spare self.new) }
         ensures told { AreTold (tables self.old) (tables self.new) }
         ensures spare { spare self.old ≤ spare self.new }
-        ensures steady { OnOk result (faults self.new ≡ faults self.old) }
+        ensures steady { ¬ IsErrOf result KeepFault.Failed → faults self.new ≡ faults self.old }
         ensures count { faults self.old ≤ faults self.new }
         ensures cause { IsErrOf result KeepFault.Failed → Rose (faults self.old) (faults self.new) }
         ensures room { holds_room self.new ≡ holds_room self.old };
@@ -80,7 +80,7 @@ pub trait Keeper {
         ensures spare { OnOk result (spare self.new ≡ spare self.old - 1) }
         ensures spare_err { OnErr result (spare self.old ≤ spare self.new) }
         ensures memory { IsErrOf result KeepFault.OutOfMemory → spare self.old ≡ 0 }
-        ensures steady { OnOk result (faults self.new ≡ faults self.old) }
+        ensures steady { ¬ IsErrOf result KeepFault.Failed → faults self.new ≡ faults self.old }
         ensures count { faults self.old ≤ faults self.new }
         ensures cause { IsErrOf result KeepFault.Failed → Rose (faults self.old) (faults self.new) }
         ensures room { holds_room self.new ≡ holds_room self.old };
@@ -92,7 +92,7 @@ pub trait Keeper {
         ensures err { OnErr result (AreTold (tables self.old) (tables self.new)) }
         ensures spare { OnOk result (spare self.new ≡ spare self.old) }
         ensures spare_err { OnErr result (spare self.old ≤ spare self.new) }
-        ensures steady { OnOk result (faults self.new ≡ faults self.old) }
+        ensures steady { ¬ IsErrOf result KeepFault.Failed → faults self.new ≡ faults self.old }
         ensures count { faults self.old ≤ faults self.new }
         ensures cause { IsErrOf result KeepFault.Failed → Rose (faults self.old) (faults self.new) }
         ensures room { holds_room self.new ≡ holds_room self.old };
@@ -104,7 +104,7 @@ pub trait Keeper {
         ensures err { OnErr result (AreTold (tables self.old) (tables self.new)) }
         ensures spare { OnOk result (spare self.new ≡ spare self.old) }
         ensures spare_err { OnErr result (spare self.old ≤ spare self.new) }
-        ensures steady { OnOk result (faults self.new ≡ faults self.old) }
+        ensures steady { ¬ IsErrOf result KeepFault.Failed → faults self.new ≡ faults self.old }
         ensures count { faults self.old ≤ faults self.new }
         ensures cause { IsErrOf result KeepFault.Failed → Rose (faults self.old) (faults self.new) }
         ensures room { holds_room self.new ≡ holds_room self.old };
@@ -115,7 +115,7 @@ pub trait Keeper {
         ensures told { AreTold (tables self.old) (tables self.new) }
         ensures spare { OnOk result (spare self.new ≡ spare self.old) }
         ensures spare_err { OnErr result (spare self.old ≤ spare self.new) }
-        ensures steady { OnOk result (faults self.new ≡ faults self.old) }
+        ensures steady { ¬ IsErrOf result KeepFault.Failed → faults self.new ≡ faults self.old }
         ensures count { faults self.old ≤ faults self.new }
         ensures cause { IsErrOf result KeepFault.Failed → Rose (faults self.old) (faults self.new) }
         ensures room { holds_room self.new ≡ holds_room self.old };

@@ -52,7 +52,7 @@ impl<K: Keeper> Office<K> {
         ensures told { OnErr result (AreTold (K.tables self.old.keeper) (K.tables self.new.keeper)) }
         ensures cause { IsErrOf result OfficeFault.KeeperFault → Rose (K.faults self.old.keeper) (K.faults self.new.keeper) }
         ensures count { K.faults self.old.keeper ≤ K.faults self.new.keeper }
-        ensures steady { OnOk result (K.faults self.new.keeper ≡ K.faults self.old.keeper) }
+        ensures steady { ¬ IsErrOf result OfficeFault.KeeperFault → K.faults self.new.keeper ≡ K.faults self.old.keeper }
         ensures room { K.holds_room self.new.keeper ≡ K.holds_room self.old.keeper }
         ensures sure { takes_nothing (decided self.old.season self.old.state request.now) ≡ true → IsOk result }
         ensures still { takes_nothing (decided self.old.season self.old.state request.now) ≡ true → self.new.keeper ≡ self.old.keeper }
@@ -100,7 +100,7 @@ impl<K: Keeper> Office<K> {
         ensures told { OnErr result (AreTold (K.tables self.old.keeper) (K.tables self.new.keeper)) }
         ensures cause { IsErrOf result OfficeFault.KeeperFault → Rose (K.faults self.old.keeper) (K.faults self.new.keeper) }
         ensures count { K.faults self.old.keeper ≤ K.faults self.new.keeper }
-        ensures steady { OnOk result (K.faults self.new.keeper ≡ K.faults self.old.keeper) }
+        ensures steady { ¬ IsErrOf result OfficeFault.KeeperFault → K.faults self.new.keeper ≡ K.faults self.old.keeper }
         ensures room { K.holds_room self.new.keeper ≡ K.holds_room self.old.keeper }
         ensures withdraw { K.holds_room self.old.keeper ≡ true → is_withdraw row.choice ≡ true → IsErrOf result OfficeFault.OutOfMemory → ⊥ }
     {
@@ -129,7 +129,7 @@ impl<K: Keeper> Office<K> {
         ensures told { OnErr result (AreTold (K.tables self.old.keeper) (K.tables self.new.keeper)) }
         ensures cause { IsErrOf result OfficeFault.KeeperFault → Rose (K.faults self.old.keeper) (K.faults self.new.keeper) }
         ensures count { K.faults self.old.keeper ≤ K.faults self.new.keeper }
-        ensures steady { OnOk result (K.faults self.new.keeper ≡ K.faults self.old.keeper) }
+        ensures steady { ¬ IsErrOf result OfficeFault.KeeperFault → K.faults self.new.keeper ≡ K.faults self.old.keeper }
         ensures room { K.holds_room self.new.keeper ≡ K.holds_room self.old.keeper }
     {
         let wanted = room_wanted(&self.book);
@@ -156,7 +156,7 @@ impl<K: Keeper> Office<K> {
         ensures told { OnErr result (AreTold (K.tables self.old.keeper) (K.tables self.new.keeper)) }
         ensures cause { IsErrOf result OfficeFault.KeeperFault → Rose (K.faults self.old.keeper) (K.faults self.new.keeper) }
         ensures count { K.faults self.old.keeper ≤ K.faults self.new.keeper }
-        ensures steady { OnOk result (K.faults self.new.keeper ≡ K.faults self.old.keeper) }
+        ensures steady { ¬ IsErrOf result OfficeFault.KeeperFault → K.faults self.new.keeper ≡ K.faults self.old.keeper }
         ensures room { K.holds_room self.new.keeper ≡ K.holds_room self.old.keeper }
     {
         let _entries = self.book.entries();
@@ -189,7 +189,7 @@ impl<K: Keeper> Office<K> {
         ensures told { OnErr result (AreTold (K.tables self.old.keeper) (K.tables self.new.keeper)) }
         ensures cause { IsErrOf result OfficeFault.KeeperFault → Rose (K.faults self.old.keeper) (K.faults self.new.keeper) }
         ensures count { K.faults self.old.keeper ≤ K.faults self.new.keeper }
-        ensures steady { OnOk result (K.faults self.new.keeper ≡ K.faults self.old.keeper) }
+        ensures steady { ¬ IsErrOf result OfficeFault.KeeperFault → K.faults self.new.keeper ≡ K.faults self.old.keeper }
         ensures room { K.holds_room self.new.keeper ≡ K.holds_room self.old.keeper }
     {
         let _entries = self.book.entries();

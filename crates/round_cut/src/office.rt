@@ -1,14 +1,15 @@
 // An office: the proceedings of its season, and the keeper that keeps their records.
-ghost use Rattle.std.specs.Prelude.{◌≡◌, ◌≤◌, [], true, false, None, Some, IfOk, IfErr, OnOk, MatchOption, length, option_copied};
+ghost use Rattle.std.specs.Prelude.{◌≡◌, ◌≤◌, [], true, false, None, Some, IfOk, IfErr, OnOk, OnErr, IsErrOf, MatchOption, length, option_copied};
 ghost use Rattle.office_base.specs.Outside.{Rose};
 ghost use Rattle.office_base.specs.declared.asks.By.TheVariants.{Nobody};
 ghost use Rattle.season_file.specs.Season.{IsSeason};
 ghost use Rattle.keeper_mem.specs.Tables.{AreTold, IsFound};
+ghost use Rattle.office_moves.specs.History.{IsHistory};
 ghost use Rattle.office_moves.specs.Season.{facts_of};
 ghost use Rattle.office_moves.specs.Stands.{Stand};
 ghost use Rattle.office_moves.specs.State.{opening, round_at};
 ghost use Rattle.proceedings.specs.Proceeding.{last_of};
-ghost use Rattle.round_cut.specs.Office.{who_by};
+ghost use Rattle.round_cut.specs.Office.{HasRoom, who_by};
 
 use crate::fault::BeginFault;
 use keeper_mem::{AllotRow, Keeper};
@@ -38,6 +39,40 @@ impl<K: Keeper> Model for Office<K> {
     ghost invariant = { λ a. Stand a.book.season a.book.state (K.tables a.keeper) × HasRoom (K.holds_room a.keeper) a.book.still (K.spare a.keeper) };
 }
 
+/// Whether no season is kept; if one is, that is the fault.
+fn expect_empty<K: Keeper>(keeper: &mut K) -> Result<(), BeginFault>
+    ensures ok { OnOk result (IsFound false (K.tables keeper.old)) }
+    ensures still_none { OnOk result (IsFound false (K.tables keeper.new)) }
+    ensures not_empty { IsErrOf result BeginFault.NotEmpty → IsFound true (K.tables keeper.old) }
+    ensures told { AreTold (K.tables keeper.old) (K.tables keeper.new) }
+    ensures cause { IsErrOf result BeginFault.KeeperFault → Rose (K.faults keeper.old) (K.faults keeper.new) }
+    ensures count { K.faults keeper.old ≤ K.faults keeper.new }
+    ensures steady { ¬ IsErrOf result BeginFault.KeeperFault → K.faults keeper.new ≡ K.faults keeper.old }
+    ensures room { K.holds_room keeper.new ≡ K.holds_room keeper.old }
+{
+    if keeper.has_season()? {
+        return Err(BeginFault::NotEmpty);
+    }
+    Ok(())
+}
+
+/// Takes room for the answers of all who are still in, and keeps the season.
+fn keep_season<K: Keeper>(book: &Proceedings, keeper: &mut K) -> Result<(), BeginFault>
+    requires { IsFound false (K.tables keeper.old) }
+    ensures stands { OnOk result (Stand book.now.season opening (K.tables keeper.new)) }
+    ensures spare { OnOk result (HasRoom (K.holds_room keeper.new) book.now.still (K.spare keeper.new)) }
+    ensures err { OnErr result (AreTold (K.tables keeper.old) (K.tables keeper.new)) }
+    ensures kind { IsErrOf result BeginFault.NotEmpty → ⊥ }
+    ensures cause { IsErrOf result BeginFault.KeeperFault → Rose (K.faults keeper.old) (K.faults keeper.new) }
+    ensures count { K.faults keeper.old ≤ K.faults keeper.new }
+    ensures steady { ¬ IsErrOf result BeginFault.KeeperFault → K.faults keeper.new ≡ K.faults keeper.old }
+    ensures room { K.holds_room keeper.new ≡ K.holds_room keeper.old }
+{
+    keeper.reserve_answers(book.still_in())?;
+    keeper.put_season(book.season().text.as_slice())?;
+    Ok(())
+}
+
 impl<K: Keeper> Office<K> {
     /// An office over a keeper that holds no season: it keeps this one. The season's text has to read as this season. After a fault the tables of the
     /// keeper, which is handed back, are as before.
@@ -54,24 +89,18 @@ impl<K: Keeper> Office<K> {
         ensures count { IfOk result (λ office. K.faults keeper ≤ K.faults office.keeper) }
         ensures count_err { IfErr result (λ e. K.faults keeper ≤ K.faults e.0) }
         ensures steady { IfOk result (λ office. K.faults office.keeper ≡ K.faults keeper) }
-        ensures steady_err { IfErr result (λ e. e.1 ≡ BeginFault.NotEmpty → K.faults e.0 ≡ K.faults keeper) }
+        ensures steady_err { IfErr result (λ e. ¬ (e.1 ≡ BeginFault.KeeperFault) → K.faults e.0 ≡ K.faults keeper) }
         ensures room { IfOk result (λ office. K.holds_room office.keeper ≡ K.holds_room keeper) }
         ensures room_err { IfErr result (λ e. K.holds_room e.0 ≡ K.holds_room keeper) }
     {
-        match keeper.has_season() {
-            Ok(false) => {}
-            Ok(true) => return Err((keeper, BeginFault::NotEmpty)),
-            Err(fault) => return Err((keeper, fault.into())),
+        if let Err(fault) = expect_empty(&mut keeper) {
+            return Err((keeper, fault));
         }
-        let book = match Proceedings::begin(alloc, season) {
-            Ok(book) => book,
-            Err(fault) => return Err((keeper, fault.into())),
+        let Ok(book) = Proceedings::begin(alloc, season) else {
+            return Err((keeper, BeginFault::OutOfMemory));
         };
-        if let Err(fault) = keeper.reserve_answers(book.still_in()) {
-            return Err((keeper, fault.into()));
-        }
-        if let Err(fault) = keeper.put_season(book.season().text.as_slice()) {
-            return Err((keeper, fault.into()));
+        if let Err(fault) = keep_season(&book, &mut keeper) {
+            return Err((keeper, fault));
         }
         Ok(Office { book, keeper })
     }
@@ -133,9 +162,10 @@ impl<K: Keeper> Office<K> {
         }
     }
 
-    /// What was accepted, in its order.
+    /// What was accepted, in its order: a history of the season, which leads to the state.
     pub fn entries(&self) -> &[Entry]
-        ensures { result.now ≡ self.now.entries }
+        ensures same { result.now ≡ self.now.entries }
+        ensures history { IsHistory self.now.season self.now.entries self.now.state }
     {
         self.book.entries()
     }

@@ -15,7 +15,7 @@ abbrev pub GoesOn : SeasonFacts → Type 0
 GoesOn facts = (old mid new : State) (requests : List Request) (request : Request) (reply : Reply) (output : List ℕ) → Answers facts old requests output mid
     → IsMove facts mid request reply new → Answers facts old (requests ++ request ∷ []) (output ++ reply_bytes facts new reply) new
 
--- A run of some requests and more
+-- A run of some requests and more is a run of the first, and from there one of the rest.
 pub record IsSplit (facts : SeasonFacts) (old : State) (requests more : List Request) (output : List ℕ) (new : State) : Type 0 where
   pub mid : State
   pub some : List ℕ

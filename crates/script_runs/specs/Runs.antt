@@ -72,7 +72,7 @@ pub record AfterSome (facts : SeasonFacts) (start : State) (script : List Reques
   pub promise : KeepsItsWord facts state
   pub stands : Stand facts state tables
 
--- The first j requests are answered, with this output, and one more, whose reply is not written whole.
+-- The first j requests are answered, with this output, and one more with this reply, whose text comes after it.
 pub record AfterOneMore (facts : SeasonFacts) (start : State) (script : List Request) (j : ℕ) (output : List ℕ) (reply : Reply) (state : State) (tables : Tables) : Type 0 where
   pub mid : State
   pub request : Request
@@ -110,6 +110,6 @@ EndsWithin facts start script ended n =
 abbrev pub EndsShort : SeasonFacts → State → List Request → Ended → Type 0
 EndsShort facts start script ended = EndsBefore facts start script ended ⊎ EndsWithin facts start script ended 0
 
--- the sink fails: of the reply to the last answered request a prefix is written
+-- where the sink fails, of the reply to the last answered request a prefix is written
 abbrev pub EndsCut : SeasonFacts → State → List Request → Ended → Type 0
 EndsCut facts start script ended = (n : ℕ) × EndsWithin facts start script ended n

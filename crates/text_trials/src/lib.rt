@@ -18,6 +18,8 @@ mod plain_scripts;
 #[cfg(test)]
 mod published;
 #[cfg(test)]
+mod readers;
+#[cfg(test)]
 mod registers;
 #[cfg(test)]
 mod replies;

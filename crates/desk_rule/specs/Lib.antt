@@ -1,0 +1,4 @@
+pub mod Own
+pub mod Told
+pub mod Totals
+pub mod Turning

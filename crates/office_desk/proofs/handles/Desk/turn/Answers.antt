@@ -1,0 +1,63 @@
+use Rattle.std.proofs.Common.{rules, ap, sym, subst, refl, ◌∙◌, ◌<◌, map, arith, ⊎_elim, inl, inr}
+use Rattle.desk_rule.specs.Own.{among}
+use Rattle.desk_rule.specs.Told.{IsTaken, holding, after_turn}
+use Rattle.desk_rule.specs.declared.view.View.{View}
+use Rattle.desk_rule.specs.declared.view.Stage.TheVariants.{Waits}
+use Rattle.desk_rule.proofs.EntryLemmas.{own_after, all_from_map}
+use Rattle.desk_rule.proofs.TicketLemmas.{all_below}
+use Rattle.office_desk.proofs.handles.Desk.turn.Goals as goal
+
+pub hand_back-requires-clause-returns : goal.hand_back-requires-clause-returns
+hand_back-requires-clause-returns g c =
+    let x = c.take_value-value.result in
+    let drawn = c.draw-number.ensures.drawn in
+    let held = c.take_value-value.ensures.held in
+    let taken = c.take_value-value.ensures.taken in
+    let on = taken.about _ (ap (λ m. m.0.about) drawn ∙ c.requires.desk.1) in
+    let left = (c.requires.job x c.draw-number.result taken.small on taken.last _ refl).1 _ _ c.job-answer.ensures in
+    record {
+      kept = g.V.Booked.entries x;
+      counted = g.V.Booked.count x;
+      holds = ap (λ m. m.0.stage) held;
+      about = λ key e. left.0 ∙ taken.about key (ap (λ m. m.0.about) (sym held) ∙ e);
+      appends = left.1;
+      counts = left.2;
+    }
+
+pub returns-clause-turned : goal.returns-clause-turned
+returns-clause-turned g c =
+    let n = c.draw-number.result in
+    let x = c.take_value-value.result in
+    let y = c.job-answer.new.arg2 in
+    let v = c.args.pass.now.seat.me.0 in
+    let drawn = c.draw-number.ensures.drawn in
+    let held = c.take_value-value.ensures.held in
+    let taken' = c.take_value-value.ensures.taken in
+    let waits : View _ _ = record v { stage = Waits n } in
+    let taken = subst (λ u. IsTaken g.V.Booked.basis g.V.Booked.entries g.V.Booked.number g.V.Booked.count n u x) (ap (λ m. m.0) drawn) taken' in
+    let on = taken.about _ c.requires.desk.1 in
+    let left = (c.requires.job x n taken.small on taken.last _ refl).1 _ _ c.job-answer.ensures in
+    let view = ap (λ m. m.0) c.hand_back.ensures.view
+    ∙ ap (λ u. after_turn g.V.Booked.entries g.V.Booked.count u y u.stage) (ap (λ m. m.0) held ∙ ap (λ m. holding g.V.Booked.entries g.V.Booked.count m.0 n x) drawn) in
+    let above = all_from_map (λ k. k < n) g.V.Booked.number (g.V.Booked.entries x) (all_below 0 n (map g.V.Booked.number (g.V.Booked.entries x)) taken.rising taken.last) in
+    let own = own_after g.V.Booked.number v.tickets v.seen (g.V.Booked.entries x) (g.V.Booked.entries y) n taken.begins above left.1 in
+    let after = ap (λ u. among g.V.Booked.number u.tickets u.seen) view in
+    record {
+      number = n;
+      held = x;
+      left = y;
+      did = search rules;
+      later = taken.past;
+      above = above;
+      small = taken.small;
+      basis = on;
+      begins = (taken.begins.0, taken.begins.1);
+      counts = taken.counts;
+      tickets = ap (λ u. u.tickets) view;
+      turns = (let one = c.requires.left in let fewer = ap (λ u. u.left) view in omega (arith, one, fewer));
+      shares = ap (λ u. u.shares) view;
+      seen = ap (λ u. u.seen) view;
+      grown = ⊎_elim (λ same. inl (same.0, after ∙ same.1)) (λ more. inr (more.0, more.1, more.2, after ∙ more.3)) own;
+      found = ap (λ u. u.found) view;
+      count = ap (λ u. u.count) view;
+    }

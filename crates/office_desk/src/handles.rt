@@ -1,0 +1,27 @@
+// A desk, and the passes to it.
+ghost use Rattle.std.specs.Prelude.{◌≡◌, ◌≤◌, ◌^◌, []};
+ghost use Rattle.desk_rule.specs.declared.view.Stage.TheVariants.{Idle};
+
+use atomic_table::{Seat, Table};
+use desk_rule::{Turns, View};
+use office_base::Booked;
+use std::alloc::Global;
+use std::snapshot::Snapshot;
+
+/// A place at which one value is used in turns.
+pub struct Desk<V: Booked> {
+    pub(crate) table: Table<Option<V>, View<V>, Snapshot<V>, Turns, Global>,
+    ghost sized: { (table.shared.table_id.words ≡ 2) × (table.shared.table_id.slots ≡ 1) },
+}
+
+/// The right to some turns at a desk, and what its holder knows of the history. A pass that is dropped keeps its shares for good.
+#[derive(Drop)]
+pub struct Pass<V: Booked> {
+    pub(crate) seat: Seat<Option<V>, View<V>>,
+    pub(crate) shares: u64,
+    pub(crate) left: u64,
+    ghost idle: { seat.me.0.stage ≡ Idle },
+    ghost empty: { seat.me.1 ≡ [] },
+    ghost shared: { (seat.me.0.shares ≡ shares) × (1 ≤ shares) × (shares ≤ 2 ^ 30) },
+    ghost turns: { (seat.me.0.left ≡ left) × (left ≤ 2 ^ 40) },
+}

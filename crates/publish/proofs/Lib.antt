@@ -1,0 +1,12 @@
+pub mod HeadLemmas
+pub mod LineLemmas
+pub mod NumberPieces
+pub mod PartsLemmas
+pub mod PieceLemmas
+pub mod ProgrammeLemmas
+pub mod ReadLemmas
+pub mod RowLemmas
+pub mod RowsLemmas
+pub mod StageLemmas
+pub mod TailLemmas
+pub mod WholeLemmas

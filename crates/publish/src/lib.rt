@@ -1,0 +1,20 @@
+// The readers of the published texts, beside their writers.
+//
+// Whoever checks published rounds stands on it. A text is read line by line into a reader that knows, as numbers, what can still
+// follow; the reader of any text tells the line of a fault by that alone. `specs/Reading` says which line that is for any grammar,
+// `specs/Rows` says the texts. It decides nothing about an allocation. It must never know of commands or of sinks.
+#![tactic(auto)]
+
+pub mod fault;
+mod head;
+mod parts;
+mod pieces;
+mod reading;
+pub mod reads;
+mod rows;
+mod sort;
+mod stage;
+
+pub use fault::TextFault;
+pub use published_texts::{final_text, list_text, reason_text, round_text};
+pub use reads::{FinalRead, RoundRead, read_final, read_round};
