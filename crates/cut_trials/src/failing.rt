@@ -149,24 +149,21 @@ fn begins_again(alloc: Global, call: u32, whole: &Left) -> Result<bool, OutOfMem
     Ok(fault == BeginFault::KeeperFault && stands_as(&left, whole, [RunEnd::Done, RunEnd::Done]))
 }
 
+/// The tables that the whole run leaves.
+fn whole_tables(alloc: Global) -> Result<Option<Kept>, OutOfMemory> {
+    let count = CALLS.len();
+    match left(alloc, &[], count, count)? {
+        Some(left) => Ok(left.kept),
+        None => Ok(None),
+    }
+}
+
 /// Whether an office does not begin over these tables, and says this, and the tables stay.
 fn stays_closed(alloc: Global, fail_at: &[u32], want: BeginFault) -> Result<bool, OutOfMemory> {
-    let count = CALLS.len();
-    let (
-        Some(
-            Left {
-                kept: Some(kept),
-                ..
-            },
-        ),
-        Some(Left { kept: same, .. }),
-    ) = (
-        left(alloc, &[], count, count)?,
-        left(alloc, &[], count, count)?,
-    )
-    else {
+    let Some(kept) = whole_tables(alloc)? else {
         return Ok(false);
     };
+    let same = whole_tables(alloc)?;
     let Some((season, _)) = read(alloc, FIVE, "")? else {
         return Ok(false);
     };

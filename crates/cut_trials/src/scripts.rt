@@ -198,7 +198,7 @@ fn told_of_drawn(
         if let Some(request) = drawn(draw, &office) {
             let reply = office.reply(&request)?;
             replies.push_str(reply.as_str())?;
-            requests.push(request)?;
+            requests.extend_from_slice(&[request])?;
         }
     }
     Ok(Told {
