@@ -1,14 +1,12 @@
 mod Acts
 mod Answered
 pub mod Changes
-mod Choosing
 mod Coursed
 mod Entering
 mod Falls
 mod Fits
 mod InOrder
 mod Made
-mod OneRound
 mod Raises
 mod Stays
 mod Steps
