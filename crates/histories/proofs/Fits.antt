@@ -2,6 +2,7 @@
 use Rattle.std.proofs.Common.{◌≡◌, ◌≢◌, ◌<◌, ◌⊎◌, inl, inr, ℕ, zero, suc, true, false, List, [], ◌∷◌, Option, Some, None, length, map, arith, refl, sym, ap, ◌∙◌, subst}
 use Rattle.std.specs.Prelude.{slice_get, option_map, IsSome}
 use Rattle.std.specs.Option.{option_and_then}
+use Rattle.std.proofs.lemmas.List.{length-map}
 use Rattle.std.proofs.lemmas.Option.{slice_get_within}
 use Rattle.office_base.specs.Lists.{Pairwise}
 use Rattle.office_base.proofs.People.{at_person-get}
@@ -112,10 +113,6 @@ map_at f [] i x at = absurd (cc)
 map_at f (y ∷ xs) zero x at = let same : y ≡ x = cc in ap (λ z. Some (f z)) same
 map_at f (y ∷ xs) (suc i) x at = map_at f xs i x at
 
-map_length : {X Y : Type 0} (f : X → Y) (xs : List X) → length (map f xs) ≡ length xs
-map_length f [] = refl
-map_length f (x ∷ xs) = ap suc (map_length f xs)
-
 -- ---- those who entered a round
 
 -- the seekers of the cut of a window
@@ -123,7 +120,7 @@ abbrev pub seekers_then : SeasonFacts → State → ℕ → List Seeker
 seekers_then facts state window = seekers_of (matrix_of_round facts state (suc window)) facts.people (lists_in_order facts) (seeks_then facts state window)
 
 pub full_seeks : (facts : SeasonFacts) (state : State) (window : ℕ) → IsSound facts → length (seeks_then facts state window) ≡ length (lists_in_order facts)
-full_seeks facts state window sound = map_length (λ (person : Person). seek_then facts state window person.id.0) facts.people ∙ sym (lists_full facts sound)
+full_seeks facts state window sound = length-map facts.people (λ (person : Person). seek_then facts state window person.id.0) ∙ sym (lists_full facts sound)
 
 pub full_seekers : (facts : SeasonFacts) (state : State) (window : ℕ) → IsSound facts → length (seekers_then facts state window) ≡ length facts.people
 full_seekers facts state window sound =
@@ -273,7 +270,7 @@ sought_by facts rounds standing number id = seek_after (standing id) (option_map
 pub seeks_within : (facts : SeasonFacts) (state : State) (standing : ℕ → Standing) (number : ℕ) → IsSound facts → IsCourse facts state
     → AreSeeks (lists_in_order facts) (map (λ (person : Person). sought_by facts state.rounds standing number person.id.0) facts.people)
 seeks_within facts state standing number sound course = record {
-  full = map_length (λ (person : Person). sought_by facts state.rounds standing number person.id.0) facts.people ∙ sym (lists_full facts sound);
+  full = length-map facts.people (λ (person : Person). sought_by facts state.rounds standing number person.id.0) ∙ sym (lists_full facts sound);
   within = λ i list seek at at'.
       let full = lists_full facts sound in
       let below = slice_get_within (lists_in_order facts) i list at in

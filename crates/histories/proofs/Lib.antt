@@ -1,3 +1,4 @@
+mod Accepted
 mod Acts
 mod Answered
 pub mod Changes
@@ -8,8 +9,8 @@ mod Fits
 mod InOrder
 mod Made
 mod Raises
+pub mod Rows
 mod Stays
-mod Steps
 pub mod Turns
 mod Windows
 mod Word

@@ -48,6 +48,7 @@ pub fn seats_only_rise()
 pub fn runs_its_course()
     ensures { (facts : SeasonFacts) (entries : List Entry) (state : State) → IsSound facts → Reaches facts opening entries state → IsCourse facts state }
 {
+    windows_pass();
     seats_only_rise();
 }
 
