@@ -23,7 +23,7 @@ use Rattle.seat_matrix.specs.Matrix.{seats_in}
 use Rattle.seat_matrix.specs.declared.seats.ProgrammeSeats.{ProgrammeSeats}
 use Rattle.apply_engine.specs.Engine.{IsGoing, IsSet, Leaves, Setting, seekers_in}
 use Rattle.apply_engine.proofs.Offers.{Facts, admitted_is_there, all_of, all_show, facts, goes_on_choice, held_tried, ids_apart, new_to_held, refused_shows, rule_shows, shown_admits, there_is_admitted, within}
-use Rattle.apply_engine.proofs.Season.{apart_of_less, when_false, when_true}
+use Rattle.round_laws.proofs.People.{row_at}
 use Rattle.apply_engine.proofs.Setting.{chooses_well, seeker_at}
 
 -- an offer that may be made
@@ -161,17 +161,6 @@ leaves_refused set next states cur p n s old new g =
           (λ out j t there apart' admitted. is_admitted set next states cur p n s old new Refused t.person g
           (subst (λ people. IsAmong t.person people) (sym same) (was_held set next states cur p n s old t.person o admitted)));
     }
-
--- the row of a person, where ids rise
-pub row_at : (people : List Person) (i : ℕ) (person : Person) → Pairwise (λ (a b : Person). a.id.0 < b.id.0) people → slice_get people i ≡ Some person → row_of person.id.0 people ≡ Some i
-row_at [] i person rising at = absurd (cc)
-row_at (x ∷ people) zero person rising at =
-    let same : x ≡ person = cc in
-    when_true (person.id.0 == x.id.0) (Some 0) (option_map (λ n. n + 1) (row_of person.id.0 people)) (eq_true person.id.0 x.id.0 (ap (λ (z : Person). z.id.0) (sym same)))
-row_at (x ∷ people) (suc i) person rising at =
-    let less = all_at (λ (b : Person). x.id.0 < b.id.0) people i person rising.0 at in
-    when_false (person.id.0 == x.id.0) (Some 0) (option_map (λ n. n + 1) (row_of person.id.0 people)) (apart_of_less x.id.0 person.id.0 less)
-    ∙ (ap (λ row. option_map (λ n. n + 1) row) (row_at people i person rising.1 at) ∙ ap Some (add-one i))
 
 -- the one who left, told by the place
 pub record Gone (set : Setting) (next : List ℕ) (cur p n : ℕ) (cand : CandId) : Type 0 where

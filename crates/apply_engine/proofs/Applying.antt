@@ -14,7 +14,7 @@ use Rattle.rounds.specs.Rule.{rule_of}
 use Rattle.apply_engine.specs.Engine.{Begins, BeginsAt, HasApplied, IsFree, IsGoing, IsSet, IsSettledBut, Leaves, Reads, Setting, seekers_in}
 use Rattle.apply_engine.proofs.Making.{standing}
 use Rattle.apply_engine.proofs.Setting.{length_with, seeker_at}
-use Rattle.apply_engine.proofs.ListPlaces.{there_is}
+use Rattle.round_laws.proofs.People.{there_is}
 
 -- what is so at each turn of the inner loop
 pub record IsOn (over : Setting) (people : List Person) (lists : List (List ProgId)) (before next : List ℕ) (states : List ProgrammeKept) (first cur steps_before steps : ℕ) : Type 0 where

@@ -30,7 +30,7 @@ use Rattle.apply_engine.specs.Made.{AreGiven, AreInOrder, AreListed, AreRows, Ar
 use Rattle.apply_engine.proofs.Offers.{admitted_is_there, held_tried, rule_shows}
 use Rattle.apply_engine.proofs.RowLemmas.{rows_below, rows_tried}
 use Rattle.apply_engine.proofs.Setting.{chooses_well, length_with, made_at, seeker_at}
-use Rattle.apply_engine.proofs.ListPlaces.{there_is}
+use Rattle.round_laws.proofs.People.{there_is}
 
 -- what the lists of a programme show
 pub record ShownAt (over : Setting) (next : List ℕ) (p : ℕ) (programme : Programme) : Type 0 where

@@ -2,15 +2,11 @@ pub mod Answered
 pub mod Applying
 pub mod Ending
 pub mod Finishing
-pub mod ListPlaces
 pub mod MadeLemmas
 pub mod Making
 pub mod Offers
 pub mod Pushing
 pub mod RowLemmas
-pub mod Season
 pub mod SeatLemmas
 pub mod Setting
 mod Whole
-mod InTurn
-mod OneRound

@@ -16,8 +16,7 @@ use Rattle.seeks.specs.Seek.{seek_leaves}
 use Rattle.seeks.specs.declared.seek.Seek.{Seek}
 use Rattle.apply_engine.specs.Engine.{lists_in}
 use Rattle.apply_engine.specs.Made.{AreOf, IsPut, leaves_along}
-use Rattle.apply_engine.proofs.Answered.{row_at}
-use Rattle.apply_engine.proofs.ListPlaces.{there_is}
+use Rattle.round_laws.proofs.People.{one_row, row_at, there_is}
 
 -- the list at a place of the register
 pub list_at_row : (lists : Lists) (i : ℕ) → slice_get (lists_in lists) i ≡ option_map (λ (held : ℕ × List ProgId). held.1) (slice_get lists i)
@@ -64,22 +63,6 @@ among_last : {X : Type 0} (x : X) (xs : List X) → IsAmong x (xs ++ x ∷ [])
 among_last x [] = inl refl
 among_last x (z ∷ xs) = inr (among_last x xs)
 
--- one person stands at one place, where ids rise
-one_row : (people : List Person) (i j : ℕ) (person : Person) → Pairwise (λ (a b : Person). a.id.0 < b.id.0) people → slice_get people i ≡ Some person → slice_get people j ≡ Some person → i ≡ j
-one_row [] i j person rising at at' = absurd (cc)
-one_row (x ∷ people) zero zero person rising at at' = refl
-one_row (x ∷ people) zero (suc j) person rising at at' = absurd (
-    let first : x ≡ person = cc in
-    let less = all_at (λ (b : Person). x.id.0 < b.id.0) people j person rising.0 at' in
-    let e = ap (λ (z : Person). z.id.0) first in
-    omega (arith, less, e))
-one_row (x ∷ people) (suc i) zero person rising at at' = absurd (
-    let first : x ≡ person = cc in
-    let less = all_at (λ (b : Person). x.id.0 < b.id.0) people i person rising.0 at in
-    let e = ap (λ (z : Person). z.id.0) first in
-    omega (arith, less, e))
-one_row (x ∷ people) (suc i) (suc j) person rising at at' = ap suc (one_row people i j person rising.1 at at')
-
 -- one person more is given the seat
 pub put_more : (people : List Person) (seat : Seat) (some : List Person) (old seats : List (Option Seat)) (at : ℕ) (person : Person) → Pairwise (λ (a b : Person). a.id.0 < b.id.0) people
     → length old ≡ length people → slice_get people at ≡ Some person → IsPut people seat some old seats → IsPut people seat (some ++ person ∷ []) old (slice_set seats at (Some seat))
@@ -92,7 +75,7 @@ put_more people seat some old seats at person rising full there put =
         | inl h ↦ subst (λ k. slice_get (slice_set seats at (Some seat)) k ≡ Some (Some seat)) (sym h.1) (get_set_same seats at (Some seat) before.0 before.1)
         | inr h ↦ elim (among_end other person some among) [
           | inl among' ↦ get_set_other seats at i (Some seat) h.1 ∙ put.here i other there' among'
-          | inr same ↦ absurd (h.1 (one_row people i at person rising (subst (λ z. slice_get people i ≡ Some z) same there') there))
+          | inr same ↦ absurd (h.1 (one_row people i at person person rising (subst (λ z. slice_get people i ≡ Some z) same there') there refl))
         ]
       ];
       elsewhere = λ i other there' apart. elim (eqb_tells i at) [

@@ -1,6 +1,6 @@
 -- The whole round: the people with what their seeks leave of their lists are a sound setting, and what is made over it is the round.
 use Rattle.std.proofs.Common.{◌≡◌, ◌<◌, ◌≤◌, ◌+◌, ◌∙◌, ℕ, zero, suc, List, [], ◌∷◌, Option, Some, None, length, arith, refl, sym, ap, subst}
-use Rattle.std.specs.Prelude.{slice_get, IsTrue}
+use Rattle.std.specs.Prelude.{slice_get}
 use Rattle.std.specs.List.{AllByRecursion}
 use Rattle.std.proofs.lemmas.Option.{slice_get_within}
 use Rattle.office_base.specs.Limits.{most_row_choices}
@@ -11,9 +11,8 @@ use Rattle.allocations.specs.Fair.{IsBest, IsMarket}
 use Rattle.allocations.specs.Market.{applicants}
 use Rattle.placements.proofs.Sublists.{length-sublist}
 use Rattle.programme_lists.specs.Chosen.{ShowsFrom}
-use Rattle.choice_lists.specs.Choices.{AreChoices, Lists, is_ranked_for, is_ranked_there, list_of}
-use Rattle.rank_lists.specs.Register.{AreRanks, Ranks, find_person}
-use Rattle.seat_matrix.specs.declared.entry.Home.{Home}
+use Rattle.choice_lists.specs.Choices.{Lists}
+use Rattle.rank_lists.specs.Register.{AreRanks, Ranks}
 use Rattle.rounds.specs.Round.{IsRound}
 use Rattle.rounds.specs.Rule.{IsOwnList, MayApplyIn, rule_of, seekers_of}
 use Rattle.rounds.specs.declared.round.Round.{Round}
@@ -23,8 +22,8 @@ use Rattle.seeks.specs.Seek.{AreBelow, seek_leaves}
 use Rattle.seeks.specs.declared.seek.Seek.{Seek}
 use Rattle.apply_engine.specs.Engine.{AreLawful, IsMade, IsSet, MayRun, Setting, lists_in, seekers_with}
 use Rattle.apply_engine.specs.Made.{leaves_along}
-use Rattle.apply_engine.proofs.Season.{aligned_length, entrants, length_lists, list_at_place}
-use Rattle.apply_engine.proofs.ListPlaces.{there_is}
+use Rattle.round_laws.proofs.People.{there_is}
+use Rattle.round_laws.proofs.Season.{aligned_length, entrants, length_lists, list_at_place}
 
 pub seekers_same : (table : SeatTable) (people : List Person) (lists : List (List ProgId)) (seeks : List Seek) → seekers_with people (leaves_along table lists seeks) ≡ seekers_of table people lists seeks
 seekers_same table [] [] seeks = refl
@@ -141,23 +140,3 @@ pub round_over_is : (version : ℕ) (table : SeatTable) (ranks : Ranks) (lists :
     → IsMade (record { version = version; table = table; people = ranks.people; lists = left }) n seeks round → IsRound version table ranks.people (lists_in lists) n seeks round
 round_over_is version table ranks lists n seeks left round same made =
     is_round version table ranks lists n seeks round (subst (λ (s : Setting). IsMade s n seeks round) (sym (over_is version table ranks lists seeks left same)) made)
-
-there_same : (table more : SeatTable) (who : Option Person) (n : ℕ) → more.programmes ≡ table.programmes → IsTrue (is_ranked_there table who n) → IsTrue (is_ranked_there more who n)
-there_same table more None n same h = h
-there_same table more (Some person) n same h = subst (λ (programmes : List (List ℕ × Home)). IsTrue (is_ranked_for person (slice_get programmes n))) (sym same) h
-
-all_there : (table more : SeatTable) (who : Option Person) (list : List ProgId) → more.programmes ≡ table.programmes → AllByRecursion (λ (prog : ProgId). IsTrue (is_ranked_there table who prog.0)) list
-    → AllByRecursion (λ (prog : ProgId). IsTrue (is_ranked_there more who prog.0)) list
-all_there table more who [] same all = tt
-all_there table more who (prog ∷ list) same all = (there_same table more who prog.0 same all.0, all_there table more who list same all.1)
-
--- choices of a matrix are choices of any matrix with the same programmes
-pub same_choices : (ranks : Ranks) (table more : SeatTable) (lists : Lists) → more.programmes ≡ table.programmes → AreChoices ranks table lists → AreChoices ranks more lists
-same_choices ranks table more lists same choices = λ candidate.
-    let choice = choices candidate in
-    record {
-      distinct = choice.distinct;
-      short = choice.short;
-      numbers = subst (λ n. AllByRecursion (λ (prog : ProgId). prog.0 < n) (list_of lists candidate)) (ap (λ l. length l) (sym same)) choice.numbers;
-      ranked = all_there table more (find_person candidate ranks.people) (list_of lists candidate) same choice.ranked;
-    }

@@ -15,24 +15,20 @@ use Rattle.rank_lists.specs.Register.{Ranks}
 use Rattle.programme_lists.specs.declared.programme.Programme.{Programme}
 use Rattle.rounds.specs.declared.round.Round.{Round}
 use Rattle.seeks.specs.declared.seek.Seek.{Seek}
-use Rattle.open_then_category.specs.Laws.{AdmittedOnce, ChosenWell, GrowsWithSeats, OneProgrammeChoice, ProgrammeChoiceExists, Resumes}
+use Rattle.open_then_category.specs.Laws.{AdmittedOnce, OneProgrammeChoice, ProgrammeChoiceExists, Resumes}
 use Rattle.open_then_category.specs.State.{ProgrammeKept, nobody}
 use Rattle.programme_lists.specs.Chosen.{ChoosesFrom, ShowsFrom}
-use Rattle.rounds.specs.Rule.{AreSeeks, MayApplyIn, rule_of}
+use Rattle.rounds.specs.Rule.{AreSeeks, MayApplyIn, ProgrammesChooseWell, rule_of}
 use Rattle.seat_matrix.specs.Matrix.{AreSeats, SeatTable, seats_in}
+pub use Rattle.round_laws.specs.Laws.{lists_in}
 
--- the choice lists of a season, along its register
-abbrev pub lists_in : Lists → List (List ProgId)
-lists_in lists = map (λ held. held.1) lists
-
--- what the laws of the choice of a programme say
+-- what the laws of the choice of a programme and of rounds say
 pub record AreLawful : Type 0 where
   pub one : OneProgrammeChoice
   pub some : ProgrammeChoiceExists
   pub once : AdmittedOnce
   pub resumes : Resumes
-  pub well : ChosenWell
-  pub grows : GrowsWithSeats
+  pub well : ProgrammesChooseWell
   pub part : PartCanBeRanked
 
 -- the people with their lists for this round

@@ -32,8 +32,7 @@ fn laws()
     open_then_category::laws::programme_choice_exists();
     open_then_category::laws::admitted_once();
     open_then_category::laws::resumes();
-    open_then_category::laws::chosen_well();
-    open_then_category::laws::grows_with_seats();
+    round_laws::laws::choose_well();
     merit_choice::laws::part_can_be_ranked();
 }
 

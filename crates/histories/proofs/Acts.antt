@@ -1,10 +1,10 @@
 -- A newly accepted request comes to what its act does, asked by its candidate or by the clerk; so a history goes on with it.
-use Rattle.std.proofs.Common.{◌≡◌, ◌<◌, inl, inr, ℕ, Bool, true, false, not, List, [], ◌∷◌, ◌++◌, Option, Some, None, length, map, refl, sym, ap, ◌∙◌, subst, nat_lt, ◌==◌, ◌&&◌, ◌||◌, if◌then◌else◌}
+use Rattle.std.proofs.Common.{◌≡◌, ◌<◌, ℕ, Bool, true, not, List, [], ◌∷◌, ◌++◌, Option, Some, None, map, refl, sym, ap, ◌∙◌, subst, nat_lt, ◌==◌, ◌||◌, if◌then◌else◌}
 use Rattle.office_moves.specs.Facts.{SeasonFacts, find_programme}
 use Rattle.histories.specs.Laws.{AcceptedByItsAct, HistoryGrows}
 use Rattle.office_base.specs.Numbered.{last_from, rises}
 use Rattle.office_base.specs.declared.asks.Ask.{Ask}
-use Rattle.office_base.specs.declared.asks.Ask.TheVariants.{Answer as AskAnswer, Cut as AskCut, Seat, Why, List as AskList, State as AskState, Raise as AskRaise}
+use Rattle.office_base.specs.declared.asks.Ask.TheVariants.{Cut as AskCut}
 use Rattle.office_base.specs.declared.asks.By.{By}
 use Rattle.office_base.specs.declared.asks.By.TheVariants.{Candidate, Clerk}
 use Rattle.office_base.specs.declared.asks.Request.{Request}
@@ -15,7 +15,7 @@ use Rattle.keeper_mem.specs.declared.rows.RaiseRow.{RaiseRow}
 use Rattle.allocations.proofs.Places.{eq_true, lt_true}
 use Rattle.office_moves.specs.State.{State, opening, view_of}
 use Rattle.office_moves.specs.Judge.{is_candidate, is_clerk, judge_answer, judge_cut, judge_new_answer, judge_new_seats, not_open, once_more, refuse_as, refuse_if, with_programme}
-use Rattle.office_moves.specs.Decided.{answer_looks, decide_raise, decided, decided_by, is_chosen_by, is_known, raise_looks}
+use Rattle.office_moves.specs.Decided.{answer_looks, decide_raise, decided, decided_by, raise_looks}
 use Rattle.office_moves.specs.Moves.{Does, IsMove}
 use Rattle.office_moves.specs.History.{IsHistory, asked, grown, newly}
 use Rattle.office_moves.specs.declared.decide.AnswerLooks.{AnswerLooks}
@@ -23,12 +23,13 @@ use Rattle.office_moves.specs.declared.decide.Decision.{Decision}
 use Rattle.office_moves.specs.declared.decide.Decision.TheVariants.{Refuse, NotedAgain, RaisedAgain, CutAgain, Note, Lift, Publish, Finish, TellSeat, TellWhy, TellList, TellState}
 use Rattle.office_moves.specs.declared.refusal.Refusal.TheVariants.{Ahead, Denied, LastWindow, UnknownCandidate}
 use Rattle.office_moves.specs.declared.moves.Act.{Act}
-use Rattle.office_moves.specs.declared.moves.Act.TheVariants.{Answer, Raise, Cut}
+use Rattle.office_moves.specs.declared.moves.Act.TheVariants.{Cut}
 use Rattle.office_moves.specs.declared.moves.Entry.{Entry}
 use Rattle.office_moves.specs.declared.moves.Reply.{Reply}
-use Rattle.office_moves.proofs.Chains.{answer_new, cut_new, list_old, raise_new, seat_old, why_old, with_new}
+use Rattle.office_moves.proofs.Chains.{IsNewCut}
+use Rattle.office_moves.proofs.Narrows.{both_means, both_true}
 use Rattle.office_moves.proofs.OneState.{reaches_more}
-use Rattle.histories.proofs.Changes.{same_act, was_found}
+use Rattle.histories.proofs.Changes.{Accepts, LastCut, NewAnswer, NewCut, NewRaise, accepts}
 
 -- ---- who asks
 
@@ -58,46 +59,27 @@ raise_by_clerk facts state by window code step seats clerk =
 
 -- ---- the act of a newly accepted request
 
-accepted_by : (facts : SeasonFacts) (state : State) (by : By) (ask : Ask) (act : Act) → newly state.now (decided_by facts state by ask) ≡ Some act
+cut_by : (facts : SeasonFacts) (state : State) (by : By) (ask : Ask) (act : Act) (window : ℕ) → ask ≡ AskCut window → act ≡ Cut state.now → IsNewCut by state.now facts.rounds window
     → decided facts state (asked facts act) ≡ decided_by facts state by ask
-accepted_by facts state by (AskAnswer cand window turn choice) act h =
-    let row : AnswerRow = record { window = window; cand = cand; turn = turn; choice = choice } in
-    let n = answer_new state.now (answer_looks facts (view_of state cand.0) row) by row act h in
-    let same : act ≡ Answer row = same_act _ _ (sym (ap (newly state.now) n.noted) ∙ h) in
-    subst (λ (a : Act). decided facts state (asked facts a) ≡ decided_by facts state by (AskAnswer cand window turn choice)) (sym same)
-    (by_candidate (answer_looks facts (view_of state cand.0) row) by row n.own)
-accepted_by facts state by (AskCut window) act h =
-    let n = cut_new by state.now facts.rounds window act h in
-    let same : act ≡ Cut state.now = elim n.ends [
-      | inl e ↦ same_act _ _ (sym (ap (newly state.now) e.0) ∙ h)
-      | inr e ↦ same_act _ _ (sym (ap (newly state.now) e.0) ∙ h)
-    ] in
-    subst (λ (a : Act). decided facts state (asked facts a) ≡ decided_by facts state by (AskCut window)) (sym same) (by_clerk by state.now facts.rounds window n.clerk n.opened)
-accepted_by facts state by (Seat cand) act h = absurd (let e = seat_old state.now (is_known facts cand) by cand in cc)
-accepted_by facts state by (Why cand code) act h =
-    absurd (let e = why_old state.now (is_known facts cand) (find_programme facts code) (is_chosen_by facts cand (find_programme facts code)) (length state.rounds) by cand in cc)
-accepted_by facts state by (AskList round code) act h = absurd (let e = list_old state.now (find_programme facts code) (length state.rounds) round in cc)
-accepted_by facts state by AskState act h = absurd (cc)
-accepted_by facts state by (AskRaise window code step seats) act h =
-    let found = with_new state.now (find_programme facts code) _ act h in
-    let row : RaiseRow = record { window = window; prog = found.0; step = step; seats = seats } in
-    let n = raise_new state.now (raise_looks facts state row) by row act found.2 in
-    let same : act ≡ Raise row = same_act _ _ (sym (ap (newly state.now) (found.3 ∙ n.lifted)) ∙ h) in
-    subst (λ (a : Act). decided facts state (asked facts a) ≡ decided_by facts state by (AskRaise window code step seats)) (sym same)
-    (ap (λ (c : List ℕ). decide_raise facts state Clerk window c step seats) (was_found facts code found.0 found.1).own ∙ raise_by_clerk facts state by window code step seats n.clerk)
+cut_by facts state by ask act window asks is n =
+    subst (λ (a : Act). decided facts state (asked facts a) ≡ decided_by facts state by ask) (sym is)
+    (by_clerk by state.now facts.rounds window n.clerk n.opened ∙ sym (ap (decided_by facts state by) asks))
+
+accepted_by : (facts : SeasonFacts) (state : State) (by : By) (ask : Ask) (act : Act) → Accepts facts state by ask act → decided facts state (asked facts act) ≡ decided_by facts state by ask
+accepted_by facts state by ask act (NewAnswer row asks is n decides) =
+    subst (λ (a : Act). decided facts state (asked facts a) ≡ decided_by facts state by ask) (sym is)
+    (by_candidate (answer_looks facts (view_of state row.cand.0) row) by row n.own ∙ sym (ap (decided_by facts state by) asks))
+accepted_by facts state by ask act (NewRaise row code asks found known is n decides) =
+    subst (λ (a : Act). decided facts state (asked facts a) ≡ decided_by facts state by ask) (sym is)
+    (ap (λ (c : List ℕ). decide_raise facts state Clerk row.window c row.step row.seats) found.own
+    ∙ (raise_by_clerk facts state by row.window code row.step row.seats n.clerk ∙ sym (ap (decided_by facts state by) asks)))
+accepted_by facts state by ask act (LastCut window asks is n last decides) = cut_by facts state by ask act window asks is n
+accepted_by facts state by ask act (NewCut window asks is n less decides) = cut_by facts state by ask act window asks is n
 
 pub accepted_by_its_act : (facts : SeasonFacts) → AcceptedByItsAct facts
-accepted_by_its_act facts state request act h = accepted_by facts state request.by request.ask act h
+accepted_by_its_act facts state request act h = accepted_by facts state request.by request.ask act (accepts facts state request.by request.ask act h)
 
 -- ---- a history goes on
-
-both_true : (a b : Bool) → a ≡ true → b ≡ true → a && b ≡ true
-both_true true b e f = f
-both_true false b e f = absurd (cc)
-
-both_means : (a b : Bool) → a && b ≡ true → (a ≡ true) × (b ≡ true)
-both_means true b e = (refl, e)
-both_means false b e = absurd (cc)
 
 rises_more : (before number : ℕ) (act : Act) (entries : List Entry) → rises before (map (λ (entry : Entry). entry.number) entries) ≡ true
     → last_from before (map (λ (entry : Entry). entry.number) entries) < number

@@ -1,4 +1,4 @@
--- What a newly accepted request changes in a state.
+-- What is newly accepted, and what it changes in a state.
 use Rattle.std.proofs.Common.{◌≡◌, ◌<◌, inl, inr, ℕ, zero, suc, List, [], ◌∷◌, Option, Some, None, length, arith, refl, sym, ap, ◌∙◌, subst, get_or}
 use Rattle.std.specs.Prelude.{map, option_map, position, slice_get, bytes_eq}
 use Rattle.std.specs.Option.{unwrap_or}
@@ -17,6 +17,7 @@ use Rattle.office_moves.specs.State.{State, view_of, with_finals, with_raise, wi
 use Rattle.office_moves.specs.Decided.{answer_looks, decided_by, is_chosen_by, is_known, raise_looks}
 use Rattle.office_moves.specs.Moves.{Does, IsNextRound, final_rows}
 use Rattle.office_moves.specs.History.{Reaches, asked, newly}
+use Rattle.office_moves.specs.declared.decide.Decision.TheVariants.{Note, Lift, Publish, Finish}
 use Rattle.office_moves.specs.declared.moves.Act.{Act}
 use Rattle.office_moves.specs.declared.moves.Act.TheVariants.{Answer, Raise, Cut}
 use Rattle.office_moves.specs.declared.moves.Entry.{Entry}
@@ -52,6 +53,45 @@ was_found facts code prog e =
       own = code_at facts.matrix.programmes prog.0 ∙ sym ((bytes_eq-Decides code _).0 there.1);
     }
 
+-- ---- what is newly accepted
+
+-- What was newly accepted, and by whom.
+pub data Accepts (facts : SeasonFacts) (old : State) (by : By) (ask : Ask) (act : Act) : Type 0 where
+  NewAnswer : (row : AnswerRow) → ask ≡ AskAnswer row.cand row.window row.turn row.choice → act ≡ Answer row → IsNewAnswer (answer_looks facts (view_of old row.cand.0) row) by row
+      → decided_by facts old by ask ≡ Note row → Accepts facts old by ask act
+  NewRaise : (row : RaiseRow) (code : List ℕ) → ask ≡ AskRaise row.window code row.step row.seats → IsFound facts code row.prog → find_programme facts code ≡ Some row.prog → act ≡ Raise row
+      → IsNewRaise (raise_looks facts old row) by row → decided_by facts old by ask ≡ Lift row → Accepts facts old by ask act
+  LastCut : (window : ℕ) → ask ≡ AskCut window → act ≡ Cut old.now → IsNewCut by old.now facts.rounds window → old.now ≡ facts.rounds → decided_by facts old by ask ≡ Finish
+      → Accepts facts old by ask act
+  NewCut : (window : ℕ) → ask ≡ AskCut window → act ≡ Cut old.now → IsNewCut by old.now facts.rounds window → old.now < facts.rounds → decided_by facts old by ask ≡ Publish
+      → Accepts facts old by ask act
+
+same_act : (act other : Act) → Some act ≡ Some other → other ≡ act
+same_act act other e = cc
+
+pub accepts : (facts : SeasonFacts) (old : State) (by : By) (ask : Ask) (act : Act) → newly old.now (decided_by facts old by ask) ≡ Some act → Accepts facts old by ask act
+accepts facts old by (AskAnswer cand window turn choice) act h =
+    let row : AnswerRow = record { window = window; cand = cand; turn = turn; choice = choice } in
+    let n = answer_new old.now (answer_looks facts (view_of old cand.0) row) by row act h in
+    NewAnswer row refl (same_act _ _ (sym (ap (newly old.now) n.noted) ∙ h)) n n.noted
+accepts facts old by (AskCut window) act h =
+    let n = cut_new by old.now facts.rounds window act h in
+    elim n.ends [
+      | inl e ↦ LastCut window refl (same_act _ _ (sym (ap (newly old.now) e.0) ∙ h)) n e.1 e.0
+      | inr e ↦ NewCut window refl (same_act _ _ (sym (ap (newly old.now) e.0) ∙ h)) n e.1 e.0
+    ]
+accepts facts old by (Seat cand) act h = absurd (let e = seat_old old.now (is_known facts cand) by cand in cc)
+accepts facts old by (Why cand code) act h =
+    absurd (let e = why_old old.now (is_known facts cand) (find_programme facts code) (is_chosen_by facts cand (find_programme facts code)) (length old.rounds) by cand in cc)
+accepts facts old by (AskList round code) act h = absurd (let e = list_old old.now (find_programme facts code) (length old.rounds) round in cc)
+accepts facts old by AskState act h = absurd (cc)
+accepts facts old by (AskRaise window code step seats) act h =
+    let found = with_new old.now (find_programme facts code) _ act h in
+    let row : RaiseRow = record { window = window; prog = found.0; step = step; seats = seats } in
+    let n = raise_new old.now (raise_looks facts old row) by row act found.2 in
+    let lifted = found.3 ∙ n.lifted in
+    NewRaise row code refl (was_found facts code found.0 found.1) found.1 (same_act _ _ (sym (ap (newly old.now) lifted) ∙ h)) n lifted
+
 -- ---- what a decision that newly accepts does
 
 -- What was newly accepted, by whom, and what it made of the state.
@@ -65,38 +105,19 @@ pub data Change (facts : SeasonFacts) (old : State) (by : By) (ask : Ask) (act :
   Finishes : (window : ℕ) → ask ≡ AskCut window → act ≡ Cut old.now → IsNewCut by old.now facts.rounds window → old.now ≡ facts.rounds → new ≡ with_finals old (final_rows facts old)
       → Change facts old by ask act new
 
-pub same_act : (act other : Act) → Some act ≡ Some other → other ≡ act
-same_act act other e = cc
+changed : (facts : SeasonFacts) (old : State) (by : By) (ask : Ask) (act : Act) (reply : Reply) (new : State) → Accepts facts old by ask act
+    → Does facts old (decided_by facts old by ask) reply new → Change facts old by ask act new
+changed facts old by ask act reply new (NewAnswer row asks is n decides) does = Answered row asks is n (subst (λ d. Does facts old d reply new) decides does).1
+changed facts old by ask act reply new (NewRaise row code asks found known is n decides) does =
+    Raised row code asks found known is n (subst (λ d. Does facts old d reply new) decides does).1
+changed facts old by ask act reply new (LastCut window asks is n last decides) does = Finishes window asks is n last (subst (λ d. Does facts old d reply new) decides does).1
+changed facts old by ask act reply new (NewCut window asks is n less decides) does =
+    let did = subst (λ d. Does facts old d reply new) decides does in
+    Publishes window did.0 asks is n less did.1 did.3
 
 pub changes : (facts : SeasonFacts) (old : State) (by : By) (ask : Ask) (act : Act) (reply : Reply) (new : State) → newly old.now (decided_by facts old by ask) ≡ Some act
     → Does facts old (decided_by facts old by ask) reply new → Change facts old by ask act new
-changes facts old by (AskAnswer cand window turn choice) act reply new h does =
-    let row : AnswerRow = record { window = window; cand = cand; turn = turn; choice = choice } in
-    let n = answer_new old.now (answer_looks facts (view_of old cand.0) row) by row act h in
-    let did = subst (λ d. Does facts old d reply new) n.noted does in
-    Answered row refl (same_act _ _ (sym (ap (newly old.now) n.noted) ∙ h)) n did.1
-changes facts old by (AskCut window) act reply new h does =
-    let n = cut_new by old.now facts.rounds window act h in
-    elim n.ends [
-      | inl e ↦
-          let did = subst (λ d. Does facts old d reply new) e.0 does in
-          Finishes window refl (same_act _ _ (sym (ap (newly old.now) e.0) ∙ h)) n e.1 did.1
-      | inr e ↦
-          let did = subst (λ d. Does facts old d reply new) e.0 does in
-          Publishes window did.0 refl (same_act _ _ (sym (ap (newly old.now) e.0) ∙ h)) n e.1 did.1 did.3
-    ]
-changes facts old by (Seat cand) act reply new h does = absurd (let e = seat_old old.now (is_known facts cand) by cand in cc)
-changes facts old by (Why cand code) act reply new h does =
-    absurd (let e = why_old old.now (is_known facts cand) (find_programme facts code) (is_chosen_by facts cand (find_programme facts code)) (length old.rounds) by cand in cc)
-changes facts old by (AskList round code) act reply new h does = absurd (let e = list_old old.now (find_programme facts code) (length old.rounds) round in cc)
-changes facts old by AskState act reply new h does = absurd (cc)
-changes facts old by (AskRaise window code step seats) act reply new h does =
-    let found = with_new old.now (find_programme facts code) _ act h in
-    let row : RaiseRow = record { window = window; prog = found.0; step = step; seats = seats } in
-    let n = raise_new old.now (raise_looks facts old row) by row act found.2 in
-    let lifted = found.3 ∙ n.lifted in
-    let did = subst (λ d. Does facts old d reply new) lifted does in
-    Raised row code refl (was_found facts code found.0 found.1) found.1 (same_act _ _ (sym (ap (newly old.now) lifted) ∙ h)) n did.1
+changes facts old by ask act reply new h does = changed facts old by ask act reply new (accepts facts old by ask act h) does
 
 -- ---- along a history
 

@@ -8,21 +8,22 @@ use Rattle.office_moves.specs.Raised.{matrix_of_round}
 use Rattle.office_moves.specs.History.{Reaches}
 use Rattle.office_moves.specs.declared.moves.Entry.{Entry}
 use Rattle.histories.specs.Course.{IsCourse}
+use Rattle.histories.specs.Laws.{IsInTime}
 use Rattle.histories.proofs.Answered.{answered_well}
-use Rattle.histories.proofs.Made.{few_rounds, final_rows_last, last_round, order_of, rounds_made}
+use Rattle.histories.proofs.Made.{final_rows_last, rounds_made}
 
 -- where its matrices are sound and rise
-pub course_of : (facts : SeasonFacts) (state : State) (entries : List Entry) → Reaches facts opening entries state → ((n : ℕ) → AreSeats (matrix_of_round facts state n))
+pub course_of : (facts : SeasonFacts) (entries : List Entry) (state : State) → Reaches facts opening entries state → IsInTime facts state → ((n : ℕ) → AreSeats (matrix_of_round facts state n))
     → ((n : ℕ) → IsRaised (matrix_of_round facts state n) (matrix_of_round facts state (suc n)))
     → ((n : ℕ) → (matrix_of_round facts state n).programmes ≡ facts.matrix.programmes) → IsCourse facts state
-course_of facts state entries reached seats raised programmes = record {
-  order = order_of facts state entries reached;
-  few = few_rounds facts state entries reached;
-  made = rounds_made facts state entries reached;
-  answers = answered_well facts state entries reached;
+course_of facts entries state reached time seats raised programmes = record {
+  order = time.order;
+  few = time.few;
+  made = rounds_made facts entries state reached;
+  answers = answered_well facts entries state reached;
   seats = seats;
   raised = raised;
   programmes = programmes;
-  finals = final_rows_last facts state entries reached;
-  last = last_round facts state entries reached;
+  finals = final_rows_last facts entries state reached;
+  last = time.last;
 }

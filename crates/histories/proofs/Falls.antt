@@ -1,6 +1,7 @@
 -- The step from one round to the next: what everybody seeks narrows, and nobody falls.
 use Rattle.std.proofs.Common.{◌≡◌, ◌≢◌, ◌<◌, ◌≤◌, ◌+◌, ℕ, zero, suc, true, false, List, [], ◌∷◌, Option, Some, None, length, arith, refl, sym, ap, ◌∙◌, subst}
 use Rattle.std.specs.Prelude.{slice_get, option_map, IsSome, nat_le, ◌&&◌}
+use Rattle.std.proofs.lemmas.Option.{slice_get_within}
 use Rattle.std.proofs.lemmas.Slice.Eq.{bytes_eq-Decides}
 use Rattle.office_base.specs.Lists.{Pairwise}
 use Rattle.office_base.specs.declared.asks.Seat.{Seat}
@@ -28,9 +29,10 @@ use Rattle.office_moves.specs.State.{State, seat_in}
 use Rattle.office_moves.specs.Raised.{matrix_of_round}
 use Rattle.office_moves.specs.Promise.{HoldsOn, IsNoWorse, standing_then}
 use Rattle.office_moves.proofs.Narrows.{both_means, both_true, le_means, le_true, FitsLast, holder_narrows, left_there, narrows_applies, there_left}
+use Rattle.round_laws.proofs.People.{there_is}
 use Rattle.histories.specs.Course.{IsCourse, left_then, seek_then, seeks_then}
 use Rattle.histories.proofs.Entering.{entrants, own_there}
-use Rattle.histories.proofs.Fits.{Answered, SeatOf, FitsCut, below_get, cut_fits, enters, follows, full_seekers, get_below, held_seat, not_true, seat_at_place, seat_is, seat_there, seekers_then, still_waits}
+use Rattle.histories.proofs.Fits.{Answered, SeatOf, FitsCut, cut_fits, enters, follows, full_seekers, held_seat, not_true, seat_at_place, seat_is, seat_there, seekers_then, still_waits}
 
 -- ---- matrices with the same programmes
 
@@ -121,7 +123,7 @@ left_again table list Offered k prog keeps there below = absurd (cc)
 left_again table list Freeze k prog keeps there below = eq_true k k refl
 left_again table list Float k prog keeps there below = le_true k k (omega arith)
 left_again table list Slide k prog keeps there below =
-    let home = get_below table.programmes prog.0 below in
+    let home = there_is table.programmes prog.0 below in
     let itself : same_institute table prog.0 prog.0 ≡ true = self_together {home = home.0} (slice_get table.programmes prog.0) home.1 in
     both_true (nat_le k k) (is_beside table (slice_get list k) prog) (le_true k k (omega arith)) (subst (λ o. is_beside table o prog ≡ true) (sym there) itself)
 left_again table list Withdrawn k prog keeps there below = absurd (cc)
@@ -216,15 +218,15 @@ returns facts state before id old sound course less had known =
     let standing = standing_then facts state (suc before) id in
     let list = list_of facts.lists id in
     let more = matrix_of_round facts state (suc (suc before)) in
-    let next = get_below state.rounds (suc before) less in
+    let next = there_is state.rounds (suc before) less in
     let full_seats = (course.made (suc before) next.0 next.1).best.fair.allocation.full in
-    let below = below_get facts.people known.place known.s.person known.person_at in
+    let below = slice_get_within facts.people known.place known.s.person known.person_at in
     let full = full_seekers facts state (suc before) sound in
-    let t = get_below (seekers_then facts state (suc before)) known.place (omega (arith, below, full)) in
+    let t = there_is (seekers_then facts state (suc before)) known.place (omega (arith, below, full)) in
     let entry = enters facts state (suc before) known.place t.0 sound t.1 in
     let one : t.0.person ≡ known.s.person = (let a = entry.person_at in let b = known.person_at in cc) in
     let id_is : t.0.person.id.0 ≡ id = ap (λ (z : Person). z.id.0) one ∙ known.id_is in
-    let seat = get_below next.0.seats known.place (omega (arith, below, full, full_seats)) in
+    let seat = there_is next.0.seats known.place (omega (arith, below, full, full_seats)) in
     let sought : seek_then facts state (suc before) id ≡ seek_after standing (Some (place_of list old.prog.0)) = ap (λ o. seek_after standing (place_in list o)) had in
     record {
       next = next.0;
@@ -308,7 +310,7 @@ step_holds facts state before id sound well grow course less fit keeps =
     let old = some_seat (seat_in facts state.rounds (suc before) id) has in
     let known = seat_is facts state before id old.0 sound course old.1 in
     let back = returns facts state before id old.0 sound course less old.1 known in
-    let new = there_is back.seat (never_without facts state before id old.0 sound well grow course fit known back keeps) in
+    let new = some_held back.seat (never_without facts state before id old.0 sound well grow course fit known back keeps) in
     let seated : seat_in facts state.rounds (suc (suc before)) id ≡ Some new.0 =
     subst (λ n. seat_in facts state.rounds (suc (suc before)) n ≡ Some new.0) back.id_is
     (seat_there facts state.rounds (suc before) known.place back.next back.t.person back.seat sound back.is back.person_at back.at ∙ new.1) in
@@ -318,9 +320,9 @@ step_holds facts state before id sound well grow course less fit keeps =
     some_seat None h = absurd (not_true h)
     some_seat (Some held) h = (held, refl)
 
-    there_is : (seat : Option Seat) → (seat ≡ None → ⊥) → (held : Seat) × (seat ≡ Some held)
-    there_is None h = absurd (h refl)
-    there_is (Some held) h = (held, refl)
+    some_held : (seat : Option Seat) → (seat ≡ None → ⊥) → (held : Seat) × (seat ≡ Some held)
+    some_held None h = absurd (h refl)
+    some_held (Some held) h = (held, refl)
 
 -- before the first round nobody keeps a seat
 nobody_first : (facts : SeasonFacts) (state : State) (id : ℕ) → IsCourse facts state → holds (standing_then facts state 0 id) ≡ true → ⊥

@@ -2,7 +2,10 @@
 use Rattle.std.proofs.Common.{◌≡◌, ◌≢◌, ◌<◌, ◌⊎◌, inl, inr, ℕ, zero, suc, true, false, List, [], ◌∷◌, Option, Some, None, length, map, arith, refl, sym, ap, ◌∙◌, subst}
 use Rattle.std.specs.Prelude.{slice_get, option_map, IsSome}
 use Rattle.std.specs.Option.{option_and_then}
+use Rattle.std.proofs.lemmas.List.{length-map}
+use Rattle.std.proofs.lemmas.Option.{slice_get_within}
 use Rattle.office_base.specs.Lists.{Pairwise}
+use Rattle.office_base.proofs.People.{at_person-get}
 use Rattle.office_base.specs.declared.asks.Choice.{Choice}
 use Rattle.office_base.specs.declared.asks.Choice.TheVariants.{Freeze as ToFreeze, Float as ToFloat, Slide as ToSlide, Withdraw as ToWithdraw}
 use Rattle.office_base.specs.declared.asks.Seat.{Seat}
@@ -25,7 +28,8 @@ use Rattle.office_moves.specs.Raised.{matrix_of_round}
 use Rattle.office_moves.specs.Promise.{standing_then}
 use Rattle.office_moves.proofs.Narrows.{FitsLast, Follows, IsSeatAt, left_there}
 use Rattle.histories.specs.Course.{IsCourse, seek_then, seeks_then}
-use Rattle.histories.proofs.Entering.{StandsAt, at_person_there, list_there, lists_full, own_there, stands_at}
+use Rattle.round_laws.proofs.People.{StandsAt, stands_at, there_is}
+use Rattle.histories.proofs.Entering.{list_there, lists_full, own_there}
 
 -- ---- an answer
 
@@ -104,24 +108,10 @@ cut_fits NoShow place seat first second = record { fits = tt; waits = λ e. absu
 
 -- ---- lists
 
-pub get_below : {X : Type 0} (xs : List X) (i : ℕ) → i < length xs → (x : X) × (slice_get xs i ≡ Some x)
-get_below [] i less = absurd (omega (arith, less))
-get_below (x ∷ xs) zero less = (x, refl)
-get_below (x ∷ xs) (suc i) less = get_below xs i (omega (arith, less))
-
-pub below_get : {X : Type 0} (xs : List X) (i : ℕ) (x : X) → slice_get xs i ≡ Some x → i < length xs
-below_get [] i x at = absurd (cc)
-below_get (y ∷ xs) zero x at = omega arith
-below_get (y ∷ xs) (suc i) x at = let rest = below_get xs i x at in omega (arith, rest)
-
 map_at : {X Y : Type 0} (f : X → Y) (xs : List X) (i : ℕ) (x : X) → slice_get xs i ≡ Some x → slice_get (map f xs) i ≡ Some (f x)
 map_at f [] i x at = absurd (cc)
 map_at f (y ∷ xs) zero x at = let same : y ≡ x = cc in ap (λ z. Some (f z)) same
 map_at f (y ∷ xs) (suc i) x at = map_at f xs i x at
-
-map_length : {X Y : Type 0} (f : X → Y) (xs : List X) → length (map f xs) ≡ length xs
-map_length f [] = refl
-map_length f (x ∷ xs) = ap suc (map_length f xs)
 
 -- ---- those who entered a round
 
@@ -130,7 +120,7 @@ abbrev pub seekers_then : SeasonFacts → State → ℕ → List Seeker
 seekers_then facts state window = seekers_of (matrix_of_round facts state (suc window)) facts.people (lists_in_order facts) (seeks_then facts state window)
 
 pub full_seeks : (facts : SeasonFacts) (state : State) (window : ℕ) → IsSound facts → length (seeks_then facts state window) ≡ length (lists_in_order facts)
-full_seeks facts state window sound = map_length (λ (person : Person). seek_then facts state window person.id.0) facts.people ∙ sym (lists_full facts sound)
+full_seeks facts state window sound = length-map facts.people (λ (person : Person). seek_then facts state window person.id.0) ∙ sym (lists_full facts sound)
 
 pub full_seekers : (facts : SeasonFacts) (state : State) (window : ℕ) → IsSound facts → length (seekers_then facts state window) ≡ length facts.people
 full_seekers facts state window sound =
@@ -160,7 +150,7 @@ enters facts state window i s sound there =
 pub seat_there : (facts : SeasonFacts) (rounds : List Round) (before i : ℕ) (round : Round) (person : Person) (seat : Option Seat) → IsSound facts → slice_get rounds before ≡ Some round
     → slice_get facts.people i ≡ Some person → slice_get round.seats i ≡ Some seat → seat_in facts rounds (suc before) person.id.0 ≡ seat
 seat_there facts rounds before i round person seat sound is at has =
-    ap (λ o. seat_of facts o person.id.0) is ∙ ap (λ o. option_and_then (λ s. s) o) (at_person_there facts.people round.seats i person seat sound.ranks.rising at has)
+    ap (λ o. seat_of facts o person.id.0) is ∙ ap (λ o. option_and_then (λ s. s) o) (at_person-get facts.people round.seats i person sound.ranks.rising at ∙ has)
 
 -- whoever has a seat stands among the people, and has it there
 pub record IsSeated (facts : SeasonFacts) (rounds : List Round) (before id : ℕ) (seat : Seat) : Type 0 where
@@ -219,9 +209,9 @@ seat_is facts state before id seat sound course e =
     let seated = is_seated facts state.rounds before id seat e in
     let made = course.made before seated.round seated.is in
     let place = seated.stands.place in
-    let below = below_get facts.people place seated.stands.person seated.stands.person_at in
+    let below = slice_get_within facts.people place seated.stands.person seated.stands.person_at in
     let full = full_seekers facts state before sound in
-    let found = get_below (seekers_then facts state before) place (omega (arith, below, full)) in
+    let found = there_is (seekers_then facts state before) place (omega (arith, below, full)) in
     let s = found.0 in
     let entry = enters facts state before place s sound found.1 in
     let one : s.person ≡ seated.stands.person = (let a = entry.person_at in let b = seated.stands.person_at in cc) in
@@ -252,7 +242,7 @@ pub placed : (facts : SeasonFacts) (state : State) (window id : ℕ) (seat : Sea
 placed facts state zero id seat sound course e = absurd (cc)
 placed facts state (suc before) id seat sound course e =
     let known = seat_is facts state before id seat sound course e in
-    below_get (list_of facts.lists id) (place_of (list_of facts.lists id) seat.prog.0) seat.prog known.at.there
+    slice_get_within (list_of facts.lists id) (place_of (list_of facts.lists id) seat.prog.0) seat.prog known.at.there
 
 -- ---- what everybody seeks
 
@@ -280,11 +270,11 @@ sought_by facts rounds standing number id = seek_after (standing id) (option_map
 pub seeks_within : (facts : SeasonFacts) (state : State) (standing : ℕ → Standing) (number : ℕ) → IsSound facts → IsCourse facts state
     → AreSeeks (lists_in_order facts) (map (λ (person : Person). sought_by facts state.rounds standing number person.id.0) facts.people)
 seeks_within facts state standing number sound course = record {
-  full = map_length (λ (person : Person). sought_by facts state.rounds standing number person.id.0) facts.people ∙ sym (lists_full facts sound);
+  full = length-map facts.people (λ (person : Person). sought_by facts state.rounds standing number person.id.0) ∙ sym (lists_full facts sound);
   within = λ i list seek at at'.
       let full = lists_full facts sound in
-      let below = below_get (lists_in_order facts) i list at in
-      let person = get_below facts.people i (omega (arith, below, full)) in
+      let below = slice_get_within (lists_in_order facts) i list at in
+      let person = there_is facts.people i (omega (arith, below, full)) in
       let id = person.0.id.0 in
       let sought = sought_by facts state.rounds standing number id in
       let mine = list_there facts i person.0 list sound person.1 at in

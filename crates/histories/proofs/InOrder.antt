@@ -1,35 +1,25 @@
 -- A course whose windows, answers and raises fit together is in order.
-use Rattle.std.proofs.Common.{◌≡◌, ◌<◌, ◌≤◌, ◌+◌, ◌⊎◌, inl, inr, ℕ, zero, suc, None, length, arith, sym, subst}
-use Rattle.std.specs.Prelude.{IsSome}
+use Rattle.std.proofs.Common.{◌≡◌, ◌⊎◌, inl, inr, suc, length, arith, sym, subst}
+use Rattle.std.proofs.lemmas.Bool.{cases_lt}
 use Rattle.seat_matrix.specs.Matrix.{AreSeats, SeatTable}
 use Rattle.rounds.specs.Rule.{ProgrammesChooseWell, ProgrammesGrow}
 use Rattle.office_moves.specs.Facts.{IsSound, SeasonFacts}
 use Rattle.office_moves.specs.State.{State}
 use Rattle.office_moves.specs.Raised.{matrix_at, matrix_of_round}
 use Rattle.histories.specs.Course.{IsCourse}
+use Rattle.histories.specs.Laws.{IsInTime}
 use Rattle.histories.specs.Orderly.{AreAnswers, IsOrderly}
 use Rattle.histories.proofs.Word.{entries_full, keeps_its_word, seated_now, seeks_now_fit}
 
--- The windows fit the rounds and the final rows.
-pub record AreWindows (facts : SeasonFacts) (state : State) : Type 0 where
-  pub now : state.now ≤ facts.rounds + 1
-  pub unfinished : state.now ≤ facts.rounds → state.finals ≡ None
-  pub finished : facts.rounds < state.now → (length state.rounds ≡ facts.rounds) × IsSome state.finals
-
 -- the last cut published a round, or it was the last cut of the season
-one_more : (facts : SeasonFacts) (state : State) → IsCourse facts state → AreWindows facts state → (state.now ≡ length state.rounds) ⊎ (state.now ≡ suc (length state.rounds))
-one_more facts state course windows = elim (cases state.now facts.rounds) [
-  | inl open_yet ↦ inl (sym (course.order open_yet))
-  | inr over ↦ let all = (windows.finished over).0 in let most = windows.now in inr (omega (arith, all, most, over))
+one_more : (facts : SeasonFacts) (state : State) → IsCourse facts state → IsInTime facts state → (state.now ≡ length state.rounds) ⊎ (state.now ≡ suc (length state.rounds))
+one_more facts state course windows = elim (cases_lt facts.rounds state.now) [
+  | inl over ↦ let all = (windows.finished over).0 in let most = windows.now in inr (omega (arith, all, most, over))
+  | inr open_yet ↦ inl (sym (course.order open_yet))
 ]
-  where
-    cases : (m n : ℕ) → (m ≤ n) ⊎ (n < m)
-    cases zero n = inl (omega arith)
-    cases (suc m) zero = inr (omega arith)
-    cases (suc m) (suc n) = elim (cases m n) [ inl h ↦ inl (omega (arith, h)) | inr h ↦ inr (omega (arith, h)) ]
 
 -- What holds of a course, with all that is read off it.
-pub in_order : (facts : SeasonFacts) (state : State) → IsSound facts → ProgrammesChooseWell → ProgrammesGrow → IsCourse facts state → AreAnswers facts state → AreWindows facts state
+pub in_order : (facts : SeasonFacts) (state : State) → IsSound facts → ProgrammesChooseWell → ProgrammesGrow → IsCourse facts state → AreAnswers facts state → IsInTime facts state
     → matrix_at facts state ≡ matrix_of_round facts state (suc state.now) → IsOrderly facts state
 in_order facts state sound well grow course answers windows matrix = record {
   course = course;

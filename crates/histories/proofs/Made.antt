@@ -1,7 +1,7 @@
 -- How the rounds and the final rows of a history were made.
-use Rattle.std.proofs.Common.{◌≡◌, ◌<◌, ◌≤◌, ◌+◌, ◌⊎◌, inl, inr, ℕ, suc, List, [], ◌∷◌, ◌++◌, Option, Some, None, IsSome, length, map, arith, sym, refl, ap, ◌∙◌, subst, if◌then◌else◌, length-append}
+use Rattle.std.proofs.Common.{◌≡◌, ◌<◌, ◌+◌, ◌⊎◌, inl, inr, ℕ, suc, List, [], ◌∷◌, ◌++◌, Option, Some, None, length, map, arith, sym, refl, ap, ◌∙◌, subst, if◌then◌else◌, length-append}
 use Rattle.std.specs.Prelude.{slice_get, option_map}
-use Rattle.std.proofs.lemmas.Bool.{cases_lt, cases_order}
+use Rattle.std.proofs.lemmas.Bool.{cases_order}
 use Rattle.std.proofs.lemmas.Option.{slice_get_within}
 use Rattle.office_base.specs.declared.asks.Seat.{Seat}
 use Rattle.office_base.specs.declared.person.Person.{Person}
@@ -21,35 +21,14 @@ use Rattle.office_moves.specs.Raised.{matrix_at, matrix_of_round, raised}
 use Rattle.office_moves.specs.Moves.{IsNextRound, final_rows, final_seat, next_seek, next_seeks, row_before, rows_along}
 use Rattle.office_moves.specs.History.{Reaches}
 use Rattle.office_moves.specs.Promise.{kept_to_the_end, standing_then}
+use Rattle.office_moves.specs.declared.moves.Act.{Act}
 use Rattle.office_moves.specs.declared.moves.Entry.{Entry}
 use Rattle.histories.specs.Course.{seek_then, seeks_then}
-use Rattle.histories.proofs.Steps.{Step, Answers, Raises, Publishes, Finishes, is_open}
-use Rattle.histories.proofs.Stays.{Runs, Stays, along, before_same, finished_stays, get_append, get_last, past_stays, published_stays, runs_well}
-
--- ---- rounds and cuts
-
-pub order_of : (facts : SeasonFacts) (state : State) (entries : List Entry) → Reaches facts opening entries state → state.now ≤ facts.rounds → length state.rounds ≡ state.now
-order_of facts state entries reached = (runs_well facts state entries reached).order
-
-pub few_rounds : (facts : SeasonFacts) (state : State) (entries : List Entry) → Reaches facts opening entries state → length state.rounds ≤ facts.rounds
-few_rounds facts state entries reached =
-    let runs = runs_well facts state entries reached in
-    elim (cases_lt facts.rounds state.now) [
-      | inl less ↦ let end = (runs.finished less).0 in omega (arith, end)
-      | inr few ↦ let same = runs.order few in omega (arith, same, few)
-    ]
-
-nothing : {X : Type 0} (x : Option X) → x ≡ None → IsSome x → ⊥
-nothing None e some = absurd (cc)
-nothing (Some x) e some = absurd (cc)
-
-pub last_round : (facts : SeasonFacts) (state : State) (entries : List Entry) → Reaches facts opening entries state → IsSome state.finals → length state.rounds ≡ facts.rounds
-last_round facts state entries reached some =
-    let runs = runs_well facts state entries reached in
-    elim (cases_lt facts.rounds state.now) [
-      | inl less ↦ (runs.finished less).0
-      | inr few ↦ absurd (nothing state.finals (runs.unfinished few) some)
-    ]
+use Rattle.histories.proofs.Accepted.{is_open}
+use Rattle.histories.proofs.Changes.{Answered, Finishes, Follows, Publishes, Raised}
+use Rattle.histories.proofs.Rows.{before_same}
+use Rattle.histories.proofs.Stays.{Stays, answered_stays, finished_stays, get_append, get_last, published_stays}
+use Rattle.histories.proofs.Windows.{Runs, along_windows}
 
 -- ---- what everybody sought
 
@@ -114,26 +93,27 @@ last_or_before rounds last before round e =
       ]
     ]
 
-made_step : (facts : SeasonFacts) (old new : State) → Step facts old new → Runs facts old → Runs facts new → AreMade facts old → AreMade facts new
-made_step facts old new (Answers row by n e) runs next_runs made =
-    let opened = (is_open old.now facts.rounds row.window n.opened) in
-    let same = runs.order opened.1 in
+made_follows : (facts : SeasonFacts) (old new : State) (act : Act) → Runs facts old → Runs facts new → AreMade facts old → Follows facts old act new → AreMade facts new
+made_follows facts old new act runs after made (Answered row asks is n e) =
+    let opened = is_open old.now facts.rounds row.window n.opened in
+    let same = runs.time.order opened.1 in
+    let here = opened.0 in
     subst (λ s. AreMade facts s) (sym e) (λ before round there.
     let within = slice_get_within old.rounds before round there in
     made_again facts old (with_row old row) before round refl
-    (seeks_stay facts old (with_row old row) before (λ id. past_stays facts old (with_row old row) (Answers row by n refl) runs.order before id (omega (arith, same, within))))
+    (seeks_stay facts old (with_row old row) before (λ id. answered_stays facts old row before id (omega (arith, here, same, within))))
     (made before round there))
-made_step facts old new (Raises row by n e) runs next_runs made =
-    let opened = (is_open old.now facts.rounds row.window n.opened) in
-    let same = runs.order opened.1 in
+made_follows facts old new act runs after made (Raised row code asks found known is n e) =
+    let opened = is_open old.now facts.rounds row.window n.opened in
+    let same = runs.time.order opened.1 in
     let here = opened.0 in
     subst (λ s. AreMade facts s) (sym e) (λ before round there.
     let within = slice_get_within old.rounds before round there in
     made_again facts old (with_raise old row) before round
     (ap (λ (z : List RaiseRow). raised facts.matrix z) (before_same (suc before) old.raises row (omega (arith, here, same, within))))
     refl (made before round there))
-made_step facts old new (Publishes round less next e) runs next_runs made =
-    let same = runs.order (omega (arith, less)) in
+made_follows facts old new act runs after made (Publishes window round asks is cuts less next e) =
+    let same = runs.time.order (omega (arith, less)) in
     subst (λ s. AreMade facts s) (sym e) (λ before other there.
     elim (last_or_before old.rounds round before other there) [
       | inl past ↦
@@ -147,14 +127,14 @@ made_step facts old new (Publishes round less next e) runs next_runs made =
           (subst (λ (r : Round). IsRound facts.version (matrix_of_round facts (with_round old round) (suc old.now)) facts.people (lists_in_order facts) (old.now + 1) (seeks_then facts (with_round old round) old.now) r)
           last.1 (made_now facts old round runs same next))
     ])
-made_step facts old new (Finishes last e) runs next_runs made =
+made_follows facts old new act runs after made (Finishes window asks is cuts last e) =
     subst (λ s. AreMade facts s) (sym e) (λ before round there.
     made_again facts old (with_finals old (final_rows facts old)) before round refl
     (seeks_stay facts old (with_finals old (final_rows facts old)) before (λ id. finished_stays facts old before id))
     (made before round there))
 
-pub rounds_made : (facts : SeasonFacts) (state : State) (entries : List Entry) → Reaches facts opening entries state → AreMade facts state
-rounds_made facts state entries reached = along facts (AreMade facts) (λ before round there. absurd (cc)) (made_step facts) state entries reached
+pub rounds_made : (facts : SeasonFacts) (entries : List Entry) (state : State) → Reaches facts opening entries state → AreMade facts state
+rounds_made facts entries state reached = along_windows facts (AreMade facts) (λ before round there. absurd (cc)) (made_follows facts) entries state reached
 
 -- ---- the final rows
 
@@ -182,18 +162,18 @@ final_same facts old id last same =
     ∙ (ap (λ (n : ℕ). kept_by (standing_then facts old facts.rounds id) (seat_in facts old.rounds n id)) (same ∙ last)
     ∙ (ap (λ (s : Standing). kept_by s (seat_in facts old.rounds facts.rounds id)) (sym stays.standing)))
 
-finals_step : (facts : SeasonFacts) (old new : State) → Step facts old new → Runs facts old → Runs facts new → AreLast facts old → AreLast facts new
-finals_step facts old new (Answers row by n e) runs next_runs last =
-    subst (λ s. AreLast facts s) (sym e) (none_yet facts (with_row old row) (runs.unfinished (is_open old.now facts.rounds row.window n.opened).1))
-finals_step facts old new (Raises row by n e) runs next_runs last =
-    subst (λ s. AreLast facts s) (sym e) (none_yet facts (with_raise old row) (runs.unfinished (is_open old.now facts.rounds row.window n.opened).1))
-finals_step facts old new (Publishes round less next e) runs next_runs last =
-    subst (λ s. AreLast facts s) (sym e) (none_yet facts (with_round old round) (runs.unfinished (omega (arith, less))))
-finals_step facts old new (Finishes end e) runs next_runs last =
-    let same = runs.order (omega (arith, end)) in
+finals_follow : (facts : SeasonFacts) (old new : State) (act : Act) → Runs facts old → Runs facts new → AreLast facts old → Follows facts old act new → AreLast facts new
+finals_follow facts old new act runs after here (Answered row asks is n e) =
+    subst (λ s. AreLast facts s) (sym e) (none_yet facts (with_row old row) (runs.time.unfinished (is_open old.now facts.rounds row.window n.opened).1))
+finals_follow facts old new act runs after here (Raised row code asks found known is n e) =
+    subst (λ s. AreLast facts s) (sym e) (none_yet facts (with_raise old row) (runs.time.unfinished (is_open old.now facts.rounds row.window n.opened).1))
+finals_follow facts old new act runs after here (Publishes window round asks is cuts less next e) =
+    subst (λ s. AreLast facts s) (sym e) (none_yet facts (with_round old round) (runs.time.unfinished (omega (arith, less))))
+finals_follow facts old new act runs after here (Finishes window asks is cuts last e) =
+    let same = runs.time.order (omega (arith, last)) in
     subst (λ s. AreLast facts s) (sym e) (λ rows some.
     let mine : final_rows facts old ≡ rows = cc in
-    sym mine ∙ rows_same (facts.rounds + 1) (final_seat facts old) (kept_to_the_end facts (with_finals old (final_rows facts old))) facts.people (λ id. final_same facts old id end same))
+    sym mine ∙ rows_same (facts.rounds + 1) (final_seat facts old) (kept_to_the_end facts (with_finals old (final_rows facts old))) facts.people (λ id. final_same facts old id last same))
 
-pub final_rows_last : (facts : SeasonFacts) (state : State) (entries : List Entry) → Reaches facts opening entries state → AreLast facts state
-final_rows_last facts state entries reached = along facts (AreLast facts) (λ rows some. absurd (cc)) (finals_step facts) state entries reached
+pub final_rows_last : (facts : SeasonFacts) (entries : List Entry) (state : State) → Reaches facts opening entries state → AreLast facts state
+final_rows_last facts entries state reached = along_windows facts (AreLast facts) (λ rows some. absurd (cc)) (finals_follow facts) entries state reached

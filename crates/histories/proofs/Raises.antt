@@ -1,6 +1,7 @@
 -- The matrix along a history: each raise gives a step more seats, and those of a window come after those of the windows before it.
-use Rattle.std.proofs.Common.{◌≡◌, ◌<◌, ◌≤◌, ◌+◌, ◌⊎◌, inl, inr, ℕ, suc, Bool, true, false, List, [], ◌∷◌, ◌++◌, length, arith, refl, sym, ap, ◌∙◌, subst, nat_lt, ◌||◌, if◌then◌else◌, append-nil, append_assoc}
+use Rattle.std.proofs.Common.{◌≡◌, ◌<◌, ◌≤◌, ◌+◌, inl, inr, ℕ, suc, Bool, true, false, List, [], ◌∷◌, ◌++◌, length, arith, refl, sym, ap, ◌∙◌, subst, nat_lt, ◌||◌, if◌then◌else◌, append-nil, append_assoc}
 use Rattle.std.specs.Prelude.{◌-◌, nat_le}
+use Rattle.std.proofs.lemmas.Bool.{cases_lt}
 use Rattle.std.proofs.lemmas.Bool.Decides.{nat_tests}
 use Rattle.allocations.proofs.Places.{lt_true}
 use Rattle.office_base.specs.Limits.{most_matrix_seats, most_step_seats}
@@ -22,26 +23,15 @@ use Rattle.office_moves.specs.declared.refusal.Refusal.{Refusal}
 use Rattle.office_moves.specs.declared.refusal.Refusal.TheVariants.{Falling, SeatLimit, StepFixed}
 use Rattle.office_moves.proofs.Rising.{AreLifts, IsLift, lifts_append, raised_append, raised_well}
 use Rattle.histories.specs.Laws.{SeatsOnlyRise, SeatsRise}
-use Rattle.histories.proofs.Changes.{Answered, Finishes, Follows, Publishes, Raised, along}
-use Rattle.histories.proofs.Turns.{opened}
+use Rattle.histories.proofs.Accepted.{is_open}
+use Rattle.histories.proofs.Changes.{Answered, Finishes, Follows, Publishes, Raised}
+use Rattle.histories.proofs.Rows.{before_append, before_more, before_same}
+use Rattle.histories.proofs.Windows.{Runs, along_windows, runs_well}
 
 -- ---- the raises before a window
 
-row_when : (b : Bool) (row : RaiseRow) (rows more : List RaiseRow) → (if b then row ∷ (rows ++ more) else rows ++ more) ≡ (if b then row ∷ rows else rows) ++ more
-row_when true row rows more = refl
-row_when false row rows more = refl
-
-before_append : (n : ℕ) (rows more : List RaiseRow) → raised_before n (rows ++ more) ≡ raised_before n rows ++ raised_before n more
-before_append n [] more = refl
-before_append n (row ∷ rows) more =
-    ap (λ (z : List RaiseRow). if nat_lt row.window n then row ∷ z else z) (before_append n rows more)
-    ∙ row_when (nat_lt row.window n) row (raised_before n rows) (raised_before n more)
-
 row_if : (b c : Bool) (row : RaiseRow) (rows : List RaiseRow) → b ≡ c → (if b then row ∷ rows else rows) ≡ (if c then row ∷ rows else rows)
 row_if b c row rows e = ap (λ (z : Bool). if z then row ∷ rows else rows) e
-
-not_before : (m n : ℕ) → n ≤ m → nat_lt m n ≡ false
-not_before m n less = grind (arith, nat_tests)
 
 -- what was raised before a window was raised before the next one
 still_before : (n : ℕ) (rows : List RaiseRow) → raised_before (suc n) (raised_before n rows) ≡ raised_before n rows
@@ -101,74 +91,51 @@ was_lift facts old row below next =
 
 -- ---- along a history
 
--- Each raise lifts the matrix with those before it. None is of a window to come, and those before a window come first.
+-- Each raise lifts the matrix with those before it, and those before a window come first.
 pub record AreRaises (facts : SeasonFacts) (state : State) : Type 0 where
   pub lifts : AreLifts facts.matrix state.raises
-  pub all : (n : ℕ) → state.now < n → raised_before n state.raises ≡ state.raises
   pub first : (n : ℕ) → (more : List RaiseRow) × (state.raises ≡ raised_before n state.raises ++ more)
 
 no_raises : (facts : SeasonFacts) → AreRaises facts opening
-no_raises facts = record { lifts = tt; all = λ n less. refl; first = λ n. ([], refl) }
+no_raises facts = record { lifts = tt; first = λ n. ([], refl) }
 
--- in a later window, with the same raises
-later_raises : (facts : SeasonFacts) (old new : State) → new.raises ≡ old.raises → old.now ≤ new.now → AreRaises facts old → AreRaises facts new
-later_raises facts old new same time here = record {
+-- with the same raises
+same_raises : (facts : SeasonFacts) (old new : State) → new.raises ≡ old.raises → AreRaises facts old → AreRaises facts new
+same_raises facts old new same here = record {
   lifts = subst (AreLifts facts.matrix) (sym same) here.lifts;
-  all = λ n less. subst (λ (rows : List RaiseRow). raised_before n rows ≡ rows) (sym same) (here.all n (omega (arith, time, less)));
   first = λ n. subst (λ (rows : List RaiseRow). (more : List RaiseRow) × (rows ≡ raised_before n rows ++ more)) (sym same) (here.first n);
 }
 
 -- with a raise of the open window
-one_more : (facts : SeasonFacts) (raises : List RaiseRow) (now : ℕ) (row : RaiseRow) → row.window ≡ now → ((n : ℕ) → now < n → raised_before n raises ≡ raises)
-    → (n : ℕ) → now < n → raised_before n (raises ++ row ∷ []) ≡ raises ++ row ∷ []
-one_more facts raises now row time all n less =
-    let here : raised_before n (row ∷ []) ≡ row ∷ [] = row_if (nat_lt row.window n) true row [] (lt_true row.window n (omega (arith, time, less))) in
-    before_append n raises (row ∷ []) ∙ (ap (λ (z : List RaiseRow). z ++ raised_before n (row ∷ [])) (all n less) ∙ ap (λ (z : List RaiseRow). raises ++ z) here)
-
-none_more : (raises : List RaiseRow) (row : RaiseRow) (n : ℕ) → n ≤ row.window → raised_before n (raises ++ row ∷ []) ≡ raised_before n raises
-none_more raises row n less =
-    let none : raised_before n (row ∷ []) ≡ [] = row_if (nat_lt row.window n) false row [] (not_before row.window n less) in
-    before_append n raises (row ∷ []) ∙ (ap (λ (z : List RaiseRow). raised_before n raises ++ z) none ∙ append-nil (raised_before n raises))
-
-two_ways : (now n : ℕ) → (now < n) ⊎ (n ≤ now)
-two_ways now n = by (nat_lt now n) refl
-  where
-    by : (b : Bool) → nat_lt now n ≡ b → (now < n) ⊎ (n ≤ now)
-    by true e = inl (grind (arith, nat_tests))
-    by false e = inr (not_above now n e)
-
-first_more : (facts : SeasonFacts) (raises : List RaiseRow) (now : ℕ) (row : RaiseRow) → row.window ≡ now → ((n : ℕ) → now < n → raised_before n raises ≡ raises)
+first_more : (raises : List RaiseRow) (row : RaiseRow) → ((n : ℕ) → row.window < n → raised_before n raises ≡ raises)
     → ((n : ℕ) → (more : List RaiseRow) × (raises ≡ raised_before n raises ++ more)) → (n : ℕ)
     → (more : List RaiseRow) × (raises ++ row ∷ [] ≡ raised_before n (raises ++ row ∷ []) ++ more)
-first_more facts raises now row time all first n = elim (two_ways now n) [
-  | inl less ↦ ([], sym (append-nil _ ∙ one_more facts raises now row time all n less))
-  | inr less ↦
+first_more raises row all first n = elim (cases_lt row.window n) [
+  | inl less ↦ ([], sym (append-nil _ ∙ (before_more n raises row less ∙ ap (λ (z : List RaiseRow). z ++ row ∷ []) (all n less))))
+  | inr late ↦
       let before = first n in (
         before.0 ++ row ∷ [],
         ap (λ (z : List RaiseRow). z ++ row ∷ []) before.1
-            ∙ (append_assoc (raised_before n raises) before.0 (row ∷ []) ∙ ap (λ (z : List RaiseRow). z ++ (before.0 ++ row ∷ [])) (sym (none_more raises row n (omega (arith, time, less))))),
+            ∙ (append_assoc (raised_before n raises) before.0 (row ∷ []) ∙ ap (λ (z : List RaiseRow). z ++ (before.0 ++ row ∷ [])) (sym (before_same n raises row late))),
       )
 ]
 
-raises_follow : OneStepChanges → (facts : SeasonFacts) → AreSeats facts.matrix → (old new : State) (act : Act) → AreRaises facts old → Follows facts old act new → AreRaises facts new
-raises_follow law facts seats old new act here (Answered row asks is accepts same) =
-    later_raises facts old new (ap (λ (s : State). s.raises) same) (let time = ap (λ (s : State). s.now) same in omega (arith, time)) here
-raises_follow law facts seats old new act here (Raised row code asks found known is accepts same) =
-    let time = opened old.now facts.rounds row.window accepts.opened in
+raises_follow : OneStepChanges → (facts : SeasonFacts) → AreSeats facts.matrix → (old new : State) (act : Act) → Runs facts old → Runs facts new → AreRaises facts old → Follows facts old act new
+    → AreRaises facts new
+raises_follow law facts seats old new act runs after here (Answered row asks is accepts same) = same_raises facts old new (ap (λ (s : State). s.raises) same) here
+raises_follow law facts seats old new act runs after here (Raised row code asks found known is accepts same) =
+    let time = (is_open old.now facts.rounds row.window accepts.opened).0 in
     let programmes = (raised_well law facts.matrix old.raises seats here.lifts).1.programmes in
     let below : row.prog.0 < length (matrix_at facts old).programmes = subst (λ z. row.prog.0 < length z) (sym programmes) found.below in
     subst (AreRaises facts) (sym same) (record {
       lifts = lifts_append facts.matrix old.raises (row ∷ []) here.lifts (was_lift facts old row below accepts.next, tt);
-      all = one_more facts old.raises old.now row time here.all;
-      first = first_more facts old.raises old.now row time here.all here.first;
+      first = first_more old.raises row (λ n less. runs.raises n (omega (arith, time, less))) here.first;
     })
-raises_follow law facts seats old new act here (Publishes window round asks is cuts less next same) =
-    later_raises facts old new (ap (λ (s : State). s.raises) same) (let time = ap (λ (s : State). s.now) same in omega (arith, time)) here
-raises_follow law facts seats old new act here (Finishes window asks is cuts last same) =
-    later_raises facts old new (ap (λ (s : State). s.raises) same) (let time = ap (λ (s : State). s.now) same in omega (arith, time)) here
+raises_follow law facts seats old new act runs after here (Publishes window round asks is cuts less next same) = same_raises facts old new (ap (λ (s : State). s.raises) same) here
+raises_follow law facts seats old new act runs after here (Finishes window asks is cuts last same) = same_raises facts old new (ap (λ (s : State). s.raises) same) here
 
 pub are_raises : OneStepChanges → (facts : SeasonFacts) → IsSound facts → (entries : List Entry) (state : State) → Reaches facts opening entries state → AreRaises facts state
-are_raises law facts sound entries state reached = along facts (AreRaises facts) (raises_follow law facts sound.seats) entries opening state (no_raises facts) reached
+are_raises law facts sound entries state reached = along_windows facts (AreRaises facts) (no_raises facts) (raises_follow law facts sound.seats) entries state reached
 
 -- ---- the matrix of each round
 
@@ -206,7 +173,7 @@ seats_rise law facts sound entries state reached =
       raised = λ n. (let to = leads facts state n here in
           subst (λ (z : SeatTable). IsRaised (matrix_of_round facts state n) z) (sym to.next) (raised_well law (matrix_of_round facts state n) to.more (upto n).0 to.onward).1);
       programmes = λ n. (upto n).1.programmes;
-      matrix = ap (raised facts.matrix) (sym (here.all (suc state.now) (omega arith)));
+      matrix = ap (raised facts.matrix) (sym ((runs_well facts entries state reached).raises (suc state.now) (omega arith)));
       whole = whole.0;
       whole_programmes = whole.1.programmes;
     }

@@ -1,78 +1,26 @@
--- The turns of a candidate in a window count from 1, and are few; no answer is of a window to come.
-use Rattle.std.proofs.Common.{◌≡◌, ◌<◌, ◌≤◌, ◌+◌, ◌⊎◌, inl, inr, ℕ, Bool, true, false, not, List, [], ◌∷◌, ◌++◌, Some, None, length, arith, refl, sym, ap, ◌∙◌, subst, nat_lt, ◌==◌, ◌&&◌, ◌||◌, if◌then◌else◌, append-nil, length-append}
+-- The turns of a candidate in a window count from 1, and are few.
+use Rattle.std.proofs.Common.{◌≡◌, ◌≤◌, ◌+◌, ◌⊎◌, inl, inr, ℕ, Bool, true, false, List, [], ◌∷◌, ◌++◌, None, length, arith, refl, sym, ap, ◌∙◌, subst, nat_lt, ◌==◌, if◌then◌else◌, append-nil, length-append}
 use Rattle.std.proofs.lemmas.Bool.Decides.{nat_tests}
-use Rattle.allocations.proofs.Places.{eq_means, eq_true}
-use Rattle.office_base.specs.Limits.{most_turns}
+use Rattle.allocations.proofs.Places.{eq_means}
 use Rattle.office_base.specs.declared.asks.Choice.{Choice}
 use Rattle.office_base.specs.declared.asks.Choice.TheVariants.{Freeze as ToFreeze, Float as ToFloat, Slide as ToSlide, Withdraw as ToWithdraw}
 use Rattle.keeper_mem.specs.declared.rows.AnswerRow.{AnswerRow}
-use Rattle.round_options.specs.Options.{may_follow, standing_of}
-use Rattle.round_options.specs.declared.standing.Standing.{Standing}
+use Rattle.round_options.specs.Options.{standing_of}
 use Rattle.office_moves.specs.Facts.{SeasonFacts}
 use Rattle.office_moves.specs.State.{State, answered, greater, in_window, last_turn, left_by, opening, rows_of, standing_at, view_of, with_row}
-use Rattle.office_moves.specs.Judge.{choice_of, is_gone, is_withdraw, judge_next_answer, not_open, refuse_if}
+use Rattle.office_moves.specs.Judge.{is_gone, is_withdraw, judge_next_answer, not_open}
 use Rattle.office_moves.specs.Decided.{answer_looks}
 use Rattle.office_moves.specs.History.{Reaches}
 use Rattle.office_moves.specs.Promise.{standing_then}
-use Rattle.office_moves.specs.declared.decide.AnswerLooks.{AnswerLooks}
 use Rattle.office_moves.specs.declared.decide.Decision.TheVariants.{Note}
 use Rattle.office_moves.specs.declared.moves.Act.{Act}
 use Rattle.office_moves.specs.declared.moves.Entry.{Entry}
-use Rattle.office_moves.specs.declared.refusal.Refusal.{Refusal}
-use Rattle.office_moves.specs.declared.refusal.Refusal.TheVariants.{Ahead, Gone, Late, NoSeat, TooManyTurns, Widening}
 use Rattle.office_moves.proofs.Repeats.{rows_append}
 use Rattle.histories.specs.Orderly.{AreAnswers, AreTurnsAfter}
-use Rattle.histories.proofs.Changes.{Answered, Finishes, Follows, Publishes, Raised, along}
-
--- ---- rows of a window
-
-row_when : (b : Bool) (row : AnswerRow) (rows more : List AnswerRow) → (if b then row ∷ (rows ++ more) else rows ++ more) ≡ (if b then row ∷ rows else rows) ++ more
-row_when true row rows more = refl
-row_when false row rows more = refl
-
-pub window_append : (window : ℕ) (rows more : List AnswerRow) → in_window window (rows ++ more) ≡ in_window window rows ++ in_window window more
-window_append window [] more = refl
-window_append window (row ∷ rows) more =
-    ap (λ (z : List AnswerRow). if row.window == window then row ∷ z else z) (window_append window rows more)
-    ∙ row_when (row.window == window) row (in_window window rows) (in_window window more)
-
--- the row, where it is one of the candidate and of the window
-abbrev pub own_row : ℕ → ℕ → AnswerRow → List AnswerRow
-own_row window id row = in_window window (rows_of id (row ∷ []))
-
-pub rows_then : (window id : ℕ) (answers : List AnswerRow) (row : AnswerRow)
-    → in_window window (rows_of id (answers ++ row ∷ [])) ≡ in_window window (rows_of id answers) ++ own_row window id row
-rows_then window id answers row =
-    ap (in_window window) (rows_append id answers (row ∷ [])) ∙ window_append window (rows_of id answers) (rows_of id (row ∷ []))
-
--- a row is one of a candidate and a window, or none of it
-pub data Owns (window id : ℕ) (row : AnswerRow) : Type 0 where
-  Own : row.cand.0 ≡ id → row.window ≡ window → own_row window id row ≡ row ∷ [] → Owns window id row
-  OfOther : rows_of id (row ∷ []) ≡ [] → own_row window id row ≡ [] → Owns window id row
-  OfWindow : (row.window ≡ window → ⊥) → own_row window id row ≡ [] → Owns window id row
-
-two_ways : (b : Bool) → (b ≡ true) ⊎ (b ≡ false)
-two_ways true = inl refl
-two_ways false = inr refl
-
-rows_if : (b c : Bool) (row : AnswerRow) (rows : List AnswerRow) → b ≡ c → (if b then row ∷ rows else rows) ≡ (if c then row ∷ rows else rows)
-rows_if b c row rows e = ap (λ (z : Bool). if z then row ∷ rows else rows) e
-
-differs : (m n : ℕ) → m == n ≡ false → m ≡ n → ⊥
-differs m n e same = let f = eq_true m n same in cc
-
-pub owns : (window id : ℕ) (row : AnswerRow) → Owns window id row
-owns window id row = elim (two_ways (row.cand.0 == id)) [
-  | inl e ↦
-      let mine : rows_of id (row ∷ []) ≡ row ∷ [] = rows_if (row.cand.0 == id) true row [] e in
-      elim (two_ways (row.window == window)) [
-        | inl f ↦ Own (eq_means row.cand.0 id e) (eq_means row.window window f) (ap (in_window window) mine ∙ rows_if (row.window == window) true row [] f)
-        | inr f ↦ OfWindow (differs row.window window f) (ap (in_window window) mine ∙ rows_if (row.window == window) false row [] f)
-      ]
-  | inr e ↦
-      let none : rows_of id (row ∷ []) ≡ [] = rows_if (row.cand.0 == id) false row [] e in
-      OfOther none (ap (in_window window) none)
-]
+use Rattle.histories.proofs.Accepted.{is_noted, is_open}
+use Rattle.histories.proofs.Changes.{Answered, Finishes, Follows, Publishes, Raised}
+use Rattle.histories.proofs.Rows.{OfOther, OfWindow, Own, Owns, answered_last, own_row, owns, rows_then}
+use Rattle.histories.proofs.Windows.{Runs, along_windows}
 
 -- ---- turns
 
@@ -107,50 +55,15 @@ turns_more k (first ∷ rows) row turns e = (turns.0, turns_more (k + 1) rows ro
 
 -- ---- an accepted answer
 
--- the last row decides how a candidate stands
-pub answered_last : (standing : Standing) (rows : List AnswerRow) (row : AnswerRow) → answered standing (rows ++ row ∷ []) ≡ standing_of row.choice
-answered_last standing [] row = refl
-answered_last standing (first ∷ rows) row = answered_last (standing_of first.choice) rows row
-
 gone_by : (choice : Choice) → is_gone (standing_of choice) ≡ false → is_withdraw choice ≡ false
 gone_by ToFreeze e = refl
 gone_by ToFloat e = refl
 gone_by ToSlide e = refl
 gone_by ToWithdraw e = e
 
--- the tests of the next answer
-record Passes (gone many : Bool) : Type 0 where
-  is_there : gone ≡ false
-  is_few : many ≡ false
-
-passes : (gone none wide many : Bool) (how first second third : Refusal) (row : AnswerRow)
-    → refuse_if gone how (refuse_if none first (refuse_if wide second (refuse_if many third (Note row)))) ≡ Note row → Passes gone many
-passes true none wide many how first second third row h = absurd (cc)
-passes false true wide many how first second third row h = absurd (cc)
-passes false false true many how first second third row h = absurd (cc)
-passes false false false true how first second third row h = absurd (cc)
-passes false false false false how first second third row h = record { is_there = refl; is_few = refl }
-
-few_turns : (turn : ℕ) (withdraw : Bool) → nat_lt 16 turn && not withdraw ≡ false → withdraw ≡ false → turn ≤ 16
-few_turns turn true e f = absurd (cc)
-few_turns turn false e f = by (nat_lt 16 turn) refl e
-  where
-    by : (b : Bool) → nat_lt 16 turn ≡ b → b && true ≡ false → turn ≤ 16
-    by true g h = absurd (cc)
-    by false g h = grind (arith, nat_tests)
-
--- an open window is the one of now
-pub opened : (now rounds window : ℕ) → not_open now rounds window ≡ None → window ≡ now
-opened now rounds window e = by (nat_lt window now) refl (nat_lt now window) refl e
-  where
-    late : (a : Bool) → nat_lt window now ≡ a → a ≡ false → now ≤ window
-    late a g h = grind (arith, nat_tests)
-
-    by : (a : Bool) → nat_lt window now ≡ a → (b : Bool) → nat_lt now window ≡ b
-        → (if a then Some (Late now) else if b || nat_lt rounds window then Some (Ahead now) else None) ≡ None → window ≡ now
-    by true g b h e = absurd (cc)
-    by false g true h e = absurd (cc)
-    by false g false h e = grind (arith, nat_tests)
+few_turns : (choice : Choice) (turn : ℕ) → is_withdraw choice ≡ false → (choice ≡ ToWithdraw) ⊎ (turn ≤ 16) → turn ≤ 16
+few_turns choice turn stays (inl out) = absurd (let away : is_withdraw choice ≡ true = ap is_withdraw out in cc)
+few_turns choice turn stays (inr few) = few
 
 -- what an accepted answer was: of the open window, of the next turn, and of somebody who was not gone; it is a withdrawal, or among the first 16
 pub record IsNext (facts : SeasonFacts) (old : State) (row : AnswerRow) : Type 0 where
@@ -162,15 +75,13 @@ pub record IsNext (facts : SeasonFacts) (old : State) (row : AnswerRow) : Type 0
 pub was_next : (facts : SeasonFacts) (old : State) (row : AnswerRow) → not_open old.now facts.rounds row.window ≡ None
     → (row.turn == last_turn (in_window old.now (rows_of row.cand.0 old.answers)) + 1) ≡ true → judge_next_answer (answer_looks facts (view_of old row.cand.0) row) row ≡ Note row
     → IsNext facts old row
-was_next facts old row is_open is_turn next =
-    let looks : AnswerLooks = answer_looks facts (view_of old row.cand.0) row in
-    let passed = passes (is_gone looks.standing) (not looks.seated && not (is_withdraw row.choice)) (not (may_follow looks.left row.choice)) (nat_lt most_turns row.turn && not (is_withdraw row.choice))
-    (Gone looks.standing) NoSeat (Widening (choice_of looks.left)) TooManyTurns row next in
+was_next facts old row opened is_turn next =
+    let noted = is_noted (answer_looks facts (view_of old row.cand.0) row) row next in
     record {
-      window = opened old.now facts.rounds row.window is_open;
+      window = (is_open old.now facts.rounds row.window opened).0;
       turn = eq_means _ _ is_turn;
-      there = passed.is_there;
-      few = few_turns row.turn (is_withdraw row.choice) passed.is_few;
+      there = noted.here;
+      few = λ stays. few_turns row.choice row.turn stays noted.turns;
     }
 
 -- ---- along a history
@@ -178,8 +89,8 @@ was_next facts old row is_open is_turn next =
 no_answers : (facts : SeasonFacts) → AreAnswers facts opening
 no_answers facts = record { turns = λ window id. tt; most = λ window id. omega arith; room = λ id here. omega arith; later = λ window id less. refl }
 
-with_answer : (facts : SeasonFacts) (old : State) (row : AnswerRow) → AreAnswers facts old → IsNext facts old row → AreAnswers facts (with_row old row)
-with_answer facts old row here next =
+with_answer : (facts : SeasonFacts) (old : State) (row : AnswerRow) → Runs facts (with_row old row) → AreAnswers facts old → IsNext facts old row → AreAnswers facts (with_row old row)
+with_answer facts old row runs here next =
     let before : List AnswerRow = in_window old.now (rows_of row.cand.0 old.answers) in
     let counted : row.turn ≡ length before + 1 = next.turn ∙ ap (λ (n : ℕ). n + 1) (last_counts before (here.turns old.now row.cand.0)) in
     let few : length before ≤ 16 = here.room row.cand.0 next.there in
@@ -189,7 +100,7 @@ with_answer facts old row here next =
       turns = λ window id. subst (AreTurnsAfter 0) (sym (rows_then window id old.answers row)) (turned window id (owns window id row) counted);
       most = λ window id. subst (λ (rows : List AnswerRow). length rows ≤ 17) (sym (rows_then window id old.answers row)) (most_of window id (owns window id row) few longer);
       room = λ id stays. room_of id (owns old.now id row) counted longer stays;
-      later = λ window id less. rows_then window id old.answers row ∙ later_of window id (owns window id row) less;
+      later = runs.answers;
     }
   where
     own_rows : (window id : ℕ) → row.cand.0 ≡ id → row.window ≡ window → in_window old.now (rows_of row.cand.0 old.answers) ≡ in_window window (rows_of id old.answers)
@@ -236,31 +147,27 @@ with_answer facts old row here next =
         (here.room id (ap (λ (z : List AnswerRow). is_gone (standing_at facts (record { now = old.now; rounds = old.rounds; rows = z }) id old.now)) (sym same) ∙ stays))
     room_of id (OfWindow apart none) counted longer stays = absurd (apart next.window)
 
-    later_of : (window id : ℕ) → Owns window id row → old.now < window → in_window window (rows_of id old.answers) ++ own_row window id row ≡ []
-    later_of window id (Own same time mine) less = absurd (let now_window = next.window in omega (arith, time, now_window, less))
-    later_of window id (OfOther others none) less = not_more window id none ∙ here.later window id less
-    later_of window id (OfWindow apart none) less = not_more window id none ∙ here.later window id less
-
-after_window : (facts : SeasonFacts) (old new : State) → new.answers ≡ old.answers → new.now ≡ old.now + 1 → AreAnswers facts old → AreAnswers facts new
-after_window facts old new same time here = record {
+after_window : (facts : SeasonFacts) (old new : State) → Runs facts new → new.answers ≡ old.answers → new.now ≡ old.now + 1 → AreAnswers facts old → AreAnswers facts new
+after_window facts old new runs same time here = record {
   turns = λ window id. subst (λ (rows : List AnswerRow). AreTurnsAfter 0 (in_window window (rows_of id rows))) (sym same) (here.turns window id);
   most = λ window id. subst (λ (rows : List AnswerRow). length (in_window window (rows_of id rows)) ≤ 17) (sym same) (here.most window id);
   room = λ id stays.
       (let none : in_window new.now (rows_of id new.answers) ≡ [] =
       ap (λ (rows : List AnswerRow). in_window new.now (rows_of id rows)) same ∙ here.later new.now id (omega (arith, time)) in
       subst (λ (rows : List AnswerRow). length rows ≤ 16) (sym none) (omega arith));
-  later = λ window id less. ap (λ (rows : List AnswerRow). in_window window (rows_of id rows)) same ∙ here.later window id (omega (arith, time, less));
+  later = runs.answers;
 }
 
-answers_follow : (facts : SeasonFacts) (old new : State) (act : Act) → AreAnswers facts old → Follows facts old act new → AreAnswers facts new
-answers_follow facts old new act here (Answered row asks is accepts same) =
-    subst (AreAnswers facts) (sym same) (with_answer facts old row here (was_next facts old row accepts.opened accepts.turn accepts.next))
-answers_follow facts old new act here (Raised row code asks found known is accepts same) =
+answers_follow : (facts : SeasonFacts) (old new : State) (act : Act) → Runs facts old → Runs facts new → AreAnswers facts old → Follows facts old act new → AreAnswers facts new
+answers_follow facts old new act before runs here (Answered row asks is accepts same) =
+    subst (AreAnswers facts) (sym same)
+    (with_answer facts old row (subst (Runs facts) same runs) here (was_next facts old row accepts.opened accepts.turn accepts.next))
+answers_follow facts old new act before runs here (Raised row code asks found known is accepts same) =
     subst (AreAnswers facts) (sym same) (record { turns = here.turns; most = here.most; room = here.room; later = here.later })
-answers_follow facts old new act here (Publishes window round asks is cuts less next same) =
-    after_window facts old new (ap (λ (s : State). s.answers) same) (ap (λ (s : State). s.now) same) here
-answers_follow facts old new act here (Finishes window asks is cuts last same) =
-    after_window facts old new (ap (λ (s : State). s.answers) same) (ap (λ (s : State). s.now) same) here
+answers_follow facts old new act before runs here (Publishes window round asks is cuts less next same) =
+    after_window facts old new runs (ap (λ (s : State). s.answers) same) (ap (λ (s : State). s.now) same) here
+answers_follow facts old new act before runs here (Finishes window asks is cuts last same) =
+    after_window facts old new runs (ap (λ (s : State). s.answers) same) (ap (λ (s : State). s.now) same) here
 
 pub are_answers : (facts : SeasonFacts) (entries : List Entry) (state : State) → Reaches facts opening entries state → AreAnswers facts state
-are_answers facts entries state reached = along facts (AreAnswers facts) (answers_follow facts) entries opening state (no_answers facts) reached
+are_answers facts entries state reached = along_windows facts (AreAnswers facts) (no_answers facts) (answers_follow facts) entries state reached

@@ -3,7 +3,6 @@ ghost use Rattle.std.specs.Prelude.{◌≡◌, ℕ, List};
 ghost use Rattle.seat_matrix.specs.Matrix.{AreSeats, SeatTable};
 ghost use Rattle.seeks.specs.declared.seek.Seek.{Seek};
 ghost use Rattle.rounds.specs.Round.{IsRound};
-ghost use Rattle.rounds.specs.Rule.{ProgrammesChooseWell, ProgrammesGrow};
 ghost use Rattle.rounds.specs.declared.round.Round.{Round};
 ghost use Rattle.office_moves.specs.Facts.{IsSound, SeasonFacts, lists_in_order};
 ghost use Rattle.office_moves.specs.Laws.{NextRoundsAreOne, OneNextRound};
@@ -49,29 +48,16 @@ pub fn seats_only_rise()
 pub fn runs_its_course()
     ensures { (facts : SeasonFacts) (entries : List Entry) (state : State) → IsSound facts → Reaches facts opening entries state → IsCourse facts state }
 {
+    windows_pass();
     seats_only_rise();
-}
-
-/// The programmes of every matrix choose well.
-pub fn programmes_choose_well()
-    ensures { ProgrammesChooseWell }
-{
-    open_then_category::laws::chosen_well();
-}
-
-/// And where they have more seats, they admit everybody whom they admitted.
-pub fn programmes_grow()
-    ensures { ProgrammesGrow }
-{
-    open_then_category::laws::grows_with_seats();
 }
 
 /// Over a course of a season the office keeps its word: every round is just, and nobody falls.
 pub fn keeps_its_word()
     ensures { (facts : SeasonFacts) (state : State) → IsSound facts → IsCourse facts state → KeepsItsWord facts state }
 {
-    programmes_choose_well();
-    programmes_grow();
+    round_laws::laws::choose_well();
+    round_laws::laws::grow();
 }
 
 /// In a state that a history reaches all is in order: the office keeps its word, and its windows, turns, seats and raises fit together.
@@ -82,8 +68,8 @@ pub fn orderly()
     turns_count();
     windows_pass();
     seats_only_rise();
-    programmes_choose_well();
-    programmes_grow();
+    round_laws::laws::choose_well();
+    round_laws::laws::grow();
 }
 
 /// Two rounds of a season by one matrix, on one seek for each of the people, are one.
@@ -92,10 +78,8 @@ pub fn one_round()
         → table.programmes ≡ facts.matrix.programmes → IsRound facts.version table facts.people (lists_in_order facts) n seeks first
         → IsRound facts.version table facts.people (lists_in_order facts) n seeks second → first ≡ second }
 {
-    programmes_choose_well();
-    open_then_category::laws::one_programme_choice();
-    open_then_category::laws::admitted_once();
-    slot_cert::laws::one_certificate();
+    round_laws::laws::enter();
+    round_laws::laws::one_round();
 }
 
 /// A state in which all is in order has one next round at most.

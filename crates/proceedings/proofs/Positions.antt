@@ -2,13 +2,12 @@
 use Rattle.std.proofs.Common.{◌≡◌, ◌<◌, ◌+◌, ◌⊎◌, inl, inr, ℕ, zero, suc, Bool, true, false, List, [], ◌∷◌, Option, Some, None, length, map, arith, refl, sym, ap, ◌∙◌, ◌==◌, if◌then◌else◌}
 use Rattle.std.specs.Prelude.{slice_get, option_map}
 use Rattle.std.proofs.lemmas.Bool.{cases_Bool}
-use Rattle.std.proofs.lemmas.Option.{slice_get-map}
+use Rattle.std.proofs.lemmas.Option.{slice_get-map, slice_get_within}
 use Rattle.office_base.specs.Lists.{Pairwise}
 use Rattle.office_base.specs.Person.{at_person}
 use Rattle.office_base.specs.declared.person.Person.{Person}
 use Rattle.rank_lists.specs.Register.{row_of}
 use Rattle.allocations.proofs.Places.{eq_means, eq_true}
-use Rattle.allocations.proofs.Those.{all_at}
 
 -- the person of this id stands at this position
 pub record Stands (id : ℕ) (people : List Person) (at : ℕ) : Type 0 where
@@ -83,30 +82,7 @@ pub both_follow : {W X Y Z : Type 0} (f : Y → X) (g : Y → W) (h : Y → Z) (
 both_follow f g h None x w z first other next = absurd (cc)
 both_follow f g h (Some y) x w z first other next = ap Some (next y (let same : Some (f y) ≡ Some x = first in cc) (let same : Some (g y) ≡ Some w = other in cc))
 
-row_later : (b : Bool) (rest : Option ℕ) (n : ℕ) → b ≡ false → rest ≡ Some n → (if b then Some 0 else option_map (λ n. n + 1) rest) ≡ Some (suc n)
-row_later true rest n e found = absurd (cc)
-row_later false None n e found = absurd (cc)
-row_later false (Some m) n e found = let same : m ≡ n = cc in ap Some (omega (arith, same))
-
-row_here : (b : Bool) (rest : Option ℕ) → b ≡ true → (if b then Some 0 else option_map (λ n. n + 1) rest) ≡ Some 0
-row_here true rest e = refl
-row_here false rest e = absurd (cc)
-
--- the ids rise, so each person stands at the position of the own id
-pub row_at : (people : List Person) (at : ℕ) (person : Person) → Pairwise (λ (a b : Person). a.id.0 < b.id.0) people → slice_get people at ≡ Some person → row_of person.id.0 people ≡ Some at
-row_at [] at person rising there = absurd (cc)
-row_at (p ∷ people) zero person rising there =
-    let same : p ≡ person = cc in
-    row_here (person.id.0 == p.id.0) (row_of person.id.0 people) (eq_true person.id.0 p.id.0 (sym (ap (λ (q : Person). q.id.0) same)))
-row_at (p ∷ people) (suc at) person rising there =
-    let less = all_at (λ (b : Person). p.id.0 < b.id.0) people at person rising.0 there in
-    let other : (person.id.0 == p.id.0) ≡ false = elim (cases_Bool (person.id.0 == p.id.0)) [
-      | inl same ↦ absurd (omega (arith, less, eq_means person.id.0 p.id.0 same))
-      | inr apart ↦ apart
-    ] in
-    row_later (person.id.0 == p.id.0) (row_of person.id.0 people) at other (row_at people at person rising.1 there)
-
--- so of whoever stands there, so of the position
+-- what is so of whoever stands at a position is so there
 pub there_at : {Y Z : Type 0} (h : Y → Z) (ys : List Y) (at : ℕ) (z : Z) → at < length ys → ((y : Y) → slice_get ys at ≡ Some y → h y ≡ z) → option_map h (slice_get ys at) ≡ Some z
 there_at h [] at z less same = absurd (omega (arith, less))
 there_at h (y ∷ ys) zero z less same = ap Some (same y refl)

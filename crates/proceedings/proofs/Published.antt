@@ -37,9 +37,10 @@ use Rattle.office_moves.specs.State.{State, round_at, seat_in, seat_of}
 use Rattle.office_moves.specs.Raised.{matrix_of_round}
 use Rattle.office_moves.specs.Moves.{row_before, rows_along}
 use Rattle.office_moves.specs.Promise.{standing_then}
+use Rattle.round_laws.proofs.People.{row_at, there_is}
 use Rattle.histories.specs.Course.{IsCourse, seek_then, seeks_then}
 use Rattle.histories.specs.Orderly.{IsOrderly}
-use Rattle.proceedings.proofs.Positions.{at_position, row_at, row_cases}
+use Rattle.proceedings.proofs.Positions.{at_position, row_cases}
 
 -- a published round stands at the place before its number
 pub published : (rounds : List Round) (n : ℕ) (round : Round) → round_at rounds n ≡ Some round → (before : ℕ) × (n ≡ suc before) × (slice_get rounds before ≡ Some round)
@@ -123,11 +124,6 @@ wanted_more xs (y ∷ ys) p sub less = elim (cases_Bool (y.0 == p)) [
     | inr taken ↦ wanted_more taken.0 ys p taken.2 (let P : List ProgId → Type 0 = λ list. place_of list p < length list in place_less (y.0 == p) (place_of taken.0 p) (length taken.0) other (subst P taken.1 less))
   ])
 ]
-
-pub there_is : {X : Type 0} (xs : List X) (i : ℕ) → i < length xs → (x : X) × (slice_get xs i ≡ Some x)
-there_is [] i less = absurd (omega (arith, less))
-there_is (x ∷ xs) zero less = (x, refl)
-there_is (x ∷ xs) (suc i) less = there_is xs i (omega (arith, less))
 
 joined : (o : Option (Option Seat)) (seat : Seat) → option_and_then (λ (x : Option Seat). x) o ≡ Some seat → o ≡ Some (Some seat)
 joined None seat e = absurd (cc)

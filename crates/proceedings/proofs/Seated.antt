@@ -9,7 +9,8 @@ use Rattle.office_base.specs.declared.person.Person.{Person}
 use Rattle.rounds.specs.declared.round.Round.{Round}
 use Rattle.office_moves.specs.Facts.{SeasonFacts}
 use Rattle.office_moves.specs.State.{last_seat, round_at, seat_of}
-use Rattle.proceedings.proofs.Positions.{at_position, row_at}
+use Rattle.round_laws.proofs.People.{row_at}
+use Rattle.proceedings.proofs.Positions.{at_position}
 
 -- the last round is the one whose number is how many there are
 pub round_last : (rounds : List Round) (last : Option Round) → last ≡ slice_get rounds (length rounds - 1) → round_at rounds (length rounds) ≡ last

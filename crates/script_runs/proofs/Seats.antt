@@ -1,4 +1,5 @@
 -- The seats and the lists of the rounds of a state in which all is in order can be shown.
+use Rattle.std.proofs.lemmas.Option.{slice_get_within}
 use Rattle.std.proofs.Common.{◌≡◌, ◌<◌, ◌+◌, ℕ, zero, suc, Bool, true, false, List, [], ◌∷◌, Option, Some, None, length, arith, refl, sym, ap, subst, if◌then◌else◌}
 use Rattle.std.specs.Prelude.{slice_get, IfSome}
 use Rattle.std.specs.List.{AllByRecursion}
@@ -26,7 +27,8 @@ use Rattle.reply_texts.specs.Replies.{HasTraitSlots, IsRoundOf}
 use Rattle.histories.specs.Course.{seeks_then}
 use Rattle.histories.specs.Orderly.{IsOrderly}
 use Rattle.histories.proofs.Entering.{entrants}
-use Rattle.histories.proofs.Fits.{below_get, get_below, is_seated}
+use Rattle.round_laws.proofs.People.{there_is}
+use Rattle.histories.proofs.Fits.{is_seated}
 use Rattle.script_runs.specs.Runs.{rows_shown}
 
 all_from : {X : Type 0} (P : X → Type 0) (xs : List X) → ((i : ℕ) (x : X) → slice_get xs i ≡ Some x → P x) → AllByRecursion P xs
@@ -57,16 +59,16 @@ round_shows facts state before round laws sound orderly at =
     record {
       entries = orderly.entries before round at;
       seats = λ i seat has.
-          let below = below_get round.seats i (Some seat) has in
+          let below = slice_get_within round.seats i (Some seat) has in
           let full = allocation.full in
-          let found = get_below seekers i (omega (arith, below, full)) in
+          let found = there_is seekers i (omega (arith, below, full)) in
           let read = place_read found.0.list seat.prog.0 (allocation.own i found.0 (Some seat) found.1 has) in
           let less = seek.below i _ found.0 read.0 found.1 read.1 in
           let many : length table.programmes ≡ length facts.matrix.programmes = ap (λ ps. length ps) same in
           let is = read.2 in
           omega (arith, less, many, is);
       slots = λ p programme shows.
-          let below = below_get round.programmes p programme shows in
+          let below = slice_get_within round.programmes p programme shows in
           let count = made.count in
           let less : p < length table.programmes = omega (arith, below, count) in
           let may = applicants_may (rule_of facts.version table) (MayApplyIn table) (length table.programmes) p seekers round.seats seek (laws.well facts.version table sound_seats) less allocation.full in

@@ -1,7 +1,7 @@
 use Rattle.std.proofs.Common.{length, refl}
 use Rattle.std.proofs.lemmas.Option.{slice_get_read}
 use Rattle.apply_engine.proofs.SeatLemmas.{decide_shown, one_programme_more}
-use Rattle.apply_engine.proofs.Season.{distinct_of_rising}
+use Rattle.round_laws.proofs.People.{distinct_of_rising}
 use Rattle.apply_engine.proofs.seating.put_all.Goals as goal
 
 pub put_programme-requires-clause-of_people : goal.put_programme-requires-clause-of_people

@@ -1,6 +1,7 @@
-use Rattle.histories.proofs.OneRound.{one_round}
+use Rattle.office_moves.specs.Facts.{lists_in_order, register_of}
 use Rattle.histories.proofs.laws.one_round.Goals as goal
 
 pub returns : goal.returns
-returns c = λ facts table n seeks first second sound seats same a b. one_round facts table n seeks first second
-    (record { well = c.programmes_choose_well.ensures; one = c.one_programme_choice.ensures; once = c.admitted_once.ensures; certificate = c.one_certificate.ensures }) sound seats same a b
+returns c = λ facts table n seeks first second sound seats same a b.
+    c.one_round.ensures facts.version n table facts.people (lists_in_order facts) seeks first second seats
+    (c.enter.ensures (register_of facts) facts.matrix table facts.lists sound.ranks sound.choices sound.aligned same) a b

@@ -12,7 +12,10 @@ use Rattle.rounds.specs.Rule.{AreEntrants, IsRaised, MayApplyIn, rule_of, seeker
 use Rattle.rounds.specs.declared.round.Round.{Round}
 use Rattle.seat_matrix.specs.Matrix.{AreSeats, SeatTable}
 use Rattle.seeks.specs.declared.seek.Seek.{Seek}
-use Rattle.apply_engine.specs.Engine.{lists_in}
+
+-- the choice lists of a season, along its register
+abbrev pub lists_in : Lists → List (List ProgId)
+lists_in lists = map (λ held. held.1) lists
 
 -- the people of a season, each with a sound choice list, may enter its rounds, by its own matrix and by any other one of its programmes
 abbrev pub Enter : Type 0

@@ -2,7 +2,7 @@ use Rattle.std.proofs.Common.{length}
 use Rattle.allocations.proofs.Claims.{fair_justified, justified_fair}
 use Rattle.rounds.specs.Rule.{MayApplyIn, rule_of, seekers_of}
 use Rattle.rounds.proofs.Entrants.{market}
-use Rattle.apply_engine.proofs.laws.fair_without_claims.Goals as goal
+use Rattle.round_laws.proofs.laws.fair_without_claims.Goals as goal
 
 pub returns : goal.returns
 returns c = λ version table people lists seeks seats are entrants.

@@ -1,4 +1,4 @@
--- Programmes choose well and grow with their seats; so between two fair rounds nobody who remains does worse.
+-- Between two fair rounds nobody who remains does worse, where programmes choose well and grow with their seats.
 use Rattle.std.proofs.Common.{◌≡◌, ◌<◌, ◌≤◌, ℕ, List, Option, Some, None, length, ap, subst}
 use Rattle.std.specs.Prelude.{slice_get}
 use Rattle.office_base.specs.declared.asks.Seat.{Seat}
@@ -7,17 +7,9 @@ use Rattle.allocations.specs.Market.{Seeker, place_of}
 use Rattle.allocations.proofs.Falls as falls
 use Rattle.allocations.proofs.Places.{applies_means, place_read}
 use Rattle.allocations.proofs.Those.{value_at}
-use Rattle.open_then_category.specs.Laws.{ChosenWell, GrowsWithSeats}
 use Rattle.rounds.specs.Rule.{MayApplyIn, ProgrammesChooseWell, ProgrammesGrow, rule_of}
-use Rattle.seat_matrix.specs.Matrix.{SeatTable, seats_in}
-use Rattle.apply_engine.specs.Laws.{AreFairInTurn, NobodyFalls}
-use Rattle.apply_engine.proofs.Setting.{sound_all}
-
-pub choose_well : ChosenWell → ProgrammesChooseWell
-choose_well well = λ version table seats. well version (λ p. seats_in table p) (sound_all table seats)
-
-pub grow : GrowsWithSeats → ProgrammesGrow
-grow grows = λ version table more seats seats' raised. grows version (λ p. seats_in table p) (λ p. seats_in more p) (sound_all table seats) (sound_all more seats') raised.seats
+use Rattle.seat_matrix.specs.Matrix.{SeatTable}
+use Rattle.round_laws.specs.Laws.{AreFairInTurn, NobodyFalls}
 
 -- the number of programmes is the same
 next_fair : (version : ℕ) (table more : SeatTable) (seekers next : List Seeker) (seats others : List (Option Seat)) → AreFairInTurn version table more seekers next seats others

@@ -1,7 +1,9 @@
 -- The programmes of a matrix choose well, and grow with their seats, by the laws of the choice of a programme.
-use Rattle.std.proofs.Common.{◌≡◌, ◌<◌, ◌≤◌, ◌⊎◌, inl, inr, ℕ, zero, suc, List, [], ◌∷◌, None, length, arith, refl, sym, ap, subst}
-use Rattle.std.specs.Prelude.{slice_get, slice_index_or, option_map}
+use Rattle.std.proofs.Common.{◌≡◌, ◌≤◌, inl, inr, ℕ, zero, suc, List, [], ◌∷◌, length, arith, refl, sym, ap, subst}
+use Rattle.std.specs.Prelude.{slice_index_or, option_map}
 use Rattle.std.specs.Option.{unwrap_or}
+use Rattle.std.proofs.lemmas.Bool.{cases_lt}
+use Rattle.std.proofs.lemmas.Option.{slice_get_past}
 use Rattle.office_base.specs.Person.{IsList}
 use Rattle.office_base.specs.declared.step.StepKind.{StepKind}
 use Rattle.office_base.specs.declared.step.StepKind.TheVariants.{Open, Ews, Obc, Sc, St, Dereserved}
@@ -10,12 +12,6 @@ use Rattle.rounds.specs.Rule.{ProgrammesChooseWell, ProgrammesGrow}
 use Rattle.seat_matrix.specs.Matrix.{AreSeats, SeatTable, first_list, list_in, seats_in, steps_in}
 use Rattle.seat_matrix.specs.Seats.{AreProgrammeSeats, IsSeated, no_seating, no_seatings, of_step}
 use Rattle.seat_matrix.specs.declared.seats.Seatings.{Seatings}
-
--- after the end of a list nothing stands
-get_after : {X : Type 0} (xs : List X) (p : ℕ) → length xs ≤ p → slice_get xs p ≡ None
-get_after [] p far = refl
-get_after (x ∷ xs) zero far = absurd (omega (arith, far))
-get_after (x ∷ xs) (suc p) far = get_after xs p (omega (arith, far))
 
 index_after : {X : Type 0} (xs : List X) (p : ℕ) (x : X) → length xs ≤ p → slice_index_or xs p x ≡ x
 index_after [] p x far = refl
@@ -34,22 +30,17 @@ no_steps St = none_seated
 no_steps Dereserved = none_seated
 
 -- the seats of each programme are sound, and so are those of none
-pub sound_all : (table : SeatTable) → AreSeats table → (p : ℕ) → AreProgrammeSeats (seats_in table p)
-sound_all table seats p = elim (cases p (length table.programmes)) [
+sound_all : (table : SeatTable) → AreSeats table → (p : ℕ) → AreProgrammeSeats (seats_in table p)
+sound_all table seats p = elim (cases_lt p (length table.programmes)) [
   | inl less ↦ seats.sound p less
   | inr far ↦ record {
-    list = (let e : list_in table p ≡ first_list = ap (λ home. unwrap_or (option_map (λ held. held.1.list) home) first_list) (get_after table.programmes p far) in
+    list = (let e : list_in table p ≡ first_list = ap (λ home. unwrap_or (option_map (λ held. held.1.list) home) first_list) (slice_get_past table.programmes p far) in
         subst IsList (sym e) (omega arith, omega arith));
     steps = λ step.
         let e : steps_in table p ≡ no_seatings = index_after table.steps p no_seatings (omega (arith, seats.steps, far)) in
         subst (λ (s : Seatings). IsSeated (of_step s step)) (sym e) (no_steps step);
   }
 ]
-  where
-    cases : (m n : ℕ) → (m < n) ⊎ (n ≤ m)
-    cases m zero = inr (omega arith)
-    cases zero (suc n) = inl (omega arith)
-    cases (suc m) (suc n) = elim (cases m n) [ inl h ↦ inl (omega (arith, h)) | inr h ↦ inr (omega (arith, h)) ]
 
 pub choose_well : ChosenWell → ProgrammesChooseWell
 choose_well well version table seats = well version (λ p. seats_in table p) (sound_all table seats)

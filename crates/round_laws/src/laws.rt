@@ -1,6 +1,6 @@
 // The laws of rounds, over their definitions alone. Each is the contract of a function that does nothing.
 ghost use Rattle.rounds.specs.Rule.{ProgrammesChooseWell, ProgrammesGrow};
-ghost use Rattle.apply_engine.specs.Laws.{Enter, FairWithoutClaims, Market, NobodyFalls, OneRound};
+ghost use Rattle.round_laws.specs.Laws.{Enter, FairWithoutClaims, Market, NobodyFalls, OneRound};
 
 /// The people of a season may enter its rounds, by any matrix of its programmes.
 pub fn enter()

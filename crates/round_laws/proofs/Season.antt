@@ -1,72 +1,20 @@
--- Those who enter the rounds of a season: the people of its register with their choice lists.
-use Rattle.std.proofs.Common.{◌≡◌, ◌≢◌, ◌<◌, ◌-◌, inl, inr, ℕ, zero, suc, Bool, true, false, List, [], ◌∷◌, Option, Some, None, length, map, arith, refl, sym, ap, ◌∙◌, subst, ◌==◌, if◌then◌else◌}
-use Rattle.std.specs.Prelude.{slice_get, IsSome, IsTrue, is_some}
+-- Those who enter the rounds of a season: the people of its register with their choice lists, by any matrix of its programmes.
+use Rattle.std.proofs.Common.{◌≡◌, ◌<◌, ◌-◌, ℕ, zero, suc, true, false, List, [], ◌∷◌, Option, Some, None, length, map, refl, sym, ap, ◌∙◌, subst, ◌==◌}
+use Rattle.std.specs.Prelude.{slice_get, IsSome, IsTrue}
 use Rattle.std.specs.List.{AllByRecursion}
-use Rattle.std.proofs.lemmas.Bool.{cases_Bool}
 use Rattle.office_base.specs.Lists.{Pairwise}
 use Rattle.office_base.specs.Person.{number_in}
-use Rattle.office_base.specs.declared.person.CandId.{CandId}
 use Rattle.office_base.specs.declared.person.Person.{Person}
 use Rattle.office_base.specs.declared.person.ProgId.{ProgId}
-use Rattle.allocations.proofs.Places.{eq_true, eq_means}
+use Rattle.allocations.proofs.Places.{eq_true}
 use Rattle.allocations.proofs.Those.{all_at}
 use Rattle.rank_lists.specs.Register.{AreRanks, Ranks, find_person}
 use Rattle.choice_lists.specs.Choices.{AreChoices, IsChoice, Lists, is_ranked_for, is_ranked_there, list_of, listed}
 use Rattle.seat_matrix.specs.Matrix.{SeatTable, list_in}
 use Rattle.seat_matrix.specs.declared.entry.Home.{Home}
 use Rattle.rounds.specs.Rule.{AreEntrants, IsOwnList}
-use Rattle.apply_engine.specs.Engine.{lists_in}
-
-all_from : {X : Type 0} (P : X → Type 0) (xs : List X) → ((i : ℕ) (x : X) → slice_get xs i ≡ Some x → P x) → AllByRecursion P xs
-all_from P [] h = tt
-all_from P (x ∷ xs) h = (h 0 x refl, all_from P xs (λ i. h (suc i)))
-
--- a number is not below itself
-pub apart_of_less : (m n : ℕ) → m < n → (n == m) ≡ false
-apart_of_less m n less = elim (cases_Bool (n == m)) [ inl e ↦ absurd (let same = eq_means n m e in omega (arith, same, less)) | inr e ↦ e ]
-
-pub when_true : {X : Type 0} (b : Bool) (x y : X) → b ≡ true → (if b then x else y) ≡ x
-when_true true x y e = refl
-when_true false x y e = absurd (cc)
-
-pub when_false : {X : Type 0} (b : Bool) (x y : X) → b ≡ false → (if b then x else y) ≡ y
-when_false true x y e = absurd (cc)
-when_false false x y e = refl
-
--- the person at a place is found by the id, where ids rise
-pub found_at : (people : List Person) (i : ℕ) (person : Person) → Pairwise (λ (a b : Person). a.id.0 < b.id.0) people → slice_get people i ≡ Some person → find_person person.id.0 people ≡ Some person
-found_at [] i person rising at = absurd (cc)
-found_at (x ∷ people) zero person rising at =
-    let same : x ≡ person = cc in
-    when_true (person.id.0 == x.id.0) (Some x) (find_person person.id.0 people) (eq_true person.id.0 x.id.0 (ap (λ (z : Person). z.id.0) (sym same))) ∙ ap Some same
-found_at (x ∷ people) (suc i) person rising at =
-    let less = all_at (λ (b : Person). x.id.0 < b.id.0) people i person rising.0 at in
-    when_false (person.id.0 == x.id.0) (Some x) (find_person person.id.0 people) (apart_of_less x.id.0 person.id.0 less) ∙ found_at people i person rising.1 at
-
--- persons whose numbers rise are distinct
-pub distinct_of_rising : (people : List Person) → Pairwise (λ (a b : Person). a.id.0 < b.id.0) people → Pairwise (λ (a b : Person). a.id ≢ b.id) people
-distinct_of_rising [] rising = tt
-distinct_of_rising (x ∷ people) rising = (apart_all x people rising.0, distinct_of_rising people rising.1)
-  where
-    apart_all : (x : Person) (people : List Person) → AllByRecursion (λ (b : Person). x.id.0 < b.id.0) people → AllByRecursion (λ (b : Person). x.id ≢ b.id) people
-    apart_all x [] all = tt
-    apart_all x (y ∷ people) all = ((λ e. let same = ap (λ (z : CandId). z.0) e in let less = all.0 in omega (arith, same, less)), apart_all x people all.1)
-
--- one id stands at one place
-one_row : (people : List Person) (i j : ℕ) (a b : Person) → Pairwise (λ (a b : Person). a.id.0 < b.id.0) people → slice_get people i ≡ Some a → slice_get people j ≡ Some b → a.id.0 ≡ b.id.0 → i ≡ j
-one_row [] i j a b rising at at' same = absurd (cc)
-one_row (x ∷ people) zero zero a b rising at at' same = refl
-one_row (x ∷ people) zero (suc j) a b rising at at' same = absurd (
-    let first : x ≡ a = cc in
-    let less = all_at (λ (b : Person). x.id.0 < b.id.0) people j b rising.0 at' in
-    let e = ap (λ (z : Person). z.id.0) first in
-    omega (arith, less, e, same))
-one_row (x ∷ people) (suc i) zero a b rising at at' same = absurd (
-    let first : x ≡ b = cc in
-    let less = all_at (λ (b : Person). x.id.0 < b.id.0) people i a rising.0 at in
-    let e = ap (λ (z : Person). z.id.0) first in
-    omega (arith, less, e, same))
-one_row (x ∷ people) (suc i) (suc j) a b rising at at' same = ap suc (one_row people i j a b rising.1 at at' same)
+use Rattle.round_laws.specs.Laws.{lists_in}
+use Rattle.round_laws.proofs.People.{apart_of_less, distinct_of_rising, found_at, one_row, when_false, when_true}
 
 -- the list at a place is that of the person there
 pub list_at_place : (lists : Lists) (people : List Person) (i : ℕ) (person : Person) (list : List ProgId) → map (λ (held : ℕ × List ProgId). held.0) lists ≡ map (λ (p : Person). p.id.0) people
@@ -87,9 +35,6 @@ list_at_place (held ∷ lists) (x ∷ people) (suc i) person list aligned rising
     ap listed (when_false (person.id.0 == held.0) (Some held.1) _ test) ∙ list_at_place lists people i person list rest rising.1 at at'
 
 -- a choice of the season is an own list
-some_of_true : (number : Option ℕ) → IsTrue (is_some number) → IsSome number
-some_of_true number h = h
-
 placed_for : (table : SeatTable) (person : Person) (n : ℕ) (home : Option (List ℕ × Home)) → slice_get table.programmes n ≡ home → IsTrue (is_ranked_for person home) → IsSome (number_in (list_in table n) person)
 placed_for table person n None at ranked = absurd (cc)
 placed_for table person n (Some held) at ranked =
@@ -101,12 +46,40 @@ placed_all : (table : SeatTable) (person : Person) (progs : List ProgId) → All
 placed_all table person [] all = tt
 placed_all table person (prog ∷ progs) all = (placed_for table person prog.0 (slice_get table.programmes prog.0) refl all.0, placed_all table person progs all.1)
 
-own_list : (ranks : Ranks) (table : SeatTable) (person : Person) (list : List ProgId) → find_person person.id.0 ranks.people ≡ Some person → IsChoice ranks table person.id.0 list → IsOwnList table person list
+pub own_list : (ranks : Ranks) (table : SeatTable) (person : Person) (list : List ProgId) → find_person person.id.0 ranks.people ≡ Some person → IsChoice ranks table person.id.0 list → IsOwnList table person list
 own_list ranks table person list found choice = record {
   below = choice.numbers;
   distinct = choice.distinct;
   placed = placed_all table person list (subst (λ p. AllByRecursion (λ (prog : ProgId). IsTrue (is_ranked_there table p prog.0)) list) found choice.ranked);
 }
+
+-- ---- any matrix of the same programmes
+
+there_same : (table more : SeatTable) (who : Option Person) (n : ℕ) → more.programmes ≡ table.programmes → IsTrue (is_ranked_there table who n) → IsTrue (is_ranked_there more who n)
+there_same table more None n same h = h
+there_same table more (Some person) n same h = subst (λ (programmes : List (List ℕ × Home)). IsTrue (is_ranked_for person (slice_get programmes n))) (sym same) h
+
+all_there : (table more : SeatTable) (who : Option Person) (list : List ProgId) → more.programmes ≡ table.programmes → AllByRecursion (λ (prog : ProgId). IsTrue (is_ranked_there table who prog.0)) list
+    → AllByRecursion (λ (prog : ProgId). IsTrue (is_ranked_there more who prog.0)) list
+all_there table more who [] same all = tt
+all_there table more who (prog ∷ list) same all = (there_same table more who prog.0 same all.0, all_there table more who list same all.1)
+
+-- choices of a matrix are choices of any matrix with the same programmes
+pub same_choices : (ranks : Ranks) (table more : SeatTable) (lists : Lists) → more.programmes ≡ table.programmes → AreChoices ranks table lists → AreChoices ranks more lists
+same_choices ranks table more lists same choices = λ candidate.
+    let choice = choices candidate in
+    record {
+      distinct = choice.distinct;
+      short = choice.short;
+      numbers = subst (λ n. AllByRecursion (λ (prog : ProgId). prog.0 < n) (list_of lists candidate)) (ap (λ l. length l) (sym same)) choice.numbers;
+      ranked = all_there table more (find_person candidate ranks.people) (list_of lists candidate) same choice.ranked;
+    }
+
+-- ---- those who enter
+
+all_from : {X : Type 0} (P : X → Type 0) (xs : List X) → ((i : ℕ) (x : X) → slice_get xs i ≡ Some x → P x) → AllByRecursion P xs
+all_from P [] h = tt
+all_from P (x ∷ xs) h = (h 0 x refl, all_from P xs (λ i. h (suc i)))
 
 pub length_lists : (lists : Lists) → length (lists_in lists) ≡ length lists
 length_lists [] = refl

@@ -1,7 +1,8 @@
--- A round by one matrix on one seek for each of the people is one round.
+-- A round is one: so are its seats, and the lists that a programme shows of one choice.
 use Rattle.std.proofs.Common.{◌≡◌, ◌<◌, ℕ, suc, List, [], ◌∷◌, ◌++◌, Some, length, arith, refl, sym, ap, ◌∙◌, subst, inl, inr}
 use Rattle.std.specs.Prelude.{slice_get}
 use Rattle.std.specs.List.{AllZip}
+use Rattle.std.proofs.lemmas.Option.{slice_get_within}
 use Rattle.office_base.specs.Lists.{IsSublist}
 use Rattle.office_base.specs.Merit.{in_merit}
 use Rattle.office_base.specs.declared.person.Person.{Person}
@@ -12,7 +13,7 @@ use Rattle.placements.specs.Ranks.{AreDistinct}
 use Rattle.placements.proofs.Ranks.{pairwise_sublist}
 use Rattle.placements.proofs.Sublists.{IsSublist-nil, IsSublist-same}
 use Rattle.slot_cert.specs.Laws.{OneCertificate}
-use Rattle.seat_matrix.specs.Matrix.{AreSeats, SeatTable, seats_in}
+use Rattle.seat_matrix.specs.Matrix.{seats_in}
 use Rattle.seat_matrix.specs.Seats.{AreProgrammeSeats, seats_of}
 use Rattle.seat_matrix.specs.declared.seats.ProgrammeSeats.{ProgrammeSeats}
 use Rattle.programme_lists.specs.Chosen.{AreApplicants, ShowsFrom, everybody}
@@ -23,14 +24,9 @@ use Rattle.programme_lists.specs.declared.programme.StepList.{StepList}
 use Rattle.open_then_category.specs.Laws.{AdmittedOnce, OneProgrammeChoice}
 use Rattle.allocations.specs.Market.{applicants}
 use Rattle.allocations.proofs.Claims.{applicants_may, one_best}
-use Rattle.seeks.specs.declared.seek.Seek.{Seek}
-use Rattle.rounds.specs.Round.{IsRound}
 use Rattle.rounds.specs.Rule.{MayApplyIn, ProgrammesChooseWell, rule_of, seekers_of}
-use Rattle.rounds.specs.declared.round.Round.{Round}
 use Rattle.rounds.proofs.Entrants.{market}
-use Rattle.office_moves.specs.Facts.{IsSound, SeasonFacts, lists_in_order}
-use Rattle.histories.proofs.Entering.{entrants}
-use Rattle.histories.proofs.Fits.{below_get}
+use Rattle.round_laws.specs.Laws.{OneRound}
 
 -- the laws on which it rests
 pub record ChooseOnce : Type 0 where
@@ -133,22 +129,21 @@ one_programme version seats people a b laws sound may first second =
 
 -- ---- rounds
 
--- Two rounds by one matrix of the season's programmes, on one seek for each of the people, are one.
-pub one_round : (facts : SeasonFacts) (table : SeatTable) (n : ℕ) (seeks : List Seek) (a b : Round) → ChooseOnce → IsSound facts → AreSeats table → table.programmes ≡ facts.matrix.programmes
-    → IsRound facts.version table facts.people (lists_in_order facts) n seeks a → IsRound facts.version table facts.people (lists_in_order facts) n seeks b → a ≡ b
-one_round facts table n seeks a b laws sound seats same first second =
-    let seekers = seekers_of table facts.people (lists_in_order facts) seeks in
-    let may_seek = market table facts.people (lists_in_order facts) seeks seats (entrants facts table sound same) in
-    let well = laws.well facts.version table seats in
+pub one_round : ChooseOnce → OneRound
+one_round laws version number table people lists seeks a b seats entrants first second =
+    let rule = rule_of version table in
+    let seekers = seekers_of table people lists seeks in
+    let may_seek = market table people lists seeks seats entrants in
+    let well = laws.well version table seats in
     let numbers : a.number ≡ b.number = first.number ∙ sym second.number in
     let sought : a.seeks ≡ b.seeks = first.sought ∙ sym second.sought in
-    let seated : a.seats ≡ b.seats = one_best (rule_of facts.version table) (MayApplyIn table) (length table.programmes) seekers a.seats b.seats may_seek well first.best second.best in
+    let seated : a.seats ≡ b.seats = one_best rule (MayApplyIn table) (length table.programmes) seekers a.seats b.seats may_seek well first.best second.best in
     let programmes : a.programmes ≡ b.programmes =
     same_places a.programmes b.programmes (first.count ∙ sym second.count) (λ p x y at at'.
-    let below = below_get a.programmes p x at in
+    let below = slice_get_within a.programmes p x at in
     let less : p < length table.programmes = omega (arith, below, first.count) in
-    let may = applicants_may (rule_of facts.version table) (MayApplyIn table) (length table.programmes) p seekers a.seats may_seek well less first.best.fair.allocation.full in
-    let shown : ShowsFrom facts.version (seats_in table p) (applicants p seekers a.seats) y =
-    subst (λ s. ShowsFrom facts.version (seats_in table p) (applicants p seekers s) y) (sym seated) (second.shown p y at') in
-    one_programme facts.version (seats_in table p) (applicants p seekers a.seats) x y laws (seats.sound p less) may (first.shown p x at) shown) in
+    let may = applicants_may rule (MayApplyIn table) (length table.programmes) p seekers a.seats may_seek well less first.best.fair.allocation.full in
+    let shown : ShowsFrom version (seats_in table p) (applicants p seekers a.seats) y =
+    subst (λ s. ShowsFrom version (seats_in table p) (applicants p seekers s) y) (sym seated) (second.shown p y at') in
+    one_programme version (seats_in table p) (applicants p seekers a.seats) x y laws (seats.sound p less) may (first.shown p x at) shown) in
     λ i. record { number = numbers i; seeks = sought i; seats = seated i; programmes = programmes i }

@@ -1,5 +1,0 @@
-use Rattle.apply_engine.proofs.InTurn as turn
-use Rattle.apply_engine.proofs.laws.nobody_falls.Goals as goal
-
-pub returns : goal.returns
-returns c = turn.nobody_falls c.choose_well.ensures c.grow.ensures

@@ -1,0 +1,5 @@
+mod Choosing
+mod InTurn
+mod OneRound
+pub mod People
+pub mod Season
