@@ -245,18 +245,7 @@ impl<'a> PlainOffice<'a> {
                 prog,
                 step,
                 seats,
-            } => match self.find(&prog) {
-                None => self.refuse("2 UnknownProgramme"),
-                Some(prog) => self.raise(
-                    by,
-                    RaiseRow {
-                        window,
-                        prog,
-                        step,
-                        seats,
-                    },
-                ),
-            },
+            } => self.raise_coded(by, &prog, window, step, seats),
         }
     }
 
@@ -577,6 +566,26 @@ impl<'a> PlainOffice<'a> {
             self.season.rounds,
             self.rounds.len()
         )?)
+    }
+
+    fn raise_coded(
+        &mut self,
+        by: By,
+        code: &Code,
+        window: u16,
+        step: StepKind,
+        seats: u16,
+    ) -> Result<String, OutOfMemory> {
+        let Some(prog) = self.find(code) else {
+            return self.refuse("2 UnknownProgramme");
+        };
+        let row = RaiseRow {
+            window,
+            prog,
+            step,
+            seats,
+        };
+        self.raise(by, row)
     }
 
     fn raise(&mut self, by: By, row: RaiseRow) -> Result<String, OutOfMemory> {

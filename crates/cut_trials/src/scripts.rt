@@ -96,6 +96,17 @@ impl Draw {
     }
 }
 
+/// An answer of a candidate, mostly at the next turn.
+fn drawn_answer(draw: &mut Draw, office: &PlainOffice<'_>, cand: CandId, window: u16) -> Ask {
+    let turn = office.last_turn(cand, window).saturating_add(1);
+    Ask::Answer {
+        cand,
+        window,
+        turn: draw.near(turn),
+        choice: draw.choice(),
+    }
+}
+
 /// A request to an office that is as far as this one.
 fn drawn(draw: &mut Draw, office: &PlainOffice<'_>) -> Option<Request> {
     let window = draw.near(office.now());
@@ -123,18 +134,7 @@ fn drawn(draw: &mut Draw, office: &PlainOffice<'_>) -> Option<Request> {
                 seats: draw.seats(),
             },
         ),
-        _ => {
-            let turn = office.last_turn(cand, window).saturating_add(1);
-            (
-                own,
-                Ask::Answer {
-                    cand,
-                    window,
-                    turn: draw.near(turn),
-                    choice: draw.choice(),
-                },
-            )
-        }
+        _ => (own, drawn_answer(draw, office, cand, window)),
     };
     Some(Request {
         by: draw.by(usual),
