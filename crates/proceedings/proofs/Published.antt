@@ -37,10 +37,10 @@ use Rattle.office_moves.specs.State.{State, round_at, seat_in, seat_of}
 use Rattle.office_moves.specs.Raised.{matrix_of_round}
 use Rattle.office_moves.specs.Moves.{row_before, rows_along}
 use Rattle.office_moves.specs.Promise.{standing_then}
-use Rattle.round_laws.proofs.People.{there_is}
+use Rattle.round_laws.proofs.People.{row_at, there_is}
 use Rattle.histories.specs.Course.{IsCourse, seek_then, seeks_then}
 use Rattle.histories.specs.Orderly.{IsOrderly}
-use Rattle.proceedings.proofs.Positions.{at_position, row_at, row_cases}
+use Rattle.proceedings.proofs.Positions.{at_position, row_cases}
 
 -- a published round stands at the place before its number
 pub published : (rounds : List Round) (n : ℕ) (round : Round) → round_at rounds n ≡ Some round → (before : ℕ) × (n ≡ suc before) × (slice_get rounds before ≡ Some round)

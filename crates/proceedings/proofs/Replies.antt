@@ -21,7 +21,7 @@ use Rattle.office_moves.specs.Moves.{seat_reply, told_seat}
 use Rattle.office_moves.specs.Why.{reason_in, why_answer, why_beside}
 use Rattle.office_moves.specs.declared.moves.Reply.TheVariants.{SeatIs}
 use Rattle.proceedings.proofs.Positions.{row_cases}
-use Rattle.proceedings.proofs.Published.{there_is}
+use Rattle.round_laws.proofs.People.{there_is}
 
 pub few_fit : (n m k : ℕ) → n ≡ m → m ≤ k → k ≤ 250000 → Fits w32 n
 few_fit n m k e less few = omega arith

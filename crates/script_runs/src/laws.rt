@@ -26,6 +26,6 @@ pub fn one_run()
 pub fn replies_can_be_shown()
     ensures { (facts : SeasonFacts) → RepliesCanBeShown facts }
 {
-    histories::laws::programmes_choose_well();
+    round_laws::laws::choose_well();
     open_then_category::laws::slots_are_traits();
 }

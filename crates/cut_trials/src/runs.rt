@@ -1,0 +1,97 @@
+// Scripts answered by the office: what it wrote, what it accepted and what it kept.
+ghost use Rattle.std.specs.Prelude.{IfOk, IfSome};
+ghost use Rattle.season_file.specs.Season.{IsSeason};
+
+use crate::rows::{ROWS, Row};
+use keeper_mem::{Keeper, Kept, SureKeeper};
+use office_base::{MemSink, MemSource, OutOfMemory, Request};
+use office_moves::Entry;
+use request_rows::Script;
+use round_cut::Office;
+use script_runs::{RunEnd, answer_all};
+use season_file::Season;
+use std::alloc::Global;
+use std::test::Fail;
+
+/// More bytes than any reply text of these trials.
+const ROOM: usize = 100_000;
+
+/// What an office left: how its two runs ended, what it wrote and accepted, how far it came, and what it kept.
+#[derive(Drop)]
+pub(crate) struct Left {
+    pub(crate) ends: [RunEnd; 2],
+    pub(crate) replies: MemSink,
+    pub(crate) entries: Vec<Entry>,
+    pub(crate) now: u16,
+    pub(crate) published: u16,
+    pub(crate) kept: Option<Kept>,
+}
+
+/// The season and the requests of a bundle; None where it has a fault.
+pub(crate) fn read(
+    alloc: Global,
+    bundle: &str,
+    requests: &str,
+) -> Result<Option<(Season, Script)>, OutOfMemory>
+    ensures { IfOk result (λ found. IfSome found (λ read. IsSeason read.0.text read.0)) }
+{
+    let text = format!(in alloc; "{bundle}{requests}")?;
+    let mut source = MemSource::new(alloc, text.as_bytes(), 64, &[])?;
+    match Season::read(alloc, &mut source, true) {
+        Ok(read) => Ok(Some(read)),
+        Err(_) => Ok(None),
+    }
+}
+
+/// What an office leaves that begins over this keeper and answers these requests, and then those after them. None where it does not begin.
+pub(crate) fn answered<K: Keeper + Drop>(
+    alloc: Global,
+    season: Season,
+    keeper: K,
+    script: &[Request],
+    after: &[Request],
+) -> Result<Option<Left>, OutOfMemory>
+    requires { IsSeason season.text season }
+{
+    let mut replies = MemSink::new(alloc, ROOM, &[])?;
+    let Ok(mut office) = Office::begin(alloc, season, keeper) else {
+        return Ok(None);
+    };
+    let first = answer_all(alloc, &mut office, script, &mut replies);
+    let second = answer_all(alloc, &mut office, after, &mut replies);
+    let entries = Vec::from_slice(alloc, office.entries());
+    let now = office.now();
+    let published = office.published();
+    let mut keeper = office.into_keeper();
+    let Ok(kept) = keeper.load(alloc) else {
+        return Ok(None);
+    };
+    Ok(Some(Left {
+        ends: [first, second],
+        replies,
+        entries: entries?,
+        now,
+        published,
+        kept,
+    }))
+}
+
+/// Whether the office answers a worked script with these replies.
+fn is_answered(alloc: Global, row: &Row) -> Result<bool, OutOfMemory> {
+    let Some((season, script)) = read(alloc, row.bundle, row.requests)? else {
+        return Ok(false);
+    };
+    let keeper = SureKeeper::new(alloc);
+    let Some(left) = answered(alloc, season, keeper, script.as_slice(), &[])? else {
+        return Ok(false);
+    };
+    Ok(left.ends == [RunEnd::Done, RunEnd::Done] && left.replies.bytes() == row.replies.as_bytes())
+}
+
+#[test]
+fn worked_scripts_are_answered(rt: HostRuntime) -> Result<(), Fail> {
+    for row in &ROWS {
+        assert!(rt; is_answered(rt.alloc(), row)?, "{}", row.replies);
+    }
+    Ok(())
+}
