@@ -1,5 +1,7 @@
 mod CheckFaults
 mod Ended
+mod OfficeEnds
 mod OneAnswer
+mod RunEnds
 mod Spelling
 mod StepFaults

@@ -1,4 +1,4 @@
--- A command's input has one answer.
+-- The input of a command that answers with one text has one answer.
 use Rattle.std.proofs.Common.{◌≡◌, ◌≢◌, ◌+◌, ℕ, true, List, [], ◌∷◌, length, refl, sym, ap, subst, ◌∙◌}
 use Rattle.std.specs.Prelude.{fold}
 use Rattle.office_base.specs.Certificate.{IsCanonical}
@@ -18,10 +18,7 @@ use Rattle.season_file.specs.declared.season.Season.{Season}
 use Rattle.season_texts.specs.Texts.{counts_line, fault_line, line_of_counts}
 use Rattle.allocation_cli.specs.Answers.{HaveOneAnswer}
 use Rattle.allocation_cli.specs.Check.{IsCheckOutput, check_answers}
-use Rattle.allocation_cli.specs.Program.{answers_of}
 use Rattle.allocation_cli.specs.Step.{IsStepOutput, IsStepText, step_answers}
-use Rattle.allocation_cli.specs.declared.words.Command.{Command}
-use Rattle.allocation_cli.specs.declared.words.Command.TheVariants.{Step, Check}
 
 -- the laws of sheets, choices, certificates and bundles
 pub record AreLawful : Type 0 where
@@ -74,8 +71,8 @@ one_step laws bytes output other a b =
     let same = (laws.sheets bytes).one_step a.0 b.0 a.1 b.1 in
     one_text laws a.0 output other (laws.steps bytes a.0 a.1) a.2 (subst (λ (step : StepOfSheet). IsStepText step other) (sym same) b.2)
 
--- a sheet has one answer under `step`
-one_step_answer : AreLawful → (bytes : List ℕ) → HaveOneAnswer step_answers bytes
+-- A sheet has one answer under `step`.
+pub one_step_answer : AreLawful → (bytes : List ℕ) → HaveOneAnswer step_answers bytes
 one_step_answer laws bytes = record {
   some = (laws.sheets bytes).some;
   apart = λ input faulty. (laws.sheets bytes).apart input.0 faulty.0 input.1 faulty.1;
@@ -85,8 +82,8 @@ one_step_answer laws bytes = record {
   one_line = λ line other a b. a.2 ∙ ap fault_output ((laws.sheets bytes).one_fault a.0 b.0 a.1 b.1) ∙ sym b.2;
 }
 
--- a bundle has one answer under `check`
-one_check_answer : AreLawful → (bytes : List ℕ) → HaveOneAnswer check_answers bytes
+-- A bundle has one answer under `check`.
+pub one_check_answer : AreLawful → (bytes : List ℕ) → HaveOneAnswer check_answers bytes
 one_check_answer laws bytes = record {
   some = (laws.bundles bytes).some;
   apart = λ input faulty. (laws.bundles bytes).apart input.0 input.1 faulty.0 input.2 faulty.1;
@@ -95,8 +92,3 @@ one_check_answer laws bytes = record {
   one_output = one_check laws bytes;
   one_line = λ line other a b. a.2 ∙ ap fault_line ((laws.bundles bytes).one_fault a.0 b.0 a.1 b.1) ∙ sym b.2;
 }
-
--- A command's input has one answer.
-pub one_answer : AreLawful → (command : Command) (bytes : List ℕ) → HaveOneAnswer (answers_of command) bytes
-one_answer laws Step bytes = one_step_answer laws bytes
-one_answer laws Check bytes = one_check_answer laws bytes

@@ -17,9 +17,9 @@ use Rattle.allocation_cli.specs.declared.failure.Failure.TheVariants.{Read, Bad,
 abbrev pub IsBundle : List ℕ → Type 0
 IsBundle bytes = (content : Content) × (script : List Request) × BundleGives true bytes content script
 
--- the bytes that were left are a season bundle without faults, and this is its season
-abbrev pub IsLeftSeason : Option (List ℕ) → Season → Type 0
-IsLeftSeason left season = (bytes : List ℕ) × AreLeft bytes left × ((script : List Request) × IsSeasonWith true bytes season script)
+-- the bytes that were left are a season bundle without faults, and these are its season and its requests
+abbrev pub IsLeftBundle : Option (List ℕ) → Season → List Request → Type 0
+IsLeftBundle left season script = (bytes : List ℕ) × AreLeft bytes left × IsSeasonWith true bytes season script
 
 -- the bytes have a fault as a season bundle
 abbrev pub IsFaultyBundle : List ℕ → Type 0

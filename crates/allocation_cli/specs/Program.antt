@@ -1,28 +1,22 @@
 -- What the program writes and how it ends.
-use Rattle.std.specs.Prelude.{◌≡◌, ◌⊎◌, ℕ, List, Option, Result, Ok, Err, take, codes}
-use Rattle.season_texts.specs.Texts.{fault_line, memory_line}
-use Rattle.season_file.specs.declared.fault.SeasonFault.TheVariants.{ReadFault as SeasonReadFault}
+use Rattle.std.specs.Prelude.{◌≡◌, ◌⊎◌, ℕ, List, Option, Result, Ok, Err, codes}
+use Rattle.season_texts.specs.Texts.{memory_line}
+use Rattle.keeper_mem.specs.Tables.{Tables}
 use Rattle.allocation_cli.specs.Answers.{Answers, HasLeft, Tells}
-use Rattle.allocation_cli.specs.Check.{check_answers}
-use Rattle.allocation_cli.specs.Step.{step_answers}
+use Rattle.allocation_cli.specs.Check.{IsBundle, IsFaultyBundle, check_answers}
+use Rattle.allocation_cli.specs.Run.{EndsRun, TellsNoSeason}
+use Rattle.allocation_cli.specs.Step.{IsFaultySheet, IsSheet, step_answers}
 use Rattle.allocation_cli.specs.Words.{SpellNothing, words_of}
+use Rattle.allocation_cli.specs.Writes.{Writes, read_line}
 use Rattle.allocation_cli.specs.declared.failure.Failure.{Failure}
 use Rattle.allocation_cli.specs.declared.failure.Failure.TheVariants.{Read, Bad, NoMemory}
 use Rattle.allocation_cli.specs.declared.status.Status.{Status}
-use Rattle.allocation_cli.specs.declared.status.Status.TheVariants.{Ok as Done, Usage, BadInput, ReadFault, WriteFault, OutOfMemory}
+use Rattle.allocation_cli.specs.declared.status.Status.TheVariants.{Ok as Done, Usage, BadInput, ReadFault, WriteFault, KeeperFault, OutOfMemory}
 use Rattle.allocation_cli.specs.declared.words.Command.{Command}
-use Rattle.allocation_cli.specs.declared.words.Command.TheVariants.{Step, Check}
-
--- what a command answers to its input
-abbrev pub answers_of : Command → Answers
-answers_of Step = step_answers
-answers_of Check = check_answers
+use Rattle.allocation_cli.specs.declared.words.Command.TheVariants.{Step, Check, Run}
 
 abbrev pub usage_line : List ℕ
 usage_line = codes "fault: usage\n"
-
-abbrev pub read_line : List ℕ
-read_line = fault_line SeasonReadFault
 
 -- the whole text that goes with each status where the words spell no command
 abbrev pub IsUsageText : Status → List ℕ → Type 0
@@ -31,39 +25,61 @@ IsUsageText Usage text = text ≡ usage_line
 IsUsageText BadInput text = ⊥
 IsUsageText ReadFault text = ⊥
 IsUsageText WriteFault text = ⊥
+IsUsageText KeeperFault text = ⊥
 IsUsageText OutOfMemory text = ⊥
 
--- the whole text that goes with each status of a command, for the bytes that its source had left
+-- the whole text that goes with each status of a command that answers with one text, for the bytes that its source had left
 abbrev pub IsTextOf : Answers → Option (List ℕ) → Status → List ℕ → Type 0
 IsTextOf answers left Done text = HasLeft answers.IsOutput left text
 IsTextOf answers left Usage text = ⊥
 IsTextOf answers left BadInput text = HasLeft answers.IsFaultLine left text
 IsTextOf answers left ReadFault text = text ≡ read_line
 IsTextOf answers left WriteFault text = ⊥
+IsTextOf answers left KeeperFault text = ⊥
 IsTextOf answers left OutOfMemory text = text ≡ memory_line
 
--- The whole text of the status is written; or the sink failed, and a prefix of the text of some status is.
-abbrev pub Writes : (Status → List ℕ → Type 0) → Status → List ℕ → Type 0
-Writes IsText status output =
-    IsText status output ⊎ ((status ≡ WriteFault) × ((other : Status) × (text : List ℕ) × (n : ℕ) × IsText other text × (output ≡ take n text)))
+-- what a command that answers with one text writes, with its status; the tables are as before
+abbrev pub EndsText : Answers → Option (List ℕ) → Tables → Tables → Status → List ℕ → Type 0
+EndsText answers left before after status output = Writes (IsTextOf answers left) status output × (after ≡ before)
 
--- what a command writes, and the status with which it ends
-abbrev pub Ends : Command → Option (List ℕ) → Status → List ℕ → Type 0
-Ends Step left = Writes (IsTextOf step_answers left)
-Ends Check left = Writes (IsTextOf check_answers left)
+-- what a command writes, the status with which it ends, and what the tables of the keeper stand for, by what they told before
+abbrev pub Ends : Command → Option (List ℕ) → Tables → Tables → Status → List ℕ → Type 0
+Ends Step left before after = EndsText step_answers left before after
+Ends Check left before after = EndsText check_answers left before after
+Ends Run left before after = EndsRun left before after
 
--- what is written, and the status with it, for the words and for the bytes that the source had left
-abbrev pub IsWritten : List (List ℕ) → Option (List ℕ) → Status → List ℕ → Type 0
-IsWritten words left status output =
-    (SpellNothing words × Writes IsUsageText status output) ⊎ ((command : Command) × (words ≡ words_of command) × Ends command left status output)
+-- the same for words that spell no command: the tables are as before
+abbrev pub EndsUsage : Tables → Tables → Status → List ℕ → Type 0
+EndsUsage before after status output = Writes IsUsageText status output × (after ≡ before)
+
+-- what is written, the status with it, and what the tables stand for, for the words, the bytes that the source had left and the tables before
+abbrev pub IsWritten : List (List ℕ) → Option (List ℕ) → Tables → Tables → Status → List ℕ → Type 0
+IsWritten words left before after status output =
+    (SpellNothing words × EndsUsage before after status output) ⊎ ((command : Command) × (words ≡ words_of command) × Ends command left before after status output)
 
 -- the source tells its bytes, and they are the command's input without faults
 abbrev pub TellsInput : Command → Option (List ℕ) → Type 0
-TellsInput command left = Tells (answers_of command).IsInput left
+TellsInput Step left = Tells IsSheet left
+TellsInput Check left = Tells IsBundle left
+TellsInput Run left = Tells IsBundle left
 
 -- the source tells its bytes, and they have a fault as the command's input
 abbrev pub TellsFault : Command → Option (List ℕ) → Type 0
-TellsFault command left = Tells (answers_of command).IsFaulty left
+TellsFault Step left = Tells IsFaultySheet left
+TellsFault Check left = Tells IsFaultyBundle left
+TellsFault Run left = Tells IsFaultyBundle left
+
+-- the keeper is as the command needs it: under `run` it tells that it holds no season
+abbrev pub IsReady : Command → Tables → Type 0
+IsReady Step tables = Unit {0}
+IsReady Check tables = Unit {0}
+IsReady Run tables = TellsNoSeason tables
+
+-- the command begins no office
+abbrev pub BeginsNone : Command → Type 0
+BeginsNone Step = Unit {0}
+BeginsNone Check = Unit {0}
+BeginsNone Run = ⊥
 
 -- the status of a command's answer, and the text that goes with it
 abbrev pub status_of : Result (List ℕ) Failure → Status

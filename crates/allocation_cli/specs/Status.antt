@@ -1,7 +1,7 @@
 -- The exit status of each way in which a run ends.
 use Rattle.std.specs.Prelude.{ℕ}
 use Rattle.allocation_cli.specs.declared.status.Status.{Status}
-use Rattle.allocation_cli.specs.declared.status.Status.TheVariants.{Ok, Usage, BadInput, ReadFault, WriteFault, OutOfMemory}
+use Rattle.allocation_cli.specs.declared.status.Status.TheVariants.{Ok, Usage, BadInput, ReadFault, WriteFault, KeeperFault, OutOfMemory}
 
 abbrev pub code_of : Status → ℕ
 code_of Ok = 0
@@ -9,4 +9,5 @@ code_of Usage = 2
 code_of BadInput = 3
 code_of ReadFault = 4
 code_of WriteFault = 5
+code_of KeeperFault = 6
 code_of OutOfMemory = 7

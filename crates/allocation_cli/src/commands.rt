@@ -1,4 +1,6 @@
-// The commands, each with its input, its output and its faults.
+// The commands, each with its input, its output and its faults; `bundle` is the input of two of them.
 
+pub mod bundle;
 pub mod check;
+pub mod run;
 pub mod step;

@@ -1,7 +1,8 @@
 // What holds of words and of the inputs of commands, whoever reads them.
 ghost use Rattle.std.specs.Prelude.{◌≡◌, ℕ, List};
 ghost use Rattle.allocation_cli.specs.Answers.{HaveOneAnswer};
-ghost use Rattle.allocation_cli.specs.Program.{answers_of};
+ghost use Rattle.allocation_cli.specs.Check.{check_answers};
+ghost use Rattle.allocation_cli.specs.Step.{step_answers};
 ghost use Rattle.allocation_cli.specs.Words.{words_of};
 ghost use Rattle.allocation_cli.specs.declared.words.Command.{Command as AnyCommand};
 
@@ -10,9 +11,10 @@ pub fn one_spelling()
     ensures { (command other : AnyCommand) → words_of command ≡ words_of other → command ≡ other }
 {}
 
-/// Bytes are a command's input without faults or have a fault, and never both; and at most one text answers them.
+/// Bytes are an input of `step` without faults or have a fault, and never both; and at most one text answers them. The same for `check`.
 pub fn one_answer()
-    ensures { (command : AnyCommand) (bytes : List ℕ) → HaveOneAnswer (answers_of command) bytes }
+    ensures step { (bytes : List ℕ) → HaveOneAnswer step_answers bytes }
+    ensures check { (bytes : List ℕ) → HaveOneAnswer check_answers bytes }
 {
     step_sheet::laws::one_reading();
     step_sheet::laws::sound_steps();

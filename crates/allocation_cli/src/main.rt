@@ -11,12 +11,15 @@ mod laws;
 mod program;
 mod status;
 mod streams;
+mod telling;
 #[cfg(test)]
 mod tests;
 mod words;
 
-use crate::program::{allocate, tell_no_memory};
+use crate::program::allocate;
 use crate::streams::{StandardInput, StandardOutput};
+use crate::telling::tell_no_memory;
+use keeper_mem::SureKeeper;
 use office_base::{OutOfMemory, Words};
 use std::alloc::Global;
 use std::process::ExitCode;
@@ -28,7 +31,14 @@ fn main(rt: HostRuntime) -> ExitCode {
     let mut source = StandardInput::new(rt.stdin());
     let mut sink = StandardOutput::new(rt.stdout());
     let status = match words_of(&rt, alloc) {
-        Ok(words) => allocate(alloc, &words, &mut source, &mut sink),
+        Ok(words) => allocate(
+            alloc,
+            &words,
+            &mut source,
+            &mut sink,
+            SureKeeper::new(alloc),
+        )
+        .0,
         Err(OutOfMemory) => tell_no_memory(&mut sink),
     };
     ExitCode::from(status.code())

@@ -15,6 +15,8 @@ pub enum Status {
     ReadFault = 4,
     /// The sink failed: its count of faults rose. A prefix of the output or of a fault's line was written.
     WriteFault = 5,
+    /// The keeper failed: its count of faults rose. The output of the requests before the failure was written.
+    KeeperFault = 6,
     /// There was no memory. It is the one answer that no cause is claimed for.
     OutOfMemory = 7,
 }

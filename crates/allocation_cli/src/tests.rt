@@ -2,6 +2,7 @@
 use crate::program::allocate;
 use crate::status::Status;
 use crate::streams::{StandardInput, StandardOutput};
+use keeper_mem::{Keeper, MemKeeper, SureKeeper};
 use office_base::{MemSink, MemSource, SureSink, SureSource, Words};
 use std::alloc::Global;
 use std::io;
@@ -26,7 +27,13 @@ fn writes(
     let words = words_of(alloc, &[command])?;
     let mut source = MemSource::new(alloc, input.as_bytes(), 3, &[])?;
     let mut sink = MemSink::new(alloc, 1000, &[])?;
-    let ended = allocate(alloc, &words, &mut source, &mut sink);
+    let (ended, _) = allocate(
+        alloc,
+        &words,
+        &mut source,
+        &mut sink,
+        SureKeeper::new(alloc),
+    );
     Ok(ended == status && sink.bytes() == output.as_bytes())
 }
 
@@ -222,12 +229,22 @@ fn wrong_words_are_refused(rt: HostRuntime) -> Result<(), Fail> {
         words_of(alloc, &[])?,
         words_of(alloc, &["step", "now"])?,
         words_of(alloc, &["check", "step"])?,
+        words_of(alloc, &["run"])?,
+        words_of(alloc, &["run", "season.db"])?,
+        words_of(alloc, &["run", "memory", "memory"])?,
         words_of(alloc, &["--help"])?,
     ] {
         let mut source = SureSource::new(alloc, b"", 1)?;
         let mut sink = MemSink::new(alloc, 100, &[])?;
         assert_eq!(rt;
-            allocate(alloc, &words, &mut source, &mut sink),
+            allocate(
+                alloc,
+                &words,
+                &mut source,
+                &mut sink,
+                SureKeeper::new(alloc)
+            )
+            .0,
             Status::Usage
         );
         assert!(rt; sink.bytes() == b"fault: usage\n".as_slice());
@@ -242,7 +259,14 @@ fn the_outside_fails(rt: HostRuntime) -> Result<(), Fail> {
     let mut source = MemSource::new(alloc, b"step sheet 1\nseats,0\n", 4, &[2])?;
     let mut sink = MemSink::new(alloc, 100, &[])?;
     assert_eq!(rt;
-        allocate(alloc, &words, &mut source, &mut sink),
+        allocate(
+            alloc,
+            &words,
+            &mut source,
+            &mut sink,
+            SureKeeper::new(alloc)
+        )
+        .0,
         Status::ReadFault
     );
     assert!(rt; sink.bytes() == b"fault: read\n".as_slice());
@@ -250,19 +274,40 @@ fn the_outside_fails(rt: HostRuntime) -> Result<(), Fail> {
     let mut source = MemSource::new(alloc, five_candidates(alloc)?.as_bytes(), 40, &[2])?;
     let mut sink = MemSink::new(alloc, 100, &[])?;
     assert_eq!(rt;
-        allocate(alloc, &check, &mut source, &mut sink),
+        allocate(
+            alloc,
+            &check,
+            &mut source,
+            &mut sink,
+            SureKeeper::new(alloc)
+        )
+        .0,
         Status::ReadFault
     );
     assert!(rt; sink.bytes() == b"fault: read\n".as_slice());
     let mut source = SureSource::new(alloc, b"step sheet 1\nseats,0\n", 4)?;
     let mut sink = MemSink::new(alloc, 100, &[1])?;
     assert_eq!(rt;
-        allocate(alloc, &words, &mut source, &mut sink),
+        allocate(
+            alloc,
+            &words,
+            &mut source,
+            &mut sink,
+            SureKeeper::new(alloc)
+        )
+        .0,
         Status::WriteFault
     );
     let mut source = SureSource::new(alloc, b"step sheet 1\nseats,0\n", 4)?;
     assert_eq!(rt;
-        allocate(alloc, &words, &mut source, &mut SureSink::new()),
+        allocate(
+            alloc,
+            &words,
+            &mut source,
+            &mut SureSink::new(),
+            SureKeeper::new(alloc)
+        )
+        .0,
         Status::Ok
     );
     Ok(())
@@ -348,9 +393,171 @@ fn the_real_streams_fail_once(rt: HostRuntime) -> Result<(), Fail> {
             nothing_at: nothing,
         };
         let mut sink = StandardOutput::new(&mut writer);
-        let ended = allocate(alloc, &words, &mut source, &mut sink);
+        let (ended, _) = allocate(
+            alloc,
+            &words,
+            &mut source,
+            &mut sink,
+            SureKeeper::new(alloc),
+        );
         assert_eq!(rt; ended, status);
         assert!(rt; Some(writer.bytes.as_slice()) == text.as_bytes().get(..count));
     }
+    Ok(())
+}
+
+// What is asked in the season of five candidates, and the reply to each request: candidate 1 leaves, and everybody moves up.
+const REQUESTS: &str =
+    "[requests]\ncut,clerk,0\nanswer,1,1,1,1,withdraw\nanswer,2,2,1,1,float\nanswer,3,3,1,1,float\nanswer,4,4,1,1,float\ncut,clerk,1\n";
+
+const REPLIES: [&str; 6] = [
+    "published 1 seated 4\nround 1 seated 4\nallot 1 A OPEN\nallot 2 B OPEN\nallot 3 C OPEN\nallot 4 E OPEN\nend round\n",
+    "noted 1 window 1 turn 1 withdraw\n",
+    "noted 2 window 1 turn 1 float\n",
+    "noted 3 window 1 turn 1 float\n",
+    "noted 4 window 1 turn 1 float\n",
+    "published 2 seated 4\nround 2 seated 4\nallot 2 A OPEN\nallot 3 B OPEN\nallot 4 C OPEN\nallot 5 E OPEN\nend round\n",
+];
+
+// How a run ended: what was written, and how many answers and cuts the keeper holds, where it holds a season.
+#[derive(Drop)]
+struct Ended {
+    status: Status,
+    output: String,
+    kept: Option<(usize, u16)>,
+}
+
+// Runs that season over a keeper, a source and a sink of which these calls fail.
+fn run_failing(
+    alloc: Global,
+    source_at: &[u32],
+    sink_at: &[u32],
+    keeper_at: &[u32],
+) -> Result<Ended, Fail> {
+    let words = words_of(alloc, &["run", "memory"])?;
+    let season = five_candidates(alloc)?;
+    let bundle = format!(in alloc; "{season}{REQUESTS}")?;
+    let mut source = MemSource::new(alloc, bundle.as_bytes(), 40, source_at)?;
+    let mut sink = MemSink::new(alloc, 1000, sink_at)?;
+    let keeper = MemKeeper::new(alloc, keeper_at)?;
+    let (status, mut keeper) = allocate(alloc, &words, &mut source, &mut sink, keeper);
+    let kept = match keeper.load(alloc) {
+        Ok(Some(kept)) => Some((kept.answers.len(), kept.cuts)),
+        Ok(None) => None,
+        Err(_) => return Err(Fail::new("nothing can be loaded")),
+    };
+    let output = String::from_utf8(Vec::from_slice(alloc, sink.bytes())?)?;
+    Ok(Ended {
+        status,
+        output,
+        kept,
+    })
+}
+
+// The replies to the first requests, and a line.
+fn first_replies(alloc: Global, count: usize, line: &str) -> Result<String, Fail> {
+    let mut text = String::new(alloc);
+    for reply in &REPLIES[..count] {
+        text.push_str(reply)?;
+    }
+    text.push_str(line)?;
+    Ok(text)
+}
+
+// What is kept after so many requests of the season of five candidates.
+const KEPT: [(usize, u16); 7] = [(0, 0), (0, 1), (1, 1), (2, 1), (3, 1), (4, 1), (4, 2)];
+
+#[test]
+fn everybody_moves_up(rt: HostRuntime) -> Result<(), Fail> {
+    let alloc = rt.alloc();
+    let ended = run_failing(alloc, &[], &[], &[])?;
+    assert_eq!(rt; ended.status, Status::Ok);
+    assert!(rt; ended.output == first_replies(alloc, 6, "")?);
+    assert!(rt; ended.kept == Some((4, 2)));
+    Ok(())
+}
+
+#[test]
+fn the_keeper_fails_at_each_call(rt: HostRuntime) -> Result<(), Fail> {
+    let alloc = rt.alloc();
+    // the call that fails, how many requests are answered before it, and what is kept then: three calls begin the office, each cut and the withdrawal
+    // are one call, and the other answers take room first
+    let cases = [
+        (1, 0, None),
+        (2, 0, None),
+        (3, 0, None),
+        (4, 0, Some(KEPT[0])),
+        (5, 1, Some(KEPT[1])),
+        (6, 2, Some(KEPT[2])),
+        (7, 2, Some(KEPT[2])),
+        (8, 3, Some(KEPT[3])),
+        (9, 3, Some(KEPT[3])),
+        (10, 4, Some(KEPT[4])),
+        (11, 4, Some(KEPT[4])),
+        (12, 5, Some(KEPT[5])),
+    ];
+    for (call, count, kept) in cases {
+        let ended = run_failing(alloc, &[], &[], &[call])?;
+        assert_eq!(rt; ended.status, Status::KeeperFault);
+        assert!(rt;
+            ended.output == first_replies(alloc, count, "fault: keeper\n")?,
+            "{call}"
+        );
+        assert!(rt; ended.kept == kept, "{call}");
+    }
+    // the thirteenth call is that of this test, which looks at what is kept
+    let ended = run_failing(alloc, &[], &[], &[14])?;
+    assert_eq!(rt; ended.status, Status::Ok);
+    Ok(())
+}
+
+#[test]
+fn the_sink_fails_at_each_reply(rt: HostRuntime) -> Result<(), Fail> {
+    let alloc = rt.alloc();
+    for (at, kept) in KEPT[1..].iter().enumerate() {
+        let ended = run_failing(alloc, &[], &[at as u32 + 1], &[])?;
+        assert_eq!(rt; ended.status, Status::WriteFault);
+        assert!(rt; ended.output == first_replies(alloc, at, "")?, "{at}");
+        assert!(rt; ended.kept == Some(*kept), "{at}");
+    }
+    // a fault's line that cannot be written hides the fault of the keeper
+    let ended = run_failing(alloc, &[], &[3], &[6])?;
+    assert_eq!(rt; ended.status, Status::WriteFault);
+    assert!(rt; ended.output == first_replies(alloc, 2, "")?);
+    assert!(rt; ended.kept == Some(KEPT[2]));
+    Ok(())
+}
+
+#[test]
+fn the_source_of_a_run_fails(rt: HostRuntime) -> Result<(), Fail> {
+    let alloc = rt.alloc();
+    for call in [1, 2, 5, 12] {
+        let ended = run_failing(alloc, &[call], &[], &[])?;
+        assert_eq!(rt; ended.status, Status::ReadFault);
+        assert!(rt; ended.output.as_str() == "fault: read\n");
+        assert!(rt; ended.kept == None);
+    }
+    Ok(())
+}
+
+#[test]
+fn a_season_is_kept_once(rt: HostRuntime) -> Result<(), Fail> {
+    let alloc = rt.alloc();
+    let words = words_of(alloc, &["run", "memory"])?;
+    let season = five_candidates(alloc)?;
+    let mut source = SureSource::new(alloc, season.as_bytes(), 40)?;
+    let mut sink = MemSink::new(alloc, 100, &[])?;
+    let (first, keeper) = allocate(
+        alloc,
+        &words,
+        &mut source,
+        &mut sink,
+        SureKeeper::new(alloc),
+    );
+    assert_eq!(rt; first, Status::Ok);
+    let mut again = SureSource::new(alloc, season.as_bytes(), 40)?;
+    let (second, _) = allocate(alloc, &words, &mut again, &mut sink, keeper);
+    assert_eq!(rt; second, Status::BadInput);
+    assert!(rt; sink.bytes() == b"fault: keeper holds a season\n".as_slice());
     Ok(())
 }

@@ -1,32 +1,31 @@
 use Rattle.allocation_cli.specs.Check.{check_answers}
 use Rattle.allocation_cli.specs.Step.{step_answers}
-use Rattle.allocation_cli.specs.declared.words.Command.TheVariants.{Step, Check}
-use Rattle.allocation_cli.proofs.Ended.{answer_is_written, fault_is_refused, input_is_answered, source_held}
+use Rattle.allocation_cli.proofs.Ended.{text_is_written, fault_is_refused, input_is_answered, source_held}
 use Rattle.allocation_cli.proofs.program.run.Goals as goal
 
 pub returns-in-Step-clause-written : goal.returns-in-Step-clause-written
 returns-in-Step-clause-written g c =
-    rw c.in-Step.is (answer_is_written step_answers _ _ c.step_answer.result _ _ _ _ c.step_answer.ensures.output c.step_answer.ensures.failure c.finish.ensures.told)
+    rw c.in-Step.is (text_is_written step_answers _ _ c.step_answer.result _ _ _ _ _ c.step_answer.ensures.output c.step_answer.ensures.failure c.finish.ensures.told)
 
 pub returns-in-Step-clause-complete : goal.returns-in-Step-clause-complete
 returns-in-Step-clause-complete g c =
-    rw c.in-Step.is (input_is_answered step_answers _ _ c.step_answer.result _ _ _ _ (c.one_answer.ensures Step) c.step_answer.ensures.failure c.finish.ensures.told)
+    rw c.in-Step.is (λ tells ready read wrote kept. input_is_answered step_answers _ _ c.step_answer.result _ _ _ _ c.one_answer.ensures.step c.step_answer.ensures.failure c.finish.ensures.told tells read wrote)
 
 pub returns-in-Step-clause-refused : goal.returns-in-Step-clause-refused
 returns-in-Step-clause-refused g c =
-    rw c.in-Step.is (fault_is_refused step_answers _ _ c.step_answer.result _ _ _ _ (c.one_answer.ensures Step) c.step_answer.ensures.output c.step_answer.ensures.failure c.finish.ensures.told)
+    rw c.in-Step.is (fault_is_refused step_answers _ _ c.step_answer.result _ _ _ _ c.one_answer.ensures.step c.step_answer.ensures.output c.step_answer.ensures.failure c.finish.ensures.told)
 
 pub returns-in-Check-clause-written : goal.returns-in-Check-clause-written
 returns-in-Check-clause-written g c =
-    rw c.in-Check.is (answer_is_written check_answers _ _ c.check_answer.result _ _ _ _ c.check_answer.ensures.output c.check_answer.ensures.failure c.finish-in-Check.ensures.told)
+    rw c.in-Check.is (text_is_written check_answers _ _ c.check_answer.result _ _ _ _ _ c.check_answer.ensures.output c.check_answer.ensures.failure c.finish-in-Check.ensures.told)
 
 pub returns-in-Check-clause-complete : goal.returns-in-Check-clause-complete
 returns-in-Check-clause-complete g c =
-    rw c.in-Check.is (input_is_answered check_answers _ _ c.check_answer.result _ _ _ _ (c.one_answer.ensures Check) c.check_answer.ensures.failure c.finish-in-Check.ensures.told)
+    rw c.in-Check.is (λ tells ready read wrote kept. input_is_answered check_answers _ _ c.check_answer.result _ _ _ _ c.one_answer.ensures.check c.check_answer.ensures.failure c.finish-in-Check.ensures.told tells read wrote)
 
 pub returns-in-Check-clause-refused : goal.returns-in-Check-clause-refused
 returns-in-Check-clause-refused g c =
-    rw c.in-Check.is (fault_is_refused check_answers _ _ c.check_answer.result _ _ _ _ (c.one_answer.ensures Check) c.check_answer.ensures.output c.check_answer.ensures.failure c.finish-in-Check.ensures.told)
+    rw c.in-Check.is (fault_is_refused check_answers _ _ c.check_answer.result _ _ _ _ c.one_answer.ensures.check c.check_answer.ensures.output c.check_answer.ensures.failure c.finish-in-Check.ensures.told)
 
 pub returns-in-Step-clause-source_steady : goal.returns-in-Step-clause-source_steady
 returns-in-Step-clause-source_steady g c =

@@ -1,17 +1,17 @@
 use Rattle.std.proofs.Common.{Err, ap, sym, ◌∙◌}
 use Rattle.allocation_cli.proofs.CheckFaults.{season_failed, season_held}
 use Rattle.allocation_cli.proofs.Ended.{all_left}
-use Rattle.allocation_cli.proofs.commands.check.check_input.Goals as goal
+use Rattle.allocation_cli.proofs.commands.bundle.read_bundle.Goals as goal
 
 pub returns-in-Ok-clause-bundle : goal.returns-in-Ok-clause-bundle
 returns-in-Ok-clause-bundle g c =
     let (bytes, took, end, is) = c.in-Ok.ensures.value in
-    (bytes, all_left bytes _ _ took end, (_, is))
+    (bytes, all_left bytes _ _ took end, is)
 
-pub returns-clause-failure : goal.returns-clause-failure
-returns-clause-failure g c =
+pub returns-in-Err-clause-failure : goal.returns-in-Err-clause-failure
+returns-in-Err-clause-failure g c =
     season_failed _ _ _ c.in-Err.fault c.bundle_failure.result (λ same. c.read.ensures.cause (c.in-Err.is ∙ ap Err same)) c.in-Err.ensures.fault c.bundle_failure.ensures
 
-pub returns-clause-steady : goal.returns-clause-steady
-returns-clause-steady g c other =
+pub returns-in-Err-clause-steady : goal.returns-in-Err-clause-steady
+returns-in-Err-clause-steady g c other =
     season_held c.in-Err.fault c.bundle_failure.result _ (λ known. c.read.ensures.steady (λ same. known (cc (sym c.in-Err.is ∙ same)))) c.bundle_failure.ensures (λ same. other (ap Err same))

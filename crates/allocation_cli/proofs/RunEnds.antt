@@ -1,0 +1,60 @@
+-- How the command `run` ends.
+use Rattle.std.proofs.Common.{◌≡◌, inl, inr, ℕ, true, List, Option, Some, None, Err, refl, subst}
+use Rattle.office_base.specs.Outside.{Appends}
+use Rattle.office_base.specs.declared.asks.Request.{Request}
+use Rattle.season_file.specs.declared.season.Season.{Season}
+use Rattle.keeper_mem.specs.Tables.{Tables, AreTold, IsFound}
+use Rattle.round_cut.specs.declared.fault.BeginFault.{BeginFault}
+use Rattle.round_cut.specs.declared.fault.BeginFault.TheVariants.{NotEmpty, KeeperFault as NoKeeper, OutOfMemory as NoMemory}
+use Rattle.season_file.specs.Season.{content_of}
+use Rattle.allocation_cli.specs.Answers.{HaveOneAnswer, IsFailureOf, Tells}
+use Rattle.allocation_cli.specs.Check.{IsBundle, IsFaultyBundle, IsLeftBundle, check_answers}
+use Rattle.allocation_cli.specs.Program.{status_of, text_of}
+use Rattle.allocation_cli.specs.Run.{EndsRun, EndsSeason, IsUnbegunText, IsUnreadText, begin_status, begin_text}
+use Rattle.allocation_cli.specs.Writes.{IsTold}
+use Rattle.allocation_cli.specs.declared.failure.Failure.{Failure}
+use Rattle.allocation_cli.specs.declared.failure.Failure.TheVariants.{Read, Bad, NoMemory as NoMemoryToRead}
+use Rattle.allocation_cli.specs.declared.status.Status.{Status}
+use Rattle.allocation_cli.proofs.Ended.{told_is_written}
+
+-- the text of why no office began goes with its status
+text_of_begin : (before : Tables) (fault : BeginFault) → (fault ≡ NotEmpty → IsFound true before) → IsUnbegunText before (begin_status fault) (begin_text fault)
+text_of_begin before NotEmpty held = (held refl, refl)
+text_of_begin before NoKeeper held = refl
+text_of_begin before NoMemory held = refl
+
+-- No office began.
+pub unbegun_ends : (season : Season) (script : List Request) (before after : Tables) (fault : BeginFault) (written now : Option (List ℕ)) (broke : Type 0) (result : Status)
+    → (fault ≡ NotEmpty → IsFound true before) → AreTold before after → IsTold (begin_status fault) (begin_text fault) written now broke result
+    → (output : List ℕ) × Appends output written now × EndsSeason season script before after result output
+unbegun_ends season script before after fault written now broke result held told is =
+    let (output, appends, writes) = told_is_written (IsUnbegunText before) (begin_status fault) result (begin_text fault) written now broke (text_of_begin before fault held) is in
+    (output, appends, inl (writes, told))
+
+-- the text of why no bundle was read goes with its status
+text_of_failure : (left : Option (List ℕ)) (failed : Type 0) (failure : Failure) → IsFailureOf check_answers left failed failure
+    → IsUnreadText left (status_of (Err failure)) (text_of (Err failure))
+text_of_failure left failed Read cause = refl
+text_of_failure left failed (Bad line) cause = cause
+text_of_failure left failed NoMemoryToRead cause = refl
+
+-- No bundle was read.
+pub unread_ends : (left : Option (List ℕ)) (failed : Type 0) (failure : Failure) (tables : Tables) (written now : Option (List ℕ)) (broke : Type 0) (result : Status)
+    → IsFailureOf check_answers left failed failure → IsTold (status_of (Err failure)) (text_of (Err failure)) written now broke result
+    → (output : List ℕ) × Appends output written now × EndsRun left tables tables result output
+unread_ends left failed failure tables written now broke result cause is =
+    let (output, appends, writes) = told_is_written (IsUnreadText left) (status_of (Err failure)) result (text_of (Err failure)) written now broke (text_of_failure left failed failure cause) is in
+    (output, appends, inl (writes, refl))
+
+-- No season can be read where a bundle has a fault.
+pub no_faulty_bundle : (left : Option (List ℕ)) (season : Season) (script : List Request) → ((bytes : List ℕ) → HaveOneAnswer check_answers bytes) → IsLeftBundle left season script → Tells IsFaultyBundle left → ⊥
+no_faulty_bundle None season script laws is tells = tells
+no_faulty_bundle (Some bytes) season script laws is tells =
+    let given = subst (λ b. IsBundle b) is.1 (content_of season is.2.row, script, is.2.given) in (laws bytes).apart given tells
+
+-- A bundle was read, and its season ended.
+pub read_ends : (left : Option (List ℕ)) (before after : Tables) (season : Season) (script shown : List Request) (written now : Option (List ℕ)) (status : Status) → IsLeftBundle left season script
+    → shown ≡ script → (output : List ℕ) × Appends output written now × EndsSeason season shown before after status output
+    → (output : List ℕ) × Appends output written now × EndsRun left before after status output
+read_ends left before after season script shown written now status is same end =
+    (end.0, end.1, inr (season, script, is, subst (λ (requests : List Request). EndsSeason season requests before after status end.0) same end.2))
