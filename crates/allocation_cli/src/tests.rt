@@ -457,8 +457,10 @@ fn run_failing(
 // The replies to the first requests, and a line.
 fn first_replies(alloc: Global, count: usize, line: &str) -> Result<String, Fail> {
     let mut text = String::new(alloc);
-    for reply in &REPLIES[..count] {
-        text.push_str(reply)?;
+    for (at, reply) in REPLIES.iter().enumerate() {
+        if at < count {
+            text.push_str(reply)?;
+        }
     }
     text.push_str(line)?;
     Ok(text)
@@ -514,11 +516,20 @@ fn the_keeper_fails_at_each_call(rt: HostRuntime) -> Result<(), Fail> {
 #[test]
 fn the_sink_fails_at_each_reply(rt: HostRuntime) -> Result<(), Fail> {
     let alloc = rt.alloc();
-    for (at, kept) in KEPT[1..].iter().enumerate() {
-        let ended = run_failing(alloc, &[], &[at as u32 + 1], &[])?;
+    // the write that fails, how many replies are written before it, and what is kept then
+    let cases = [
+        (1, 0, KEPT[1]),
+        (2, 1, KEPT[2]),
+        (3, 2, KEPT[3]),
+        (4, 3, KEPT[4]),
+        (5, 4, KEPT[5]),
+        (6, 5, KEPT[6]),
+    ];
+    for (call, count, kept) in cases {
+        let ended = run_failing(alloc, &[], &[call], &[])?;
         assert_eq!(rt; ended.status, Status::WriteFault);
-        assert!(rt; ended.output == first_replies(alloc, at, "")?, "{at}");
-        assert!(rt; ended.kept == Some(*kept), "{at}");
+        assert!(rt; ended.output == first_replies(alloc, count, "")?, "{call}");
+        assert!(rt; ended.kept == Some(kept), "{call}");
     }
     // a fault's line that cannot be written hides the fault of the keeper
     let ended = run_failing(alloc, &[], &[3], &[6])?;
