@@ -14,8 +14,6 @@ mod limits;
 #[cfg(test)]
 mod matrices;
 #[cfg(test)]
-mod plain_scripts;
-#[cfg(test)]
 mod published;
 #[cfg(test)]
 mod readers;

@@ -1,6 +1,8 @@
 // The reader of scripts held against a plain slow one, on a worked script and on what becomes of it where a byte is another.
+ghost use Rattle.std.specs.Prelude.{◌≤◌, IfSome};
+
 use office_base::{Ask, By, CandId, Choice, Code, Request, StepKind};
-use request_rows::{ScriptFault, read_script};
+use request_rows::{Script, ScriptFault, read_script};
 use std::alloc::{AllocError, Global};
 use std::test::Fail;
 
@@ -30,7 +32,9 @@ fn fields(alloc: Global, record: &str) -> Result<Vec<&str>, AllocError> {
 }
 
 /// The number that a text spells: digits without a zero before them.
-fn number(text: &str, low: u32, high: u32) -> Option<u32> {
+fn number(text: &str, low: u32, high: u32) -> Option<u32>
+    ensures { IfSome result (λ n. n ≤ high) }
+{
     let digits = text.bytes().all(|byte| byte.is_ascii_digit());
     if text.is_empty() || !digits || (text.len() > 1 && text.starts_with('0')) {
         return None;
@@ -142,9 +146,9 @@ fn request(row: &[&str]) -> Option<Request> {
     Some(Request { by, ask })
 }
 
-/// The requests of a script without quotes, up to the first row that is none, and the number of that row.
-fn plain_script(alloc: Global, body: &str) -> Result<(Vec<Request>, Option<u32>), AllocError> {
-    let mut requests = Vec::new(alloc);
+/// Whether the reader gives the requests of a script without quotes, or the first row that is none, as the plain one finds them.
+fn agree(alloc: Global, body: &str) -> Result<bool, Fail> {
+    let read = read_script(alloc, body.as_bytes());
     let mut number: u32 = 0;
     'rows: for line in body.lines() {
         let row = fields(alloc, line)?;
@@ -152,22 +156,31 @@ fn plain_script(alloc: Global, body: &str) -> Result<(Vec<Request>, Option<u32>)
             continue 'rows;
         }
         number = number.saturating_add(1);
-        let Some(request) = request(&row) else {
-            return Ok((requests, Some(number)));
-        };
-        requests.push(request)?;
+        match request(&row) {
+            Some(request) => {
+                if !has_request(&read, number, request) {
+                    return Ok(false);
+                }
+            }
+            None => return Ok(read.err() == Some(ScriptFault::BadRequest { row: number })),
+        }
     }
-    Ok((requests, None))
+    Ok(match read {
+        Ok(script) => script.len() == number as usize,
+        Err(_) => false,
+    })
 }
 
-/// Whether the reader gives the same as the plain one.
-fn agree(alloc: Global, body: &str) -> Result<bool, Fail> {
-    let (requests, bad) = plain_script(alloc, body)?;
-    Ok(match (read_script(alloc, body.as_bytes()), bad) {
-        (Ok(script), None) => script.as_slice() == requests.as_slice(),
-        (Err(ScriptFault::BadRequest { row }), Some(number)) => row == number,
-        _ => false,
-    })
+/// Whether a row of this number was read as this request, or no script was read for the sake of a later row.
+fn has_request(read: &Result<Script, ScriptFault>, number: u32, request: Request) -> bool {
+    match read {
+        Ok(script) => match script.as_slice().get(number.saturating_sub(1) as usize) {
+            Some(other) => *other == request,
+            None => false,
+        },
+        Err(ScriptFault::BadRequest { row }) => number < *row,
+        Err(ScriptFault::OutOfMemory) => false,
+    }
 }
 
 #[test]
