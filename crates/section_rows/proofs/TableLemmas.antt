@@ -1,24 +1,19 @@
 -- A table read row by row has its first fault, or its entries.
 use Rattle.std.proofs.Common.{◌≡◌, ◌<◌, ◌⊎◌, inl, inr, ℕ, true, false, List, [], ◌∷◌, ◌++◌, ◌+◌, Some, None, Option, Ok, Err, length, refl, sym, ap, ◌∙◌, append_assoc, arith, length-append}
-use Rattle.std.specs.Prelude.{slice_get}
 use Rattle.std.proofs.lemmas.Bool.{cases_order}
 use Rattle.std.proofs.lemmas.List.{append-nil}
 use Rattle.std.proofs.lemmas.Option.{slice_get_past}
 use Rattle.std.proofs.Math.Seq.{take-append_seam, take-length}
+use Rattle.office_base.proofs.Lists.{get-after}
 use Rattle.office_text.specs.FirstFault.{Judge, fault_at, IsFirstFault, IsFaultless}
 use Rattle.office_text.proofs.FirstFaultLemmas.{one_answer}
 use Rattle.section_rows.specs.Rows.{Row, same_fields}
 use Rattle.section_rows.specs.Table.{IsTableFault, Reading, entries_after, entries_of, fault_of, table_judge, with_entry}
 use Rattle.section_rows.specs.declared.fault.TableFault.TheVariants.{Bad}
 
--- the row after others
-slice_get-seam : (rows : List Row) (row : Row) (more : List Row) → slice_get (rows ++ row ∷ more) (length rows) ≡ Some row
-slice_get-seam [] row more = refl
-slice_get-seam (r ∷ rows) row more = slice_get-seam rows row more
-
 -- The judge at the row after others.
 pub fault_at-seam : {Kind : Type 0} (judge : Judge Row Kind) (rows : List Row) (row : Row) (more : List Row) → fault_at judge (rows ++ row ∷ more) (length rows) ≡ judge rows (Some row)
-fault_at-seam judge rows row more = rw (take-append_seam rows (row ∷ more), slice_get-seam rows row more) refl
+fault_at-seam judge rows row more = rw (take-append_seam rows (row ∷ more), get-after rows row more) refl
 
 -- The judge at the end of the rows.
 pub fault_at-end : {Kind : Type 0} (judge : Judge Row Kind) (rows : List Row) → fault_at judge rows (length rows) ≡ judge rows None
