@@ -1,6 +1,7 @@
 -- The codes of entries are distinct.
 use Rattle.std.proofs.Common.{◌≡◌, ◌<◌, ℕ, zero, suc, Bool, true, false, cond, List, [], ◌∷◌, ◌++◌, Option, Some, None, get_or, length, lt-ltb, refl, sym, ap, ◌∙◌, arith}
-use Rattle.std.specs.Prelude.{◌||◌, bytes_eq, nat_lt, option_map, position, slice_get}
+use Rattle.std.specs.Prelude.{bytes_eq, nat_lt, option_map, position, slice_get}
+use Rattle.std.proofs.lemmas.Bool.{or_parts}
 use Rattle.std.specs.List.{AllByRecursion, list_any, position_or_len}
 use Rattle.std.proofs.lemmas.List.Sums.{position_or_len_is}
 use Rattle.std.proofs.lemmas.Option.{get_or_from_slice_get, slice_get-map, slice_get_within}
@@ -19,10 +20,6 @@ Distinct codes = Pairwise (λ a b. a ≡ b → ⊥) codes
 all_other : (first code : List ℕ) (codes : List (List ℕ)) → (first ≡ code → ⊥) → AllByRecursion (λ other. first ≡ other → ⊥) codes → AllByRecursion (λ other. first ≡ other → ⊥) (codes ++ code ∷ [])
 all_other first code [] other all = (other, tt)
 all_other first code (next ∷ codes) other all = (all.0, all_other first code codes other all.1)
-
-or_parts : (b c : Bool) → (b || c) ≡ false → (b ≡ false) × (c ≡ false)
-or_parts true c e = cc e
-or_parts false c e = (refl, e)
 
 distinct-push : (codes : List (List ℕ)) (code : List ℕ) → list_any (bytes_eq code) codes ≡ false → Distinct codes → Distinct (codes ++ code ∷ [])
 distinct-push [] code e distinct = (tt, tt)
