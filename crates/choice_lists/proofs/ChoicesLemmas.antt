@@ -5,7 +5,7 @@ use Rattle.std.specs.List.{AllByRecursion}
 use Rattle.std.specs.Option.{option_and_then}
 use Rattle.std.proofs.Math.Numerals.{add-one}
 use Rattle.std.proofs.Math.Seq.{drop-cons}
-use Rattle.std.proofs.lemmas.Bool.{eq-eqb, eqb-true, ltb-false}
+use Rattle.std.proofs.lemmas.Bool.{eq-eqb, eqb-true, ltb-false, not-false}
 use Rattle.std.proofs.lemmas.Option.{slice_get_within}
 use Rattle.office_base.specs.Limits.{last_id, most_choices, most_row_choices}
 use Rattle.office_base.specs.declared.person.Person.{Person}
@@ -68,10 +68,6 @@ new_candidate_ok ranks entries row person e =
       room = ltb-false most_choices (all_choices entries + (length row - 1)) room;
     })
 
-not_false : (b : Bool) → not b ≡ false → b ≡ true
-not_false true e = refl
-not_false false e = cc e
-
 -- a choice is new to the row, and the person has a place there
 choice_ok : (seats : SeatTable) (person : Person) (chosen : List ProgId) (text : List ℕ) (prog : ProgId) → choice seats person chosen text ≡ Ok prog
     → (is_chosen prog.0 chosen ≡ false) × (is_ranked seats person prog.0 ≡ true)
@@ -81,7 +77,7 @@ choice_ok seats person chosen text prog e =
     let (ranked, e4) = unless_ok (not (is_ranked seats person n)) NotRankedThere (Ok (record { 0 = n })) prog e3 in
     let made : ProgId = record { 0 = n } in
     let same : made ≡ prog = cc e4 in
-    subst (λ (p : ProgId). (is_chosen p.0 chosen ≡ false) × (is_ranked seats person p.0 ≡ true)) same (fresh, not_false (is_ranked seats person n) ranked)
+    subst (λ (p : ProgId). (is_chosen p.0 chosen ≡ false) × (is_ranked seats person p.0 ≡ true)) same (fresh, not-false (is_ranked seats person n) ranked)
 
 -- P holds of one more element
 all_push : (P : ProgId → Type 0) (xs : List ProgId) (x : ProgId) → AllByRecursion P xs → P x → AllByRecursion P (xs ++ x ∷ [])

@@ -5,9 +5,9 @@ use Rattle.std.proofs.lemmas.List.{length-drop}
 use Rattle.office_base.specs.declared.person.Person.{Person}
 use Rattle.office_base.specs.declared.person.ProgId.{ProgId}
 use Rattle.office_text.specs.FirstFault.{IsFaultless, IsFirstFault}
-use Rattle.office_text.proofs.FirstFaultLemmas.{one_answer}
 use Rattle.section_rows.specs.Rows.{Row}
 use Rattle.section_rows.specs.declared.fault.TableFault.TheVariants.{Bad}
+use Rattle.section_rows.proofs.TableLemmas.{one_fault}
 use Rattle.section_rows.specs.Steps.{after, first_of}
 use Rattle.section_rows.specs.Table.{Reading, entries_after, entries_of, table_judge, with_entry}
 use Rattle.section_rows.proofs.StepsLemmas.{after_ok}
@@ -76,20 +76,18 @@ sound_of ranks seats (first ∷ rows) = sound_after ranks seats [] rows (no_list
 
 -- Rows give lists or have a fault.
 some_reading : (ranks : Ranks) (seats : SeatTable) (rows : List Row) → ((lists : Lists) × IsRead ranks seats rows lists) ⊎ ((row : ℕ) × (kind : ChoiceKind) × IsFault ranks seats rows (Bad row kind))
-some_reading ranks seats rows = elim (one_answer (judge ranks seats) rows).some [
+some_reading ranks seats rows = elim (one_fault (judge ranks seats) rows).some [
   | inl none ↦ inl (lists_from (entries_of (reading ranks seats) rows), (none, lists_made (entries_of (reading ranks seats) rows)))
-  | inr found ↦ inr (found.0 + 1, found.1, (found.0, refl, found.2))
+  | inr fault ↦ inr fault
 ]
 
 -- Rows have exactly one reading.
 pub one_reading : (ranks : Ranks) (seats : SeatTable) (rows : List Row) → HaveOneReading ranks seats rows
 one_reading ranks seats rows = record {
   some = some_reading ranks seats rows;
-  apart = λ lists row kind read fault. (one_answer (judge ranks seats) rows).apart fault.0 kind read.0 fault.2;
+  apart = λ lists row kind read fault. (one_fault (judge ranks seats) rows).apart row kind read.0 fault;
   one_value = λ lists other a b candidate. a.1 candidate ∙ sym (b.1 candidate);
-  one_fault = λ row other kind next a b.
-      let same = (one_answer (judge ranks seats) rows).one a.0 b.0 kind next a.2 b.2 in
-      (a.1 ∙ ap (λ (n : ℕ). n + 1) same.0 ∙ sym b.1, same.1);
+  one_fault = (one_fault (judge ranks seats) rows).one;
   sound = λ lists read candidate. subst (IsChoice ranks seats candidate) (sym (read.1 candidate)) (sound_of ranks seats rows candidate);
 }
 

@@ -1,11 +1,11 @@
 -- The places of people in merit order, and marks at places.
-use Rattle.std.proofs.Common.{◌≡◌, ◌≢◌, ◌≤◌, ◌<◌, ◌⊎◌, ℕ, zero, suc, Option, Bool, true, false, cond, List, [], ◌∷◌, ◌++◌, length, take, drop, get_or, set, take_all, append_assoc, refl, sym, ap, ◌∙◌, subst, inl, inr, arith}
+use Rattle.std.proofs.Common.{◌≡◌, ◌≢◌, ◌≤◌, ◌<◌, ◌⊎◌, ℕ, zero, suc, Option, Bool, true, false, cond, List, [], ◌∷◌, ◌++◌, length, take, drop, get_or, set, append_assoc, refl, sym, ap, ◌∙◌, subst, inl, inr, arith}
 use Rattle.std.specs.Prelude.{IsSome}
 use Rattle.std.specs.List.{AllByRecursion, AllZip, insert, remove}
 use Rattle.std.proofs.lemmas.Bool.{cases_Bool}
 use Rattle.std.proofs.lemmas.List.{get_or_past}
 use Rattle.std.proofs.Math.Seq.{take-suc, drop-cons}
-use Rattle.office_base.specs.Lists.{AnyByRecursion, Pairwise}
+use Rattle.office_base.specs.Lists.{Pairwise}
 use Rattle.office_base.specs.Person.{IsAhead, IsBetter, number_in}
 use Rattle.office_base.specs.declared.person.CandId.{CandId}
 use Rattle.office_base.specs.declared.person.ListId.{ListId}
@@ -108,14 +108,6 @@ else_better list people person other placed all numbers there not_better = elim 
       (subst (λ one. IsSome (number_in list one)) (sym has.1) has.2)
       (subst (λ one. number_in list person ≢ number_in list one) (sym apart.1) apart.2) told))
 ]
-
--- nobody has a number that none of the people has
-pub nobody_found : (cand : CandId) (people : List Person) (at : ℕ) → AnyByRecursion (λ (person : Person). person.id ≡ cand) people → length people ≤ at
-    → AllByRecursion (λ (person : Person). person.id ≢ cand) (take at people) → ⊥
-nobody_found cand people at there past none =
-    let all : AllByRecursion (λ (person : Person). person.id ≢ cand) people = subst (AllByRecursion (λ (person : Person). person.id ≢ cand)) (take_all at people past) none in
-    let found = any_all (λ (person : Person). person.id ≡ cand) (λ (person : Person). person.id ≢ cand) people there all in
-    found.2 found.1
 
 -- ---- people and their marks
 

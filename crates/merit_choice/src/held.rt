@@ -1,14 +1,12 @@
 // The people whom the seats hold, in merit order, each with a mark: whether the protections need the person.
-ghost use Rattle.std.specs.Prelude.{◌≡◌, ◌≤◌, ◌<◌, length, vec_len, vec_capacity, slice_index_or, MatchOption};
+ghost use Rattle.std.specs.Prelude.{◌≡◌, ◌≤◌, ◌<◌, length, vec_len, vec_capacity, MatchOption};
 ghost use Rattle.std.specs.List.{insert};
-ghost use Rattle.office_base.specs.Lists.{AnyByRecursion};
 ghost use Rattle.office_base.specs.Person.{IsList};
 ghost use Rattle.office_base.specs.StepChoice.{AreRanked};
 ghost use Rattle.merit_choice.specs.Held.{IsLastFree, AreAllSet, IsLeft};
 ghost use Rattle.merit_choice.specs.InMerit.{with_person, IsNewTo};
-ghost use Rattle.office_base.specs.declared.person.Person.{Person};
 
-use office_base::{CandId, ListId, Person, better};
+use office_base::{ListId, Person, better};
 
 /// The place that a new person has among people in merit order.
 pub(crate) fn place_for(people: &[Person], person: &Person, list: ListId) -> usize
@@ -39,19 +37,6 @@ pub fn put_in_order(people: &mut Vec<Person>, person: &Person, list: ListId)
 {
     let at = place_for(people.as_slice(), person, list);
     put(people, at, *person);
-}
-
-/// The place of the person with this number.
-pub(crate) fn place_of(people: &[Person], cand: CandId) -> Option<usize>
-    requires { AnyByRecursion (λ person. person.id ≡ cand) people.now }
-    ensures { MatchOption result ⊥ (λ at. (at < length people.now) × ((d : Person) → (slice_index_or people.now at d).id ≡ cand)) }
-{
-    for (at, person) in people.iter().enumerate() {
-        if person.id == cand {
-            return Some(at);
-        }
-    }
-    None
 }
 
 /// The last of the people whose mark is not set leaves.

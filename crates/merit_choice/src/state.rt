@@ -9,9 +9,9 @@ ghost use Rattle.slot_matching.specs.Kept.{with_member};
 ghost use Rattle.merit_choice.specs.InMerit.{IsNewTo, with_person};
 ghost use Rattle.merit_choice.specs.State.{HandsOn, IsStepKept, step_with, IsAnswered, IsMatched};
 
-use crate::held::{leave, place_for, place_of, put};
+use crate::held::{leave, place_for, put};
 use office_base::{CandId, ListId, OutOfMemory, Person, Protections, better};
-use slot_matching::{Augment, Matching};
+use slot_matching::{Augment, Matching, place_of};
 use std::alloc::Global;
 use std::marker::Model;
 

@@ -1,18 +1,11 @@
 -- Lists that go along with people.
-use Rattle.std.proofs.Common.{◌≡◌, ◌<◌, ℕ, zero, suc, List, [], ◌∷◌, Some, refl, ap, ◌∙◌, subst, arith}
+use Rattle.std.proofs.Common.{◌≡◌, ◌<◌, ℕ, zero, suc, List, [], ◌∷◌, Some, refl, ap, ◌∙◌, arith}
 use Rattle.std.specs.Prelude.{slice_get, ◌==◌}
-use Rattle.std.specs.List.{AllByRecursion}
 use Rattle.std.proofs.lemmas.Bool.{eq-eqb, ne_eqb, cond-true, cond-false}
+use Rattle.office_base.proofs.Lists.{all-get}
 use Rattle.office_base.specs.Lists.{Pairwise}
 use Rattle.office_base.specs.Person.{at_person}
 use Rattle.office_base.specs.declared.person.Person.{Person}
-
--- what holds of each element holds of the one at a place
-all-get : {X : Type 0} (P : X → Type 0) (xs : List X) (at : ℕ) (x : X) → AllByRecursion P xs → slice_get xs at ≡ Some x → P x
-all-get P [] zero x all found = absurd cc
-all-get P [] (suc at) x all found = absurd cc
-all-get P (y ∷ xs) zero x all found = let same : y ≡ x = cc in subst P same all.0
-all-get P (y ∷ xs) (suc at) x all found = all-get P xs at x all.1 found
 
 -- Where the numbers of the people rise, a list that goes along with them has for each person what stands at that person's place.
 pub at_person-get : {X : Type 0} (people : List Person) (xs : List X) (at : ℕ) (person : Person) → Pairwise (λ a b. a.id.0 < b.id.0) people

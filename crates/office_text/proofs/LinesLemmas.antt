@@ -1,14 +1,11 @@
 -- Lines and fields, cut at the first separator.
 use Rattle.std.proofs.Common.{◌≡◌, ◌<◌, ◌≤◌, ◌-◌, ℕ, zero, suc, Bool, true, false, cond, eqb, List, [], ◌∷◌, length, take, drop, map, get_or, refl, sym, ap, ◌∙◌, arith, eq-eqb}
-use Rattle.std.proofs.lemmas.Bool.{ne_eqb}
+use Rattle.std.proofs.lemmas.Bool.{cond-false, ne_eqb}
 use Rattle.office_text.specs.Lines.{cut_at, onto_first, drop_cr, trimmed, unless_last, without_empty_last, lines_of}
 
 -- at a separator byte the test holds, and elsewhere it does not
 at_true : {X : Type 0} (b : Bool) (x y : X) → b ≡ true → cond b x y ≡ x
 at_true b x y e = rw e refl
-
-at_false : {X : Type 0} (b : Bool) (x y : X) → b ≡ false → cond b x y ≡ y
-at_false b x y e = rw e refl
 
 -- lists that are not empty
 abbrev pub IsFilled : List (List ℕ) → Type 0
@@ -32,13 +29,13 @@ cut_at-first separator [] end within here before = absurd (omega arith)
 cut_at-first separator (b ∷ bytes) zero within here before = at_true (eqb b separator) _ _ (eq-eqb b separator here)
 cut_at-first separator (b ∷ bytes) (suc n) within here before =
     let rest : cut_at separator bytes ≡ take n bytes ∷ cut_at separator (drop (suc n) bytes) = cut_at-first separator bytes n (omega arith) here (λ k below. before (suc k) (omega arith)) in
-    at_false (eqb b separator) _ _ (ne_eqb b separator (before zero (omega arith))) ∙ ap (onto_first b) rest
+    cond-false (eqb b separator) _ _ (ne_eqb b separator (before zero (omega arith))) ∙ ap (onto_first b) rest
 
 -- Bytes without separators are one piece.
 pub cut_at-whole : (separator : ℕ) (bytes : List ℕ) → ((k : ℕ) → k < length bytes → get_or bytes k 0 ≡ separator → ⊥) → cut_at separator bytes ≡ bytes ∷ []
 cut_at-whole separator [] before = refl
 cut_at-whole separator (b ∷ bytes) before =
-    at_false (eqb b separator) _ _ (ne_eqb b separator (before zero (omega arith))) ∙ ap (onto_first b) (cut_at-whole separator bytes (λ k below. before (suc k) (omega arith)))
+    cond-false (eqb b separator) _ _ (ne_eqb b separator (before zero (omega arith))) ∙ ap (onto_first b) (cut_at-whole separator bytes (λ k below. before (suc k) (omega arith)))
 
 -- What stands before other pieces is no last piece.
 kept_before : (piece : List ℕ) (pieces : List (List ℕ)) → IsFilled pieces → without_empty_last (piece ∷ map drop_cr pieces) ≡ piece ∷ without_empty_last (map drop_cr pieces)
@@ -69,7 +66,7 @@ drop_cr-end line some here = sym (drop_cr-at line (length line - 1) (omega arith
 -- Another byte at the end is kept.
 drop_cr-not_at : (line : List ℕ) (n : ℕ) → length line ≡ suc n → (get_or line n 0 ≡ 13 → ⊥) → drop_cr line ≡ line
 drop_cr-not_at [] n size other = refl
-drop_cr-not_at (a ∷ []) zero size other = at_false (eqb a 13) _ _ (ne_eqb a 13 other)
+drop_cr-not_at (a ∷ []) zero size other = cond-false (eqb a 13) _ _ (ne_eqb a 13 other)
 drop_cr-not_at (a ∷ []) (suc n) size other = absurd (omega arith)
 drop_cr-not_at (a ∷ b ∷ line) zero size other = absurd (omega arith)
 drop_cr-not_at (a ∷ b ∷ line) (suc n) size other = ap (λ (bytes : List ℕ). a ∷ bytes) (drop_cr-not_at (b ∷ line) n (omega arith) other)
@@ -91,7 +88,7 @@ trimmed-end line some here = trimmed-at line (length line - 1) (omega arith) her
 -- Where there is another byte at the end, nothing is trimmed.
 trimmed-not_at : (line : List ℕ) (n : ℕ) → length line ≡ suc n → (get_or line n 0 ≡ 44 → ⊥) → trimmed line ≡ line
 trimmed-not_at [] n size other = refl
-trimmed-not_at (a ∷ []) zero size other = at_false (eqb a 44) _ _ (ne_eqb a 44 other)
+trimmed-not_at (a ∷ []) zero size other = cond-false (eqb a 44) _ _ (ne_eqb a 44 other)
 trimmed-not_at (a ∷ []) (suc n) size other = absurd (omega arith)
 trimmed-not_at (a ∷ b ∷ line) zero size other = absurd (omega arith)
 trimmed-not_at (a ∷ b ∷ line) (suc n) size other = ap (unless_last 44 a) (trimmed-not_at (b ∷ line) n (omega arith) other)

@@ -8,7 +8,8 @@ use Rattle.std.specs.List.{AllByRecursion}
 use Rattle.std.specs.Ordering.{is_eq, match_ordering, nat_cmp}
 use Rattle.std.specs.declared.cmp.Ordering.{Ordering}
 use Rattle.std.specs.declared.cmp.Ordering.TheVariants.{Less, Equal, Greater}
-use Rattle.std.proofs.lemmas.Bool.{leb-false, ne_eqb}
+use Rattle.std.proofs.lemmas.Bool.{leb-false}
+use Rattle.std.proofs.Math.Bool.{or_assoc, or_comm}
 use Rattle.std.proofs.lemmas.Map.Text.{is_eq-slice_cmp}
 use Rattle.std.proofs.lemmas.Option.{cond_some}
 use Rattle.std.proofs.lemmas.Slice.Eq.{bytes_eq-Decides}
@@ -20,8 +21,7 @@ use Rattle.office_text.specs.Number.{number_within}
 use Rattle.office_text.specs.Traits.{traits_of, read_from, weighted_letters, is_dash}
 use Rattle.section_rows.specs.Rows.{Row, field}
 use Rattle.section_rows.specs.Steps.{after, needs, unless}
-use Rattle.section_rows.proofs.StepsLemmas.{after_ok, flip, nat_at, needs_ok, none_from, number_decides, number_found, step, then_found, unless_ok, within_range}
-use Rattle.rank_lists.specs.Places.{place_cmp}
+use Rattle.section_rows.proofs.StepsLemmas.{after_ok, flip, nat_at, needs_ok, none_from, number_found, step, unless_ok, within_range}
 use Rattle.office_base.specs.Person.{number_of}
 use Rattle.rank_lists.specs.Register.{any_relaxed, any_repeats, is_general, is_number, is_taken, place_at, reading, new_id, places_of, new_token, person_at, holder_at, token_of, IsRegistered}
 use Rattle.rank_lists.specs.declared.entry.Entry.{Entry}
@@ -46,49 +46,20 @@ holder-step entries entry none q =
     (same ∙ one_answer _ _ (bytes_eq-Decides entry.token q) (flip _ (bytes_eq-Decides q entry.token)))
     (λ h. subst (λ (k : List ℕ). holder_at k entries ≡ None) ((bytes_eq-Decides entry.token q).0 (sym same ∙ h)) none)
 
-pub place_found : (list number l n : ℕ) → is_eq (place_cmp (list, number) (l, n)) ≡ (list == l && n == number)
-place_found list number l n =
-    then_found (nat_cmp list l) (nat_cmp number n)
-    ∙ ap (λ (b : Bool). b && is_eq (nat_cmp number n)) (one_answer _ _ (nat_at list l) (number_decides list l))
-    ∙ ap (λ (b : Bool). list == l && b) (number_found number n)
-
-or_comm : (a b : Bool) → (a || b) ≡ (b || a)
-or_comm true true = refl
-or_comm true false = refl
-or_comm false true = refl
-or_comm false false = refl
-
-or_assoc : (a b c : Bool) → (a || (b || c)) ≡ ((a || b) || c)
-or_assoc true b c = refl
-or_assoc false b c = refl
-
 -- the numbers taken, with those of one more
 is_taken-push : (l n : ℕ) (entries : List Entry) (entry : Entry) → is_taken l n (entries ++ entry ∷ []) ≡ (is_taken l n entries || is_number n (number_of (place_at entry.person.places l)))
 is_taken-push l n [] entry = or_comm _ false
 is_taken-push l n (e ∷ entries) entry = ap (λ (b : Bool). is_number n (number_of (place_at e.person.places l)) || b) (is_taken-push l n entries entry)
-    ∙ or_assoc (is_number n (number_of (place_at e.person.places l))) (is_taken l n entries) (is_number n (number_of (place_at entry.person.places l)))
+    ∙ sym (or_assoc (is_number n (number_of (place_at e.person.places l))) (is_taken l n entries) (is_number n (number_of (place_at entry.person.places l))))
 
--- what four numbers put in say
-abbrev Four : (a b c d : Place) (l n : ℕ) (rest : Bool) → Type 0
-Four a b c d l n rest = ((3 == l && is_number n (number_of d)) || ((2 == l && is_number n (number_of c)) || ((1 == l && is_number n (number_of b)) || ((0 == l && is_number n (number_of a)) || rest))))
-    ≡ (rest || is_number n (number_of (place_at (a ∷ b ∷ c ∷ d ∷ []) l)))
-
-four : (a b c d : Place) (l n : ℕ) (rest : Bool) → Four a b c d l n rest
-four a b c d zero n rest = or_comm (is_number n (number_of a)) rest
-four a b c d (suc zero) n rest = or_comm (is_number n (number_of b)) rest
-four a b c d (suc (suc zero)) n rest = or_comm (is_number n (number_of c)) rest
-four a b c d (suc (suc (suc zero))) n rest = or_comm (is_number n (number_of d)) rest
-four a b c d (suc (suc (suc (suc l)))) n rest =
-    let k : ℕ = suc (suc (suc (suc l))) in
-    rw (ne_eqb 3 k (λ e. absurd (omega arith)), ne_eqb 2 k (λ e. absurd (omega arith)), ne_eqb 1 k (λ e. absurd (omega arith)), ne_eqb 0 k (λ e. absurd (omega arith))) (or_comm false rest)
-
--- The numbers taken, with the four of one more.
-pub taken-step : (entries : List Entry) (entry : Entry) (a b c d : Place) → entry.person.places ≡ a ∷ b ∷ c ∷ d ∷ [] → (l n : ℕ)
-    → ((3 == l && is_number n (number_of d)) || ((2 == l && is_number n (number_of c)) || ((1 == l && is_number n (number_of b)) || ((0 == l && is_number n (number_of a)) || is_taken l n entries))))
-    ≡ is_taken l n (entries ++ entry ∷ [])
-taken-step entries entry a b c d e l n =
-    four a b c d l n (is_taken l n entries)
-    ∙ ap (λ (p : List Place). is_taken l n entries || is_number n (number_of (place_at p l))) (sym e)
+-- The numbers taken in a list, with that of one more.
+pub taken-step : (entries : List Entry) (entry : Entry) (l n : ℕ) (place : Place) (old new : Bool) → place ≡ place_at entry.person.places l
+    → old ≡ is_taken l n entries → new ≡ (is_number n (number_of place) || old) → new ≡ is_taken l n (entries ++ entry ∷ [])
+taken-step entries entry l n place old new here before e =
+    e
+    ∙ ap (λ (p : Place). is_number n (number_of p) || old) here
+    ∙ ap (λ (b : Bool). is_number n (number_of (place_at entry.person.places l)) || b) before
+    ∙ or_comm (is_number n (number_of (place_at entry.person.places l))) (is_taken l n entries)
     ∙ sym (is_taken-push l n entries entry)
 
 -- Each person stays under the own id.
@@ -221,28 +192,13 @@ accepted entries row entry e =
       token = held.0;
     })
 
--- The numbers taken after four were put in, one by one.
-pub taken-chain : (entries : List Entry) (entry : Entry) (a b c d : Place) → entry.person.places ≡ a ∷ b ∷ c ∷ d ∷ [] → (l n : ℕ) (p q r s : Place) → p ≡ a → q ≡ b → r ≡ c → s ≡ d
-    → (t0 t1 t2 t3 t4 : Bool) → t0 ≡ is_taken l n entries → t1 ≡ ((0 == l && is_number n (number_of p)) || t0) → t2 ≡ ((1 == l && is_number n (number_of q)) || t1)
-    → t3 ≡ ((2 == l && is_number n (number_of r)) || t2) → t4 ≡ ((3 == l && is_number n (number_of s)) || t3) → t4 ≡ is_taken l n (entries ++ entry ∷ [])
-taken-chain entries entry a b c d shape l n p q r s ep eq er es t0 t1 t2 t3 t4 h0 h1 h2 h3 h4 =
-    let all = taken-step entries entry a b c d shape l n in
-    rw (h4, h3, h2, h1, h0, ep, eq, er, es) all
-
 -- One more is counted, where it is new.
 pub count-step : (old : Option Person) (m n : ℕ) (entries : List Entry) (entry : Entry) → old ≡ None → n ≡ m + (if is_some old then 0 else 1) → m ≡ length entries → n ≡ length (entries ++ entry ∷ [])
 count-step None m n entries entry e f g = omega (arith, f, g, length-append entries (entry ∷ []))
 count-step (Some p) m n entries entry e f g = cc e
 
--- The four places, by their numbers.
-pub at-0 : (places : List Place) (x a b c d : Place) → places ≡ a ∷ b ∷ c ∷ d ∷ [] → get_or places 0 x ≡ a
-at-0 places x a b c d e = ap (λ (l : List Place). get_or l 0 x) e
-
-pub at-1 : (places : List Place) (x a b c d : Place) → places ≡ a ∷ b ∷ c ∷ d ∷ [] → get_or places 1 x ≡ b
-at-1 places x a b c d e = ap (λ (l : List Place). get_or l 1 x) e
-
-pub at-2 : (places : List Place) (x a b c d : Place) → places ≡ a ∷ b ∷ c ∷ d ∷ [] → get_or places 2 x ≡ c
-at-2 places x a b c d e = ap (λ (l : List Place). get_or l 2 x) e
-
-pub at-3 : (places : List Place) (x a b c d : Place) → places ≡ a ∷ b ∷ c ∷ d ∷ [] → get_or places 3 x ≡ d
-at-3 places x a b c d e = ap (λ (l : List Place). get_or l 3 x) e
+-- A place that is there, by its number.
+pub place-there : (places : List Place) (x : Place) (l : ℕ) → l < length places → get_or places l x ≡ place_at places l
+place-there [] x l less = absurd (omega arith)
+place-there (p ∷ places) x zero less = refl
+place-there (p ∷ places) x (suc l) less = place-there places x l (omega arith)

@@ -1,7 +1,7 @@
 -- What holds of all entries holds with one more that is accepted.
 use Rattle.std.proofs.Common.{◌≡◌, ◌⊎◌, inl, inr, ℕ, zero, suc, Bool, true, false, cond, List, [], ◌∷◌, ◌++◌, Option, Some, None, refl, sym, ap, subst, ◌∙◌, length-append, arith}
 use Rattle.std.specs.Prelude.{◌==◌, ◌||◌, bytes_eq, IsSome}
-use Rattle.std.proofs.lemmas.Bool.{eqb-true, eq-eqb}
+use Rattle.std.proofs.lemmas.Bool.{eqb-true, eq-eqb, or_left, or_parts, or_right}
 use Rattle.std.proofs.lemmas.Slice.Eq.{bytes_eq-Decides}
 use Rattle.office_base.specs.Codes.{is_token}
 use Rattle.office_base.specs.Person.{number_of}
@@ -11,13 +11,6 @@ use Rattle.rank_lists.specs.Register.{AreEntries, IsRegistered, any_repeats, hol
 use Rattle.rank_lists.specs.declared.entry.Entry.{Entry}
 use Rattle.section_rows.proofs.StepsLemmas.{found_cases}
 use Rattle.rank_lists.proofs.BuilderLemmas.{IsAccepted}
-
-or_first : (b c : Bool) → b ≡ true → (b || c) ≡ true
-or_first b c h = rw h refl
-
-or_second : (b c : Bool) → c ≡ true → (b || c) ≡ true
-or_second true c h = refl
-or_second false c h = h
 
 -- the number of a known person is taken
 taken_found : (entries : List Entry) (i list n : ℕ) (a : Person) → person_at i entries ≡ Some a → number_of (place_at a.places list) ≡ Some n → is_taken list n entries ≡ true
@@ -30,12 +23,8 @@ taken_found (entry ∷ entries) i list n a e f = by (i == entry.person.id.0) e (
     by : (b : Bool) → cond b (Some entry.person) (person_at i entries) ≡ Some a
         → (person_at i entries ≡ Some a → number_of (place_at a.places list) ≡ Some n → is_taken list n entries ≡ true)
         → (is_number n (number_of (place_at entry.person.places list)) || is_taken list n entries) ≡ true
-    by true h more = let same : entry.person ≡ a = cc h in or_first (is_number n (number_of (place_at entry.person.places list))) (is_taken list n entries) (ap (λ (p : Person). is_number n (number_of (place_at p.places list))) same ∙ here)
-    by false h more = or_second (is_number n (number_of (place_at entry.person.places list))) (is_taken list n entries) (more h f)
-
-or_parts : (b c : Bool) → (b || c) ≡ false → (b ≡ false) × (c ≡ false)
-or_parts true c e = cc e
-or_parts false c e = (refl, e)
+    by true h more = let same : entry.person ≡ a = cc h in or_left (is_number n (number_of (place_at entry.person.places list))) (is_taken list n entries) (ap (λ (p : Person). is_number n (number_of (place_at p.places list))) same ∙ here)
+    by false h more = or_right (is_number n (number_of (place_at entry.person.places list))) (is_taken list n entries) (more h f)
 
 -- a number that does not repeat is not taken
 one_free : (entries : List Entry) (list n : ℕ) (o : Option ℕ) → repeats list o entries ≡ false → o ≡ Some n → is_taken list n entries ≡ false

@@ -1,15 +1,15 @@
 -- Rows have exactly one reading.
-use Rattle.std.proofs.Common.{◌≡◌, ◌<◌, ◌≤◌, ◌⊎◌, inl, inr, ℕ, Bool, true, false, cond, List, [], ◌∷◌, ◌+◌, map, Option, Some, None, refl, sym, ap, ◌∙◌, arith}
+use Rattle.std.proofs.Common.{◌≡◌, ◌<◌, ◌≤◌, ◌⊎◌, inl, inr, ℕ, Bool, true, false, cond, List, [], ◌∷◌, map, Option, Some, None, refl, sym, ap, ◌∙◌, arith}
 use Rattle.std.specs.Prelude.{◌==◌, bytes_eq, nat_lt, if◌then◌else◌}
 use Rattle.std.specs.List.{AllByRecursion}
 use Rattle.std.proofs.lemmas.Bool.{cases_order, cond-false, cond-true, eq-eqb, eqb-false, eqb-true, ltb-false, ltb-true, ne_eqb}
 use Rattle.office_base.specs.Lists.{Pairwise}
 use Rattle.office_base.specs.declared.person.CandId.{CandId}
 use Rattle.office_base.specs.declared.person.Person.{Person}
-use Rattle.office_text.proofs.FirstFaultLemmas.{one_answer}
 use Rattle.section_rows.specs.Rows.{Row}
 use Rattle.section_rows.specs.Table.{entries_of}
 use Rattle.section_rows.specs.declared.fault.TableFault.TheVariants.{Bad}
+use Rattle.section_rows.proofs.TableLemmas.{one_fault}
 use Rattle.rank_lists.specs.Laws.{AreSame, HaveOneReading}
 use Rattle.rank_lists.specs.Register.{IsFault, IsRead, IsRegister, Ranks, find_holder, find_person, holder_at, judge, person_at, reading}
 use Rattle.rank_lists.specs.declared.entry.Entry.{Entry}
@@ -167,18 +167,16 @@ one_register entries ranks other a b = record {
 
 -- Rows give ranks or have a fault.
 some_reading : (rows : List Row) → ((ranks : Ranks) × IsRead rows ranks) ⊎ ((row : ℕ) × (kind : RankKind) × IsFault rows (Bad row kind))
-some_reading rows = elim (one_answer judge rows).some [
+some_reading rows = elim (one_fault judge rows).some [
   | inl none ↦ inl (record { people = people_of (entries_of reading rows); holders = holders_of (entries_of reading rows) }, (none, register_of (entries_of reading rows)))
-  | inr found ↦ inr (found.0 + 1, found.1, (found.0, refl, found.2))
+  | inr fault ↦ inr fault
 ]
 
 -- Rows have exactly one reading.
 pub one_reading : (rows : List Row) → HaveOneReading rows
 one_reading rows = record {
   some = some_reading rows;
-  apart = λ ranks row kind read fault. (one_answer judge rows).apart fault.0 kind read.0 fault.2;
+  apart = λ ranks row kind read fault. (one_fault judge rows).apart row kind read.0 fault;
   one_value = λ ranks other a b. one_register (entries_of reading rows) ranks other a.1 b.1;
-  one_fault = λ row other kind next a b.
-      let same = (one_answer judge rows).one a.0 b.0 kind next a.2 b.2 in
-      (a.1 ∙ ap (λ (n : ℕ). n + 1) same.0 ∙ sym b.1, same.1);
+  one_fault = (one_fault judge rows).one;
 }

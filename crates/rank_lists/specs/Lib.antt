@@ -2,5 +2,4 @@ pub mod Builder
 pub mod Fields
 pub mod Kinds
 pub mod Laws
-pub mod Places
 pub mod Register

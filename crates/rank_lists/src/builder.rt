@@ -1,12 +1,12 @@
 // A register in the making: what each further row is held against.
-ghost use Rattle.std.specs.Prelude.{◌≡◌, ◌<◌, ◌∷◌, ◌++◌, [], List, Ok, OnOk, OnErr, IfOk, ◌||◌, ◌&&◌, ◌==◌, ℕ};
+ghost use Rattle.std.specs.Prelude.{◌≡◌, ◌<◌, ◌∷◌, ◌++◌, [], List, Ok, OnOk, OnErr, IfOk, ◌||◌, ℕ};
 ghost use Rattle.office_base.specs.Person.{number_of};
 ghost use Rattle.section_rows.specs.Rows.{Row, field};
 ghost use Rattle.std.specs.BTreeMap as tree;
 ghost use Rattle.std.specs.BTreeSet as sorted;
 ghost use Rattle.std.specs.Ordering.{nat_cmp};
-ghost use Rattle.rank_lists.specs.Places.{place_cmp};
-ghost use Rattle.rank_lists.specs.Register.{places_of, is_relaxed, any_relaxed, is_general, is_number};
+ghost use Rattle.rank_lists.specs.declared.entry.Entry.{Entry};
+ghost use Rattle.rank_lists.specs.Register.{places_of, is_relaxed, any_relaxed, is_general, is_number, is_taken, repeats};
 
 use crate::entry::Entry;
 use crate::fault::RankKind;
@@ -19,17 +19,20 @@ use section_rows::{Rows, TableBuilder};
 use std::alloc::{AllocError, Global};
 use std::collections::{BTreeMap, BTreeSet};
 
-/// A register in the making: the candidates so far by id, who holds which token, and the numbers taken in each list, counted from 0.
+/// A register in the making: the candidates so far by id, who holds which token, and the numbers taken in each of the four lists.
 #[derive(Drop)]
 pub(crate) struct RegisterBuilder {
     pub(crate) people: BTreeMap<u32, Person>,
     pub(crate) holders: BTreeMap<Token, CandId>,
-    pub(crate) taken: BTreeSet<(u8, u32)>,
+    pub(crate) first: BTreeSet<u32>,
+    pub(crate) second: BTreeSet<u32>,
+    pub(crate) third: BTreeSet<u32>,
+    pub(crate) fourth: BTreeSet<u32>,
 }
 
 impl RegisterBuilder {
     ghost use Rattle.rank_lists.specs.Builder.{Keeps};
-    ghost use Rattle.rank_lists.specs.Register.{IsRegister, any_repeats, new_id, new_token, reading, repeats, places_of, any_relaxed};
+    ghost use Rattle.rank_lists.specs.Register.{IsRegister, any_repeats, new_id, new_token, reading, places_of, any_relaxed};
     ghost use Rattle.rank_lists.specs.declared.entry.Entry.{Entry};
 
     /// No candidates.
@@ -39,7 +42,10 @@ impl RegisterBuilder {
         RegisterBuilder {
             people: BTreeMap::new(alloc),
             holders: BTreeMap::new(alloc),
-            taken: BTreeSet::new(alloc),
+            first: BTreeSet::new(alloc),
+            second: BTreeSet::new(alloc),
+            third: BTreeSet::new(alloc),
+            fourth: BTreeSet::new(alloc),
         }
     }
 
@@ -57,16 +63,6 @@ impl RegisterBuilder {
             Err(RankKind::RepeatedId)
         } else {
             Ok(id)
-        }
-    }
-
-    /// Whether the number of a place is taken in the list, counted from 0.
-    fn repeats(&self, list: u8, place: Place) -> bool
-        ensures { (entries : List Entry) → Keeps entries self.now → result ≡ repeats list (number_of place) entries }
-    {
-        match place.number() {
-            Some(number) => self.taken.contains(&(list, number)),
-            None => false,
         }
     }
 
@@ -88,10 +84,10 @@ impl RegisterBuilder {
     fn any_repeats(&self, places: &[Place; 4]) -> bool
         ensures { (entries : List Entry) → Keeps entries self.now → result ≡ any_repeats places.now entries }
     {
-        self.repeats(0, places[0])
-            || self.repeats(1, places[1])
-            || self.repeats(2, places[2])
-            || self.repeats(3, places[3])
+        repeats(&self.first, places[0])
+            || repeats(&self.second, places[1])
+            || repeats(&self.third, places[2])
+            || repeats(&self.fourth, places[3])
     }
 
     /// What a row gives, or the first of its faults.
@@ -130,10 +126,10 @@ impl RegisterBuilder {
         ensures { OnOk result ((entries : List Entry) (row : Row) → Keeps entries self.old → reading entries row ≡ Ok entry → Keeps (entries ++ entry ∷ []) self.new) }
     {
         let person = entry.person;
-        take(&mut self.taken, 0, person.places[0])?;
-        take(&mut self.taken, 1, person.places[1])?;
-        take(&mut self.taken, 2, person.places[2])?;
-        take(&mut self.taken, 3, person.places[3])?;
+        take(&mut self.first, person.places[0])?;
+        take(&mut self.second, person.places[1])?;
+        take(&mut self.third, person.places[2])?;
+        take(&mut self.fourth, person.places[3])?;
         self.holders.insert(entry.token, person.id)?;
         self.people.insert(person.id.0, person)?;
         Ok(())
@@ -147,7 +143,7 @@ impl RegisterBuilder {
         let RegisterBuilder {
             people,
             holders,
-            taken: _,
+            ..
         } = self;
         Ok(Register {
             people: in_order(alloc, &people)?,
@@ -214,12 +210,22 @@ fn in_order(alloc: Global, people: &BTreeMap<u32, Person>) -> Result<Vec<Person>
     people.values().copied().collect(alloc)
 }
 
-/// Takes the number of a place in a list, where it has one.
-fn take(taken: &mut BTreeSet<(u8, u32)>, list: u8, place: Place) -> Result<(), OutOfMemory>
-    ensures { OnOk result ((l n : ℕ) → sorted.contains place_cmp taken.new (l, n) ≡ ((list == l && is_number n (number_of place)) || sorted.contains place_cmp taken.old (l, n))) }
+/// Whether the number of a place is among those taken in its list.
+fn repeats(taken: &BTreeSet<u32>, place: Place) -> bool
+    ensures { (list : ℕ) (entries : List Entry) → ((n : ℕ) → sorted.contains nat_cmp taken.now n ≡ is_taken list n entries) → result ≡ repeats list (number_of place) entries }
+{
+    match place.number() {
+        Some(number) => taken.contains(&number),
+        None => false,
+    }
+}
+
+/// Takes the number of a place in its list, where it has one.
+fn take(taken: &mut BTreeSet<u32>, place: Place) -> Result<(), OutOfMemory>
+    ensures { OnOk result ((n : ℕ) → sorted.contains nat_cmp taken.new n ≡ (is_number n (number_of place) || sorted.contains nat_cmp taken.old n)) }
 {
     if let Some(number) = place.number() {
-        taken.insert((list, number))?;
+        taken.insert(number)?;
     }
     Ok(())
 }

@@ -17,6 +17,7 @@ pub fn read_script<S: Source>(alloc: Global, source: &mut S) -> Result<Script, S
     ensures fault { IfErr result (λ fault. IsScriptFault (S.left source.old) (S.left source.new) fault) }
     ensures cause { IsErrOf result SeasonFault.ReadFault → Rose (S.faults source.old) (S.faults source.new) }
     ensures count { S.faults source.old ≤ S.faults source.new }
+    ensures steady { ¬ IsErrOf result SeasonFault.ReadFault → S.faults source.new ≡ S.faults source.old }
 {
     let bytes = read_bytes(alloc, source)?;
     if std::str::from_utf8(bytes.as_slice()).is_err() {

@@ -1,10 +1,12 @@
 -- The codes of entries are distinct.
-use Rattle.std.proofs.Common.{◌≡◌, ◌<◌, ℕ, zero, suc, Bool, true, false, cond, List, [], ◌∷◌, ◌++◌, Option, Some, None, get_or, length, lt-ltb, refl, subst, sym, ap, ◌∙◌, arith}
-use Rattle.std.specs.Prelude.{◌||◌, bytes_eq, nat_lt, option_map, position, slice_get}
+use Rattle.std.proofs.Common.{◌≡◌, ◌<◌, ℕ, zero, suc, Bool, true, false, cond, List, [], ◌∷◌, ◌++◌, Option, Some, None, get_or, length, lt-ltb, refl, sym, ap, ◌∙◌, arith}
+use Rattle.std.specs.Prelude.{bytes_eq, nat_lt, option_map, position, slice_get}
+use Rattle.std.proofs.lemmas.Bool.{or_parts}
 use Rattle.std.specs.List.{AllByRecursion, list_any, position_or_len}
 use Rattle.std.proofs.lemmas.List.Sums.{position_or_len_is}
 use Rattle.std.proofs.lemmas.Option.{get_or_from_slice_get, slice_get-map, slice_get_within}
 use Rattle.std.proofs.lemmas.Slice.Eq.{bytes_eq-Decides}
+use Rattle.office_base.proofs.Lists.{all-get}
 use Rattle.office_base.specs.Lists.{Pairwise}
 use Rattle.seat_matrix.specs.Matrix.{codes_after, codes_in, with_code}
 use Rattle.seat_matrix.specs.declared.entry.Entry.{Entry}
@@ -18,10 +20,6 @@ Distinct codes = Pairwise (λ a b. a ≡ b → ⊥) codes
 all_other : (first code : List ℕ) (codes : List (List ℕ)) → (first ≡ code → ⊥) → AllByRecursion (λ other. first ≡ other → ⊥) codes → AllByRecursion (λ other. first ≡ other → ⊥) (codes ++ code ∷ [])
 all_other first code [] other all = (other, tt)
 all_other first code (next ∷ codes) other all = (all.0, all_other first code codes other all.1)
-
-or_parts : (b c : Bool) → (b || c) ≡ false → (b ≡ false) × (c ≡ false)
-or_parts true c e = cc e
-or_parts false c e = (refl, e)
 
 distinct-push : (codes : List (List ℕ)) (code : List ℕ) → list_any (bytes_eq code) codes ≡ false → Distinct codes → Distinct (codes ++ code ∷ [])
 distinct-push [] code e distinct = (tt, tt)
@@ -48,12 +46,6 @@ code_apart code [] prog held apart e same = cc e
 code_apart code (first ∷ programmes) zero held apart e same = let here : first ≡ held = cc e in apart.0 (same ∙ ap (λ (h : List ℕ × Home). h.0) (sym here))
 code_apart code (first ∷ programmes) (suc prog) held apart e same = code_apart code programmes prog held apart.1 e same
 
--- P holds of the element at a place
-all_get : (P : List ℕ → Type 0) (codes : List (List ℕ)) (n : ℕ) (code : List ℕ) → AllByRecursion P codes → slice_get codes n ≡ Some code → P code
-all_get P [] n code all e = cc e
-all_get P (first ∷ codes) zero code all e = let here : first ≡ code = cc e in subst P here all.0
-all_get P (first ∷ codes) (suc n) code all e = all_get P codes n code all.1 e
-
 -- an earlier code is another one
 earlier : (codes : List (List ℕ)) (n k : ℕ) (code : List ℕ) → Distinct codes → slice_get codes n ≡ Some code → k < n → bytes_eq code (get_or codes k []) ≡ false
 earlier [] n k code distinct e less = cc e
@@ -61,7 +53,7 @@ earlier (first ∷ codes) zero k code distinct e less = absurd (omega (arith, le
 earlier (first ∷ codes) (suc n) zero code distinct e less = by (bytes_eq code first) refl
   where
     by : (b : Bool) → bytes_eq code first ≡ b → b ≡ false
-    by true same = absurd (all_get (λ other. first ≡ other → ⊥) codes n code distinct.0 e (sym ((bytes_eq-Decides code first).0 same)))
+    by true same = absurd (all-get (λ other. first ≡ other → ⊥) codes n code distinct.0 e (sym ((bytes_eq-Decides code first).0 same)))
     by false same = refl
 earlier (first ∷ codes) (suc n) (suc k) code distinct e less = earlier codes n k code distinct.1 e (omega (arith, less))
 

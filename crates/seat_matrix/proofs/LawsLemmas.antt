@@ -1,12 +1,12 @@
 -- Rows have exactly one reading.
-use Rattle.std.proofs.Common.{◌≡◌, ◌⊎◌, inl, inr, ℕ, Bool, true, false, cond, List, [], ◌∷◌, ◌++◌, ◌+◌, map, Option, Some, None, refl, sym, ap, subst, ◌∙◌}
+use Rattle.std.proofs.Common.{◌≡◌, ◌⊎◌, inl, inr, ℕ, Bool, true, false, cond, List, [], ◌∷◌, ◌++◌, map, Option, Some, None, refl, sym, ap, subst, ◌∙◌}
 use Rattle.std.specs.Prelude.{◌==◌, ◌&&◌, ◌||◌, bytes_eq, is_some, if◌then◌else◌}
 use Rattle.std.specs.List.{AllByRecursion, list_any}
 use Rattle.std.proofs.lemmas.Bool.{cond-false, cond-true, false_from_ne_true}
 use Rattle.std.proofs.lemmas.Slice.Eq.{bytes_eq-Decides}
-use Rattle.office_text.proofs.FirstFaultLemmas.{one_answer}
 use Rattle.section_rows.specs.Rows.{Row}
 use Rattle.section_rows.specs.declared.fault.TableFault.TheVariants.{Bad}
+use Rattle.section_rows.proofs.TableLemmas.{one_fault}
 use Rattle.section_rows.specs.Table.{entries_of}
 use Rattle.section_rows.specs.Steps.{or_else}
 use Rattle.section_rows.proofs.StepsLemmas.{first_of-push}
@@ -152,18 +152,16 @@ one_matrix entries table other a b = record {
 
 -- Rows give seats or have a fault.
 some_reading : (rows : List Row) → ((table : SeatTable) × IsRead rows table) ⊎ ((row : ℕ) × (kind : MatrixKind) × IsFault rows (Bad row kind))
-some_reading rows = elim (one_answer judge rows).some [
+some_reading rows = elim (one_fault judge rows).some [
   | inl none ↦ inl (record { programmes = programmes_after [] (entries_of reading rows); steps = map (seatings_in (entries_of reading rows)) (codes_of (entries_of reading rows)) }, (none, matrix_of (entries_of reading rows)))
-  | inr found ↦ inr (found.0 + 1, found.1, (found.0, refl, found.2))
+  | inr fault ↦ inr fault
 ]
 
 -- Rows have exactly one reading.
 pub one_reading : (rows : List Row) → HaveOneReading rows
 one_reading rows = record {
   some = some_reading rows;
-  apart = λ table row kind read fault. (one_answer judge rows).apart fault.0 kind read.0 fault.2;
+  apart = λ table row kind read fault. (one_fault judge rows).apart row kind read.0 fault;
   one_value = λ table other a b. one_matrix (entries_of reading rows) table other a.1 b.1;
-  one_fault = λ row other kind next a b.
-      let same = (one_answer judge rows).one a.0 b.0 kind next a.2 b.2 in
-      (a.1 ∙ ap (λ (n : ℕ). n + 1) same.0 ∙ sym b.1, same.1);
+  one_fault = (one_fault judge rows).one;
 }

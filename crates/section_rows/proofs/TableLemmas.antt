@@ -1,22 +1,19 @@
 -- A table read row by row has its first fault, or its entries.
-use Rattle.std.proofs.Common.{◌≡◌, ◌<◌, inl, inr, ℕ, true, false, List, [], ◌∷◌, ◌++◌, Some, None, Option, Ok, Err, length, refl, sym, ap, ◌∙◌, append_assoc, arith, length-append}
-use Rattle.std.specs.Prelude.{slice_get}
+use Rattle.std.proofs.Common.{◌≡◌, ◌<◌, ◌⊎◌, inl, inr, ℕ, true, false, List, [], ◌∷◌, ◌++◌, ◌+◌, Some, None, Option, Ok, Err, length, refl, sym, ap, ◌∙◌, append_assoc, arith, length-append}
 use Rattle.std.proofs.lemmas.Bool.{cases_order}
 use Rattle.std.proofs.lemmas.List.{append-nil}
 use Rattle.std.proofs.lemmas.Option.{slice_get_past}
 use Rattle.std.proofs.Math.Seq.{take-append_seam, take-length}
+use Rattle.office_base.proofs.Lists.{get-after}
 use Rattle.office_text.specs.FirstFault.{Judge, fault_at, IsFirstFault, IsFaultless}
+use Rattle.office_text.proofs.FirstFaultLemmas.{one_answer}
 use Rattle.section_rows.specs.Rows.{Row, same_fields}
-use Rattle.section_rows.specs.Table.{Reading, entries_after, entries_of, fault_of, table_judge, with_entry}
-
--- the row after others
-slice_get-seam : (rows : List Row) (row : Row) (more : List Row) → slice_get (rows ++ row ∷ more) (length rows) ≡ Some row
-slice_get-seam [] row more = refl
-slice_get-seam (r ∷ rows) row more = slice_get-seam rows row more
+use Rattle.section_rows.specs.Table.{IsTableFault, Reading, entries_after, entries_of, fault_of, table_judge, with_entry}
+use Rattle.section_rows.specs.declared.fault.TableFault.TheVariants.{Bad}
 
 -- The judge at the row after others.
 pub fault_at-seam : {Kind : Type 0} (judge : Judge Row Kind) (rows : List Row) (row : Row) (more : List Row) → fault_at judge (rows ++ row ∷ more) (length rows) ≡ judge rows (Some row)
-fault_at-seam judge rows row more = rw (take-append_seam rows (row ∷ more), slice_get-seam rows row more) refl
+fault_at-seam judge rows row more = rw (take-append_seam rows (row ∷ more), get-after rows row more) refl
 
 -- The judge at the end of the rows.
 pub fault_at-end : {Kind : Type 0} (judge : Judge Row Kind) (rows : List Row) → fault_at judge rows (length rows) ≡ judge rows None
@@ -120,3 +117,20 @@ read-all {Entry} {Kind} bad names reading all rows left entries r none =
       ]),
       ap (entries_of reading) same ∙ r.gives,
     )
+
+-- Rows have no fault, or they have one first fault.
+pub record HaveOneFault {Kind : Type 0} (judge : Judge Row Kind) (rows : List Row) : Type 0 where
+  pub some : IsFaultless judge rows ⊎ ((row : ℕ) × (kind : Kind) × IsTableFault judge rows (Bad row kind))
+  pub apart : (row : ℕ) (kind : Kind) → IsFaultless judge rows → IsTableFault judge rows (Bad row kind) → ⊥
+  pub one : (row other : ℕ) (kind next : Kind) → IsTableFault judge rows (Bad row kind) → IsTableFault judge rows (Bad other next) → (row ≡ other) × (kind ≡ next)
+
+pub one_fault : {Kind : Type 0} (judge : Judge Row Kind) (rows : List Row) → HaveOneFault judge rows
+one_fault judge rows =
+    let answer = one_answer judge rows in
+    record {
+      some = elim answer.some [ inl none ↦ inl none | inr found ↦ inr (found.0 + 1, found.1, (found.0, refl, found.2)) ];
+      apart = λ row kind none fault. answer.apart fault.0 kind none fault.2;
+      one = λ row other kind next a b.
+          let same = answer.one a.0 b.0 kind next a.2 b.2 in
+          (a.1 ∙ ap (λ (n : ℕ). n + 1) same.0 ∙ sym b.1, same.1);
+    }

@@ -13,3 +13,4 @@ mod members;
 mod spare;
 
 pub use matching::{Augment, Matching};
+pub use members::place_of;

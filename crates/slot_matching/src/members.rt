@@ -1,18 +1,19 @@
 // The members, looked through one by one.
-ghost use Rattle.std.specs.Prelude.{◌≡◌, ◌<◌, ◌↔◌, length, true, IsTrue, MatchOption};
+ghost use Rattle.std.specs.Prelude.{◌≡◌, ◌<◌, ◌↔◌, length, slice_index_or, true, IsTrue, MatchOption};
 ghost use Rattle.std.specs.List.{remove};
 ghost use Rattle.office_base.specs.Lists.{AnyByRecursion};
 ghost use Rattle.office_base.specs.Person.{IsList, IsBetter};
 ghost use Rattle.placements.specs.Ranks.{without};
 ghost use Rattle.slot_matching.specs.Members.{IsWorstWithin, id_of};
+ghost use Rattle.office_base.specs.declared.person.Person.{Person};
 
 use office_base::{CandId, ListId, Person, TraitSet, better};
 use placements::is_within;
 
-/// The place of the member with this number.
-pub(crate) fn place_of(members: &[Person], cand: CandId) -> Option<usize>
+/// The place of the first member with this number, counted from 0. Some, since one of the members has it. It takes no memory.
+pub fn place_of(members: &[Person], cand: CandId) -> Option<usize>
     requires { AnyByRecursion (λ member. member.id ≡ cand) members.now }
-    ensures { MatchOption result ⊥ (λ at. (at < length members.now) × (remove members.now at ≡ without cand members.now)) }
+    ensures { MatchOption result ⊥ (λ at. (at < length members.now) × (remove members.now at ≡ without cand members.now) × ((d : Person) → (slice_index_or members.now at d).id ≡ cand)) }
 {
     for (at, member) in members.iter().enumerate() {
         if member.id == cand {

@@ -12,7 +12,7 @@ place_of-requires c =
 pub returns-then-not-better-clause-matched : goal.returns-then-not-better-clause-matched
 returns-then-not-better-clause-matched c =
     joined_worse c.args.list c.args.held.now c.args.marks.now c.args.matching.now c.args.person.now _ c.args.worst c.in-Some.at c.requires.new c.requires.matched
-    c.requires.ranked.distinct c.requires.held_back c.requires.worst c.in-Some.ensures.0 (c.in-Some.ensures.1 _)
+    c.requires.ranked.distinct c.requires.held_back c.requires.worst c.in-Some.ensures.0 (c.in-Some.ensures.2 _)
     (λ better. both_ways c.better.result c.if-not-better.true (c.better.ensures.1 better))
 
 pub exchange-requires-clause-may : goal.exchange-requires-clause-may
@@ -31,4 +31,4 @@ bounds-marks-at c =
 pub returns-clause-matched : goal.returns-clause-matched
 returns-clause-matched c =
     joined_exchanged c.args.list c.args.held.now c.args.marks.now c.args.matching.now c.exchange.new.self c.args.person.now _ c.args.worst c.in-Some.at c.requires.ranked c.requires.new
-    c.requires.matched c.requires.held_back c.requires.worst c.in-Some.ensures.0 (c.in-Some.ensures.1 _) (c.better.ensures.0 c.if-not-better.false) c.exchange.ensures.done
+    c.requires.matched c.requires.held_back c.requires.worst c.in-Some.ensures.0 (c.in-Some.ensures.2 _) (c.better.ensures.0 c.if-not-better.false) c.exchange.ensures.done

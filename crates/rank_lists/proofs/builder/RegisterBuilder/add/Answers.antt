@@ -1,10 +1,12 @@
-use Rattle.std.proofs.Common.{Option, Some, refl, ap, ◌∙◌, cond}
+use Rattle.std.proofs.Common.{List, Option, Some, refl, ap, ◌∙◌, cond, arith}
+use Rattle.std.specs.Prelude.{length}
 use Rattle.std.specs.Cmp.Lexicographic.{slice_cmp}
 use Rattle.std.specs.Ordering.{is_eq, nat_cmp}
 use Rattle.office_base.specs.declared.person.CandId.{CandId}
 use Rattle.office_base.specs.declared.person.Person.{Person}
+use Rattle.office_base.specs.declared.person.Place.{Place}
 use Rattle.rank_lists.proofs.EntriesLemmas.{entries-step}
-use Rattle.rank_lists.proofs.BuilderLemmas.{accepted, holder-step, keyed-insert, person-step, taken-chain, count-step, at-0, at-1, at-2, at-3}
+use Rattle.rank_lists.proofs.BuilderLemmas.{accepted, count-step, holder-step, keyed-insert, person-step, place-there, taken-step}
 use Rattle.rank_lists.proofs.builder.RegisterBuilder.add.Goals as goal
 
 pub returns : goal.returns
@@ -12,6 +14,7 @@ returns c = λ entries row keeps e.
     let entry = c.args.entry in
     let ok = accepted entries row entry e in
     let (p, q, r, s, shape) = ok.four in
+    let four = ap (λ (places : List Place). length places) shape in
     record {
       sound = entries-step entries entry keeps.sound ok;
       people = λ id.
@@ -23,7 +26,9 @@ returns c = λ entries row keeps e.
           c.in_ok-insert.ensures.updates.0 token
           ∙ ap (λ (o : Option CandId). cond (is_eq (slice_cmp nat_cmp entry.token token)) (Some entry.person.id) o) (keeps.holders token)
           ∙ holder-step entries entry ok.unheld token;
-      taken = λ l n. taken-chain entries entry p q r s shape l n _ _ _ _ (at-0 entry.person.places _ p q r s shape) (at-1 entry.person.places _ p q r s shape) (at-2 entry.person.places _ p q r s shape) (at-3 entry.person.places _ p q r s shape)
-          _ _ _ _ _ (keeps.taken l n) (c.in_ok-take.ensures l n) (c.in_ok-take-2.ensures l n) (c.in_ok-take-3.ensures l n) (c.in_ok-take-4.ensures l n);
+      first = λ n. taken-step entries entry 0 n _ _ _ (place-there entry.person.places _ 0 (omega (arith, four))) (keeps.first n) (c.in_ok-take.ensures n);
+      second = λ n. taken-step entries entry 1 n _ _ _ (place-there entry.person.places _ 1 (omega (arith, four))) (keeps.second n) (c.in_ok-take-2.ensures n);
+      third = λ n. taken-step entries entry 2 n _ _ _ (place-there entry.person.places _ 2 (omega (arith, four))) (keeps.third n) (c.in_ok-take-3.ensures n);
+      fourth = λ n. taken-step entries entry 3 n _ _ _ (place-there entry.person.places _ 3 (omega (arith, four))) (keeps.fourth n) (c.in_ok-take-4.ensures n);
       count = count-step c.in_ok-insert-2.field-0 _ _ entries entry (c.in_ok-insert-2.ensures.old ∙ keeps.people entry.person.id.0 ∙ ok.fresh) c.in_ok-insert-2.ensures.len keeps.count;
     }
