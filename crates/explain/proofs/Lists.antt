@@ -1,9 +1,8 @@
 -- Who is taken, and who is left out of the first of some people.
-use Rattle.std.proofs.Common.{◌≡◌, ◌⊎◌, ◌==◌, ℕ, zero, suc, Bool, true, false, not, Option, Some, None, List, [], ◌∷◌, length, take, refl, sym, ap, ◌∙◌, inl, inr, arith}
-use Rattle.std.specs.Prelude.{◌||◌, IsTrue, ◌↔◌}
+use Rattle.std.proofs.Common.{◌≡◌, ℕ, zero, suc, true, false, not, Option, Some, None, List, [], ◌∷◌, length, take, refl, sym, ap, ◌∙◌, inl, inr}
+use Rattle.std.specs.Prelude.{IsTrue, ◌↔◌}
 use Rattle.std.specs.List.{AllByRecursion}
-use Rattle.std.proofs.lemmas.Bool.{cases_Bool, cond-true, cond-false}
-use Rattle.std.proofs.lemmas.Bool.Decides.{nat_tests}
+use Rattle.std.proofs.lemmas.Bool.{cases_Bool, cond-false, cond-true, eq-eqb, or_cases, or_left, or_right}
 use Rattle.office_base.specs.Lists.{AnyByRecursion, IsAmong, Pairwise}
 use Rattle.office_base.specs.Merit.{is_ahead}
 use Rattle.office_base.specs.Person.{IsAhead, IsBetter, number_in}
@@ -18,21 +17,6 @@ use Rattle.explain.proofs.Step.{each, not_ahead_means}
 
 -- ---- who is taken
 
-or_true_left : (a b : Bool) → a ≡ true → a || b ≡ true
-or_true_left true b e = refl
-or_true_left false b e = absurd (cc)
-
-or_true_right : (a b : Bool) → b ≡ true → a || b ≡ true
-or_true_right true b e = refl
-or_true_right false b e = e
-
-or_means : (a b : Bool) → a || b ≡ true → (a ≡ true) ⊎ (b ≡ true)
-or_means true b e = inl refl
-or_means false b e = inr e
-
-eq_true : (m n : ℕ) → m ≡ n → m == n ≡ true
-eq_true m n e = grind (arith, nat_tests)
-
 -- whoever is not taken is none of those taken
 pub none_taken : (taken : List Person) (person : Person) → is_taken taken person ≡ false → IsAmong person taken → ⊥
 none_taken taken person fails among = absurd (let e : false ≡ true = sym fails ∙ is_there taken among in cc)
@@ -40,8 +24,8 @@ none_taken taken person fails among = absurd (let e : false ≡ true = sym fails
     is_there : (people : List Person) → IsAmong person people → is_taken people person ≡ true
     is_there [] there = absurd there
     is_there (other ∷ people) there = elim there [
-      | inl here ↦ or_true_left _ _ (eq_true other.id.0 person.id.0 (ap (λ (p : Person). p.id.0) (sym here)))
-      | inr later ↦ or_true_right _ _ (is_there people later)
+      | inl here ↦ or_left _ _ (eq-eqb other.id.0 person.id.0 (ap (λ (p : Person). p.id.0) (sym here)))
+      | inr later ↦ or_right _ _ (is_there people later)
     ]
 
 -- and is left without them
@@ -69,7 +53,7 @@ tells_worse list person admitted = (means admitted, shows admitted)
   where
     means : (people : List Person) → has_worse list person people ≡ true → AnyByRecursion (IsBetter list person) people
     means [] told = absurd (let e : false ≡ true = told in cc)
-    means (other ∷ people) told = elim (or_means _ _ told) [
+    means (other ∷ people) told = elim (or_cases _ _ told) [
       | inl here ↦ inl (ahead_true (number_in list person) (number_in list other) here)
       | inr later ↦ inr (means people later)
     ]
@@ -77,8 +61,8 @@ tells_worse list person admitted = (means admitted, shows admitted)
     shows : (people : List Person) → AnyByRecursion (IsBetter list person) people → has_worse list person people ≡ true
     shows [] worse = absurd worse
     shows (other ∷ people) worse = elim worse [
-      | inl here ↦ or_true_left _ _ (better_true (number_in list person) (number_in list other) here)
-      | inr later ↦ or_true_right _ _ (shows people later)
+      | inl here ↦ or_left _ _ (better_true (number_in list person) (number_in list other) here)
+      | inr later ↦ or_right _ _ (shows people later)
     ]
 
 -- ---- the first of some people
