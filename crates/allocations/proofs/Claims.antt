@@ -1,17 +1,15 @@
 -- An allocation is fair exactly where nobody has a justified claim and each programme admits all who hold a seat of it; and two best ones are one.
-use Rattle.std.proofs.Common.{◌≡◌, ◌≢◌, ◌<◌, ◌≤◌, ◌↔◌, ◌+◌, ◌⊎◌, inl, inr, ℕ, zero, suc, Bool, true, false, List, [], ◌∷◌, Option, Some, None, length, arith, refl, sym, ap, ◌∙◌, subst, ◌==◌}
+use Rattle.std.proofs.Common.{◌≡◌, ◌<◌, inl, inr, ℕ, Bool, true, false, List, Option, Some, None, length, arith, refl, sym, ap, ◌∙◌, subst, ◌==◌}
 use Rattle.std.specs.Prelude.{slice_get, ◌||◌}
-use Rattle.std.proofs.lemmas.Bool.{cases_Bool}
+use Rattle.std.proofs.lemmas.Bool.{cases_Bool, eq-eqb, eqb-true, lt-ltb, or_cases, or_left, or_right}
 use Rattle.office_base.specs.Lists.{IsAmong, IsSublist}
 use Rattle.office_base.specs.declared.person.Person.{Person}
-use Rattle.office_base.specs.declared.person.ProgId.{ProgId}
 use Rattle.office_base.specs.declared.asks.Seat.{Seat}
-use Rattle.office_base.specs.declared.step.StepKind.{StepKind}
-use Rattle.allocations.specs.Market.{Seeker, place_of, rank_of, seat_at, wants, applies, is_of, those, applicants, holders, holders_and, wanting}
-use Rattle.allocations.specs.Rule.{Rule, Admits, Refuses, IsRefusedBeside, ChoosesWell}
-use Rattle.allocations.specs.Fair.{IsMarket, IsOwn, IsAllocation, IsFair, HasClaim, IsJustified, AreNoWorse, IsBest}
+use Rattle.allocations.specs.Market.{Seeker, place_of, rank_of, seat_at, wants, applies, is_of, those, applicants, holders, holders_and}
+use Rattle.allocations.specs.Rule.{Rule, Refuses, IsRefusedBeside, ChoosesWell}
+use Rattle.allocations.specs.Fair.{IsMarket, IsAllocation, IsFair, IsJustified, IsBest}
 use Rattle.allocations.proofs.Those.{those_has, those_same, of_those, same_place, same_id, part, same_values, value_at}
-use Rattle.allocations.proofs.Places.{lt_true, lt_means, eq_true, eq_means, or_left, or_right, or_means, same_tests, place_read, one_place, applies_true, applies_means, rank_within, holder_applies, applies_before, seat_same, of_seat, seat_of}
+use Rattle.allocations.proofs.Places.{same_tests, place_read, one_place, applies_true, applies_means, rank_within, holder_applies, applies_before, seat_same, of_seat, seat_of}
 
 -- a test that only those pass who want the programme leaves some of those who may apply together
 pub may_apply : {X : Type 0} (rule : Rule) (MayApply : ℕ → List Person → Type 0) (count p : ℕ) (f : Seeker → X → Bool) (seekers : List Seeker) (xs : List X)
@@ -19,7 +17,7 @@ pub may_apply : {X : Type 0} (rule : Rule) (MayApply : ℕ → List Person → T
     → ((i : ℕ) (s : Seeker) (x : X) → slice_get seekers i ≡ Some s → slice_get xs i ≡ Some x → f s x ≡ true → place_of s.list p < length s.list) → MayApply p (those f seekers xs)
 may_apply rule MayApply count p f seekers xs market well below full passes =
     well.part p _ _ (market.may_apply p below) (part f (λ s other. wants p s.list) seekers xs seekers (sym full)
-    (λ i s x y there at again h. lt_true _ _ (passes i s x there at h)))
+    (λ i s x y there at again h. lt-ltb _ _ (passes i s x there at h)))
 
 pub applicants_may : (rule : Rule) (MayApply : ℕ → List Person → Type 0) (count p : ℕ) (seekers : List Seeker) (seats : List (Option Seat))
     → IsMarket MayApply count seekers → ChoosesWell rule MayApply → p < count → length seats ≡ length seekers → MayApply p (applicants p seekers seats)
@@ -61,9 +59,9 @@ holders_and_apply MayApply count p i seekers seats s seat market allocation ther
     (λ j t x y there' at again h.
     let same : x ≡ y = cc in
     subst (λ z. applies p t.list z ≡ true) same
-    (elim (or_means (is_of p x) (t.person.id.0 == s.person.id.0) h) [
+    (elim (or_cases (is_of p x) (t.person.id.0 == s.person.id.0) h) [
       | inl holds ↦ holder_applies p t.list x (allocation.own j t x there' at) holds
-      | inr id ↦ applied_by MayApply count p i j seekers seats s t seat x market there has there' at (eq_means _ _ id) applied
+      | inr id ↦ applied_by MayApply count p i j seekers seats s t seat x market there has there' at (eqb-true _ _ id) applied
     ]))
   where
     applied_by : (MayApply : ℕ → List Person → Type 0) (count p i j : ℕ) (seekers : List Seeker) (seats : List (Option Seat)) (s t : Seeker) (seat x : Option Seat) → IsMarket MayApply count seekers
@@ -121,7 +119,7 @@ beside rule MayApply count p seekers seats below market just x among apart =
           or_left (is_of p z) (s.person.id.0 == id) (subst (λ w. is_of p w ≡ true) same h));
       within = holders_and_apply MayApply count p found.place seekers seats found.s found.value market just.allocation found.there found.at found.passes;
       there = subst (λ z. IsAmong z (holders_and p id seekers seats)) (sym found.person_is)
-          (those_has (λ s seat. is_of p seat || s.person.id.0 == id) seekers seats found.place found.s found.value found.there found.at (or_right _ _ (eq_true id id refl)));
+          (those_has (λ s seat. is_of p seat || s.person.id.0 == id) seekers seats found.place found.s found.value found.there found.at (or_right _ _ (eq-eqb id id refl)));
       refused = λ kind admitted. just.no_claim p found.place below (record {
         s = found.s;
         there = found.there;

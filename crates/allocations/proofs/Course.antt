@@ -1,18 +1,19 @@
 -- The course of the applications: it begins, goes on by one offer, and ends with the best allocation.
-use Rattle.std.proofs.Common.{◌≡◌, ◌≢◌, ◌<◌, ◌≤◌, ◌↔◌, ◌+◌, ◌-◌, ◌⊎◌, inl, inr, ℕ, zero, suc, Bool, true, false, List, [], ◌∷◌, Option, Some, None, length, slice_set, arith, refl, sym, ap, ◌∙◌, subst, nat_lt, ◌==◌, if◌then◌else◌, length-set}
+use Rattle.std.proofs.Common.{◌≡◌, ◌≢◌, ◌<◌, ◌≤◌, ◌+◌, ◌-◌, ◌⊎◌, inl, inr, ℕ, zero, suc, true, List, [], ◌∷◌, Option, Some, None, length, slice_set, arith, refl, sym, ap, ◌∙◌, subst, nat_lt, length-set}
 use Rattle.std.specs.Prelude.{slice_get}
+use Rattle.std.proofs.lemmas.Bool.{lt-ltb, ltb-true}
 use Rattle.std.proofs.lemmas.Bool.Decides.{nat_tests, eqb_tells}
-use Rattle.office_base.specs.Lists.{IsAmong, IsSublist}
+use Rattle.office_base.specs.Lists.{IsAmong}
 use Rattle.office_base.specs.declared.person.Person.{Person}
 use Rattle.office_base.specs.declared.person.ProgId.{ProgId}
 use Rattle.office_base.specs.declared.asks.Seat.{Seat}
 use Rattle.office_base.specs.declared.step.StepKind.{StepKind}
 use Rattle.allocations.specs.Market.{Seeker, place_of, rank_of, seat_at, applies, those, applicants}
 use Rattle.allocations.specs.Rule.{Rule, Admits, Refuses, ChoosesWell}
-use Rattle.allocations.specs.Fair.{IsMarket, IsOwn, IsAllocation, IsFair, AreNoWorse, IsBest}
+use Rattle.allocations.specs.Fair.{IsMarket, IsOwn, IsFair, IsBest}
 use Rattle.allocations.specs.Course.{tried, IsHeld, IsUnderway, IsSettled, AreSeatsOf, places_left, places, IsWith, MayTry}
 use Rattle.allocations.proofs.Those.{those_has, those_same, of_those, same_place, part, value_at}
-use Rattle.allocations.proofs.Places.{lt_true, lt_means, same_tests, place_read, one_place, applies_true, applies_means, rank_within}
+use Rattle.allocations.proofs.Places.{same_tests, one_place, applies_true, applies_means, rank_within}
 use Rattle.allocations.proofs.Claims.{may_apply, applicants_may}
 
 -- ---- who tried
@@ -22,7 +23,7 @@ pub tried_may : (rule : Rule) (MayApply : ℕ → List Person → Type 0) (count
     → MayApply p (tried p seekers next)
 tried_may rule MayApply count p seekers next market well below full within =
     may_apply rule MayApply count p (λ s n. nat_lt (place_of s.list p) n) seekers next market well below full
-    (λ i s n there at h. let e = lt_means _ _ h in let short = within i n s there at in omega (arith, e, short))
+    (λ i s n there at h. let e = ltb-true _ _ h in let short = within i n s there at in omega (arith, e, short))
 
 -- a seeker who tried a programme, told by the place
 tried_at : (MayApply : ℕ → List Person → Type 0) (count p i n : ℕ) (seekers : List Seeker) (next : List ℕ) (s : Seeker) → IsMarket MayApply count seekers → slice_get seekers i ≡ Some s
@@ -34,7 +35,7 @@ tried_at MayApply count p i n seekers next s market there at among =
     let at' : slice_get next i ≡ Some found.value = subst (λ k. slice_get next k ≡ Some found.value) (sym one) found.at in
     let seeker : s ≡ found.s = cc in
     let value : n ≡ found.value = cc in
-    let less = lt_means _ _ found.passes in
+    let less = ltb-true _ _ found.passes in
     let less' : place_of s.list p < found.value = subst (λ (z : Seeker). place_of z.list p < found.value) (sym seeker) less in
     omega (arith, less', value)
 
@@ -108,11 +109,11 @@ tried_with MayApply count p i n seekers next s market there at place = record {
       (λ j t m k there' before at' h. elim (at_set next i j n (n + 1) k at at') [
         | inl e ↦
             let value : m ≡ n = (let e' : slice_get next i ≡ Some m = subst (λ z. slice_get next z ≡ Some m) e.0 before in cc) in
-            let less = lt_means _ _ h in
-            lt_true _ _ (omega (arith, less, value, e.1))
+            let less = ltb-true _ _ h in
+            lt-ltb _ _ (omega (arith, less, value, e.1))
         | inr e ↦ let value : m ≡ k = (let e' = e.1 in cc) in subst (λ z. nat_lt (place_of t.list p) z ≡ true) value h
       ]);
-  there = those_has (λ s n. nat_lt (place_of s.list p) n) seekers (slice_set next i (n + 1)) i s (n + 1) there (get_set_same next i (n + 1) n at) (lt_true _ _ (omega (arith, place)));
+  there = those_has (λ s n. nat_lt (place_of s.list p) n) seekers (slice_set next i (n + 1)) i s (n + 1) there (get_set_same next i (n + 1) n at) (lt-ltb _ _ (omega (arith, place)));
   fresh = λ among. let less = tried_at MayApply count p i n seekers next s market there at among in omega (arith, less, place);
   only = λ x among.
       let found = of_those (λ s n. nat_lt (place_of s.list p) n) seekers (slice_set next i (n + 1)) x among in
@@ -166,11 +167,11 @@ not_there rule MayApply count p j k seekers next t others seat kind market well 
     let may = applicants_may rule MayApply count p seekers others market well below fulls in
     let some = part (λ s n. nat_lt (place_of s.list p) n) (λ s seat. applies p s.list seat) seekers next others (fulls ∙ sym full)
     (λ i s m x there' at' has' h.
-    let less = lt_means _ _ h in
+    let less = ltb-true _ _ h in
     let short = within i m s there' at' in
     let near = bound i m s x there' at' has' in
     applies_true p s.list x (omega (arith, less, short)) (omega (arith, less, near))) in
-    let among = those_has (λ s n. nat_lt (place_of s.list p) n) seekers next j t k there at (lt_true _ _ tries) in
+    let among = those_has (λ s n. nat_lt (place_of s.list p) n) seekers next j t k there at (lt-ltb _ _ tries) in
     let admitted : Admits rule p (applicants p seekers others) t.person = (kind, (fair.agrees p j t kind below there).1 has) in
     let again = well.fewer p _ _ t.person may some among admitted in
     refused again.0 again.1
@@ -284,11 +285,11 @@ settled_applicants rule MayApply count p seekers next seats underway are settled
     let short = underway.within i n s there at in
     let rank = settled_rank rule count i n seekers next seats s seat underway are there at has (settled i n s there at) in
     same_tests _ _
-    (λ h. let a = applies_means p s.list seat h in lt_true _ _ (elim rank [
+    (λ h. let a = applies_means p s.list seat h in lt-ltb _ _ (elim rank [
       | inl held ↦ omega (arith, a.within, held)
       | inr end ↦ omega (arith, a.wants, end)
     ]))
-    (λ h. let less = lt_means _ _ h in applies_true p s.list seat (omega (arith, less, short)) (elim rank [
+    (λ h. let less = ltb-true _ _ h in applies_true p s.list seat (omega (arith, less, short)) (elim rank [
       | inl held ↦ omega (arith, less, held)
       | inr end ↦ omega (arith, less, short, end)
     ])))

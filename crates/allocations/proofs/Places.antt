@@ -1,52 +1,13 @@
 -- Places in a list: what stands there, who applies, and where a seat stands.
-use Rattle.std.proofs.Common.{◌≡◌, ◌≢◌, ◌<◌, ◌≤◌, ◌+◌, ◌⊎◌, inl, inr, ℕ, zero, suc, Bool, true, false, List, [], ◌∷◌, Option, Some, None, length, arith, refl, sym, ap, ◌∙◌, subst, nat_lt, ◌==◌, if◌then◌else◌, add-one}
-use Rattle.std.specs.Prelude.{slice_get, nat_le, ◌&&◌, ◌||◌}
-use Rattle.std.proofs.lemmas.Bool.Decides.{nat_tests, eqb_tells}
+use Rattle.std.proofs.Common.{◌≡◌, ◌<◌, ◌≤◌, ◌+◌, inl, inr, ℕ, Bool, true, false, List, [], ◌∷◌, Option, Some, None, length, arith, refl, sym, ap, ◌∙◌, subst, nat_lt, ◌==◌, if◌then◌else◌, add-one}
+use Rattle.std.specs.Prelude.{slice_get, nat_le}
+use Rattle.std.proofs.lemmas.Bool.{and_from, and_parts, eq-eqb, eqb-true, le-leb, leb-true, lt-ltb, ltb-true}
+use Rattle.std.proofs.lemmas.Bool.Decides.{eqb_tells}
 use Rattle.office_base.specs.declared.person.ProgId.{ProgId}
 use Rattle.office_base.specs.declared.asks.Seat.{Seat}
 use Rattle.office_base.specs.declared.step.StepKind.{StepKind}
 use Rattle.allocations.specs.Market.{place_of, rank_of, seat_at, wants, applies, is_of}
 use Rattle.allocations.specs.Fair.{IsOwn}
-
-pub lt_true : (m n : ℕ) → m < n → nat_lt m n ≡ true
-lt_true m n less = grind (arith, nat_tests)
-
-pub lt_means : (m n : ℕ) → nat_lt m n ≡ true → m < n
-lt_means m n e = grind (arith, nat_tests)
-
-le_true : (m n : ℕ) → m ≤ n → nat_le m n ≡ true
-le_true m n less = grind (arith, nat_tests)
-
-le_means : (m n : ℕ) → nat_le m n ≡ true → m ≤ n
-le_means m n e = grind (arith, nat_tests)
-
-pub eq_true : (m n : ℕ) → m ≡ n → m == n ≡ true
-eq_true m n e = grind (arith, nat_tests)
-
-pub eq_means : (m n : ℕ) → m == n ≡ true → m ≡ n
-eq_means m n e = grind (arith, nat_tests)
-
-both_true : (a b : Bool) → a ≡ true → b ≡ true → a && b ≡ true
-both_true true true first second = refl
-both_true true false first second = second
-both_true false b first second = first
-
-both_means : (a b : Bool) → a && b ≡ true → (a ≡ true) × (b ≡ true)
-both_means true true e = (refl, refl)
-both_means true false e = absurd (cc)
-both_means false b e = absurd (cc)
-
-pub or_left : (a b : Bool) → a ≡ true → a || b ≡ true
-or_left true b e = refl
-or_left false b e = absurd (cc)
-
-pub or_right : (a b : Bool) → b ≡ true → a || b ≡ true
-or_right true b e = refl
-or_right false b e = e
-
-pub or_means : (a b : Bool) → a || b ≡ true → (a ≡ true) ⊎ (b ≡ true)
-or_means true b e = inl refl
-or_means false b e = inr e
 
 -- two tests that pass for the same reasons are one
 pub same_tests : (a b : Bool) → (a ≡ true → b ≡ true) → (b ≡ true → a ≡ true) → a ≡ b
@@ -66,7 +27,7 @@ place_cons false q p k qs here later less =
 -- the programme stands at its place
 pub place_read : (list : List ProgId) (p : ℕ) → place_of list p < length list → (q : ProgId) × (slice_get list (place_of list p) ≡ Some q) × (q.0 ≡ p)
 place_read [] p less = absurd (omega arith)
-place_read (q ∷ qs) p less = place_cons (q.0 == p) q p (place_of qs p) qs (eq_means q.0 p) (place_read qs p) less
+place_read (q ∷ qs) p less = place_cons (q.0 == p) q p (place_of qs p) qs (eqb-true q.0 p) (place_read qs p) less
 
 -- two programmes at one place are one
 pub one_place : (list : List ProgId) (p r : ℕ) → place_of list p < length list → place_of list p ≡ place_of list r → p ≡ r
@@ -79,7 +40,7 @@ one_place list p r less same =
     sym mine.2 ∙ (ap (λ (q : ProgId). q.0) found ∙ his.2)
 
 pub applies_true : (p : ℕ) (list : List ProgId) (seat : Option Seat) → place_of list p < length list → place_of list p ≤ rank_of list seat → applies p list seat ≡ true
-applies_true p list seat less within = both_true _ _ (lt_true _ _ less) (le_true _ _ within)
+applies_true p list seat less within = and_from _ _ (lt-ltb _ _ less) (le-leb _ _ within)
 
 pub record Applies (p : ℕ) (list : List ProgId) (seat : Option Seat) : Type 0 where
   pub wants : place_of list p < length list
@@ -87,8 +48,8 @@ pub record Applies (p : ℕ) (list : List ProgId) (seat : Option Seat) : Type 0 
 
 pub applies_means : (p : ℕ) (list : List ProgId) (seat : Option Seat) → applies p list seat ≡ true → Applies p list seat
 applies_means p list seat e =
-    let parts = both_means (nat_lt (place_of list p) (length list)) (nat_le (place_of list p) (rank_of list seat)) e in
-    record { wants = lt_means _ _ parts.0; within = le_means _ _ parts.1 }
+    let parts = and_parts (nat_lt (place_of list p) (length list)) (nat_le (place_of list p) (rank_of list seat)) e in
+    record { wants = ltb-true _ _ parts.0; within = leb-true _ _ parts.1 }
 
 -- a seat of the own list stands in it
 pub rank_within : (list : List ProgId) (seat : Option Seat) → IsOwn list seat → rank_of list seat ≤ length list
@@ -99,7 +60,7 @@ rank_within list (Some seat) own = omega (arith, own)
 pub holder_applies : (p : ℕ) (list : List ProgId) (seat : Option Seat) → IsOwn list seat → is_of p seat ≡ true → applies p list seat ≡ true
 holder_applies p list None own holds = absurd (cc)
 holder_applies p list (Some seat) own holds =
-    let same : seat.prog.0 ≡ p = eq_means _ _ holds in
+    let same : seat.prog.0 ≡ p = eqb-true _ _ holds in
     let less : place_of list p < length list = subst (λ n. place_of list n < length list) same own in
     let place : place_of list seat.prog.0 ≡ place_of list p = ap (λ n. place_of list n) same in
     applies_true p list (Some seat) less (omega (arith, place))
@@ -111,7 +72,7 @@ applies_before p list (Some seat) applies holds =
     elim (eqb_tells (place_of list p) (place_of list seat.prog.0)) [
       | inl h ↦ absurd (
           let same = one_place list p seat.prog.0 applies.wants h.1 in
-          let yes = eq_true seat.prog.0 p (sym same) in
+          let yes = eq-eqb seat.prog.0 p (sym same) in
           let no : seat.prog.0 == p ≡ false = holds in
           cc)
       | inr h ↦ (let within : place_of list p ≤ place_of list seat.prog.0 = applies.within in
@@ -125,7 +86,7 @@ seat_same x y prog step = ap (λ p. seat_at p x.step) prog ∙ ap (λ k. seat_at
 
 -- the seat of a programme is of it
 pub of_seat_at : (p : ℕ) (kind : StepKind) → is_of p (Some (seat_at p kind)) ≡ true
-of_seat_at p kind = eq_true p p refl
+of_seat_at p kind = eq-eqb p p refl
 
 pub of_seat : (p : ℕ) (seat : Option Seat) (kind : StepKind) → seat ≡ Some (seat_at p kind) → is_of p seat ≡ true
 of_seat p seat kind e = rw e (of_seat_at p kind)
@@ -133,4 +94,4 @@ of_seat p seat kind e = rw e (of_seat_at p kind)
 -- a seat that is of a programme, with its step
 pub seat_of : (p : ℕ) (seat : Option Seat) → is_of p seat ≡ true → (kind : StepKind) × (seat ≡ Some (seat_at p kind))
 seat_of p None e = absurd (cc)
-seat_of p (Some seat) e = (seat.step, ap Some (seat_same seat (seat_at p seat.step) (eq_means _ _ e) refl))
+seat_of p (Some seat) e = (seat.step, ap Some (seat_same seat (seat_at p seat.step) (eqb-true _ _ e) refl))

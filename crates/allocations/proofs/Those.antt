@@ -1,8 +1,8 @@
 -- Those who pass a test: who is among them, and when some of them are others of them.
-use Rattle.std.proofs.Common.{◌≡◌, ◌≢◌, ◌<◌, ◌≤◌, ◌+◌, ◌⊎◌, inl, inr, ℕ, zero, suc, Bool, true, false, List, [], ◌∷◌, Option, Some, None, length, arith, refl, sym, ap, ◌∙◌, subst, if◌then◌else◌}
+use Rattle.std.proofs.Common.{◌≡◌, ◌≢◌, ◌⊎◌, inl, inr, ℕ, zero, suc, Bool, true, false, List, [], ◌∷◌, Some, length, arith, refl, sym, ap, ◌∙◌, subst, if◌then◌else◌}
 use Rattle.std.specs.Prelude.{slice_get}
-use Rattle.std.specs.List.{AllByRecursion}
-use Rattle.office_base.specs.Lists.{IsAmong, AnyByRecursion, Pairwise, IsSublist}
+use Rattle.office_base.proofs.Lists.{all-get}
+use Rattle.office_base.specs.Lists.{IsAmong, Pairwise, IsSublist}
 use Rattle.office_base.specs.declared.person.CandId.{CandId}
 use Rattle.office_base.specs.declared.person.Person.{Person}
 use Rattle.placements.proofs.Sublists.{IsSublist-nil}
@@ -98,12 +98,6 @@ of_those f (s ∷ ss) (x ∷ xs) person h = elim (of_if (f s x) person s.person 
   | inr later ↦ passing_rest f s ss x xs person (of_those f ss xs person later)
 ]
 
--- what holds of each element holds of the one at a place
-pub all_at : {X : Type 0} (P : X → Type 0) (xs : List X) (i : ℕ) (x : X) → AllByRecursion P xs → slice_get xs i ≡ Some x → P x
-all_at P [] i x all at = absurd (cc)
-all_at P (y ∷ xs) zero x all at = let same : y ≡ x = cc in subst P same all.0
-all_at P (y ∷ xs) (suc i) x all at = all_at P xs i x all.1 at
-
 -- each person stands at one place
 pub same_place : (ss : List Seeker) (i j : ℕ) (s t : Seeker) → Pairwise (λ (a b : Seeker). a.person.id ≢ b.person.id) ss → slice_get ss i ≡ Some s → slice_get ss j ≡ Some t
     → s.person.id ≡ t.person.id → i ≡ j
@@ -111,11 +105,11 @@ same_place [] i j s t distinct there at same = absurd (cc)
 same_place (x ∷ ss) zero zero s t distinct there at same = refl
 same_place (x ∷ ss) zero (suc j) s t distinct there at same = absurd (
     let first : x ≡ s = cc in
-    let apart = all_at _ ss j t distinct.0 at in
+    let apart = all-get _ ss j t distinct.0 at in
     apart (ap (λ (z : Seeker). z.person.id) first ∙ same))
 same_place (x ∷ ss) (suc i) zero s t distinct there at same = absurd (
     let first : x ≡ t = cc in
-    let apart = all_at _ ss i s distinct.0 there in
+    let apart = all-get _ ss i s distinct.0 there in
     apart (ap (λ (z : Seeker). z.person.id) first ∙ sym same))
 same_place (x ∷ ss) (suc i) (suc j) s t distinct there at same = ap suc (same_place ss i j s t distinct.1 there at same)
 

@@ -1,7 +1,7 @@
 -- What is so after an offer was answered.
-use Rattle.std.proofs.Common.{◌≡◌, ◌≢◌, ◌<◌, ◌+◌, inl, inr, ℕ, zero, suc, List, [], ◌∷◌, Some, None, length, slice_set, arith, refl, sym, ap, ◌∙◌, subst, ◌==◌, add-one, nat_lt}
-use Rattle.std.specs.Prelude.{slice_get, option_map}
-use Rattle.office_base.specs.Lists.{IsAmong, Pairwise}
+use Rattle.std.proofs.Common.{◌≡◌, ◌≢◌, ◌+◌, inl, inr, ℕ, List, ◌∷◌, Some, None, length, slice_set, arith, refl, sym, ap, ◌∙◌, subst, nat_lt}
+use Rattle.std.specs.Prelude.{slice_get}
+use Rattle.office_base.specs.Lists.{IsAmong}
 use Rattle.office_base.specs.declared.person.CandId.{CandId}
 use Rattle.office_base.specs.declared.person.Person.{Person}
 use Rattle.placements.specs.Ranks.{AreAmong}
@@ -12,9 +12,8 @@ use Rattle.allocations.specs.Course.{IsUnderway, MayTry, tried}
 use Rattle.allocations.specs.Market.{Seeker, place_of}
 use Rattle.allocations.specs.Rule.{Admits, Refuses}
 use Rattle.allocations.proofs.Course.{get_set_same, goes_on, get_set_other}
-use Rattle.allocations.proofs.Places.{eq_true}
 use Rattle.allocations.proofs.Settled.{not_held, settled_displaced, settled_refused, settled_taken}
-use Rattle.allocations.proofs.Those.{all_at, of_those, same_place}
+use Rattle.allocations.proofs.Those.{of_those, same_place}
 use Rattle.open_then_category.specs.State.{IsAnswered, ProgrammeKept}
 use Rattle.programme_lists.specs.Chosen.{AreApplicants, ChoosesFrom, everybody}
 use Rattle.rank_lists.specs.Register.{row_of}

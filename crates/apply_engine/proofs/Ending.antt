@@ -1,6 +1,7 @@
 -- The applications begin with nobody admitted, and end.
 use Rattle.std.proofs.Common.{◌≡◌, ◌<◌, ◌≤◌, ◌+◌, ◌++◌, inl, ℕ, zero, suc, List, [], ◌∷◌, Some, length, arith, refl, sym, ap, ◌∙◌, subst, nat_lt}
 use Rattle.std.specs.Prelude.{slice_get, replicate}
+use Rattle.std.proofs.lemmas.Bool.{ltb-true}
 use Rattle.std.proofs.lemmas.Option.{slice_get_within}
 use Rattle.office_base.specs.Lists.{IsAmong}
 use Rattle.office_base.specs.declared.person.Person.{Person}
@@ -10,7 +11,6 @@ use Rattle.allocations.specs.Course.{places, tried}
 use Rattle.allocations.proofs.Course.{begins, left_at_first, tried_may}
 use Rattle.allocations.proofs.Those.{of_those}
 use Rattle.allocations.specs.Market.{Seeker, place_of}
-use Rattle.allocations.proofs.Places.{lt_means}
 use Rattle.open_then_category.specs.State.{ProgrammeKept, nobody}
 use Rattle.programme_lists.specs.Chosen.{ChoosesFrom, everybody}
 use Rattle.programme_lists.specs.Programme.{Admissions}
@@ -60,7 +60,7 @@ is_nobody admissions e =
 none_tried : (p : ℕ) (seekers : List Seeker) (next : List ℕ) → ((i n : ℕ) → slice_get next i ≡ Some n → n ≡ 0) → tried p seekers next ≡ []
 none_tried p seekers next none = none_of (tried p seekers next) (λ x among.
     let found = of_those (λ s n. nat_lt (place_of s.list p) n) seekers next x among in
-    let less = lt_means (place_of found.s.list p) found.value found.passes in
+    let less = ltb-true (place_of found.s.list p) found.value found.passes in
     let zero_is = none found.place found.value found.at in
     omega (arith, less, zero_is))
 

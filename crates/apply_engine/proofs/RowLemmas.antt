@@ -1,16 +1,18 @@
 -- Who tried which programme, place by place.
 use Rattle.std.proofs.Common.{◌≡◌, ◌≢◌, ◌<◌, ◌≤◌, ◌+◌, inl, inr, ℕ, zero, suc, Bool, true, false, List, [], ◌∷◌, ◌++◌, Some, length, drop, take, slice_set, arith, refl, sym, ap, ◌∙◌, subst, add-one, append_assoc, length-set, get_or, nat_lt, if◌then◌else◌}
 use Rattle.std.specs.Prelude.{slice_get, replicate}
+use Rattle.std.proofs.lemmas.Bool.{cond-false, cond-true, lt-ltb}
 use Rattle.std.specs.List.{AllByRecursion}
 use Rattle.std.proofs.lemmas.Bool.Decides.{nat_tests, eqb_tells}
 use Rattle.std.proofs.lemmas.Option.{slice_get-get_or, slice_get_within}
+use Rattle.office_base.proofs.Lists.{all-get}
 use Rattle.office_base.specs.Lists.{Pairwise}
 use Rattle.office_base.specs.declared.person.Person.{Person}
 use Rattle.office_base.specs.declared.person.ProgId.{ProgId}
 use Rattle.allocations.specs.Course.{tried}
 use Rattle.allocations.specs.Market.{place_of}
 use Rattle.allocations.proofs.Course.{get_set_same, get_set_other, lt_next}
-use Rattle.allocations.proofs.Places.{place_read, lt_true}
+use Rattle.allocations.proofs.Places.{place_read}
 use Rattle.rounds.proofs.Entrants.{place_at}
 use Rattle.apply_engine.specs.Engine.{seekers_with}
 use Rattle.apply_engine.specs.Made.{AreRows, HaveMore, persons_at, rows_from, when_tried, with_some}
@@ -23,15 +25,7 @@ not_below : (k : ℕ) → nat_lt k k ≡ false
 not_below k = grind (arith, nat_tests)
 
 below_next : (k n : ℕ) → k ≡ n → nat_lt k (n + 1) ≡ true
-below_next k n same = lt_true k (n + 1) (omega (arith, same))
-
-if_true : {X : Type 0} (b : Bool) (x y : X) → b ≡ true → (if b then x else y) ≡ x
-if_true true x y e = refl
-if_true false x y e = absurd (cc)
-
-if_false : {X : Type 0} (b : Bool) (x y : X) → b ≡ false → (if b then x else y) ≡ y
-if_false true x y e = absurd (cc)
-if_false false x y e = refl
+below_next k n same = lt-ltb k (n + 1) (omega (arith, same))
 
 -- one programme more has the place
 pub one_row_more : (list : List ProgId) (at place : ℕ) (old rows : List (List ℕ)) (prog : ProgId) (row : List ℕ) → Pairwise (λ (a b : ProgId). a.0 ≢ b.0) list → slice_get list at ≡ Some prog
@@ -48,8 +42,8 @@ one_row_more list at place old rows prog row distinct there is h =
             let is' : slice_get rows p ≡ Some row = subst (λ k. slice_get rows k ≡ Some row) (sym e.1) is in
             let row_is = h.each p before row at_p is' in
             let place_p : place_of list p ≡ at = ap (λ k. place_of list k) e.1 ∙ here in
-            let none : when_tried p list at place ≡ [] = if_false (nat_lt (place_of list p) at) (place ∷ []) [] (ap (λ k. nat_lt k at) place_p ∙ not_below at) in
-            let one : when_tried p list (at + 1) place ≡ place ∷ [] = if_true (nat_lt (place_of list p) (at + 1)) (place ∷ []) [] (below_next (place_of list p) at place_p) in
+            let none : when_tried p list at place ≡ [] = cond-false (nat_lt (place_of list p) at) (place ∷ []) [] (ap (λ k. nat_lt k at) place_p ∙ not_below at) in
+            let one : when_tried p list (at + 1) place ≡ place ∷ [] = cond-true (nat_lt (place_of list p) (at + 1)) (place ∷ []) [] (below_next (place_of list p) at place_p) in
             let same : row ≡ before = row_is ∙ (ap (λ z. before ++ z) none ∙ append_none before) in
             after_is ∙ (ap (λ z. z ++ place ∷ []) same ∙ ap (λ z. before ++ z) (sym one))
         | inr e ↦
@@ -131,11 +125,6 @@ rows_below p (list ∷ lists) (n ∷ next) from =
     by_test true from n rows less rest = (less, rest)
     by_test false from n rows less rest = rest
 
-within_all : {X : Type 0} (P : X → Type 0) (xs : List X) (i : ℕ) (x : X) → AllByRecursion P xs → slice_get xs i ≡ Some x → P x
-within_all P [] i x all at = absurd (cc)
-within_all P (y ∷ xs) zero x all at = let same : y ≡ x = cc in subst P same all.0
-within_all P (y ∷ xs) (suc i) x all at = within_all P xs i x all.1 at
-
 -- a push of the place after those of the programme at a place of the list
 pub put_next : (list : List ProgId) (at end place to : ℕ) (d : ProgId) (e row : List ℕ) (old rows : List (List ℕ)) → Pairwise (λ (a b : ProgId). a.0 ≢ b.0) list
     → AllByRecursion (λ (prog : ProgId). prog.0 < length old) list → at < end → end ≤ length list → to ≡ (get_or list at d).0 → row ≡ get_or rows to e ++ place ∷ []
@@ -143,7 +132,7 @@ pub put_next : (list : List ProgId) (at end place to : ℕ) (d : ProgId) (e row 
 put_next list at end place to d e row old rows distinct below less short to_is row_is h =
     let prog : ProgId = get_or list at d in
     let there : slice_get list at ≡ Some prog = slice_get-get_or list at d (omega (arith, less, short)) in
-    let known : prog.0 < length old = within_all (λ (prog : ProgId). prog.0 < length old) list at prog below there in
+    let known : prog.0 < length old = all-get (λ (prog : ProgId). prog.0 < length old) list at prog below there in
     let before : slice_get rows prog.0 ≡ Some (get_or rows prog.0 e) = slice_get-get_or rows prog.0 e (omega (arith, known, h.full)) in
     let more = one_row_more list at place old rows prog (get_or rows prog.0 e) distinct there before h in
     let row_is' : row ≡ get_or rows prog.0 e ++ place ∷ [] = row_is ∙ ap (λ k. get_or rows k e ++ place ∷ []) to_is in

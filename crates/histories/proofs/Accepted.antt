@@ -1,6 +1,7 @@
 -- What passed the tests of an accepted request: its window is open, and its answer may be noted.
 use Rattle.std.proofs.Common.{◌≡◌, ◌≤◌, ◌⊎◌, inl, inr, ℕ, Bool, true, false, Some, None, arith, refl, not, nat_lt, if◌then◌else◌}
 use Rattle.std.specs.Prelude.{◌||◌, ◌&&◌}
+use Rattle.std.proofs.lemmas.Bool.{ltb-false, not-false}
 use Rattle.office_base.specs.Limits.{most_turns}
 use Rattle.office_base.specs.declared.asks.Choice.{Choice}
 use Rattle.office_base.specs.declared.asks.Choice.TheVariants.{Freeze, Float, Slide, Withdraw}
@@ -11,7 +12,6 @@ use Rattle.office_moves.specs.declared.decide.AnswerLooks.{AnswerLooks}
 use Rattle.office_moves.specs.declared.decide.Decision.TheVariants.{Note}
 use Rattle.office_moves.specs.declared.refusal.Refusal.{Refusal}
 use Rattle.office_moves.specs.declared.refusal.Refusal.TheVariants.{Ahead, Gone, Late, NoSeat, TooManyTurns, Widening}
-use Rattle.office_moves.proofs.Chains.{lt_fails}
 
 -- ---- the window
 
@@ -25,9 +25,9 @@ open_tests false false false r s e = (refl, refl, refl)
 pub is_open : (now rounds window : ℕ) → not_open now rounds window ≡ None → (window ≡ now) × (now ≤ rounds)
 is_open now rounds window e =
     let tests = open_tests (nat_lt window now) (nat_lt now window) (nat_lt rounds window) (Late now) (Ahead now) e in
-    let low = lt_fails window now tests.0 in
-    let high = lt_fails now window tests.1 in
-    let few = lt_fails rounds window tests.2 in
+    let low = ltb-false window now tests.0 in
+    let high = ltb-false now window tests.1 in
+    let few = ltb-false rounds window tests.2 in
     (omega (arith, low, high), omega (arith, low, high, few))
 
 -- ---- an answer that is noted
@@ -54,17 +54,13 @@ unless_withdraw true Float e = absurd (cc)
 unless_withdraw true Slide e = absurd (cc)
 unless_withdraw true Withdraw e = inl refl
 
-not_false : (b : Bool) → not b ≡ false → b ≡ true
-not_false true e = refl
-not_false false e = absurd (cc)
-
 pub is_noted : (looks : AnswerLooks) (row : AnswerRow) → judge_next_answer looks row ≡ Note row → IsNoted looks row
 is_noted looks row e =
     let tests = next_tests (is_gone looks.standing) (not looks.seated && not (is_withdraw row.choice)) (not (may_follow looks.left row.choice))
     (nat_lt most_turns row.turn && not (is_withdraw row.choice)) (Gone looks.standing) NoSeat (Widening (choice_of looks.left)) TooManyTurns row e in
     record {
       here = tests.0;
-      seated = elim (unless_withdraw (not looks.seated) row.choice tests.1) [ inl a ↦ inl a | inr b ↦ inr (not_false looks.seated b) ];
-      follows = not_false _ tests.2;
-      turns = elim (unless_withdraw (nat_lt most_turns row.turn) row.choice tests.3) [ inl a ↦ inl a | inr b ↦ inr (lt_fails most_turns row.turn b) ];
+      seated = elim (unless_withdraw (not looks.seated) row.choice tests.1) [ inl a ↦ inl a | inr b ↦ inr (not-false looks.seated b) ];
+      follows = not-false _ tests.2;
+      turns = elim (unless_withdraw (nat_lt most_turns row.turn) row.choice tests.3) [ inl a ↦ inl a | inr b ↦ inr (ltb-false most_turns row.turn b) ];
     }

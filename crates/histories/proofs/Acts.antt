@@ -1,5 +1,6 @@
 -- A newly accepted request comes to what its act does, asked by its candidate or by the clerk; so a history goes on with it.
 use Rattle.std.proofs.Common.{◌≡◌, ◌<◌, ℕ, Bool, true, not, List, [], ◌∷◌, ◌++◌, Option, Some, None, map, refl, sym, ap, ◌∙◌, subst, nat_lt, ◌==◌, ◌||◌, if◌then◌else◌}
+use Rattle.std.proofs.lemmas.Bool.{and_from, and_parts, eq-eqb, lt-ltb}
 use Rattle.office_moves.specs.Facts.{SeasonFacts, find_programme}
 use Rattle.histories.specs.Laws.{AcceptedByItsAct, HistoryGrows}
 use Rattle.office_base.specs.Numbered.{last_from, rises}
@@ -12,7 +13,6 @@ use Rattle.office_base.specs.declared.person.ProgId.{ProgId}
 use Rattle.office_base.specs.declared.step.StepKind.{StepKind}
 use Rattle.keeper_mem.specs.declared.rows.AnswerRow.{AnswerRow}
 use Rattle.keeper_mem.specs.declared.rows.RaiseRow.{RaiseRow}
-use Rattle.allocations.proofs.Places.{eq_true, lt_true}
 use Rattle.office_moves.specs.State.{State, opening, view_of}
 use Rattle.office_moves.specs.Judge.{is_candidate, is_clerk, judge_answer, judge_cut, judge_new_answer, judge_new_seats, not_open, once_more, refuse_as, refuse_if, with_programme}
 use Rattle.office_moves.specs.Decided.{answer_looks, decide_raise, decided, decided_by, raise_looks}
@@ -27,7 +27,6 @@ use Rattle.office_moves.specs.declared.moves.Act.TheVariants.{Cut}
 use Rattle.office_moves.specs.declared.moves.Entry.{Entry}
 use Rattle.office_moves.specs.declared.moves.Reply.{Reply}
 use Rattle.office_moves.proofs.Chains.{IsNewCut}
-use Rattle.office_moves.proofs.Narrows.{both_means, both_true}
 use Rattle.office_moves.proofs.OneState.{reaches_more}
 use Rattle.histories.proofs.Changes.{Accepts, LastCut, NewAnswer, NewCut, NewRaise, accepts}
 
@@ -36,7 +35,7 @@ use Rattle.histories.proofs.Changes.{Accepts, LastCut, NewAnswer, NewCut, NewRai
 by_candidate : (looks : AnswerLooks) (by : By) (row : AnswerRow) → is_candidate by row.cand ≡ true → judge_answer looks (Candidate row.cand) row ≡ judge_answer looks by row
 by_candidate looks by row own =
     ap (λ (given : Bool). refuse_if (not looks.known) UnknownCandidate (refuse_if (not given) (Denied 1) (once_more looks.kept row (judge_new_answer looks row))))
-    (eq_true row.cand.0 row.cand.0 refl ∙ sym own)
+    (eq-eqb row.cand.0 row.cand.0 refl ∙ sym own)
 
 by_clerk : (by : By) (now rounds window : ℕ) → is_clerk by ≡ true → window ≡ now → judge_cut Clerk now rounds now ≡ judge_cut by now rounds window
 by_clerk by now rounds window clerk open_now =
@@ -84,10 +83,10 @@ accepted_by_its_act facts state request act h = accepted_by facts state request.
 rises_more : (before number : ℕ) (act : Act) (entries : List Entry) → rises before (map (λ (entry : Entry). entry.number) entries) ≡ true
     → last_from before (map (λ (entry : Entry). entry.number) entries) < number
     → rises before (map (λ (entry : Entry). entry.number) (entries ++ record { number = number; act = act } ∷ [])) ≡ true
-rises_more before number act [] e less = both_true _ _ (lt_true before number less) refl
+rises_more before number act [] e less = and_from _ _ (lt-ltb before number less) refl
 rises_more before number act (entry ∷ entries) e less =
-    let both = both_means (nat_lt before entry.number) (rises entry.number (map (λ (entry : Entry). entry.number) entries)) e in
-    both_true _ _ both.0 (rises_more entry.number number act entries both.1 less)
+    let both = and_parts (nat_lt before entry.number) (rises entry.number (map (λ (entry : Entry). entry.number) entries)) e in
+    and_from _ _ both.0 (rises_more entry.number number act entries both.1 less)
 
 -- what is not newly accepted leaves the state
 unmoved : (facts : SeasonFacts) (old : State) (decision : Decision) (reply : Reply) (new : State) → newly old.now decision ≡ None → Does facts old decision reply new → new ≡ old

@@ -1,8 +1,10 @@
 -- The step from one round to the next: what everybody seeks narrows, and nobody falls.
 use Rattle.std.proofs.Common.{◌≡◌, ◌≢◌, ◌<◌, ◌≤◌, ◌+◌, ℕ, zero, suc, true, false, List, [], ◌∷◌, Option, Some, None, length, arith, refl, sym, ap, ◌∙◌, subst}
 use Rattle.std.specs.Prelude.{slice_get, option_map, IsSome, nat_le, ◌&&◌}
+use Rattle.std.proofs.lemmas.Bool.{and_from, and_parts, eq-eqb, eqb-true, le-leb, leb-true}
 use Rattle.std.proofs.lemmas.Option.{slice_get_within}
 use Rattle.std.proofs.lemmas.Slice.Eq.{bytes_eq-Decides}
+use Rattle.office_base.proofs.Lists.{all-get}
 use Rattle.office_base.specs.Lists.{Pairwise}
 use Rattle.office_base.specs.declared.asks.Seat.{Seat}
 use Rattle.office_base.specs.declared.person.Person.{Person}
@@ -10,8 +12,7 @@ use Rattle.office_base.specs.declared.person.ProgId.{ProgId}
 use Rattle.allocations.specs.Fair.{IsFair, IsNextMarket, IsOwn}
 use Rattle.allocations.specs.Market.{Seeker, applies, place_of, seat_at}
 use Rattle.allocations.proofs.Falls as falls
-use Rattle.allocations.proofs.Places.{applies_true, eq_means, eq_true}
-use Rattle.allocations.proofs.Those.{all_at}
+use Rattle.allocations.proofs.Places.{applies_true}
 use Rattle.choice_lists.specs.Choices.{list_of}
 use Rattle.seat_matrix.specs.Matrix.{SeatTable}
 use Rattle.seat_matrix.specs.declared.entry.Home.{Home}
@@ -28,7 +29,7 @@ use Rattle.office_moves.specs.Facts.{IsSound, SeasonFacts, lists_in_order}
 use Rattle.office_moves.specs.State.{State, seat_in}
 use Rattle.office_moves.specs.Raised.{matrix_of_round}
 use Rattle.office_moves.specs.Promise.{HoldsOn, IsNoWorse, standing_then}
-use Rattle.office_moves.proofs.Narrows.{both_means, both_true, le_means, le_true, FitsLast, holder_narrows, left_there, narrows_applies, there_left}
+use Rattle.office_moves.proofs.Narrows.{FitsLast, holder_narrows, left_there, narrows_applies, there_left}
 use Rattle.round_laws.proofs.People.{there_is}
 use Rattle.histories.specs.Course.{IsCourse, left_then, seek_then, seeks_then}
 use Rattle.histories.proofs.Entering.{entrants, own_there}
@@ -120,12 +121,12 @@ left_again : (table : SeatTable) (list : List ProgId) (standing : Standing) (k :
     → is_left table (seek_after standing (Some k)) list k prog ≡ true
 left_again table list Waiting k prog keeps there below = absurd (cc)
 left_again table list Offered k prog keeps there below = absurd (cc)
-left_again table list Freeze k prog keeps there below = eq_true k k refl
-left_again table list Float k prog keeps there below = le_true k k (omega arith)
+left_again table list Freeze k prog keeps there below = eq-eqb k k refl
+left_again table list Float k prog keeps there below = le-leb k k (omega arith)
 left_again table list Slide k prog keeps there below =
     let home = there_is table.programmes prog.0 below in
     let itself : same_institute table prog.0 prog.0 ≡ true = self_together {home = home.0} (slice_get table.programmes prog.0) home.1 in
-    both_true (nat_le k k) (is_beside table (slice_get list k) prog) (le_true k k (omega arith)) (subst (λ o. is_beside table o prog ≡ true) (sym there) itself)
+    and_from (nat_le k k) (is_beside table (slice_get list k) prog) (le-leb k k (omega arith)) (subst (λ o. is_beside table o prog ≡ true) (sym there) itself)
 left_again table list Withdrawn k prog keeps there below = absurd (cc)
 left_again table list NoShow k prog keeps there below = absurd (cc)
 
@@ -140,14 +141,14 @@ left_kept : (table : SeatTable) (list : List ProgId) (standing : Standing) (j k 
 left_kept table list Waiting j k new old keeps there there' left = absurd (cc)
 left_kept table list Offered j k new old keeps there there' left = absurd (cc)
 left_kept table list Freeze j k new old keeps there there' left =
-    let same : j ≡ k = eq_means j k left in
+    let same : j ≡ k = eqb-true j k left in
     let again : slice_get list k ≡ Some new = subst (λ n. slice_get list n ≡ Some new) same there in
     record { place = omega (arith, same); freeze = λ e. cc; slide = λ e. absurd (cc) }
-left_kept table list Float j k new old keeps there there' left = record { place = le_means j k left; freeze = λ e. absurd (cc); slide = λ e. absurd (cc) }
+left_kept table list Float j k new old keeps there there' left = record { place = leb-true j k left; freeze = λ e. absurd (cc); slide = λ e. absurd (cc) }
 left_kept table list Slide j k new old keeps there there' left =
-    let parts = both_means (nat_le j k) (is_beside table (slice_get list k) new) left in
+    let parts = and_parts (nat_le j k) (is_beside table (slice_get list k) new) left in
     let beside : same_institute table old.0 new.0 ≡ true = subst (λ o. is_beside table o new ≡ true) there' parts.1 in
-    record { place = le_means j k parts.0; freeze = λ e. absurd (cc); slide = λ e. turned_together (slice_get table.programmes old.0) (slice_get table.programmes new.0) beside }
+    record { place = leb-true j k parts.0; freeze = λ e. absurd (cc); slide = λ e. turned_together (slice_get table.programmes old.0) (slice_get table.programmes new.0) beside }
 left_kept table list Withdrawn j k new old keeps there there' left = absurd (cc)
 left_kept table list NoShow j k new old keeps there there' left = absurd (cc)
 
@@ -245,7 +246,7 @@ in_matrix : (facts : SeasonFacts) (state : State) (before id n : ℕ) (old : Sea
     → old.prog.0 < length (matrix_of_round facts state n).programmes
 in_matrix facts state before id n old course known =
     let list = list_of facts.lists id in
-    let in_season = all_at (λ (prog : ProgId). prog.0 < length facts.matrix.programmes) list (place_of list old.prog.0) old.prog known.own.below known.at.there in
+    let in_season = all-get (λ (prog : ProgId). prog.0 < length facts.matrix.programmes) list (place_of list old.prog.0) old.prog known.own.below known.at.there in
     subst (λ (ps : List (List ℕ × Home)). old.prog.0 < length ps) (sym (course.programmes n)) in_season
 
 -- whoever keeps a seat wants its programme in the next round

@@ -3,6 +3,7 @@ use Rattle.std.proofs.Common.{◌≡◌, ◌<◌, ◌+◌, ◌⊎◌, inl, inr, 
 use Rattle.std.specs.Prelude.{slice_get, option_map}
 use Rattle.std.proofs.lemmas.Bool.{cases_order}
 use Rattle.std.proofs.lemmas.Option.{slice_get_within}
+use Rattle.office_base.proofs.Lists.{get-after, get-before}
 use Rattle.office_base.specs.declared.asks.Seat.{Seat}
 use Rattle.office_base.specs.declared.person.Person.{Person}
 use Rattle.keeper_mem.specs.declared.rows.AllotRow.{AllotRow}
@@ -27,7 +28,7 @@ use Rattle.histories.specs.Course.{seek_then, seeks_then}
 use Rattle.histories.proofs.Accepted.{is_open}
 use Rattle.histories.proofs.Changes.{Answered, Finishes, Follows, Publishes, Raised}
 use Rattle.histories.proofs.Rows.{before_same}
-use Rattle.histories.proofs.Stays.{Stays, answered_stays, finished_stays, get_append, get_last, published_stays}
+use Rattle.histories.proofs.Stays.{Stays, answered_stays, finished_stays, published_stays}
 use Rattle.histories.proofs.Windows.{Runs, along_windows}
 
 -- ---- what everybody sought
@@ -86,9 +87,9 @@ last_or_before rounds last before round e =
     let within = slice_get_within (rounds ++ last ∷ []) before round e in
     let long = length-append rounds (last ∷ []) in
     elim (cases_order before (length rounds)) [
-      | inl same ↦ let end = get_last rounds last in let here : slice_get (rounds ++ last ∷ []) (length rounds) ≡ Some round = subst (λ n. slice_get (rounds ++ last ∷ []) n ≡ Some round) same e in inr (same, (let f : last ≡ round = cc in f))
+      | inl same ↦ let end = get-after rounds last [] in let here : slice_get (rounds ++ last ∷ []) (length rounds) ≡ Some round = subst (λ n. slice_get (rounds ++ last ∷ []) n ≡ Some round) same e in inr (same, (let f : last ≡ round = cc in f))
       | inr apart ↦ elim apart [
-        | inl less ↦ inl (less, sym (get_append rounds (last ∷ []) before less) ∙ e)
+        | inl less ↦ inl (less, sym (get-before rounds (last ∷ []) before less) ∙ e)
         | inr more ↦ absurd (omega (arith, within, long, more))
       ]
     ]

@@ -1,9 +1,8 @@
 -- The matrix along a history: each raise gives a step more seats, and those of a window come after those of the windows before it.
 use Rattle.std.proofs.Common.{◌≡◌, ◌<◌, ◌≤◌, ◌+◌, inl, inr, ℕ, suc, Bool, true, false, List, [], ◌∷◌, ◌++◌, length, arith, refl, sym, ap, ◌∙◌, subst, nat_lt, ◌||◌, if◌then◌else◌, append-nil, append_assoc}
 use Rattle.std.specs.Prelude.{◌-◌, nat_le}
-use Rattle.std.proofs.lemmas.Bool.{cases_lt}
+use Rattle.std.proofs.lemmas.Bool.{cases_lt, lt-ltb, ltb-false}
 use Rattle.std.proofs.lemmas.Bool.Decides.{nat_tests}
-use Rattle.allocations.proofs.Places.{lt_true}
 use Rattle.office_base.specs.Limits.{most_matrix_seats, most_step_seats}
 use Rattle.keeper_mem.specs.declared.rows.RaiseRow.{RaiseRow}
 use Rattle.seat_matrix.specs.Laws.{OneStepChanges}
@@ -41,7 +40,7 @@ still_before n (row ∷ rows) = by (nat_lt row.window n) refl (still_before n ro
     by : (b : Bool) → nat_lt row.window n ≡ b → raised_before (suc n) (raised_before n rows) ≡ raised_before n rows
         → raised_before (suc n) (if b then row ∷ raised_before n rows else raised_before n rows) ≡ (if b then row ∷ raised_before n rows else raised_before n rows)
     by true e rest =
-        row_if (nat_lt row.window (suc n)) true row (raised_before (suc n) (raised_before n rows)) (lt_true row.window (suc n) (grind (arith, nat_tests)))
+        row_if (nat_lt row.window (suc n)) true row (raised_before (suc n) (raised_before n rows)) (lt-ltb row.window (suc n) (grind (arith, nat_tests)))
         ∙ ap (λ (z : List RaiseRow). row ∷ z) rest
     by false e rest = rest
 
@@ -73,9 +72,6 @@ passes false false false first second third row h = record { is_own = refl; is_m
 not_fewer : (m n : ℕ) → nat_le m n ≡ false → n ≤ m
 not_fewer m n e = grind (arith, nat_tests)
 
-not_above : (m n : ℕ) → nat_lt m n ≡ false → n ≤ m
-not_above m n e = grind (arith, nat_tests)
-
 was_lift : (facts : SeasonFacts) (old : State) (row : RaiseRow) → row.prog.0 < length (matrix_at facts old).programmes → judge_new_seats (raise_looks facts old row) row ≡ Lift row
     → IsLift (matrix_at facts old) row
 was_lift facts old row below next =
@@ -86,7 +82,7 @@ was_lift facts old row below next =
       below = below;
       own = passed.is_own;
       more = not_fewer row.seats looks.seats passed.is_more;
-      most = not_above 4000 row.seats (either_false (nat_lt 4000 row.seats) (nat_lt most_matrix_seats (looks.total - looks.seats + row.seats)) passed.is_within);
+      most = ltb-false 4000 row.seats (either_false (nat_lt 4000 row.seats) (nat_lt most_matrix_seats (looks.total - looks.seats + row.seats)) passed.is_within);
     }
 
 -- ---- along a history

@@ -1,8 +1,7 @@
 -- The rows of a candidate in a window, and the raises before a window, with a row more.
 use Rattle.std.proofs.Common.{◌≡◌, ◌<◌, ◌≤◌, inl, inr, ℕ, Bool, true, false, List, [], ◌∷◌, ◌++◌, arith, refl, ap, ◌∙◌, nat_lt, ◌==◌, if◌then◌else◌, append-nil}
-use Rattle.std.proofs.lemmas.Bool.{cases_Bool}
+use Rattle.std.proofs.lemmas.Bool.{cases_Bool, eq-eqb, eqb-false, eqb-true, lt-ltb}
 use Rattle.std.proofs.lemmas.Bool.Decides.{nat_tests}
-use Rattle.allocations.proofs.Places.{eq_means, eq_true, lt_true}
 use Rattle.keeper_mem.specs.declared.rows.AnswerRow.{AnswerRow}
 use Rattle.keeper_mem.specs.declared.rows.RaiseRow.{RaiseRow}
 use Rattle.round_options.specs.Options.{standing_of}
@@ -37,16 +36,13 @@ pub data Owns (window id : ℕ) (row : AnswerRow) : Type 0 where
 rows_if : (b c : Bool) (row : AnswerRow) (rows : List AnswerRow) → b ≡ c → (if b then row ∷ rows else rows) ≡ (if c then row ∷ rows else rows)
 rows_if b c row rows e = ap (λ (z : Bool). if z then row ∷ rows else rows) e
 
-differs : (m n : ℕ) → m == n ≡ false → m ≡ n → ⊥
-differs m n e same = let f = eq_true m n same in cc
-
 pub owns : (window id : ℕ) (row : AnswerRow) → Owns window id row
 owns window id row = elim (cases_Bool (row.cand.0 == id)) [
   | inl e ↦
       let mine : rows_of id (row ∷ []) ≡ row ∷ [] = rows_if (row.cand.0 == id) true row [] e in
       elim (cases_Bool (row.window == window)) [
-        | inl f ↦ Own (eq_means row.cand.0 id e) (eq_means row.window window f) (ap (in_window window) mine ∙ rows_if (row.window == window) true row [] f)
-        | inr f ↦ OfWindow (differs row.window window f) (ap (in_window window) mine ∙ rows_if (row.window == window) false row [] f)
+        | inl f ↦ Own (eqb-true row.cand.0 id e) (eqb-true row.window window f) (ap (in_window window) mine ∙ rows_if (row.window == window) true row [] f)
+        | inr f ↦ OfWindow (eqb-false row.window window f) (ap (in_window window) mine ∙ rows_if (row.window == window) false row [] f)
       ]
   | inr e ↦
       let none : rows_of id (row ∷ []) ≡ [] = rows_if (row.cand.0 == id) false row [] e in
@@ -55,7 +51,7 @@ owns window id row = elim (cases_Bool (row.cand.0 == id)) [
 
 own_is : (window id : ℕ) (row : AnswerRow) → row.cand.0 ≡ id → row.window ≡ window → own_row window id row ≡ row ∷ []
 own_is window id row own here =
-    ap (in_window window) (rows_if (row.cand.0 == id) true row [] (eq_true row.cand.0 id own)) ∙ rows_if (row.window == window) true row [] (eq_true row.window window here)
+    ap (in_window window) (rows_if (row.cand.0 == id) true row [] (eq-eqb row.cand.0 id own)) ∙ rows_if (row.window == window) true row [] (eq-eqb row.window window here)
 
 own_none : (window id : ℕ) (row : AnswerRow) → (row.cand.0 ≡ id → row.window ≡ window → ⊥) → Owns window id row → own_row window id row ≡ []
 own_none window id row apart (Own own here mine) = absurd (apart own here)
@@ -104,4 +100,4 @@ before_same window rows row late =
 pub before_more : (window : ℕ) (rows : List RaiseRow) (row : RaiseRow) → row.window < window → raised_before window (rows ++ row ∷ []) ≡ raised_before window rows ++ row ∷ []
 before_more window rows row early =
     before_append window rows (row ∷ [])
-    ∙ ap (λ (b : Bool). raised_before window rows ++ (if b then row ∷ [] else [])) (lt_true row.window window early)
+    ∙ ap (λ (b : Bool). raised_before window rows ++ (if b then row ∷ [] else [])) (lt-ltb row.window window early)

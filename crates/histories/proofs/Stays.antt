@@ -1,6 +1,6 @@
 -- What answers and cuts leave of the past.
-use Rattle.std.proofs.Common.{◌≡◌, ◌<◌, ◌≤◌, ℕ, zero, suc, List, [], ◌∷◌, ◌++◌, Option, Some, length, arith, refl, ap, ◌∙◌}
-use Rattle.std.specs.Prelude.{slice_get}
+use Rattle.std.proofs.Common.{◌≡◌, ◌<◌, ◌≤◌, ℕ, zero, suc, List, [], ◌∷◌, ◌++◌, Option, length, arith, refl, ap, ◌∙◌}
+use Rattle.office_base.proofs.Lists.{get-before}
 use Rattle.office_base.specs.declared.asks.Seat.{Seat}
 use Rattle.keeper_mem.specs.declared.rows.AnswerRow.{AnswerRow}
 use Rattle.rounds.specs.declared.round.Round.{Round}
@@ -15,18 +15,9 @@ use Rattle.histories.proofs.Rows.{window_same}
 
 -- ---- published rounds
 
-pub get_append : {X : Type 0} (xs more : List X) (n : ℕ) → n < length xs → slice_get (xs ++ more) n ≡ slice_get xs n
-get_append [] more n less = absurd (omega (arith, less))
-get_append (x ∷ xs) more zero less = refl
-get_append (x ∷ xs) more (suc n) less = get_append xs more n (omega (arith, less))
-
-pub get_last : {X : Type 0} (xs : List X) (x : X) → slice_get (xs ++ x ∷ []) (length xs) ≡ Some x
-get_last [] x = refl
-get_last (y ∷ xs) x = get_last xs x
-
 round_append : (rounds more : List Round) (number : ℕ) → number ≤ length rounds → round_at (rounds ++ more) number ≡ round_at rounds number
 round_append rounds more zero few = refl
-round_append rounds more (suc before) few = get_append rounds more before (omega (arith, few))
+round_append rounds more (suc before) few = get-before rounds more before (omega (arith, few))
 
 -- ---- how cuts left a candidate
 

@@ -1,7 +1,7 @@
 -- The turns of a candidate in a window count from 1, and are few.
 use Rattle.std.proofs.Common.{◌≡◌, ◌≤◌, ◌+◌, ◌⊎◌, inl, inr, ℕ, Bool, true, false, List, [], ◌∷◌, ◌++◌, None, length, arith, refl, sym, ap, ◌∙◌, subst, nat_lt, ◌==◌, if◌then◌else◌, append-nil, length-append}
+use Rattle.std.proofs.lemmas.Bool.{eqb-true}
 use Rattle.std.proofs.lemmas.Bool.Decides.{nat_tests}
-use Rattle.allocations.proofs.Places.{eq_means}
 use Rattle.office_base.specs.declared.asks.Choice.{Choice}
 use Rattle.office_base.specs.declared.asks.Choice.TheVariants.{Freeze as ToFreeze, Float as ToFloat, Slide as ToSlide, Withdraw as ToWithdraw}
 use Rattle.keeper_mem.specs.declared.rows.AnswerRow.{AnswerRow}
@@ -79,7 +79,7 @@ was_next facts old row opened is_turn next =
     let noted = is_noted (answer_looks facts (view_of old row.cand.0) row) row next in
     record {
       window = (is_open old.now facts.rounds row.window opened).0;
-      turn = eq_means _ _ is_turn;
+      turn = eqb-true _ _ is_turn;
       there = noted.here;
       few = λ stays. few_turns row.choice row.turn stays noted.turns;
     }

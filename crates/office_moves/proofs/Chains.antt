@@ -1,11 +1,10 @@
 -- What a chain of refusals comes to.
-use Rattle.std.proofs.Common.{◌≡◌, ◌<◌, ◌≤◌, ◌+◌, ◌⊎◌, inl, inr, ℕ, Bool, true, false, Option, Some, None, arith, refl, sym, ◌∙◌, subst, not, nat_lt, ◌==◌, if◌then◌else◌}
+use Rattle.std.proofs.Common.{◌≡◌, ◌<◌, ◌+◌, ◌⊎◌, inl, inr, ℕ, Bool, true, false, Option, Some, None, arith, refl, sym, ◌∙◌, subst, not, nat_lt, ◌==◌, if◌then◌else◌}
 use Rattle.std.specs.Prelude.{◌||◌, ◌&&◌, ◌-◌, ◌≢◌, nat_le}
+use Rattle.std.proofs.lemmas.Bool.{cond-true, eqb-false, eqb-true, lt-ltb, ltb-false}
 use Rattle.office_base.specs.Limits.{most_matrix_seats, most_step_seats, most_turns}
 use Rattle.seat_matrix.specs.Seats.{is_dereserved}
 use Rattle.round_options.specs.Options.{may_follow}
-use Rattle.std.proofs.lemmas.Bool.Decides.{nat_tests}
-use Rattle.allocations.proofs.Places.{eq_means, eq_true, lt_true}
 use Rattle.office_base.specs.declared.asks.By.{By}
 use Rattle.office_base.specs.declared.asks.Choice.{Choice}
 use Rattle.office_base.specs.declared.asks.Choice.TheVariants.{Freeze, Float, Slide, Withdraw}
@@ -117,16 +116,12 @@ same_self Float = refl
 same_self Slide = refl
 same_self Withdraw = refl
 
-if_true : {X : Type 0} (b : Bool) (x y : X) → b ≡ true → (if b then x else y) ≡ x
-if_true true x y e = refl
-if_true false x y e = absurd (cc)
-
 again_noted : (known own : Bool) (kept : Option Choice) (row : AnswerRow) (rest : Decision) → known ≡ true → own ≡ true → kept ≡ Some row.choice
     → refuse_if (not known) UnknownCandidate (refuse_if (not own) (Denied 1) (once_more kept row rest)) ≡ NotedAgain row
 again_noted true true None row rest e f h = absurd (cc)
 again_noted true true (Some choice) row rest e f h =
     let same : row.choice ≡ choice = cc in
-    if_true (same_choice choice row.choice) (NotedAgain row) (Refuse (TurnUsed choice)) (subst (λ c. same_choice choice c ≡ true) (sym same) (same_self choice))
+    cond-true (same_choice choice row.choice) (NotedAgain row) (Refuse (TurnUsed choice)) (subst (λ c. same_choice choice c ≡ true) (sym same) (same_self choice))
 again_noted true false kept row rest e f h = absurd (cc)
 again_noted false own kept row rest e f h = absurd (cc)
 
@@ -162,25 +157,19 @@ not_either : (a b : Bool) → a || b ≡ false → (a ≡ false) × (b ≡ false
 not_either true b e = absurd (cc)
 not_either false b e = (refl, e)
 
-pub lt_fails : (m n : ℕ) → nat_lt m n ≡ false → n ≤ m
-lt_fails m n e = grind (arith, nat_tests)
-
-eq_fails : (m n : ℕ) → m == n ≡ false → m ≡ n → ⊥
-eq_fails m n e same = let f = eq_true m n same in cc
-
 pub cut_new : (by : By) (now rounds window : ℕ) (act : Act) → newly now (judge_cut by now rounds window) ≡ Some act → IsNewCut by now rounds window
 cut_new by now rounds window act h =
     let cuts = cut_chain now window (is_clerk by) (nat_lt window now) (nat_lt now window || nat_lt rounds window) (window == rounds) act h in
     let within = not_either (nat_lt now window) (nat_lt rounds window) cuts.is_ahead in
-    let low = lt_fails window now cuts.is_early in
-    let high = lt_fails now window within.0 in
-    let few = lt_fails rounds window within.1 in
+    let low = ltb-false window now cuts.is_early in
+    let high = ltb-false now window within.0 in
+    let few = ltb-false rounds window within.1 in
     record {
       clerk = cuts.is_clerk;
       opened = omega (arith, low, high);
       ends = elim cuts.ends [
-        | inl e ↦ let same = eq_means window rounds e.1 in inl (e.0, omega (arith, low, high, same))
-        | inr e ↦ let other : window ≢ rounds = eq_fails window rounds e.1 in inr (e.0, omega (arith, low, high, few, other))
+        | inl e ↦ let same = eqb-true window rounds e.1 in inl (e.0, omega (arith, low, high, same))
+        | inr e ↦ let other : window ≢ rounds = eqb-false window rounds e.1 in inr (e.0, omega (arith, low, high, few, other))
       ];
     }
 
@@ -191,7 +180,7 @@ past_cut false early window rest e f = absurd (cc)
 
 pub cut_again : (by : By) (now rounds window : ℕ) → is_clerk by ≡ true → window < now → judge_cut by now rounds window ≡ CutAgain window
 cut_again by now rounds window clerk less =
-    past_cut (is_clerk by) (nat_lt window now) window (refuse_if (nat_lt now window || nat_lt rounds window) (Ahead now) (if window == rounds then Finish else Publish)) clerk (lt_true window now less)
+    past_cut (is_clerk by) (nat_lt window now) window (refuse_if (nat_lt now window || nat_lt rounds window) (Ahead now) (if window == rounds then Finish else Publish)) clerk (lt-ltb window now less)
 
 -- ---- a raise
 

@@ -1,14 +1,14 @@
 -- What a candidate seeks next, the candidate applied for under the last seek.
 use Rattle.std.proofs.Common.{◌≡◌, ◌≢◌, ◌<◌, ◌≤◌, ◌+◌, ◌⊎◌, inl, inr, ℕ, zero, suc, Bool, true, false, List, [], ◌∷◌, Option, Some, None, length, arith, refl, sym, ap, ◌∙◌, subst, ◌==◌, if◌then◌else◌}
-use Rattle.std.specs.Prelude.{slice_get, nat_le, ◌&&◌, bytes_eq}
-use Rattle.std.proofs.lemmas.Bool.Decides.{nat_tests}
+use Rattle.std.specs.Prelude.{slice_get, nat_le, bytes_eq}
+use Rattle.std.proofs.lemmas.Bool.{and_from, and_parts, cases_Bool, eq-eqb, eqb-true, le-leb, leb-true}
 use Rattle.std.proofs.lemmas.Slice.Eq.{bytes_eq-Decides}
+use Rattle.office_base.proofs.Lists.{all-get}
 use Rattle.office_base.specs.Lists.{Pairwise}
 use Rattle.office_base.specs.declared.asks.Seat.{Seat}
 use Rattle.office_base.specs.declared.person.ProgId.{ProgId}
 use Rattle.allocations.specs.Market.{applies, place_of}
-use Rattle.allocations.proofs.Places.{applies_true, eq_means, eq_true}
-use Rattle.allocations.proofs.Those.{all_at}
+use Rattle.allocations.proofs.Places.{applies_true}
 use Rattle.seat_matrix.specs.Matrix.{SeatTable}
 use Rattle.seat_matrix.specs.declared.entry.Home.{Home}
 use Rattle.seeks.specs.Seek.{are_together, is_beside, is_left, left_from, seek_leaves}
@@ -20,10 +20,6 @@ use Rattle.office_base.specs.declared.asks.Choice.TheVariants.{Freeze as ToFreez
 use Rattle.round_options.specs.Options.{holds, may_follow, seek_after, standing_of}
 use Rattle.round_options.specs.declared.standing.Standing.{Standing}
 use Rattle.round_options.specs.declared.standing.Standing.TheVariants.{Waiting, Offered, Freeze, Float, Slide, Withdrawn, NoShow}
-
-two_ways : (b : Bool) → (b ≡ true) ⊎ (b ≡ false)
-two_ways true = inl refl
-two_ways false = inr refl
 
 -- ---- places
 
@@ -80,19 +76,19 @@ passes_later f n q qs p passes = record {
 
 kept_passes : (f : ℕ → ProgId → Bool) (n : ℕ) (list : List ProgId) (p : ℕ) → place_of (kept f n list) p < length (kept f n list) → Passes f n list p
 kept_passes f n [] p less = absurd (omega arith)
-kept_passes f n (q ∷ qs) p less = elim (two_ways (f n q)) [
+kept_passes f n (q ∷ qs) p less = elim (cases_Bool (f n q)) [
   | inl passed ↦
       let same = kept_with f n q qs passed in
       let less' : place_of (q ∷ kept f (n + 1) qs) p < length (q ∷ kept f (n + 1) qs) = subst (λ l. place_of l p < length l) same less in
-      elim (two_ways (q.0 == p)) [
-        | inl here ↦ record { place = 0; prog = q; there = refl; is = eq_means q.0 p here; passed = (let none : n ≡ n + 0 = omega arith in subst (λ k. f k q ≡ true) none passed) }
+      elim (cases_Bool (q.0 == p)) [
+        | inl here ↦ record { place = 0; prog = q; there = refl; is = eqb-true q.0 p here; passed = (let none : n ≡ n + 0 = omega arith in subst (λ k. f k q ≡ true) none passed) }
         | inr other ↦ let next = place_later q (kept f (n + 1) qs) p other in passes_later f n q qs p (kept_passes f (n + 1) qs p (omega (arith, less', next)))
       ]
   | inr failed ↦ passes_later f n q qs p (kept_passes f (n + 1) qs p (subst (λ l. place_of l p < length l) (kept_without f n q qs failed) less))
 ]
 
 in_longer : (q : ProgId) (qs : List ProgId) (p : ℕ) → place_of qs p < length qs → place_of (q ∷ qs) p < length (q ∷ qs)
-in_longer q qs p less = elim (two_ways (q.0 == p)) [
+in_longer q qs p less = elim (cases_Bool (q.0 == p)) [
   | inl here ↦ let first = place_here q qs p here in omega (arith, first)
   | inr other ↦ let next = place_later q qs p other in omega (arith, next, less)
 ]
@@ -104,13 +100,13 @@ passes_kept f n (q ∷ qs) p zero prog there is passed =
     let same : q ≡ prog = cc in
     let none : n + 0 ≡ n = omega arith in
     let passed' : f n q ≡ true = subst (λ z. f n z ≡ true) (sym same) (subst (λ k. f k prog ≡ true) none passed) in
-    let here : q.0 == p ≡ true = eq_true q.0 p (ap (λ (z : ProgId). z.0) same ∙ is) in
+    let here : q.0 == p ≡ true = eq-eqb q.0 p (ap (λ (z : ProgId). z.0) same ∙ is) in
     let first = place_here q (kept f (n + 1) qs) p here in
     subst (λ l. place_of l p < length l) (sym (kept_with f n q qs passed')) (omega (arith, first))
 passes_kept f n (q ∷ qs) p (suc k) prog there is passed =
     let same : n + suc k ≡ n + 1 + k = omega arith in
     let rest = passes_kept f (n + 1) qs p k prog there is (subst (λ z. f z prog ≡ true) same passed) in
-    elim (two_ways (f n q)) [
+    elim (cases_Bool (f n q)) [
       | inl passing ↦ subst (λ l. place_of l p < length l) (sym (kept_with f n q qs passing)) (in_longer q (kept f (n + 1) qs) p rest)
       | inr failing ↦ subst (λ l. place_of l p < length l) (sym (kept_without f n q qs failing)) rest
     ]
@@ -119,13 +115,13 @@ passes_kept f n (q ∷ qs) p (suc k) prog there is passed =
 kept_order : (f : ℕ → ProgId → Bool) (n : ℕ) (list : List ProgId) (p r : ℕ) → Pairwise (λ (a b : ProgId). a.0 ≢ b.0) list → place_of (kept f n list) p < length (kept f n list)
     → place_of list p ≤ place_of list r → place_of (kept f n list) p ≤ place_of (kept f n list) r
 kept_order f n [] p r distinct less before = omega arith
-kept_order f n (q ∷ qs) p r distinct less before = elim (two_ways (f n q)) [
+kept_order f n (q ∷ qs) p r distinct less before = elim (cases_Bool (f n q)) [
   | inl passed ↦
       let same = kept_with f n q qs passed in
       let less' : place_of (q ∷ kept f (n + 1) qs) p < length (q ∷ kept f (n + 1) qs) = subst (λ l. place_of l p < length l) same less in
-      let goal : place_of (q ∷ kept f (n + 1) qs) p ≤ place_of (q ∷ kept f (n + 1) qs) r = elim (two_ways (q.0 == p)) [
+      let goal : place_of (q ∷ kept f (n + 1) qs) p ≤ place_of (q ∷ kept f (n + 1) qs) r = elim (cases_Bool (q.0 == p)) [
         | inl here ↦ let first = place_here q (kept f (n + 1) qs) p here in omega (arith, first)
-        | inr other ↦ elim (two_ways (q.0 == r)) [
+        | inr other ↦ elim (cases_Bool (q.0 == r)) [
           | inl there ↦ let first = place_here q qs r there in let next = place_later q qs p other in absurd (omega (arith, before, first, next))
           | inr apart ↦
               let one = place_later q qs p other in
@@ -141,10 +137,10 @@ kept_order f n (q ∷ qs) p r distinct less before = elim (two_ways (f n q)) [
       let same = kept_without f n q qs failed in
       let less' : place_of (kept f (n + 1) qs) p < length (kept f (n + 1) qs) = subst (λ l. place_of l p < length l) same less in
       let found = kept_passes f (n + 1) qs p less' in
-      let other : q.0 ≢ found.prog.0 = all_at (λ (b : ProgId). q.0 ≢ b.0) qs found.place found.prog distinct.0 found.there in
-      let not_here : q.0 == p ≡ false = elim (two_ways (q.0 == p)) [ inl e ↦ absurd (other (eq_means q.0 p e ∙ sym found.is)) | inr e ↦ e ] in
+      let other : q.0 ≢ found.prog.0 = all-get (λ (b : ProgId). q.0 ≢ b.0) qs found.place found.prog distinct.0 found.there in
+      let not_here : q.0 == p ≡ false = elim (cases_Bool (q.0 == p)) [ inl e ↦ absurd (other (eqb-true q.0 p e ∙ sym found.is)) | inr e ↦ e ] in
       let one = place_later q qs p not_here in
-      let goal : place_of (kept f (n + 1) qs) p ≤ place_of (kept f (n + 1) qs) r = elim (two_ways (q.0 == r)) [
+      let goal : place_of (kept f (n + 1) qs) p ≤ place_of (kept f (n + 1) qs) r = elim (cases_Bool (q.0 == r)) [
         | inl there ↦ let first = place_here q qs r there in absurd (omega (arith, before, first, one))
         | inr apart ↦ let two = place_later q qs r apart in kept_order f (n + 1) qs p r distinct.1 less' (omega (arith, before, one, two))
       ] in
@@ -195,22 +191,6 @@ left_order table seek progs p r distinct less before =
 abbrev pub Narrower : SeatTable → Seek → Seek → List ProgId → ℕ → Type 0
 Narrower table last next progs k = (j : ℕ) (prog : ProgId) → slice_get progs j ≡ Some prog → is_left table next progs j prog ≡ true → (is_left table last progs j prog ≡ true) × (j ≤ k)
 
-pub le_means : (m n : ℕ) → nat_le m n ≡ true → m ≤ n
-le_means m n e = grind (arith, nat_tests)
-
-pub le_true : (m n : ℕ) → m ≤ n → nat_le m n ≡ true
-le_true m n less = grind (arith, nat_tests)
-
-pub both_true : (a b : Bool) → a ≡ true → b ≡ true → a && b ≡ true
-both_true true true first second = refl
-both_true true false first second = absurd (cc)
-both_true false b first second = absurd (cc)
-
-pub both_means : (a b : Bool) → a && b ≡ true → (a ≡ true) × (b ≡ true)
-both_means true true e = (refl, refl)
-both_means true false e = absurd (cc)
-both_means false b e = absurd (cc)
-
 -- the seat stands at this place of the list, where the last seek left it
 pub record IsSeatAt (table : SeatTable) (last : Seek) (progs : List ProgId) (seat : Seat) (k : ℕ) : Type 0 where
   pub there : slice_get progs k ≡ Some seat.prog
@@ -218,29 +198,29 @@ pub record IsSeatAt (table : SeatTable) (last : Seek) (progs : List ProgId) (sea
 
 only_narrows : (table : SeatTable) (last : Seek) (progs : List ProgId) (seat : Seat) (k : ℕ) → IsSeatAt table last progs seat k → Narrower table last (Only k) progs k
 only_narrows table last progs seat k seated j prog there left =
-    let same : j ≡ k = eq_means j k left in
+    let same : j ≡ k = eqb-true j k left in
     let there' : slice_get progs k ≡ Some prog = subst (λ n. slice_get progs n ≡ Some prog) same there in
     let held = seated.there in
     let one : prog ≡ seat.prog = cc in
     (subst (λ q. is_left table last progs j q ≡ true) (sym one) (subst (λ n. is_left table last progs n seat.prog ≡ true) (sym same) seated.left), omega (arith, same))
 
 whole_narrows : (table : SeatTable) (progs : List ProgId) (k : ℕ) → Narrower table Whole (UpTo k) progs k
-whole_narrows table progs k j prog there left = (refl, le_means j k left)
+whole_narrows table progs k j prog there left = (refl, leb-true j k left)
 
 whole_within : (table : SeatTable) (progs : List ProgId) (k : ℕ) → Narrower table Whole (Within k) progs k
-whole_within table progs k j prog there left = (refl, le_means j k (both_means (nat_le j k) _ left).0)
+whole_within table progs k j prog there left = (refl, leb-true j k (and_parts (nat_le j k) _ left).0)
 
 upto_narrows : (table : SeatTable) (progs : List ProgId) (seat : Seat) (last k : ℕ) → IsSeatAt table (UpTo last) progs seat k → Narrower table (UpTo last) (UpTo k) progs k
 upto_narrows table progs seat last k seated j prog there left =
-    let before = le_means k last seated.left in
-    let here = le_means j k left in
-    (le_true j last (omega (arith, before, here)), here)
+    let before = leb-true k last seated.left in
+    let here = leb-true j k left in
+    (le-leb j last (omega (arith, before, here)), here)
 
 upto_within : (table : SeatTable) (progs : List ProgId) (seat : Seat) (last k : ℕ) → IsSeatAt table (UpTo last) progs seat k → Narrower table (UpTo last) (Within k) progs k
 upto_within table progs seat last k seated j prog there left =
-    let before = le_means k last seated.left in
-    let here = le_means j k (both_means (nat_le j k) _ left).0 in
-    (le_true j last (omega (arith, before, here)), here)
+    let before = leb-true k last seated.left in
+    let here = leb-true j k (and_parts (nat_le j k) _ left).0 in
+    (le-leb j last (omega (arith, before, here)), here)
 
 -- two that stand together with a third stand together
 together : (a b c : Option (List ℕ × Home)) → are_together a b ≡ true → are_together b c ≡ true → are_together a c ≡ true
@@ -257,12 +237,12 @@ beside table (Some other) held prog first second = together (slice_get table.pro
 
 within_narrows : (table : SeatTable) (progs : List ProgId) (seat : Seat) (last k : ℕ) → IsSeatAt table (Within last) progs seat k → Narrower table (Within last) (Within k) progs k
 within_narrows table progs seat last k seated j prog there left =
-    let held = both_means (nat_le k last) (is_beside table (slice_get progs last) seat.prog) seated.left in
-    let mine = both_means (nat_le j k) (is_beside table (slice_get progs k) prog) left in
-    let before = le_means k last held.0 in
-    let here = le_means j k mine.0 in
+    let held = and_parts (nat_le k last) (is_beside table (slice_get progs last) seat.prog) seated.left in
+    let mine = and_parts (nat_le j k) (is_beside table (slice_get progs k) prog) left in
+    let before = leb-true k last held.0 in
+    let here = leb-true j k mine.0 in
     let at_seat : is_beside table (Some seat.prog) prog ≡ true = subst (λ o. is_beside table o prog ≡ true) seated.there mine.1 in
-    (both_true (nat_le j last) (is_beside table (slice_get progs last) prog) (le_true j last (omega (arith, before, here))) (beside table (slice_get progs last) seat.prog prog held.1 at_seat), here)
+    (and_from (nat_le j last) (is_beside table (slice_get progs last) prog) (le-leb j last (omega (arith, before, here))) (beside table (slice_get progs last) seat.prog prog held.1 at_seat), here)
 
 -- how the last seek fits the standing that the last cut left, for one who has a seat
 abbrev pub FitsLast : Standing → Seek → Type 0

@@ -1,11 +1,12 @@
 -- A request that was accepted gives its receipt again, and changes nothing.
 use Rattle.std.proofs.Common.{◌≡◌, ◌<◌, ◌+◌, inl, inr, ℕ, Bool, true, false, List, [], ◌∷◌, ◌++◌, Option, Some, None, length, arith, refl, sym, ap, ◌∙◌, subst, nat_lt, ◌==◌, append_assoc, add-one, if◌then◌else◌}
 use Rattle.std.specs.Prelude.{slice_get, option_map, ◌&&◌}
+use Rattle.std.proofs.lemmas.Bool.{and_from, eq-eqb, lt-ltb, or_left, or_right}
 use Rattle.std.specs.List.{list_any}
 use Rattle.std.specs.Option.{unwrap_or}
 use Rattle.std.proofs.lemmas.Bool.Decides.{nat_tests}
 use Rattle.std.proofs.lemmas.List.Folds.{list_any-append}
-use Rattle.allocations.proofs.Places.{eq_true, lt_true, or_left, or_right}
+use Rattle.office_base.proofs.Lists.{get-after}
 use Rattle.office_base.specs.declared.asks.Ask.{Ask}
 use Rattle.office_base.specs.declared.asks.Ask.TheVariants.{Answer, Cut, Seat, Why, List as AskList, State as AskState, Raise}
 use Rattle.office_base.specs.declared.asks.By.{By}
@@ -50,7 +51,7 @@ rows_append id (row ∷ rows) more =
     ap (λ (z : List AnswerRow). if row.cand.0 == id then row ∷ z else z) (rows_append id rows more) ∙ rows_when (row.cand.0 == id) row (rows_of id rows) (rows_of id more)
 
 pub rows_own : (id : ℕ) (row : AnswerRow) (rows : List AnswerRow) → row.cand.0 ≡ id → rows_of id (row ∷ rows) ≡ row ∷ rows_of id rows
-rows_own id row rows e = rows_if (row.cand.0 == id) row (rows_of id rows) (eq_true _ _ e)
+rows_own id row rows e = rows_if (row.cand.0 == id) row (rows_of id rows) (eq-eqb _ _ e)
   where
     rows_if : (b : Bool) (row : AnswerRow) (rows : List AnswerRow) → b ≡ true → (if b then row ∷ rows else rows) ≡ row ∷ rows
     rows_if true row rows e = refl
@@ -68,14 +69,9 @@ found_later : (b : Bool) (choice : Choice) (rest rest' : Option Choice) (found :
 found_later true choice rest rest' found e f = absurd (cc)
 found_later false choice rest rest' found e f = f
 
-both_here : (a b : Bool) → a ≡ true → b ≡ true → a && b ≡ true
-both_here true true e f = refl
-both_here true false e f = absurd (cc)
-both_here false b e f = absurd (cc)
-
 accepted_then : (window turn : ℕ) (rows more : List AnswerRow) (row : AnswerRow) → accepted window turn rows ≡ None → row.window ≡ window → row.turn ≡ turn
     → accepted window turn (rows ++ row ∷ more) ≡ Some row.choice
-accepted_then window turn [] more row none e f = found_here _ row.choice _ (both_here _ _ (eq_true _ _ e) (eq_true _ _ f))
+accepted_then window turn [] more row none e f = found_here _ row.choice _ (and_from _ _ (eq-eqb _ _ e) (eq-eqb _ _ f))
 accepted_then window turn (first ∷ rows) more row none e f =
     found_later (first.window == window && first.turn == turn) first.choice (accepted window turn rows) _ row.choice none
     (accepted_then window turn rows more row (found_when _ first.choice _ None none) e f)
@@ -103,13 +99,10 @@ answer_repeats facts more old new later after by row act reply again accept firs
 
 -- ---- a raise
 
-step_same : (a b : ℕ) → a ≡ b → a == b ≡ true
-step_same a b e = eq_true a b e
-
 raise_self : (row : RaiseRow) → same_raise row row ≡ true
 raise_self row =
-    both_here _ _ (both_here _ _ (both_here _ _ (eq_true row.window row.window refl) (eq_true row.prog.0 row.prog.0 refl)) (eq_true (step_number row.step) (step_number row.step) refl))
-    (eq_true row.seats row.seats refl)
+    and_from _ _ (and_from _ _ (and_from _ _ (eq-eqb row.window row.window refl) (eq-eqb row.prog.0 row.prog.0 refl)) (eq-eqb (step_number row.step) (step_number row.step) refl))
+    (eq-eqb row.seats row.seats refl)
 
 raised_now : (raises more : List RaiseRow) (row : RaiseRow) → list_any (same_raise row) ((raises ++ row ∷ []) ++ more) ≡ true
 raised_now raises more row =
@@ -139,10 +132,6 @@ raise_repeats facts more old new later after by window code step seats act reply
 
 -- ---- a cut
 
-at_end : {X : Type 0} (xs more : List X) (x : X) → slice_get ((xs ++ x ∷ []) ++ more) (length xs) ≡ Some x
-at_end [] more x = refl
-at_end (y ∷ xs) more x = at_end xs more x
-
 receipt_if : (b : Bool) (x y : Reply) → b ≡ true → (if b then x else y) ≡ x
 receipt_if true x y e = refl
 receipt_if false x y e = absurd (cc)
@@ -159,13 +148,13 @@ round_there : (old later : State) (window : ℕ) (round : Round) (more : List Ro
 round_there old later window round more e order rounds =
     let same : length old.rounds ≡ window = order ∙ sym e in
     let there : slice_get later.rounds window ≡ Some round =
-    ap (λ z. slice_get z window) rounds ∙ subst (λ n. slice_get ((old.rounds ++ round ∷ []) ++ more) n ≡ Some round) same (at_end old.rounds more round) in
+    ap (λ z. slice_get z window) (rounds ∙ append_assoc old.rounds (round ∷ []) more) ∙ subst (λ n. slice_get (old.rounds ++ round ∷ more) n ≡ Some round) same (get-after old.rounds round more) in
     subst (λ n. round_at later.rounds n ≡ Some round) (sym (add-one window)) there
 
 publish_receipt : (facts : SeasonFacts) (old later : State) (window : ℕ) (round : Round) (more : List Round) → window ≡ old.now → old.now < facts.rounds → length old.rounds ≡ old.now
     → later.rounds ≡ (old.rounds ++ round ∷ []) ++ more → receipt facts later window ≡ Published (old.now + 1) (seated round.seats)
 publish_receipt facts old later window round more e less order rounds =
-    receipt_if (nat_lt window facts.rounds) _ _ (lt_true window facts.rounds (omega (arith, e, less)))
+    receipt_if (nat_lt window facts.rounds) _ _ (lt-ltb window facts.rounds (omega (arith, e, less)))
     ∙ (ap (λ n. Published (window + 1) n) (ap seated_in (round_there old later window round more e order rounds)) ∙ ap (λ n. Published (n + 1) (seated round.seats)) e)
 
 finish_receipt : (facts : SeasonFacts) (later : State) (window : ℕ) (rows : List AllotRow) → window ≡ facts.rounds → later.finals ≡ Some rows → receipt facts later window ≡ Final (length rows)

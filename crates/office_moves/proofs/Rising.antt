@@ -1,7 +1,7 @@
 -- A matrix with raises is sound, has the same programmes and protections, and no fewer seats.
-use Rattle.std.proofs.Common.{◌≡◌, ◌<◌, ◌≤◌, ◌+◌, ◌⊎◌, inl, inr, ℕ, Bool, true, false, List, [], ◌∷◌, ◌++◌, length, arith, refl, sym, ap, ◌∙◌, subst, ◌==◌, length-set}
+use Rattle.std.proofs.Common.{◌≡◌, ◌<◌, ◌≤◌, ◌+◌, ◌⊎◌, inl, inr, ℕ, false, List, [], ◌∷◌, ◌++◌, length, arith, refl, sym, ap, ◌∙◌, subst, ◌==◌, length-set}
+use Rattle.std.proofs.lemmas.Bool.{cases_Bool, eq-eqb, eqb-true}
 use Rattle.office_base.specs.Limits.{most_step_seats}
-use Rattle.allocations.proofs.Places.{eq_means, eq_true}
 use Rattle.office_base.specs.declared.step.StepKind.{StepKind}
 use Rattle.keeper_mem.specs.declared.rows.RaiseRow.{RaiseRow}
 use Rattle.seat_matrix.specs.Fields.{step_number}
@@ -14,17 +14,13 @@ use Rattle.office_moves.specs.Raised.{raised, raised_to}
 
 -- ---- steps are told apart by their numbers
 
-two_ways : (b : Bool) → (b ≡ true) ⊎ (b ≡ false)
-two_ways true = inl refl
-two_ways false = inr refl
-
 same_place : (p prog : ℕ) (kind step : StepKind) → ((p ≡ prog) × (kind ≡ step)) ⊎ (p ≡ prog → kind ≡ step → ⊥)
-same_place p prog kind step = elim (two_ways (p == prog)) [
-  | inl e ↦ elim (two_ways (step_number kind == step_number step)) [
-    | inl f ↦ inl (eq_means p prog e, one_number kind step (eq_means _ _ f))
-    | inr f ↦ inr (λ g h. let same = eq_true (step_number kind) (step_number step) (ap step_number h) in cc)
+same_place p prog kind step = elim (cases_Bool (p == prog)) [
+  | inl e ↦ elim (cases_Bool (step_number kind == step_number step)) [
+    | inl f ↦ inl (eqb-true p prog e, one_number kind step (eqb-true _ _ f))
+    | inr f ↦ inr (λ g h. let same = eq-eqb (step_number kind) (step_number step) (ap step_number h) in cc)
   ]
-  | inr e ↦ inr (λ g h. let same = eq_true p prog g in cc)
+  | inr e ↦ inr (λ g h. let same = eq-eqb p prog g in cc)
 ]
 
 -- ---- one raise

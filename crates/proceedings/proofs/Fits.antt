@@ -1,9 +1,9 @@
 -- What a decision knows of the state.
 use Rattle.std.proofs.Common.{◌≡◌, ◌<◌, ◌≤◌, ◌+◌, ◌-◌, ℕ, zero, suc, Bool, true, false, List, [], Option, Some, None, length, map, arith, refl, sym, ◌==◌, nat_lt, nat_le, if◌then◌else◌}
 use Rattle.std.specs.Prelude.{◌||◌, ◌&&◌, not, option_map, position, bytes_eq}
+use Rattle.std.proofs.lemmas.Bool.{lt-ltb}
 use Rattle.std.proofs.lemmas.List.Quantifiers.{position-Some}
 use Rattle.std.proofs.lemmas.List.{length-map}
-use Rattle.allocations.proofs.Places.{lt_true}
 use Rattle.office_base.specs.declared.asks.Ask.{Ask}
 use Rattle.office_base.specs.declared.asks.Ask.TheVariants.{Answer, Cut, Seat, Why, List as AskList, State as AskState, Raise}
 use Rattle.office_base.specs.declared.asks.By.{By}
@@ -128,7 +128,7 @@ not_zero zero e = absurd (cc)
 not_zero (suc n) e = omega arith
 
 not_below : (m n : ℕ) → nat_lt m n ≡ false → n ≤ m
-not_below m n e = grind (arith, lt_true)
+not_below m n e = grind (arith, lt-ltb)
 
 or_false : (a b : Bool) → (a || b) ≡ false → (a ≡ false) × (b ≡ false)
 or_false true b e = absurd (cc)

@@ -1,13 +1,11 @@
 -- What stands at the position of a person.
 use Rattle.std.proofs.Common.{◌≡◌, ◌<◌, ◌+◌, ◌⊎◌, inl, inr, ℕ, zero, suc, Bool, true, false, List, [], ◌∷◌, Option, Some, None, length, map, arith, refl, sym, ap, ◌∙◌, ◌==◌, if◌then◌else◌}
 use Rattle.std.specs.Prelude.{slice_get, option_map}
-use Rattle.std.proofs.lemmas.Bool.{cases_Bool}
-use Rattle.std.proofs.lemmas.Option.{slice_get-map, slice_get_within}
-use Rattle.office_base.specs.Lists.{Pairwise}
+use Rattle.std.proofs.lemmas.Bool.{cases_Bool, eq-eqb, eqb-true}
+use Rattle.std.proofs.lemmas.Option.{slice_get-map}
 use Rattle.office_base.specs.Person.{at_person}
 use Rattle.office_base.specs.declared.person.Person.{Person}
 use Rattle.rank_lists.specs.Register.{row_of}
-use Rattle.allocations.proofs.Places.{eq_means, eq_true}
 
 -- the person of this id stands at this position
 pub record Stands (id : ℕ) (people : List Person) (at : ℕ) : Type 0 where
@@ -24,7 +22,7 @@ row_cases false (Some n) at e = inr (n, refl, refl, let same : n + 1 ≡ at = cc
 pub stands : (id : ℕ) (people : List Person) (at : ℕ) → row_of id people ≡ Some at → Stands id people at
 stands id [] at e = absurd (cc)
 stands id (p ∷ people) at e = elim (row_cases (id == p.id.0) (row_of id people) at e) [
-  | inl h ↦ record { person = p; there = rw h.1 refl; mine = sym (eq_means id p.id.0 h.0) }
+  | inl h ↦ record { person = p; there = rw h.1 refl; mine = sym (eqb-true id p.id.0 h.0) }
   | inr h ↦ let rest = stands id people h.0 h.2 in record { person = rest.person; there = rw h.3 rest.there; mine = rest.mine }
 ]
 
@@ -38,7 +36,7 @@ place_later false x rest xs at n e same later = rw same later
 
 other_way : (m n : ℕ) → (m == n) ≡ false → (n == m) ≡ false
 other_way m n e = elim (cases_Bool (n == m)) [
-  | inl same ↦ absurd (let own : m == n ≡ true = eq_true m n (sym (eq_means n m same)) in cc)
+  | inl same ↦ absurd (let own : m == n ≡ true = eq-eqb m n (sym (eqb-true n m same)) in cc)
   | inr other ↦ other
 ]
 
@@ -47,7 +45,7 @@ pub at_position : {X : Type 0} (id : ℕ) (people : List Person) (xs : List X) (
 at_position id [] xs at e full = absurd (cc)
 at_position id (p ∷ people) [] at e full = absurd (omega (arith, full))
 at_position id (p ∷ people) (x ∷ xs) at e full = elim (row_cases (id == p.id.0) (row_of id people) at e) [
-  | inl h ↦ place_when (p.id.0 == id) x (at_person id people xs) xs at (eq_true p.id.0 id (sym (eq_means id p.id.0 h.0))) h.1
+  | inl h ↦ place_when (p.id.0 == id) x (at_person id people xs) xs at (eq-eqb p.id.0 id (sym (eqb-true id p.id.0 h.0))) h.1
   | inr h ↦ place_later (p.id.0 == id) x (at_person id people xs) xs at h.0 (other_way id p.id.0 h.1) h.3 (at_position id people xs h.0 h.2 (omega (arith, full)))
 ]
 

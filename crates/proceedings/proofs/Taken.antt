@@ -1,10 +1,9 @@
 -- The turns of a candidate in a window, as rows and as choices.
 use Rattle.std.proofs.Common.{◌≡◌, ◌≢◌, ◌≤◌, ◌+◌, ◌-◌, inl, inr, ℕ, zero, suc, Bool, true, false, List, [], ◌∷◌, Option, Some, None, length, map, arith, refl, sym, ap, ◌∙◌, ◌==◌, nat_lt, if◌then◌else◌, subst}
 use Rattle.std.specs.Prelude.{slice_get, ◌&&◌}
-use Rattle.std.proofs.lemmas.Bool.{cases_Bool}
+use Rattle.std.proofs.lemmas.Bool.{cases_Bool, eq-eqb, eqb-true, lt-ltb, ltb-true}
 use Rattle.std.proofs.lemmas.List.{length-map}
 use Rattle.std.proofs.lemmas.Option.{slice_get-get_or}
-use Rattle.allocations.proofs.Places.{eq_means, eq_true, lt_means, lt_true}
 use Rattle.office_base.specs.declared.asks.Choice.{Choice}
 use Rattle.keeper_mem.specs.declared.rows.AnswerRow.{AnswerRow}
 use Rattle.round_options.specs.Options.{standing_of}
@@ -19,7 +18,7 @@ abbrev pub choices : List AnswerRow → List Choice
 choices rows = map (λ row. row.choice) rows
 
 eq_other : (m n : ℕ) → m ≢ n → (m == n) ≡ false
-eq_other m n e = elim (cases_Bool (m == n)) [ inl same ↦ absurd (e (eq_means m n same)) | inr other ↦ other ]
+eq_other m n e = elim (cases_Bool (m == n)) [ inl same ↦ absurd (e (eqb-true m n same)) | inr other ↦ other ]
 
 -- ---- what was accepted at a turn
 
@@ -36,7 +35,7 @@ none_before window turn k (row ∷ rows) turns below =
 here_when : (b : Bool) (n k turn : ℕ) (row : AnswerRow) (inside : List AnswerRow) (rest : Option Choice) → AreTurnsAfter k (if b then row ∷ inside else inside) → turn ≡ k + n + 1
     → ((m j : ℕ) → AreTurnsAfter j inside → turn ≡ j + m + 1 → rest ≡ slice_get (choices inside) m)
     → (if b && row.turn == turn then Some row.choice else rest) ≡ slice_get (choices (if b then row ∷ inside else inside)) n
-here_when true zero k turn row inside rest turns e later = rw (eq_true row.turn turn (omega (arith, turns.0))) refl
+here_when true zero k turn row inside rest turns e later = rw (eq-eqb row.turn turn (omega (arith, turns.0))) refl
 here_when true (suc n) k turn row inside rest turns e later = rw (eq_other row.turn turn (λ same. absurd (omega (arith, turns.0)))) (later n (k + 1) turns.1 (omega arith))
 here_when false n k turn row inside rest turns e later = later n k turns e
 
@@ -56,13 +55,13 @@ greater_up : (m n : ℕ) → m ≤ n → greater m n ≡ n
 greater_up m n e = elim (cases_Bool (nat_lt m n)) [ inl less ↦ rw less refl | inr not_less ↦ rw not_less (omega (arith, not_below m n not_less)) ]
   where
     not_below : (m n : ℕ) → nat_lt m n ≡ false → n ≤ m
-    not_below m n e = grind (arith, lt_true)
+    not_below m n e = grind (arith, lt-ltb)
 
 last_after : (k : ℕ) (rows : List AnswerRow) → AreTurnsAfter k rows → greater k (last_turn rows) ≡ k + length rows
 last_after k [] turns = none k
   where
     none : (k : ℕ) → greater k 0 ≡ k + 0
-    none k = elim (cases_Bool (nat_lt k 0)) [ inl less ↦ absurd (omega (arith, lt_means k 0 less)) | inr other ↦ rw other (omega arith) ]
+    none k = elim (cases_Bool (nat_lt k 0)) [ inl less ↦ absurd (omega (arith, ltb-true k 0 less)) | inr other ↦ rw other (omega arith) ]
 last_after k (row ∷ rows) turns =
     let rest : greater row.turn (last_turn rows) ≡ k + 1 + length rows = ap (λ n. greater n (last_turn rows)) turns.0 ∙ last_after (k + 1) rows turns.1 in
     rw rest (greater_up k (k + 1 + length rows) (omega arith) ∙ omega arith)

@@ -1,10 +1,10 @@
 -- An act that is newly accepted is decided in the same way where its candidate or the clerk asks it by its row.
 use Rattle.std.proofs.Common.{◌≡◌, ◌<◌, inl, inr, ℕ, zero, suc, true, List, [], ◌∷◌, Option, Some, None, length, refl, sym, ap, ◌∙◌, get_or}
 use Rattle.std.specs.Prelude.{map, option_map, position, slice_get, bytes_eq}
+use Rattle.std.proofs.lemmas.Bool.{eqb-true}
 use Rattle.std.specs.Option.{unwrap_or}
 use Rattle.std.proofs.lemmas.List.Quantifiers.{position-Some}
 use Rattle.std.proofs.lemmas.Slice.Eq.{bytes_eq-Decides}
-use Rattle.allocations.proofs.Places.{eq_means}
 use Rattle.office_base.specs.declared.asks.Ask.{Ask}
 use Rattle.office_base.specs.declared.asks.Ask.TheVariants.{Answer as AskAnswer, Cut as AskCut, Seat, Why, List as AskList, State as AskState, Raise as AskRaise}
 use Rattle.office_base.specs.declared.asks.By.{By}
@@ -28,7 +28,7 @@ use Rattle.office_moves.proofs.Chains.{answer_new, cut_new, list_old, raise_new,
 
 own_by : (by : By) (cand : CandId) → is_candidate by cand ≡ true → by ≡ Candidate cand
 own_by Clerk cand e = absurd (cc)
-own_by (Candidate id) cand e = let named : ℕ → By = λ n. Candidate (record { 0 = n }) in ap named (eq_means id.0 cand.0 e)
+own_by (Candidate id) cand e = let named : ℕ → By = λ n. Candidate (record { 0 = n }) in ap named (eqb-true id.0 cand.0 e)
 own_by Nobody cand e = absurd (cc)
 
 clerk_by : (by : By) → is_clerk by ≡ true → by ≡ Clerk

@@ -1,7 +1,7 @@
 -- Tables that stand for a state stand for the next one when a cut is kept.
 use Rattle.std.proofs.Common.{◌≡◌, ◌<◌, ◌+◌, inl, inr, ℕ, zero, suc, Bool, true, false, List, [], ◌∷◌, ◌++◌, Option, Some, None, length, arith, refl, sym, ap, ◌∙◌, subst, ◌==◌, if◌then◌else◌, add-one}
 use Rattle.std.specs.Prelude.{slice_get}
-use Rattle.allocations.proofs.Places.{eq_means, eq_true}
+use Rattle.std.proofs.lemmas.Bool.{eq-eqb, eqb-true}
 use Rattle.office_base.specs.declared.asks.Seat.{Seat}
 use Rattle.keeper_mem.specs.Tables.{Tables, Untold, NoSeason, Records, with_cut}
 use Rattle.keeper_mem.specs.declared.rows.AllotRow.{AllotRow}
@@ -13,10 +13,10 @@ use Rattle.office_moves.specs.State.{State, round_at, seat_in, seat_of, with_fin
 use Rattle.round_cut.proofs.Standing.{first_append, or_else, or_none, other_rows, rows_seat, two_ways}
 
 apart_false : (m n : ℕ) → (m ≡ n → ⊥) → m == n ≡ false
-apart_false m n apart = elim (two_ways (m == n)) [ inl e ↦ absurd (apart (eq_means m n e)) | inr e ↦ e ]
+apart_false m n apart = elim (two_ways (m == n)) [ inl e ↦ absurd (apart (eqb-true m n e)) | inr e ↦ e ]
 
 false_apart : (m n : ℕ) → m == n ≡ false → m ≡ n → ⊥
-false_apart m n e same = let f = eq_true m n same in absurd (cc)
+false_apart m n e same = let f = eq-eqb m n same in absurd (cc)
 
 -- ---- the round of a number, with one more
 
@@ -56,7 +56,7 @@ round_seats : (facts : SeasonFacts) (state : State) (round : Round) (number id :
     → or_else (seat_in facts state.rounds number id) (first_allot number id (allot_rows facts round)) ≡ seat_in facts (state.rounds ++ round ∷ []) number id
 round_seats facts state round number id order e = elim (two_ways (round.number == number)) [
   | inl same ↦
-      let here = eq_means round.number number same in
+      let here = eqb-true round.number number same in
       let at : number ≡ length state.rounds + 1 = omega (arith, here, e, order) in
       let before : seat_in facts state.rounds number id ≡ None = ap (λ r. seat_of facts r id) (no_round state.rounds number at) in
       let after : seat_in facts (state.rounds ++ round ∷ []) number id ≡ seat_of facts (Some round) id = ap (λ r. seat_of facts r id) (last_round state.rounds round number at) in
@@ -76,7 +76,7 @@ published_next facts state round number id order less e =
     with_rows (number == facts.rounds + 1) (seat_in_finals state.finals number id) (seat_in facts state.rounds number id) (seat_in facts (state.rounds ++ round ∷ []) number id)
     (first_allot number id (allot_rows facts round))
     (λ last. other_rows round.number number id (seat_of facts (Some round)) facts.people
-    (apart_false round.number number (λ same. let f = eq_means number (facts.rounds + 1) last in absurd (omega (arith, f, same, e, less)))))
+    (apart_false round.number number (λ same. let f = eqb-true number (facts.rounds + 1) last in absurd (omega (arith, f, same, e, less)))))
     (λ not_last. round_seats facts state round number id order e)
 
 pub stand_round : (facts : SeasonFacts) (state : State) (round : Round) (tables : Tables) → length state.rounds ≡ state.now → state.now < facts.rounds → round.number ≡ state.now + 1

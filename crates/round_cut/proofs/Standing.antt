@@ -1,8 +1,8 @@
 -- Tables that stand for a state go on standing for it with what is accepted.
 use Rattle.std.proofs.Common.{◌≡◌, ◌+◌, ◌⊎◌, inl, inr, ℕ, zero, suc, Bool, true, false, List, [], ◌∷◌, ◌++◌, Option, Some, None, refl, sym, ap, ◌∙◌, subst, ◌==◌, if◌then◌else◌}
 use Rattle.std.specs.Prelude.{◌&&◌}
+use Rattle.std.proofs.lemmas.Bool.{eq-eqb, eqb-true}
 use Rattle.std.specs.Option.{option_and_then}
-use Rattle.allocations.proofs.Places.{eq_means, eq_true}
 use Rattle.office_base.specs.Person.{at_person}
 use Rattle.office_base.specs.declared.asks.Seat.{Seat}
 use Rattle.office_base.specs.declared.person.CandId.{CandId}
@@ -156,7 +156,7 @@ own_row : (number id : ℕ) (cand : CandId) (seat : Option Seat) (rows : List Al
     → (first_allot number id rows ≡ own) ⊎ (first_allot number id rows ≡ None) → first_allot number id (row_before number cand seat rows) ≡ own
 own_row number id cand None rows own same e (inl rest) = rest
 own_row number id cand None rows own same e (inr rest) = rest ∙ e
-own_row number id cand (Some seat) rows own same e rest = step (number == number) (cand.0 == id) (eq_true number number refl) same ∙ e
+own_row number id cand (Some seat) rows own same e rest = step (number == number) (cand.0 == id) (eq-eqb number number refl) same ∙ e
   where
     step : (a b : Bool) → a ≡ true → b ≡ true → (if a && b then Some (record { prog = seat.prog; step = seat.step }) else first_allot number id rows) ≡ Some seat
     step true true first second = refl
@@ -187,7 +187,7 @@ rows_tell number id seat [] = inr (refl, refl)
 rows_tell number id seat (person ∷ people) = elim (two_ways (person.id.0 == id)) [
   | inl same ↦ inl (
     among_if (person.id.0 == id) (is_among id people) same,
-    own_row number id person.id (seat person.id.0) (rows_along number seat people) (seat id) same (ap seat (eq_means person.id.0 id same)) (rest (rows_tell number id seat people)),
+    own_row number id person.id (seat person.id.0) (rows_along number seat people) (seat id) same (ap seat (eqb-true person.id.0 id same)) (rest (rows_tell number id seat people)),
   )
   | inr apart ↦ onward apart (rows_tell number id seat people)
 ]

@@ -1,7 +1,7 @@
 -- How many are still in: no more than there are people, and somebody where an answer is newly accepted.
 use Rattle.std.proofs.Common.{◌≡◌, ◌≤◌, ◌+◌, inl, inr, ℕ, Bool, true, false, List, [], ◌∷◌, Option, Some, length, arith, refl, ap, subst, ◌==◌, if◌then◌else◌}
 use Rattle.std.specs.Prelude.{is_some}
-use Rattle.allocations.proofs.Places.{eq_means}
+use Rattle.std.proofs.lemmas.Bool.{eqb-true}
 use Rattle.office_base.specs.declared.asks.By.TheVariants.{Candidate}
 use Rattle.office_base.specs.declared.asks.Request.{Request}
 use Rattle.office_base.specs.declared.person.Person.{Person}
@@ -53,7 +53,7 @@ in_among : (facts : SeasonFacts) (state : State) (id : ℕ) (people : List Perso
 in_among facts state id [] stays found = absurd (cc)
 in_among facts state id (person ∷ people) stays found = elim (two_ways (id == person.id.0)) [
   | inl same ↦
-      let own : is_gone (standing_now facts state person.id.0) ≡ false = subst (λ n. is_gone (standing_now facts state n) ≡ false) (eq_means id person.id.0 same) stays in
+      let own : is_gone (standing_now facts state person.id.0) ≡ false = subst (λ n. is_gone (standing_now facts state n) ≡ false) (eqb-true id person.id.0 same) stays in
       some_in (is_gone (standing_now facts state person.id.0)) (still_among facts state people) own
   | inr apart ↦
       let rest = in_among facts state id people stays (passed (id == person.id.0) person (find_person id people) apart found) in

@@ -1,14 +1,13 @@
 -- The people of a register, whose ids rise: where each of them stands, and what goes along with them.
-use Rattle.std.proofs.Common.{◌≡◌, ◌≢◌, ◌<◌, inl, inr, ℕ, zero, suc, Bool, true, false, List, [], ◌∷◌, Some, length, arith, refl, sym, ap, ◌∙◌, ◌+◌, ◌==◌, if◌then◌else◌, add-one}
+use Rattle.std.proofs.Common.{◌≡◌, ◌≢◌, ◌<◌, inl, inr, ℕ, zero, suc, false, List, [], ◌∷◌, Some, length, arith, refl, sym, ap, ◌∙◌, ◌+◌, ◌==◌, add-one}
 use Rattle.std.specs.Prelude.{slice_get, option_map}
 use Rattle.std.specs.List.{AllByRecursion}
-use Rattle.std.proofs.lemmas.Bool.{cases_Bool}
+use Rattle.std.proofs.lemmas.Bool.{cases_Bool, cond-false, cond-true, eq-eqb, eqb-true}
+use Rattle.office_base.proofs.Lists.{all-get}
 use Rattle.office_base.specs.Lists.{Pairwise}
 use Rattle.office_base.specs.Person.{at_person}
 use Rattle.office_base.specs.declared.person.CandId.{CandId}
 use Rattle.office_base.specs.declared.person.Person.{Person}
-use Rattle.allocations.proofs.Places.{eq_true, eq_means}
-use Rattle.allocations.proofs.Those.{all_at}
 use Rattle.rank_lists.specs.Register.{find_person, row_of}
 
 -- something stands at each place below the length
@@ -19,25 +18,17 @@ there_is (x ∷ xs) (suc i) less = there_is xs i (omega (arith, less))
 
 -- a number is not below itself
 pub apart_of_less : (m n : ℕ) → m < n → (n == m) ≡ false
-apart_of_less m n less = elim (cases_Bool (n == m)) [ inl e ↦ absurd (let same = eq_means n m e in omega (arith, same, less)) | inr e ↦ e ]
-
-pub when_true : {X : Type 0} (b : Bool) (x y : X) → b ≡ true → (if b then x else y) ≡ x
-when_true true x y e = refl
-when_true false x y e = absurd (cc)
-
-pub when_false : {X : Type 0} (b : Bool) (x y : X) → b ≡ false → (if b then x else y) ≡ y
-when_false true x y e = absurd (cc)
-when_false false x y e = refl
+apart_of_less m n less = elim (cases_Bool (n == m)) [ inl e ↦ absurd (let same = eqb-true n m e in omega (arith, same, less)) | inr e ↦ e ]
 
 -- the person at a place is found by the id, where ids rise
 pub found_at : (people : List Person) (i : ℕ) (person : Person) → Pairwise (λ (a b : Person). a.id.0 < b.id.0) people → slice_get people i ≡ Some person → find_person person.id.0 people ≡ Some person
 found_at [] i person rising at = absurd (cc)
 found_at (x ∷ people) zero person rising at =
     let same : x ≡ person = cc in
-    when_true (person.id.0 == x.id.0) (Some x) (find_person person.id.0 people) (eq_true person.id.0 x.id.0 (ap (λ (z : Person). z.id.0) (sym same))) ∙ ap Some same
+    cond-true (person.id.0 == x.id.0) (Some x) (find_person person.id.0 people) (eq-eqb person.id.0 x.id.0 (ap (λ (z : Person). z.id.0) (sym same))) ∙ ap Some same
 found_at (x ∷ people) (suc i) person rising at =
-    let less = all_at (λ (b : Person). x.id.0 < b.id.0) people i person rising.0 at in
-    when_false (person.id.0 == x.id.0) (Some x) (find_person person.id.0 people) (apart_of_less x.id.0 person.id.0 less) ∙ found_at people i person rising.1 at
+    let less = all-get (λ (b : Person). x.id.0 < b.id.0) people i person rising.0 at in
+    cond-false (person.id.0 == x.id.0) (Some x) (find_person person.id.0 people) (apart_of_less x.id.0 person.id.0 less) ∙ found_at people i person rising.1 at
 
 -- persons whose numbers rise are distinct
 pub distinct_of_rising : (people : List Person) → Pairwise (λ (a b : Person). a.id.0 < b.id.0) people → Pairwise (λ (a b : Person). a.id ≢ b.id) people
@@ -54,12 +45,12 @@ one_row [] i j a b rising at at' same = absurd (cc)
 one_row (x ∷ people) zero zero a b rising at at' same = refl
 one_row (x ∷ people) zero (suc j) a b rising at at' same = absurd (
     let first : x ≡ a = cc in
-    let less = all_at (λ (b : Person). x.id.0 < b.id.0) people j b rising.0 at' in
+    let less = all-get (λ (b : Person). x.id.0 < b.id.0) people j b rising.0 at' in
     let e = ap (λ (z : Person). z.id.0) first in
     omega (arith, less, e, same))
 one_row (x ∷ people) (suc i) zero a b rising at at' same = absurd (
     let first : x ≡ b = cc in
-    let less = all_at (λ (b : Person). x.id.0 < b.id.0) people i a rising.0 at in
+    let less = all-get (λ (b : Person). x.id.0 < b.id.0) people i a rising.0 at in
     let e = ap (λ (z : Person). z.id.0) first in
     omega (arith, less, e, same))
 one_row (x ∷ people) (suc i) (suc j) a b rising at at' same = ap suc (one_row people i j a b rising.1 at at' same)
@@ -69,10 +60,10 @@ pub row_at : (people : List Person) (i : ℕ) (person : Person) → Pairwise (λ
 row_at [] i person rising at = absurd (cc)
 row_at (x ∷ people) zero person rising at =
     let same : x ≡ person = cc in
-    when_true (person.id.0 == x.id.0) (Some 0) (option_map (λ n. n + 1) (row_of person.id.0 people)) (eq_true person.id.0 x.id.0 (ap (λ (z : Person). z.id.0) (sym same)))
+    cond-true (person.id.0 == x.id.0) (Some 0) (option_map (λ n. n + 1) (row_of person.id.0 people)) (eq-eqb person.id.0 x.id.0 (ap (λ (z : Person). z.id.0) (sym same)))
 row_at (x ∷ people) (suc i) person rising at =
-    let less = all_at (λ (b : Person). x.id.0 < b.id.0) people i person rising.0 at in
-    when_false (person.id.0 == x.id.0) (Some 0) (option_map (λ n. n + 1) (row_of person.id.0 people)) (apart_of_less x.id.0 person.id.0 less)
+    let less = all-get (λ (b : Person). x.id.0 < b.id.0) people i person rising.0 at in
+    cond-false (person.id.0 == x.id.0) (Some 0) (option_map (λ n. n + 1) (row_of person.id.0 people)) (apart_of_less x.id.0 person.id.0 less)
     ∙ (ap (λ row. option_map (λ n. n + 1) row) (row_at people i person rising.1 at) ∙ ap Some (add-one i))
 
 -- ---- what goes along with the people
@@ -90,10 +81,10 @@ stands_at id [] xs x e = absurd (cc)
 stands_at id (y ∷ people) [] x e = absurd (cc)
 stands_at id (y ∷ people) (z ∷ xs) x e = elim (cases_Bool (y.id.0 == id)) [
   | inl here ↦
-      let taken = sym (when_true (y.id.0 == id) (Some z) (at_person id people xs) here) ∙ e in
+      let taken = sym (cond-true (y.id.0 == id) (Some z) (at_person id people xs) here) ∙ e in
       let value : z ≡ x = cc in
-      record { place = 0; person = y; person_at = refl; is = eq_means y.id.0 id here; at = ap Some value }
+      record { place = 0; person = y; person_at = refl; is = eqb-true y.id.0 id here; at = ap Some value }
   | inr other ↦
-      let rest = stands_at id people xs x (sym (when_false (y.id.0 == id) (Some z) (at_person id people xs) other) ∙ e) in
+      let rest = stands_at id people xs x (sym (cond-false (y.id.0 == id) (Some z) (at_person id people xs) other) ∙ e) in
       record { place = suc rest.place; person = rest.person; person_at = rest.person_at; is = rest.is; at = rest.at }
 ]

@@ -1,20 +1,20 @@
 -- Those who enter the rounds of a season: the people of its register with their choice lists, by any matrix of its programmes.
 use Rattle.std.proofs.Common.{◌≡◌, ◌<◌, ◌-◌, ℕ, zero, suc, true, false, List, [], ◌∷◌, Option, Some, None, length, map, refl, sym, ap, ◌∙◌, subst, ◌==◌}
 use Rattle.std.specs.Prelude.{slice_get, IsSome, IsTrue}
+use Rattle.std.proofs.lemmas.Bool.{cond-false, cond-true, eq-eqb}
 use Rattle.std.specs.List.{AllByRecursion}
+use Rattle.office_base.proofs.Lists.{all-get}
 use Rattle.office_base.specs.Lists.{Pairwise}
 use Rattle.office_base.specs.Person.{number_in}
 use Rattle.office_base.specs.declared.person.Person.{Person}
 use Rattle.office_base.specs.declared.person.ProgId.{ProgId}
-use Rattle.allocations.proofs.Places.{eq_true}
-use Rattle.allocations.proofs.Those.{all_at}
 use Rattle.rank_lists.specs.Register.{AreRanks, Ranks, find_person}
 use Rattle.choice_lists.specs.Choices.{AreChoices, IsChoice, Lists, is_ranked_for, is_ranked_there, list_of, listed}
 use Rattle.seat_matrix.specs.Matrix.{SeatTable, list_in}
 use Rattle.seat_matrix.specs.declared.entry.Home.{Home}
 use Rattle.rounds.specs.Rule.{AreEntrants, IsOwnList}
 use Rattle.round_laws.specs.Laws.{lists_in}
-use Rattle.round_laws.proofs.People.{apart_of_less, distinct_of_rising, found_at, one_row, when_false, when_true}
+use Rattle.round_laws.proofs.People.{apart_of_less, distinct_of_rising, found_at, one_row}
 
 -- the list at a place is that of the person there
 pub list_at_place : (lists : Lists) (people : List Person) (i : ℕ) (person : Person) (list : List ProgId) → map (λ (held : ℕ × List ProgId). held.0) lists ≡ map (λ (p : Person). p.id.0) people
@@ -25,14 +25,14 @@ list_at_place (held ∷ lists) (x ∷ people) zero person list aligned rising at
     let same : x ≡ person = cc in
     let here : held.1 ≡ list = cc in
     let id : held.0 ≡ x.id.0 = cc in
-    let test : (person.id.0 == held.0) ≡ true = eq_true person.id.0 held.0 (ap (λ (z : Person). z.id.0) (sym same) ∙ sym id) in
-    ap listed (when_true (person.id.0 == held.0) (Some held.1) _ test) ∙ here
+    let test : (person.id.0 == held.0) ≡ true = eq-eqb person.id.0 held.0 (ap (λ (z : Person). z.id.0) (sym same) ∙ sym id) in
+    ap listed (cond-true (person.id.0 == held.0) (Some held.1) _ test) ∙ here
 list_at_place (held ∷ lists) (x ∷ people) (suc i) person list aligned rising at at' =
-    let less = all_at (λ (b : Person). x.id.0 < b.id.0) people i person rising.0 at in
+    let less = all-get (λ (b : Person). x.id.0 < b.id.0) people i person rising.0 at in
     let id : held.0 ≡ x.id.0 = cc in
     let rest : map (λ (held : ℕ × List ProgId). held.0) lists ≡ map (λ (p : Person). p.id.0) people = cc in
     let test : (person.id.0 == held.0) ≡ false = ap (λ n. person.id.0 == n) id ∙ apart_of_less x.id.0 person.id.0 less in
-    ap listed (when_false (person.id.0 == held.0) (Some held.1) _ test) ∙ list_at_place lists people i person list rest rising.1 at at'
+    ap listed (cond-false (person.id.0 == held.0) (Some held.1) _ test) ∙ list_at_place lists people i person list rest rising.1 at at'
 
 -- a choice of the season is an own list
 placed_for : (table : SeatTable) (person : Person) (n : ℕ) (home : Option (List ℕ × Home)) → slice_get table.programmes n ≡ home → IsTrue (is_ranked_for person home) → IsSome (number_in (list_in table n) person)

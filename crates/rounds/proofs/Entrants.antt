@@ -1,25 +1,23 @@
 -- Those who enter a round are a market, in which all who want a programme may stand before it together.
-use Rattle.std.proofs.Common.{◌≡◌, ◌≢◌, ◌<◌, ◌≤◌, ◌+◌, ◌⊎◌, inl, inr, ℕ, zero, suc, Bool, true, false, List, [], ◌∷◌, Option, Some, None, length, arith, refl, sym, ap, ◌∙◌, subst, ◌==◌, if◌then◌else◌, add-one}
+use Rattle.std.proofs.Common.{◌≡◌, ◌≢◌, ◌<◌, ◌+◌, inl, inr, ℕ, zero, suc, Bool, true, false, List, [], ◌∷◌, Option, Some, None, length, arith, refl, sym, ap, ◌∙◌, subst, ◌==◌, if◌then◌else◌}
 use Rattle.std.specs.Prelude.{slice_get, IsSome}
 use Rattle.std.specs.List.{AllByRecursion}
-use Rattle.std.proofs.lemmas.Bool.{cases_Bool}
+use Rattle.std.proofs.lemmas.Bool.{cases_Bool, eq-eqb, eqb-true, ltb-true}
+use Rattle.office_base.proofs.Lists.{all-get}
 use Rattle.office_base.specs.Lists.{IsSublist, Pairwise}
 use Rattle.office_base.specs.Merit.{CanBeRanked}
 use Rattle.office_base.specs.Person.{IsList, IsTraitSet, number_in}
-use Rattle.office_base.specs.declared.person.CandId.{CandId}
-use Rattle.office_base.specs.declared.person.ListId.{ListId}
 use Rattle.office_base.specs.declared.person.Person.{Person}
 use Rattle.office_base.specs.declared.person.ProgId.{ProgId}
-use Rattle.placements.proofs.Sublists.{AllByRecursion-sublist, IsSublist-nil}
+use Rattle.placements.proofs.Sublists.{AllByRecursion-sublist}
 use Rattle.placements.proofs.Ranks.{pairwise_sublist}
 use Rattle.allocations.specs.Fair.{IsMarket}
 use Rattle.allocations.specs.Market.{Seeker, place_of, wants, those, wanting}
-use Rattle.allocations.proofs.Places.{eq_true, eq_means, lt_means, place_read}
-use Rattle.allocations.proofs.Those.{all_at}
-use Rattle.seat_matrix.specs.Matrix.{AreSeats, SeatTable, list_in, seats_in}
+use Rattle.allocations.proofs.Places.{place_read}
+use Rattle.seat_matrix.specs.Matrix.{AreSeats, SeatTable, list_in}
 use Rattle.seeks.specs.Seek.{is_left, left_from, seek_leaves}
 use Rattle.seeks.specs.declared.seek.Seek.{Seek}
-use Rattle.rounds.specs.Rule.{AreEntrants, AreSeeks, IsOwnList, MayApplyIn, seekers_of}
+use Rattle.rounds.specs.Rule.{AreEntrants, IsOwnList, MayApplyIn, seekers_of}
 
 -- ---- what a seek leaves
 
@@ -55,10 +53,10 @@ place_first false n e = absurd (cc)
 -- a programme of a list of distinct ones is at its place
 pub place_at : (list : List ProgId) (k : ℕ) (q : ProgId) → Pairwise (λ (a b : ProgId). a.0 ≢ b.0) list → slice_get list k ≡ Some q → place_of list q.0 ≡ k
 place_at [] k q distinct at = absurd (cc)
-place_at (x ∷ list) zero q distinct at = place_first (x.0 == q.0) (place_of list q.0) (let same : x ≡ q = cc in eq_true x.0 q.0 (ap (λ (z : ProgId). z.0) same))
+place_at (x ∷ list) zero q distinct at = place_first (x.0 == q.0) (place_of list q.0) (let same : x ≡ q = cc in eq-eqb x.0 q.0 (ap (λ (z : ProgId). z.0) same))
 place_at (x ∷ list) (suc k) q distinct at =
-    let apart = all_at (λ (b : ProgId). x.0 ≢ b.0) list k q distinct.0 at in
-    let other : (x.0 == q.0) ≡ false = elim (cases_Bool (x.0 == q.0)) [ inl e ↦ absurd (apart (eq_means x.0 q.0 e)) | inr e ↦ e ] in
+    let apart = all-get (λ (b : ProgId). x.0 ≢ b.0) list k q distinct.0 at in
+    let other : (x.0 == q.0) ≡ false = elim (cases_Bool (x.0 == q.0)) [ inl e ↦ absurd (apart (eqb-true x.0 q.0 e)) | inr e ↦ e ] in
     place_next (x.0 == q.0) k (place_of list q.0) other (place_at list k q distinct.1 at)
 
 -- ---- seekers
@@ -149,7 +147,7 @@ placed_there table people lists seeks p i s entrants there less =
     let own = leaves_own table e.seek s.person e.list (entrants.own i s.person e.list e.person_at e.list_at) in
     let less' : place_of (seek_leaves table e.seek e.list) p < length (seek_leaves table e.seek e.list) = subst (λ l. place_of l p < length l) e.leaves less in
     let read = place_read (seek_leaves table e.seek e.list) p less' in
-    let placed = all_at (λ (prog : ProgId). IsSome (number_in (list_in table prog.0) s.person)) _ _ read.0 own.placed read.1 in
+    let placed = all-get (λ (prog : ProgId). IsSome (number_in (list_in table prog.0) s.person)) _ _ read.0 own.placed read.1 in
     subst (λ q. IsSome (number_in (list_in table q) s.person)) read.2 placed
 
 some_number : (number : Option ℕ) → IsSome number → (n : ℕ) × (number ≡ Some n)
@@ -163,14 +161,14 @@ wanting_may table people lists seeks p is_list entrants =
     let seekers = seekers_of table people lists seeks in
     record {
       traits = all_those (λ person. IsTraitSet person.traits) (λ s other. wants p s.list) seekers seekers
-          (λ i s x there at passes. let e = entered table people lists seeks i s there in all_at (λ (person : Person). IsTraitSet person.traits) people i s.person entrants.traits e.person_at);
+          (λ i s x there at passes. let e = entered table people lists seeks i s there in all-get (λ (person : Person). IsTraitSet person.traits) people i s.person entrants.traits e.person_at);
       placed = all_those (λ person. IsSome (number_in (list_in table p) person)) (λ s other. wants p s.list) seekers seekers
-          (λ i s x there at passes. placed_there table people lists seeks p i s entrants there (lt_means _ _ passes));
+          (λ i s x there at passes. placed_there table people lists seeks p i s entrants there (ltb-true _ _ passes));
       numbers = pairwise_those (λ a b. number_in (list_in table p) a ≢ number_in (list_in table p) b) (λ s other. wants p s.list) seekers seekers
           (λ i j s t x y less there there' at at' passes passes' same.
           let first = entered table people lists seeks i s there in
           let second = entered table people lists seeks j t there' in
-          let n = some_number _ (placed_there table people lists seeks p i s entrants there (lt_means _ _ passes)) in
+          let n = some_number _ (placed_there table people lists seeks p i s entrants there (ltb-true _ _ passes)) in
           let one = entrants.apart (list_in table p) i j n.0 s.person t.person is_list first.person_at second.person_at n.1 (sym same ∙ n.1) in
           omega (arith, one, less));
       distinct = pairwise_those (λ a b. a.id ≢ b.id) (λ s other. wants p s.list) seekers seekers
@@ -183,7 +181,7 @@ wanting_may table people lists seeks p is_list entrants =
     apart_at (x ∷ ss) i zero s t distinct less there there' = absurd (omega (arith, less))
     apart_at (x ∷ ss) zero (suc j) s t distinct less there there' =
         let first : x ≡ s = cc in
-        let apart = all_at (λ (b : Seeker). x.person.id ≢ b.person.id) ss j t distinct.0 there' in
+        let apart = all-get (λ (b : Seeker). x.person.id ≢ b.person.id) ss j t distinct.0 there' in
         λ e. apart (ap (λ (z : Seeker). z.person.id) first ∙ e)
     apart_at (x ∷ ss) (suc i) (suc j) s t distinct less there there' = apart_at ss i j s t distinct.1 (omega (arith, less)) there there'
 
@@ -195,7 +193,7 @@ market table people lists seeks seats entrants = record {
   below = λ i k s q there at.
       let e = entered table people lists seeks i s there in
       let own = leaves_own table e.seek s.person e.list (entrants.own i s.person e.list e.person_at e.list_at) in
-      all_at (λ (prog : ProgId). prog.0 < length table.programmes) _ k q own.below (subst (λ l. slice_get l k ≡ Some q) e.leaves at);
+      all-get (λ (prog : ProgId). prog.0 < length table.programmes) _ k q own.below (subst (λ l. slice_get l k ≡ Some q) e.leaves at);
   distinct = λ i k s q there at.
       let e = entered table people lists seeks i s there in
       let own = leaves_own table e.seek s.person e.list (entrants.own i s.person e.list e.person_at e.list_at) in

@@ -5,6 +5,7 @@ use Rattle.std.specs.Option.{option_and_then}
 use Rattle.std.proofs.lemmas.Bool.{cases_lt}
 use Rattle.std.proofs.lemmas.List.{length-map}
 use Rattle.std.proofs.lemmas.Option.{same_Some, slice_get-get_or, slice_get-map, slice_get_past}
+use Rattle.office_base.proofs.Lists.{get-after, get-before}
 use Rattle.office_base.proofs.People.{at_person-get}
 use Rattle.office_base.specs.Lists.{Pairwise}
 use Rattle.office_base.specs.Person.{at_person}
@@ -152,22 +153,13 @@ all_allotted facts round rising full =
 
 -- ---- after a cut
 
-get_before : {X : Type 0} (xs : List X) (x : X) (i : ℕ) → i < length xs → slice_get (xs ++ x ∷ []) i ≡ slice_get xs i
-get_before [] x i less = absurd (omega arith)
-get_before (y ∷ xs) x zero less = refl
-get_before (y ∷ xs) x (suc i) less = get_before xs x i (omega arith)
-
-pub get_last : {X : Type 0} (xs : List X) (x : X) → slice_get (xs ++ x ∷ []) (length xs) ≡ Some x
-get_last [] x = refl
-get_last (y ∷ xs) x = get_last xs x
-
 -- a round more leaves what the cuts before it left
 pub left_before : (facts : SeasonFacts) (now next : ℕ) (rounds : List Round) (round : Round) (rows : List AnswerRow) (id window : ℕ) → window ≤ length rounds
     → left_by facts (record { now = next; rounds = rounds ++ round ∷ []; rows = rows }) id window ≡ left_by facts (record { now = now; rounds = rounds; rows = rows }) id window
 left_before facts now next rounds round rows id zero few = refl
 left_before facts now next rounds round rows id (suc window) few =
     ap (λ (l : Standing). after_cut (answered l (in_window window rows)) (seat_of facts (slice_get (rounds ++ round ∷ []) window) id)) (left_before facts now next rounds round rows id window (omega arith))
-    ∙ ap (λ (o : Option Round). after_cut (answered (left_by facts (record { now = now; rounds = rounds; rows = rows }) id window) (in_window window rows)) (seat_of facts o id)) (get_before rounds round window (omega arith))
+    ∙ ap (λ (o : Option Round). after_cut (answered (left_by facts (record { now = now; rounds = rounds; rows = rows }) id window) (in_window window rows)) (seat_of facts o id)) (get-before rounds (round ∷ []) window (omega arith))
 
 left_now : (facts : SeasonFacts) (view : View) (id n : ℕ) → left_by facts view id (n + 1) ≡ after_cut (standing_at facts view id n) (seat_of facts (slice_get view.rounds n) id)
 left_now facts view id n = ap (λ (k : ℕ). left_by facts view id k) (add-one n)
@@ -179,7 +171,7 @@ one_left facts state round id order =
     ∙ (ap (λ (l : Standing). after_cut (answered l (in_window state.now (rows_of id state.answers))) (seat_of facts (slice_get (state.rounds ++ round ∷ []) state.now) id))
     (left_before facts state.now (state.now + 1) state.rounds round (rows_of id state.answers) id state.now (omega (arith, order)))
     ∙ ap (λ (o : Option Round). after_cut (standing_at facts (view_of state id) id state.now) (seat_of facts o id))
-    (ap (λ (n : ℕ). slice_get (state.rounds ++ round ∷ []) n) (sym order) ∙ get_last state.rounds round))
+    (ap (λ (n : ℕ). slice_get (state.rounds ++ round ∷ []) n) (sym order) ∙ get-after state.rounds round []))
 
 -- the cut that publishes a round
 pub all_left : (facts : SeasonFacts) (state : State) (left : List Standing) (table : List (List Choice)) (round : Round) → AreRising facts.people → left ≡ left_along facts state
