@@ -9,10 +9,10 @@ ghost use Rattle.allocation_cli.specs.declared.words.Command.TheVariants.{Run};
 
 use crate::commands::check::check_answer;
 use crate::commands::run::run_season;
-use crate::commands::step::step_answer;
+use step_command::step_answer;
 use crate::laws::{one_answer, one_spelling};
-use crate::status::Status;
-use crate::telling::{finish, write_answer};
+use command_answers::Status;
+use command_answers::{finish, write_answer};
 use crate::words::{Command, read_words};
 use keeper_mem::Keeper;
 use office_base::{Sink, Source, Words};

@@ -1,7 +1,7 @@
 // The commands on worked inputs and on a failing outside, over objects in memory.
 use crate::program::allocate;
-use crate::status::Status;
-use crate::streams::{StandardInput, StandardOutput};
+use command_answers::Status;
+use standard_streams::{StandardInput, StandardOutput};
 use keeper_mem::{Keeper, MemKeeper, SureKeeper};
 use office_base::{MemSink, MemSource, SureSink, SureSource, Words};
 use std::alloc::Global;
