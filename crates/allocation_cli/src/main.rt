@@ -13,10 +13,10 @@ mod tests;
 mod words;
 
 use crate::program::allocate;
-use standard_streams::{StandardInput, StandardOutput};
 use command_answers::tell_no_memory;
 use keeper_mem::SureKeeper;
 use office_base::{OutOfMemory, Words};
+use standard_streams::{StandardInput, StandardOutput};
 use std::alloc::Global;
 use std::process::ExitCode;
 use std::rt::Env;

@@ -12,10 +12,8 @@ ghost use Rattle.allocation_cli.specs.Run.{EndsOffice, EndsRun, EndsSeason, Tell
 ghost use Rattle.command_answers.specs.Writes.{IsTold};
 
 use crate::commands::bundle::read_bundle;
-use command_answers::Failure;
 use crate::laws::one_answer;
-use command_answers::Status;
-use command_answers::{tell_failure, write_answer};
+use command_answers::{Failure, Status, tell_failure, write_answer};
 use keeper_mem::Keeper;
 use office_base::{Request, Sink, Source};
 use round_cut::{BeginFault, Office};
