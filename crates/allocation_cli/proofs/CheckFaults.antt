@@ -6,11 +6,11 @@ use Rattle.season_file.specs.Season.{GaveFault, IsSeasonFault, IsSourceFault}
 use Rattle.season_file.specs.declared.fault.SeasonFault.{SeasonFault}
 use Rattle.season_file.specs.declared.fault.SeasonFault.TheVariants.{ReadFault, TooLong, OutOfMemory}
 use Rattle.season_texts.specs.Texts.{fault_line}
-use Rattle.allocation_cli.specs.Answers.{HasLeft, IsFailureOf}
+use Rattle.command_answers.specs.Answers.{HasLeft, IsFailureOf}
 use Rattle.allocation_cli.specs.Check.{IsBundleFaultLine, TellsSeasonFault, check_answers}
-use Rattle.allocation_cli.specs.declared.failure.Failure.{Failure}
-use Rattle.allocation_cli.specs.declared.failure.Failure.TheVariants.{Read, Bad, NoMemory}
-use Rattle.allocation_cli.proofs.Ended.{all_left, long_left}
+use Rattle.command_answers.specs.declared.failure.Failure.{Failure}
+use Rattle.command_answers.specs.declared.failure.Failure.TheVariants.{Read, Bad, NoMemory}
+use Rattle.command_answers.proofs.Ended.{all_left, long_left}
 
 -- the line of a fault of the bytes that a source gave
 told_left : (left after : Option (List ℕ)) (fault : SeasonFault) (line : List ℕ) → GaveFault true left after fault → ((bytes : List ℕ) → IsSeasonFault true bytes fault → HasFault true bytes fault)

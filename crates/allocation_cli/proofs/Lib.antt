@@ -4,4 +4,3 @@ mod OfficeEnds
 mod OneAnswer
 mod RunEnds
 mod Spelling
-mod StepFaults

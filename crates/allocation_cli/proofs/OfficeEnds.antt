@@ -2,15 +2,14 @@
 use Rattle.std.proofs.Common.{◌≡◌, inl, inr, ℕ, List, ◌++◌, Option, Some, None, take, refl, sym, ap, subst, ◌∙◌, append_assoc, append-nil}
 use Rattle.office_base.specs.Outside.{Appends}
 use Rattle.office_base.specs.declared.asks.Request.{Request}
-use Rattle.season_texts.specs.Texts.{memory_line}
 use Rattle.keeper_mem.specs.Tables.{Tables}
 use Rattle.office_moves.specs.Facts.{SeasonFacts}
 use Rattle.office_moves.specs.State.{State, opening}
 use Rattle.script_runs.specs.Runs.{Ended, EndsBefore, EndsShort, EndsWithin}
 use Rattle.allocation_cli.specs.Run.{EndsOffice, FollowsOneMore, FollowsSome, keeper_line}
-use Rattle.allocation_cli.specs.Writes.{IsTold}
-use Rattle.allocation_cli.specs.declared.status.Status.{Status}
-use Rattle.allocation_cli.specs.declared.status.Status.TheVariants.{WriteFault, KeeperFault, OutOfMemory}
+use Rattle.command_answers.specs.Writes.{IsTold, memory_line}
+use Rattle.command_answers.specs.declared.status.Status.{Status}
+use Rattle.command_answers.specs.declared.status.Status.TheVariants.{WriteFault, KeeperFault, OutOfMemory}
 
 -- what is written in two pieces
 appends_on : (xs ys : List ℕ) (a b c : Option (List ℕ)) → Appends xs a b → Appends ys b c → Appends (xs ++ ys) a c

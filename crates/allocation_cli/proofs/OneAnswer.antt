@@ -16,17 +16,9 @@ use Rattle.season_file.specs.Laws as season_laws
 use Rattle.season_file.specs.Season.{content_of}
 use Rattle.season_file.specs.declared.season.Season.{Season}
 use Rattle.season_texts.specs.Texts.{counts_line, fault_line, line_of_counts}
-use Rattle.allocation_cli.specs.Answers.{HaveOneAnswer}
+use Rattle.command_answers.specs.Answers.{HaveOneAnswer}
 use Rattle.allocation_cli.specs.Check.{IsCheckOutput, check_answers}
-use Rattle.allocation_cli.specs.Step.{IsStepOutput, IsStepText, step_answers}
-
--- the laws of sheets, choices, certificates and bundles
-pub record AreLawful : Type 0 where
-  pub sheets : (bytes : List ℕ) → sheet.HaveOneReading bytes
-  pub steps : (bytes : List ℕ) (step : StepOfSheet) → sheet.SheetGives bytes step → IsStep step
-  pub bundles : (bytes : List ℕ) → season_laws.HaveOneReading true bytes
-  pub choice : OneChoice
-  pub certificate : OneCertificate
+use Rattle.step_command.specs.Step.{IsStepOutput, IsStepText, step_answers}
 
 -- people are counted alike by tests that are alike
 counted_alike : (f g : Person → ℕ) (a : ℕ) (people : List Person) → ((person : Person) → f person ≡ g person) → fold (λ n x. n + f x) a people ≡ fold (λ n x. n + g x) a people
@@ -50,45 +42,18 @@ same_counts season other row next same =
     (ap (λ head. head.rounds) same.head)
 
 -- a season bundle has one output
-one_check : AreLawful → (bytes output other : List ℕ) → IsCheckOutput bytes output → IsCheckOutput bytes other → output ≡ other
+one_check : ((bytes : List ℕ) → season_laws.HaveOneReading true bytes) → (bytes output other : List ℕ) → IsCheckOutput bytes output → IsCheckOutput bytes other → output ≡ other
 one_check laws bytes output other a b =
-    let same = (laws.bundles bytes).one_content (content_of a.0 a.2.row) (content_of b.0 b.2.row) a.1 b.1 a.2.given b.2.given in
+    let same = (laws bytes).one_content (content_of a.0 a.2.row) (content_of b.0 b.2.row) a.1 b.1 a.2.given b.2.given in
     a.3 ∙ same_counts a.0 b.0 a.2.row b.2.row same ∙ sym b.3
 
--- a sound step has one text
-one_text : AreLawful → (step : StepOfSheet) (output other : List ℕ) → IsStep step → IsStepText step output → IsStepText step other → output ≡ other
-one_text laws step output other sound a b =
-    let admitted = laws.choice step a.admitted b.admitted sound a.choice b.choice in
-    let distinct = pairwise_sublist (λ one next. one.id ≢ next.id) a.admitted step.people a.choice.may.people sound.people.distinct in
-    let certificate = subst (λ (people : List Person). IsCanonical step.protections people b.pairs) (sym admitted) b.certificate in
-    let pairs = laws.certificate step.protections a.admitted a.pairs b.pairs distinct a.certificate certificate in
-    a.text ∙ ap (λ (people : List Person). step_output step.seats (length step.people) people a.pairs) admitted
-    ∙ ap (λ (l : List Pair). step_output step.seats (length step.people) b.admitted l) pairs ∙ sym b.text
-
--- a sheet has one output
-one_step : AreLawful → (bytes output other : List ℕ) → IsStepOutput bytes output → IsStepOutput bytes other → output ≡ other
-one_step laws bytes output other a b =
-    let same = (laws.sheets bytes).one_step a.0 b.0 a.1 b.1 in
-    one_text laws a.0 output other (laws.steps bytes a.0 a.1) a.2 (subst (λ (step : StepOfSheet). IsStepText step other) (sym same) b.2)
-
--- A sheet has one answer under `step`.
-pub one_step_answer : AreLawful → (bytes : List ℕ) → HaveOneAnswer step_answers bytes
-one_step_answer laws bytes = record {
-  some = (laws.sheets bytes).some;
-  apart = λ input faulty. (laws.sheets bytes).apart input.0 faulty.0 input.1 faulty.1;
-  of_input = λ output made. (made.0, made.1);
-  of_fault = λ line has. (has.0, has.1);
-  one_output = one_step laws bytes;
-  one_line = λ line other a b. a.2 ∙ ap fault_output ((laws.sheets bytes).one_fault a.0 b.0 a.1 b.1) ∙ sym b.2;
-}
-
 -- A bundle has one answer under `check`.
-pub one_check_answer : AreLawful → (bytes : List ℕ) → HaveOneAnswer check_answers bytes
+pub one_check_answer : ((bytes : List ℕ) → season_laws.HaveOneReading true bytes) → (bytes : List ℕ) → HaveOneAnswer check_answers bytes
 one_check_answer laws bytes = record {
-  some = (laws.bundles bytes).some;
-  apart = λ input faulty. (laws.bundles bytes).apart input.0 input.1 faulty.0 input.2 faulty.1;
+  some = (laws bytes).some;
+  apart = λ input faulty. (laws bytes).apart input.0 input.1 faulty.0 input.2 faulty.1;
   of_input = λ output made. (content_of made.0 made.2.row, made.1, made.2.given);
   of_fault = λ line has. (has.0, has.1);
   one_output = one_check laws bytes;
-  one_line = λ line other a b. a.2 ∙ ap fault_line ((laws.bundles bytes).one_fault a.0 b.0 a.1 b.1) ∙ sym b.2;
+  one_line = λ line other a b. a.2 ∙ ap fault_line ((laws bytes).one_fault a.0 b.0 a.1 b.1) ∙ sym b.2;
 }

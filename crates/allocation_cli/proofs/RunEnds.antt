@@ -7,15 +7,15 @@ use Rattle.keeper_mem.specs.Tables.{Tables, AreTold, IsFound}
 use Rattle.round_cut.specs.declared.fault.BeginFault.{BeginFault}
 use Rattle.round_cut.specs.declared.fault.BeginFault.TheVariants.{NotEmpty, KeeperFault as NoKeeper, OutOfMemory as NoMemory}
 use Rattle.season_file.specs.Season.{content_of}
-use Rattle.allocation_cli.specs.Answers.{HaveOneAnswer, IsFailureOf, Tells}
+use Rattle.command_answers.specs.Answers.{HaveOneAnswer, IsFailureOf, Tells}
 use Rattle.allocation_cli.specs.Check.{IsBundle, IsFaultyBundle, IsLeftBundle, check_answers}
-use Rattle.allocation_cli.specs.Program.{status_of, text_of}
+use Rattle.command_answers.specs.Writes.{status_of, text_of}
 use Rattle.allocation_cli.specs.Run.{EndsRun, EndsSeason, IsUnbegunText, IsUnreadText, begin_status, begin_text}
-use Rattle.allocation_cli.specs.Writes.{IsTold}
-use Rattle.allocation_cli.specs.declared.failure.Failure.{Failure}
-use Rattle.allocation_cli.specs.declared.failure.Failure.TheVariants.{Read, Bad, NoMemory as NoMemoryToRead}
-use Rattle.allocation_cli.specs.declared.status.Status.{Status}
-use Rattle.allocation_cli.proofs.Ended.{told_is_written}
+use Rattle.command_answers.specs.Writes.{IsTold}
+use Rattle.command_answers.specs.declared.failure.Failure.{Failure}
+use Rattle.command_answers.specs.declared.failure.Failure.TheVariants.{Read, Bad, NoMemory as NoMemoryToRead}
+use Rattle.command_answers.specs.declared.status.Status.{Status}
+use Rattle.command_answers.proofs.Ended.{told_is_written}
 
 -- the text of why no office began goes with its status
 text_of_begin : (before : Tables) (fault : BeginFault) → (fault ≡ NotEmpty → IsFound true before) → IsUnbegunText before (begin_status fault) (begin_text fault)

@@ -1,17 +1,14 @@
 -- What the program writes and how it ends.
-use Rattle.std.specs.Prelude.{◌≡◌, ◌⊎◌, ℕ, List, Option, Result, Ok, Err, codes}
-use Rattle.season_texts.specs.Texts.{memory_line}
+use Rattle.std.specs.Prelude.{◌≡◌, ◌⊎◌, ℕ, List, Option, codes}
 use Rattle.keeper_mem.specs.Tables.{Tables}
-use Rattle.allocation_cli.specs.Answers.{Answers, HasLeft, Tells}
+use Rattle.command_answers.specs.Answers.{Answers, Tells}
 use Rattle.allocation_cli.specs.Check.{IsBundle, IsFaultyBundle, check_answers}
 use Rattle.allocation_cli.specs.Run.{EndsRun, TellsNoSeason}
-use Rattle.allocation_cli.specs.Step.{IsFaultySheet, IsSheet, step_answers}
+use Rattle.step_command.specs.Step.{IsFaultySheet, IsSheet, step_answers}
 use Rattle.allocation_cli.specs.Words.{SpellNothing, words_of}
-use Rattle.allocation_cli.specs.Writes.{Writes, read_line}
-use Rattle.allocation_cli.specs.declared.failure.Failure.{Failure}
-use Rattle.allocation_cli.specs.declared.failure.Failure.TheVariants.{Read, Bad, NoMemory}
-use Rattle.allocation_cli.specs.declared.status.Status.{Status}
-use Rattle.allocation_cli.specs.declared.status.Status.TheVariants.{Ok as Done, Usage, BadInput, ReadFault, WriteFault, KeeperFault, OutOfMemory}
+use Rattle.command_answers.specs.Writes.{IsTextOf, Writes}
+use Rattle.command_answers.specs.declared.status.Status.{Status}
+use Rattle.command_answers.specs.declared.status.Status.TheVariants.{Ok as Done, Usage, BadInput, ReadFault, WriteFault, KeeperFault, OutOfMemory}
 use Rattle.allocation_cli.specs.declared.words.Command.{Command}
 use Rattle.allocation_cli.specs.declared.words.Command.TheVariants.{Step, Check, Run}
 
@@ -27,16 +24,6 @@ IsUsageText ReadFault text = ⊥
 IsUsageText WriteFault text = ⊥
 IsUsageText KeeperFault text = ⊥
 IsUsageText OutOfMemory text = ⊥
-
--- the whole text that goes with each status of a command that answers with one text, for the bytes that its source had left
-abbrev pub IsTextOf : Answers → Option (List ℕ) → Status → List ℕ → Type 0
-IsTextOf answers left Done text = HasLeft answers.IsOutput left text
-IsTextOf answers left Usage text = ⊥
-IsTextOf answers left BadInput text = HasLeft answers.IsFaultLine left text
-IsTextOf answers left ReadFault text = text ≡ read_line
-IsTextOf answers left WriteFault text = ⊥
-IsTextOf answers left KeeperFault text = ⊥
-IsTextOf answers left OutOfMemory text = text ≡ memory_line
 
 -- what a command that answers with one text writes, with its status; the tables are as before
 abbrev pub EndsText : Answers → Option (List ℕ) → Tables → Tables → Status → List ℕ → Type 0
@@ -80,16 +67,3 @@ abbrev pub BeginsNone : Command → Type 0
 BeginsNone Step = Unit {0}
 BeginsNone Check = Unit {0}
 BeginsNone Run = ⊥
-
--- the status of a command's answer, and the text that goes with it
-abbrev pub status_of : Result (List ℕ) Failure → Status
-status_of (Ok output) = Done
-status_of (Err Read) = ReadFault
-status_of (Err (Bad line)) = BadInput
-status_of (Err NoMemory) = OutOfMemory
-
-abbrev pub text_of : Result (List ℕ) Failure → List ℕ
-text_of (Ok output) = output
-text_of (Err Read) = read_line
-text_of (Err (Bad line)) = line
-text_of (Err NoMemory) = memory_line

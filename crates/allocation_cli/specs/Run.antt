@@ -3,7 +3,6 @@
 use Rattle.std.specs.Prelude.{◌≡◌, ◌<◌, ◌⊎◌, ℕ, true, false, List, Option, ◌++◌, codes, length, take}
 use Rattle.office_base.specs.declared.asks.Request.{Request}
 use Rattle.season_file.specs.declared.season.Season.{Season}
-use Rattle.season_texts.specs.Texts.{memory_line}
 use Rattle.keeper_mem.specs.Tables.{Tables, Untold, NoSeason, Records, AreTold, IsFound}
 use Rattle.office_moves.specs.Facts.{SeasonFacts}
 use Rattle.office_moves.specs.Season.{facts_of}
@@ -12,11 +11,11 @@ use Rattle.office_moves.specs.declared.moves.Reply.{Reply}
 use Rattle.round_cut.specs.declared.fault.BeginFault.{BeginFault}
 use Rattle.round_cut.specs.declared.fault.BeginFault.TheVariants.{NotEmpty, KeeperFault as NoKeeper, OutOfMemory as NoMemory}
 use Rattle.script_runs.specs.Runs.{AfterOneMore, AfterSome, reply_bytes}
-use Rattle.allocation_cli.specs.Answers.{HasLeft}
+use Rattle.command_answers.specs.Answers.{HasLeft}
 use Rattle.allocation_cli.specs.Check.{IsBundleFaultLine, IsLeftBundle}
-use Rattle.allocation_cli.specs.Writes.{Writes, read_line}
-use Rattle.allocation_cli.specs.declared.status.Status.{Status}
-use Rattle.allocation_cli.specs.declared.status.Status.TheVariants.{Ok as Done, Usage, BadInput, ReadFault, WriteFault, KeeperFault, OutOfMemory}
+use Rattle.command_answers.specs.Writes.{Writes, memory_line, read_line}
+use Rattle.command_answers.specs.declared.status.Status.{Status}
+use Rattle.command_answers.specs.declared.status.Status.TheVariants.{Ok as Done, Usage, BadInput, ReadFault, WriteFault, KeeperFault, OutOfMemory}
 
 abbrev pub keeper_line : List ℕ
 keeper_line = codes "fault: keeper\n"

@@ -3,4 +3,3 @@
 pub mod bundle;
 pub mod check;
 pub mod run;
-pub mod step;

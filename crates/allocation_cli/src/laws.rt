@@ -1,8 +1,8 @@
 // What holds of words and of the inputs of commands, whoever reads them.
 ghost use Rattle.std.specs.Prelude.{◌≡◌, ℕ, List};
-ghost use Rattle.allocation_cli.specs.Answers.{HaveOneAnswer};
+ghost use Rattle.command_answers.specs.Answers.{HaveOneAnswer};
 ghost use Rattle.allocation_cli.specs.Check.{check_answers};
-ghost use Rattle.allocation_cli.specs.Step.{step_answers};
+ghost use Rattle.step_command.specs.Step.{step_answers};
 ghost use Rattle.allocation_cli.specs.Words.{words_of};
 ghost use Rattle.allocation_cli.specs.declared.words.Command.{Command as AnyCommand};
 
@@ -16,9 +16,6 @@ pub fn one_answer()
     ensures step { (bytes : List ℕ) → HaveOneAnswer step_answers bytes }
     ensures check { (bytes : List ℕ) → HaveOneAnswer check_answers bytes }
 {
-    step_sheet::laws::one_reading();
-    step_sheet::laws::sound_steps();
+    step_command::laws::one_answer();
     season_file::laws::one_reading();
-    merit_choice::laws::one_choice();
-    slot_cert::laws::one_certificate();
 }

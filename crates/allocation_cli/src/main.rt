@@ -6,21 +6,17 @@
 #![tactic(auto)]
 
 mod commands;
-mod failure;
 mod laws;
 mod program;
-mod status;
-mod streams;
-mod telling;
 #[cfg(test)]
 mod tests;
 mod words;
 
 use crate::program::allocate;
-use crate::streams::{StandardInput, StandardOutput};
-use crate::telling::tell_no_memory;
+use command_answers::tell_no_memory;
 use keeper_mem::SureKeeper;
 use office_base::{OutOfMemory, Words};
+use standard_streams::{StandardInput, StandardOutput};
 use std::alloc::Global;
 use std::process::ExitCode;
 use std::rt::Env;

@@ -9,14 +9,13 @@ ghost use Rattle.allocation_cli.specs.declared.words.Command.TheVariants.{Run};
 
 use crate::commands::check::check_answer;
 use crate::commands::run::run_season;
-use crate::commands::step::step_answer;
 use crate::laws::{one_answer, one_spelling};
-use crate::status::Status;
-use crate::telling::{finish, write_answer};
 use crate::words::{Command, read_words};
+use command_answers::{Status, finish, write_answer};
 use keeper_mem::Keeper;
 use office_base::{Sink, Source, Words};
 use std::alloc::Global;
+use step_command::step_answer;
 
 /// Runs the command that the words spell, from the bytes of the source to the bytes of the sink, and gives back the keeper.
 ///

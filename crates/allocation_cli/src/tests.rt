@@ -1,9 +1,9 @@
 // The commands on worked inputs and on a failing outside, over objects in memory.
 use crate::program::allocate;
-use crate::status::Status;
-use crate::streams::{StandardInput, StandardOutput};
+use command_answers::Status;
 use keeper_mem::{Keeper, MemKeeper, SureKeeper};
 use office_base::{MemSink, MemSource, SureSink, SureSource, Words};
+use standard_streams::{StandardInput, StandardOutput};
 use std::alloc::Global;
 use std::io;
 use std::test::Fail;

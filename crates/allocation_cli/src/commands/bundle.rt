@@ -2,10 +2,10 @@
 ghost use Rattle.std.specs.Prelude.{◌≡◌, ◌≤◌, IfOk, IfErr, OnOk, IsErrOf};
 ghost use Rattle.office_base.specs.Outside.{Rose, IsAtEnd};
 ghost use Rattle.season_file.specs.Season.{IsSeason};
-ghost use Rattle.allocation_cli.specs.Answers.{IsFailureOf};
+ghost use Rattle.command_answers.specs.Answers.{IsFailureOf};
 ghost use Rattle.allocation_cli.specs.Check.{IsLeftBundle, TellsSeasonFault, check_answers};
 
-use crate::failure::Failure;
+use command_answers::Failure;
 use office_base::{OutOfMemory, Source};
 use request_rows::Script;
 use season_file::{Season, SeasonFault};

@@ -1,11 +1,11 @@
 // The command `check`: it reads a season bundle with its requests, where it has some, and answers how much the season has.
 ghost use Rattle.std.specs.Prelude.{◌≡◌, ◌≤◌, IfOk, IfErr, OnOk, IsErrOf};
 ghost use Rattle.office_base.specs.Outside.{Rose, IsAtEnd};
-ghost use Rattle.allocation_cli.specs.Answers.{HasLeft, IsFailureOf};
+ghost use Rattle.command_answers.specs.Answers.{HasLeft, IsFailureOf};
 ghost use Rattle.allocation_cli.specs.Check.{check_answers};
 
 use crate::commands::bundle::read_bundle;
-use crate::failure::Failure;
+use command_answers::Failure;
 use office_base::{Source, Text};
 use season_texts::counts_text;
 use std::alloc::Global;

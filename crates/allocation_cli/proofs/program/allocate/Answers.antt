@@ -1,8 +1,8 @@
 use Rattle.std.proofs.Common.{inl, refl}
 use Rattle.allocation_cli.specs.Program.{IsUsageText, usage_line}
-use Rattle.allocation_cli.specs.declared.status.Status.TheVariants.{Usage}
+use Rattle.command_answers.specs.declared.status.Status.TheVariants.{Usage}
 use Rattle.allocation_cli.specs.declared.words.Command.TheVariants.{Run}
-use Rattle.allocation_cli.proofs.Ended.{told_is_written}
+use Rattle.command_answers.proofs.Ended.{told_is_written}
 use Rattle.allocation_cli.proofs.program.allocate.Goals as goal
 
 pub returns-in-None-clause-written : goal.returns-in-None-clause-written

@@ -1,6 +1,7 @@
 use Rattle.allocation_cli.specs.Check.{check_answers}
-use Rattle.allocation_cli.specs.Step.{step_answers}
-use Rattle.allocation_cli.proofs.Ended.{text_is_written, fault_is_refused, input_is_answered, source_held}
+use Rattle.step_command.specs.Step.{step_answers}
+use Rattle.command_answers.proofs.Ended.{fault_is_refused, input_is_answered, source_held}
+use Rattle.allocation_cli.proofs.Ended.{text_is_written}
 use Rattle.allocation_cli.proofs.program.run.Goals as goal
 
 pub returns-in-Step-clause-written : goal.returns-in-Step-clause-written

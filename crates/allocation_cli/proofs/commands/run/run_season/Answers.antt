@@ -1,6 +1,6 @@
 use Rattle.std.proofs.Common.{Err}
 use Rattle.allocation_cli.specs.Check.{check_answers}
-use Rattle.allocation_cli.proofs.Ended.{input_is_answered}
+use Rattle.command_answers.proofs.Ended.{input_is_answered}
 use Rattle.allocation_cli.proofs.RunEnds.{no_faulty_bundle, read_ends, unread_ends}
 use Rattle.allocation_cli.proofs.commands.run.run_season.Goals as goal
 

@@ -1,7 +1,7 @@
 use Rattle.office_base.specs.Limits.{most_sheet_bytes}
-use Rattle.allocation_cli.specs.Step.{step_answers}
-use Rattle.allocation_cli.proofs.Ended.{left_failed, long_left}
-use Rattle.allocation_cli.proofs.commands.step.step_input.Goals as goal
+use Rattle.step_command.specs.Step.{step_answers}
+use Rattle.command_answers.proofs.Ended.{left_failed, long_left}
+use Rattle.step_command.proofs.step.step_input.Goals as goal
 
 pub returns-in-Err-TooLong-clause-failure : goal.returns-in-Err-TooLong-clause-failure
 returns-in-Err-TooLong-clause-failure g c =

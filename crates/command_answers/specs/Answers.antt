@@ -1,8 +1,8 @@
 -- What a command answers with one text to the bytes that its source had left.
 use Rattle.std.specs.Prelude.{◌≡◌, ◌⊎◌, ℕ, List, Option, Some, None}
 use Rattle.office_base.specs.Outside.{AreLeft}
-use Rattle.allocation_cli.specs.declared.failure.Failure.{Failure}
-use Rattle.allocation_cli.specs.declared.failure.Failure.TheVariants.{Read, Bad, NoMemory}
+use Rattle.command_answers.specs.declared.failure.Failure.{Failure}
+use Rattle.command_answers.specs.declared.failure.Failure.TheVariants.{Read, Bad, NoMemory}
 
 -- What a command answers to bytes.
 pub record Answers : Type 1 where

@@ -4,11 +4,11 @@ ghost use Rattle.office_base.specs.Limits.{most_sheet_bytes};
 ghost use Rattle.office_base.specs.Outside.{Rose, IsAtEnd};
 ghost use Rattle.office_base.specs.StepChoice.{IsStep};
 ghost use Rattle.step_sheet.specs.Output.{fault_output};
-ghost use Rattle.allocation_cli.specs.Answers.{HasLeft, IsFailureOf, IsInputFailure, TellsLine};
+ghost use Rattle.command_answers.specs.Answers.{HasLeft, IsFailureOf, IsInputFailure, TellsLine};
 ghost use Rattle.step_sheet.specs.Sheet.{SheetGives};
-ghost use Rattle.allocation_cli.specs.Step.{IsLeftSheet, IsStepText, step_answers};
+ghost use Rattle.step_command.specs.Step.{IsLeftSheet, IsStepText, step_answers};
 
-use crate::failure::Failure;
+use command_answers::Failure;
 use merit_choice::choose;
 use office_base::limits::MOST_SHEET_BYTES;
 use office_base::{OutOfMemory, ReadFault, Source, Step, Text, read_whole};

@@ -1,6 +1,6 @@
 // How a run of the office ends.
 ghost use Rattle.std.specs.Prelude.{◌≡◌};
-ghost use Rattle.allocation_cli.specs.Status.{code_of};
+ghost use Rattle.command_answers.specs.Status.{code_of};
 
 /// How `allocate` ended. The numbers are the exit statuses of the program.
 #[derive(Clone, Copy, Debug, PartialEq, Eq)]

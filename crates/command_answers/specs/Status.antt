@@ -1,7 +1,7 @@
 -- The exit status of each way in which a run ends.
 use Rattle.std.specs.Prelude.{ℕ}
-use Rattle.allocation_cli.specs.declared.status.Status.{Status}
-use Rattle.allocation_cli.specs.declared.status.Status.TheVariants.{Ok, Usage, BadInput, ReadFault, WriteFault, KeeperFault, OutOfMemory}
+use Rattle.command_answers.specs.declared.status.Status.{Status}
+use Rattle.command_answers.specs.declared.status.Status.TheVariants.{Ok, Usage, BadInput, ReadFault, WriteFault, KeeperFault, OutOfMemory}
 
 abbrev pub code_of : Status → ℕ
 code_of Ok = 0

@@ -1,6 +1,6 @@
 // Why a command that answers with one text has no output.
 ghost use Rattle.std.specs.Prelude.{◌≡◌};
-ghost use Rattle.allocation_cli.specs.declared.failure.Failure.TheVariants.{NoMemory};
+ghost use Rattle.command_answers.specs.declared.failure.Failure.TheVariants.{NoMemory};
 
 use office_base::{OutOfMemory, Text};
 

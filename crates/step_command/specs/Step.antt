@@ -9,7 +9,7 @@ use Rattle.office_base.specs.declared.step.Step.{Step}
 use Rattle.step_sheet.specs.Output.{step_output, fault_output}
 use Rattle.step_sheet.specs.Sheet.{SheetGives, HasFault}
 use Rattle.step_sheet.specs.declared.fault.SheetFault.{SheetFault}
-use Rattle.allocation_cli.specs.Answers.{Answers}
+use Rattle.command_answers.specs.Answers.{Answers}
 
 -- What `step` writes for a step: its choice and the canonical certificate.
 pub record IsStepText (step : Step) (output : List ℕ) : Type 0 where

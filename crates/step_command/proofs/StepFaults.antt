@@ -3,10 +3,10 @@ use Rattle.std.proofs.Common.{ℕ, List}
 use Rattle.step_sheet.specs.Output.{fault_output}
 use Rattle.step_sheet.specs.Sheet.{HasFault}
 use Rattle.step_sheet.specs.declared.fault.SheetFault.{SheetFault}
-use Rattle.allocation_cli.specs.Answers.{IsInputFailure, TellsLine}
-use Rattle.allocation_cli.specs.Step.{step_answers}
-use Rattle.allocation_cli.specs.declared.failure.Failure.{Failure}
-use Rattle.allocation_cli.specs.declared.failure.Failure.TheVariants.{Read, Bad, NoMemory}
+use Rattle.command_answers.specs.Answers.{IsInputFailure, TellsLine}
+use Rattle.step_command.specs.Step.{step_answers}
+use Rattle.command_answers.specs.declared.failure.Failure.{Failure}
+use Rattle.command_answers.specs.declared.failure.Failure.TheVariants.{Read, Bad, NoMemory}
 
 -- A failure that tells the line of a fault of the bytes is one of reading them.
 pub line_is_failure : (bytes : List ℕ) (fault : SheetFault) (failure : Failure) → HasFault bytes fault → TellsLine (fault_output fault) failure → IsInputFailure step_answers bytes failure

@@ -1,9 +1,7 @@
 // A text, or the line of a fault, written with its status.
 ghost use Rattle.std.specs.Prelude.{◌≡◌, ◌≢◌, Err};
 ghost use Rattle.office_base.specs.Outside.{Rose};
-ghost use Rattle.season_texts.specs.Texts.{memory_line};
-ghost use Rattle.allocation_cli.specs.Program.{status_of, text_of};
-ghost use Rattle.allocation_cli.specs.Writes.{IsTold};
+ghost use Rattle.command_answers.specs.Writes.{IsTold, memory_line, status_of, text_of};
 
 use crate::failure::Failure;
 use crate::status::Status;

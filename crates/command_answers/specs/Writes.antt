@@ -1,0 +1,48 @@
+-- What is written with a status: a text of it whole, or a prefix.
+use Rattle.std.specs.Prelude.{◌≡◌, ◌⊎◌, ℕ, List, Option, Result, Ok, Err, codes, take}
+use Rattle.office_base.specs.Outside.{Appends}
+use Rattle.command_answers.specs.Answers.{Answers, HasLeft}
+use Rattle.command_answers.specs.declared.failure.Failure.{Failure}
+use Rattle.command_answers.specs.declared.failure.Failure.TheVariants.{Read, Bad, NoMemory}
+use Rattle.command_answers.specs.declared.status.Status.{Status}
+use Rattle.command_answers.specs.declared.status.Status.TheVariants.{Ok as Done, Usage, BadInput, ReadFault, WriteFault, KeeperFault, OutOfMemory}
+
+-- the line of a source that failed
+abbrev pub read_line : List ℕ
+read_line = codes "fault: read\n"
+
+-- the line of want of memory
+abbrev pub memory_line : List ℕ
+memory_line = codes "fault: memory\n"
+
+-- The whole text of the status is written; or the sink failed, and a prefix of the text of some status is.
+abbrev pub Writes : (Status → List ℕ → Type 0) → Status → List ℕ → Type 0
+Writes IsText status output =
+    IsText status output ⊎ ((status ≡ WriteFault) × ((other : Status) × (text : List ℕ) × (n : ℕ) × IsText other text × (output ≡ take n text)))
+
+-- A text was written whole, by what was written before it and after it, and the result is its status; or the sink failed, and a prefix of it was written.
+abbrev pub IsTold : Status → List ℕ → Option (List ℕ) → Option (List ℕ) → Type 0 → Status → Type 0
+IsTold status text before after failed result = ((result ≡ status) × Appends text before after) ⊎ ((result ≡ WriteFault) × failed × ((n : ℕ) × Appends (take n text) before after))
+
+-- the whole text that goes with each status of a command that answers with one text, for the bytes that its source had left
+abbrev pub IsTextOf : Answers → Option (List ℕ) → Status → List ℕ → Type 0
+IsTextOf answers left Done text = HasLeft answers.IsOutput left text
+IsTextOf answers left Usage text = ⊥
+IsTextOf answers left BadInput text = HasLeft answers.IsFaultLine left text
+IsTextOf answers left ReadFault text = text ≡ read_line
+IsTextOf answers left WriteFault text = ⊥
+IsTextOf answers left KeeperFault text = ⊥
+IsTextOf answers left OutOfMemory text = text ≡ memory_line
+
+-- the status of a command's answer, and the text that goes with it
+abbrev pub status_of : Result (List ℕ) Failure → Status
+status_of (Ok output) = Done
+status_of (Err Read) = ReadFault
+status_of (Err (Bad line)) = BadInput
+status_of (Err NoMemory) = OutOfMemory
+
+abbrev pub text_of : Result (List ℕ) Failure → List ℕ
+text_of (Ok output) = output
+text_of (Err Read) = read_line
+text_of (Err (Bad line)) = line
+text_of (Err NoMemory) = memory_line

@@ -1,0 +1,13 @@
+// What a command of the office answers with one text, how it ends, and how that is written to a sink.
+//
+// Each command that answers with one text stands on it, and so does the program. `specs/Answers` says what a command answers to bytes, and that it is
+// one; `specs/Writes` what is written with each status. It must never know which commands there are, nor of seats.
+#![tactic(auto)]
+
+mod failure;
+mod status;
+mod telling;
+
+pub use failure::Failure;
+pub use status::Status;
+pub use telling::{finish, tell_failure, tell_no_memory, write_answer};

@@ -1,0 +1,9 @@
+// Standard input and output as a source and a sink.
+//
+// They are the trusted edge of a program: what the system's streams give and take is told by no clause. They count their errors and tell no bytes. They
+// must never know what is read or written.
+#![tactic(auto)]
+
+mod streams;
+
+pub use streams::{StandardInput, StandardOutput};
