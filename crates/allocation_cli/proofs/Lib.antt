@@ -3,5 +3,4 @@ mod Ended
 mod OfficeEnds
 mod OneAnswer
 mod RunEnds
-mod Spelling
 mod StepFaults

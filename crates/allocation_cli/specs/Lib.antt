@@ -4,5 +4,4 @@ pub mod Program
 pub mod Run
 pub mod Status
 pub mod Step
-pub mod Words
 pub mod Writes

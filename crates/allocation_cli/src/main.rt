@@ -14,7 +14,6 @@ mod streams;
 mod telling;
 #[cfg(test)]
 mod tests;
-mod words;
 
 use crate::program::allocate;
 use crate::streams::{StandardInput, StandardOutput};
