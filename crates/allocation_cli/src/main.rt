@@ -16,31 +16,48 @@ mod telling;
 mod tests;
 
 use crate::program::allocate;
+use crate::status::Status;
 use crate::streams::{StandardInput, StandardOutput};
 use crate::telling::tell_no_memory;
 use keeper_mem::SureKeeper;
 use office_base::{OutOfMemory, Words};
 use std::alloc::Global;
+use std::io::{IsTerminal, Write};
 use std::process::ExitCode;
 use std::rt::Env;
 use std::{env, io};
 
 fn main(rt: HostRuntime) -> ExitCode {
     let alloc = rt.alloc();
-    let mut source = StandardInput::new(rt.stdin());
-    let mut sink = StandardOutput::new(rt.stdout());
+    let output = rt.stdout();
+    let at_once = output.is_terminal();
+    let Ok(mut sink) = StandardOutput::new(alloc, output, at_once) else {
+        return ExitCode::from(told_unheld(rt.stdout()).code());
+    };
     let status = match words_of(&rt, alloc) {
         Ok(words) => allocate(
             alloc,
             &words,
-            &mut source,
+            &mut StandardInput::new(rt.stdin()),
             &mut sink,
             SureKeeper::new(alloc),
         )
         .0,
         Err(OutOfMemory) => tell_no_memory(&mut sink),
     };
+    let status = match sink.finish() {
+        Ok(()) => status,
+        Err(_) => Status::WriteFault,
+    };
     ExitCode::from(status.code())
+}
+
+// Tells a writer that no memory was found to hold what is written to it.
+fn told_unheld<W: Write + Drop>(mut writer: W) -> Status {
+    match writer.write_all(b"fault: memory\n") {
+        Ok(()) => Status::OutOfMemory,
+        Err(_) => Status::WriteFault,
+    }
 }
 
 // The words after the program's name. Where the system tells none, or one of them is no text, there are none: they spell
