@@ -1,12 +1,26 @@
 -- The states of the generator one after another.
-use Rattle.std.proofs.Common.{◌≡◌, ℕ, ◌+◌, ◌*◌, ◌-◌, ◌<◌, List, zero, suc, sym, ap, ◌∙◌, refl, arith, add-one, add-suc, add-zero, swap}
+use Rattle.std.proofs.Common.{◌≡◌, ℕ, ◌+◌, ◌*◌, ◌/◌, ◌%◌, ◌^◌, ◌-◌, ◌<◌, ◌≤◌, List, zero, suc, sym, ap, ◌∙◌, refl, arith, add-one, add-suc, add-zero, mul-zero, swap}
+use Rattle.std.proofs.Math.Nat.{mod-add-mod}
 use Rattle.season_generator.specs.Bundle.{exchanged}
 use Rattle.season_generator.specs.Draws.{after, drawn, next}
+
+-- a step that wraps twice
+pub next_is : (state : ℕ) → (state * 6364136223846793005 % 2 ^ 64 + 1442695040888963407) % 2 ^ 64 ≡ next state
+unfolding next
+next_is state = mod-add-mod (state * 6364136223846793005) 1442695040888963407 (2 ^ 64)
+
+-- the upper bits of a state fit 32 bits
+pub value_below : (state : ℕ) → state < 2 ^ 64 → state / 2 ^ 33 < 2 ^ 32
+value_below state small = omega (arith, small)
 
 -- no draw leaves the state
 pub after_none : (state : ℕ) → after 0 state ≡ state
 unfolding after
 after_none state = refl
+
+-- nor those of no candidate or window
+pub after_no_times : (draws state : ℕ) → after (draws * 0) state ≡ state
+after_no_times draws state = ap (λ k. after k state) (mul-zero draws) ∙ after_none state
 
 -- one draw more
 pub after_more : (draws state : ℕ) → after (draws + 1) state ≡ next (after draws state)
@@ -40,7 +54,23 @@ exchanged_less state (suc before) held positive =
     let e : suc before - 1 ≡ before = omega arith in
     ap (λ k. exchanged (next state) k (swap held (suc before) (drawn (suc before + 1) state))) e
 
--- and none is left at the first place
-pub exchanged_none : (state : ℕ) (held : List ℕ) → exchanged state 0 held ≡ held
+-- so the exchanges that are left after one of them end as before it
+pub exchange_goes_on : (state now last : ℕ) (before held whole : List ℕ) → 0 < last → now ≡ next state → held ≡ swap before last (drawn (last + 1) state) → exchanged state last before ≡ whole
+    → exchanged now (last - 1) held ≡ whole
+exchange_goes_on state now last before held whole positive is_next is_swapped so_far =
+    ap (λ s. exchanged s (last - 1) held) is_next ∙ ap (exchanged (next state) (last - 1)) is_swapped ∙ exchanged_less state last before positive ∙ so_far
+
+-- and the draws that are left
+pub draws_go_on : (state now last whole : ℕ) → 0 < last → now ≡ next state → after last state ≡ whole → after (last - 1) now ≡ whole
+draws_go_on state now last whole positive is_next so_far = ap (after (last - 1)) is_next ∙ after_less last state positive ∙ so_far
+
+-- none is left at the first place
+pub exchange_ends : (state last : ℕ) (held whole : List ℕ) → last ≤ 0 → exchanged state last held ≡ whole → held ≡ whole
 unfolding exchanged
-exchanged_none state held = refl
+exchange_ends state zero held whole low so_far = so_far
+exchange_ends state (suc before) held whole low so_far = absurd (omega (arith, low))
+
+pub draws_end : (state last whole : ℕ) → last ≤ 0 → after last state ≡ whole → state ≡ whole
+unfolding after
+draws_end state zero whole low so_far = so_far
+draws_end state (suc before) whole low so_far = absurd (omega (arith, low))

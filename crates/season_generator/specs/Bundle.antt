@@ -45,7 +45,7 @@ abbrev pub stride_of : ℕ → ℕ
 stride_of number = if number == 0 then 1 else (if number == 1 then 3 else (if number == 2 then 7 else 9))
 
 -- what six draws from this state on tell of a candidate
-abbrev pub profile_at : ℕ → Profile
+unfoldable pub profile_at : ℕ → Profile
 profile_at state = record {
   category = category_of (drawn 20 state);
   women = drawn 2 (after 1 state) == 0;
@@ -84,13 +84,13 @@ place_field place false = codes "," ++ decimal place
 place_field place true = codes "," ++ decimal place ++ codes "R"
 
 -- the row of a candidate in the register
-abbrev pub register_row : ℕ → Profile → ℕ → ℕ → List ℕ
+unfoldable pub register_row : ℕ → Profile → ℕ → ℕ → List ℕ
 register_row id profile first second =
     decimal id ++ codes "," ++ category_name profile.category ++ codes "," ++ traits_name profile.women profile.disabled ++ codes ",g" ++ eight_digits id
     ++ place_field first profile.relaxed ++ place_field second profile.relaxed ++ codes "\n"
 
 -- the register: its header, and the row of each candidate
-abbrev pub register_text : ℕ → ℕ → List ℕ → List ℕ → List ℕ
+unfoldable pub register_text : ℕ → ℕ → List ℕ → List ℕ → List ℕ
 register_text n state first second =
     codes "[register]\nid,category,traits,token,m1,m2,m3,m4\n"
     ++ lines n (λ candidate. register_row (candidate + 1) (profile_of state candidate) (slice_index first candidate) (slice_index second candidate))
@@ -102,30 +102,30 @@ abbrev pub code_of : ℕ → List ℕ
 code_of programme = codes "P" ++ (48 + programme / 10) ∷ (48 + programme % 10) ∷ []
 
 -- the row of a step of a programme: its seats, and those of them that are protected for women and for persons with disabilities
-abbrev pub matrix_row : ℕ → List ℕ → ℕ → ℕ → ℕ → List ℕ
+unfoldable pub matrix_row : ℕ → List ℕ → ℕ → ℕ → ℕ → List ℕ
 matrix_row programme step seats women disabled =
     code_of programme ++ codes ",I" ++ decimal (programme / 10) ++ codes "," ++ decimal (1 + programme % 2) ++ codes "," ++ step ++ codes "," ++ decimal seats
     ++ codes "," ++ decimal women ++ codes "," ++ decimal disabled ++ codes "\n"
 
 -- the rows of a programme, where the size is that of its OBC step
-abbrev pub programme_rows : ℕ → ℕ → List ℕ
+unfoldable pub programme_rows : ℕ → ℕ → List ℕ
 programme_rows size programme =
     matrix_row programme (codes "OPEN") (2 * size) (size / 2) (size / 8) ++ matrix_row programme (codes "EWS") (size / 2) (size / 8) 0
     ++ matrix_row programme (codes "OBC") size (size / 4) (size / 16) ++ matrix_row programme (codes "SC") (size / 2) (size / 8) 0
     ++ matrix_row programme (codes "ST") (size / 4) 0 0
 
 -- the matrix: its header, and the rows of 100 programmes, whose size grows with the candidates
-abbrev pub matrix_text : ℕ → List ℕ
+unfoldable pub matrix_text : ℕ → List ℕ
 matrix_text n = codes "[matrix]\nprogramme,institute,list,step,seats,W,D,X,S,F,L\n" ++ lines 100 (programme_rows (n / 800 + 1))
 
 -- ---- choices
 
 -- the row of a candidate's choices: forty programmes, each so far after the one before
-abbrev pub choices_row : ℕ → Profile → List ℕ
+unfoldable pub choices_row : ℕ → Profile → List ℕ
 choices_row id profile = decimal id ++ lines 40 (λ place. codes "," ++ code_of ((profile.first + place * profile.stride) % 100)) ++ codes "\n"
 
 -- the choices: their header, and the row of each candidate
-abbrev pub choices_text : ℕ → ℕ → List ℕ
+unfoldable pub choices_text : ℕ → ℕ → List ℕ
 choices_text n state = codes "[choices]\ncandidate,programmes\n" ++ lines n (λ candidate. choices_row (candidate + 1) (profile_of state candidate))
 
 -- ---- requests
@@ -136,20 +136,20 @@ choice_name number =
     if number == 0 then codes "withdraw" else (if nat_lt number 4 then codes "freeze" else (if nat_lt number 7 then codes "slide" else codes "float"))
 
 -- the row of the clerk's cut of a window
-abbrev pub cut_row : ℕ → List ℕ
+unfoldable pub cut_row : ℕ → List ℕ
 cut_row window = codes "cut,clerk," ++ decimal window ++ codes "\n"
 
 -- the row of a candidate's only answer in a window
-abbrev pub answer_row : ℕ → ℕ → List ℕ → List ℕ
+unfoldable pub answer_row : ℕ → ℕ → List ℕ → List ℕ
 answer_row window id choice =
     codes "answer," ++ decimal id ++ codes "," ++ decimal id ++ codes "," ++ decimal window ++ codes ",1," ++ choice ++ codes "\n"
 
 -- the rows of a window: an answer of each candidate, drawn from this state on, and the cut
-abbrev pub window_rows : ℕ → ℕ → ℕ → List ℕ
+unfoldable pub window_rows : ℕ → ℕ → ℕ → List ℕ
 window_rows n state window = lines n (λ candidate. answer_row window (candidate + 1) (choice_name (drawn 20 (after candidate state)))) ++ cut_row window
 
 -- the requests: the cut of window 0, and the rows of the windows 1 to 6
-abbrev pub requests_text : ℕ → ℕ → List ℕ
+unfoldable pub requests_text : ℕ → ℕ → List ℕ
 requests_text n state = codes "[requests]\n" ++ cut_row 0 ++ lines 6 (λ before. window_rows n (after (n * before) state) (before + 1))
 
 -- ---- the bundle

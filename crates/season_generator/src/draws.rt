@@ -23,6 +23,7 @@ impl Draws {
     }
 
     /// A number below `n`.
+    #[tactic(auto, using(crate::proofs::DrawLemmas::next_is, crate::proofs::DrawLemmas::value_below), unfolding(crate::specs::Draws::drawn))]
     pub(crate) fn draw(&mut self, n: u32) -> u32
         requires { 0 < n }
         ensures number { result ≡ drawn n self.old.state }

@@ -8,6 +8,7 @@
 mod bundle;
 mod candidates;
 mod draws;
+pub mod laws;
 mod places;
 mod profile;
 mod programmes;

@@ -24,6 +24,7 @@ pub struct Profile {
 
 impl Draws {
     /// Draws the profile of a candidate, by six draws.
+    #[tactic(auto, unfolding(crate::specs::Bundle::profile_at, crate::specs::Draws::after))]
     pub(crate) fn profile(&mut self) -> Profile
         ensures profile { result ≡ profile_at self.old.state }
         ensures first { result.first < 100 }

@@ -9,6 +9,7 @@ use office_text::push_number;
 use step_lines::step_name;
 
 /// Puts the matrix of a season of `n` candidates.
+#[tactic(auto, unfolding(crate::specs::Bundle::matrix_text))]
 pub(crate) fn push_matrix(out: &mut Text, n: u32) -> Result<(), OutOfMemory>
     requires { n ≤ 100000 }
     ensures { OnOk result (out.new ≡ out.old ++ matrix_text n) }
@@ -29,6 +30,7 @@ fn push_programmes(out: &mut Text, size: u32) -> Result<(), OutOfMemory>
 }
 
 /// Puts the rows of a programme.
+#[tactic(auto, unfolding(crate::specs::Bundle::programme_rows))]
 fn push_programme(out: &mut Text, size: u32, programme: u32) -> Result<(), OutOfMemory>
     requires size { size < 1000 }
     requires programme { programme < 100 }
@@ -42,6 +44,7 @@ fn push_programme(out: &mut Text, size: u32, programme: u32) -> Result<(), OutOf
 }
 
 /// Puts the row of a step of a programme: its seats, and those protected for women and for persons with disabilities.
+#[tactic(auto, unfolding(crate::specs::Bundle::matrix_row))]
 fn push_step(
     out: &mut Text,
     programme: u32,

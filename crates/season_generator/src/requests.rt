@@ -1,7 +1,7 @@
 // The requests of a generated season.
 ghost use Rattle.std.specs.Prelude.{◌≡◌, ◌≤◌, ◌+◌, ◌*◌, ◌++◌, OnOk};
 ghost use Rattle.season_generator.specs.Bundle.{answer_row, choice_name, cut_row, lines, requests_text, window_rows};
-ghost use Rattle.season_generator.specs.Draws.{after, drawn};
+ghost use Rattle.season_generator.specs.Draws.{after, drawn, next};
 
 use crate::draws::Draws;
 use crate::spelling::push_field;
@@ -12,6 +12,7 @@ use office_text::push_number;
 const ROUNDS: u32 = 6;
 
 /// Puts the requests of `n` candidates and of the clerk. The answers are drawn from here on.
+#[tactic(auto, unfolding(crate::specs::Bundle::requests_text))]
 pub(crate) fn push_requests(out: &mut Text, draws: Draws, n: u32) -> Result<(), OutOfMemory>
     requires { n ≤ 100000 }
     ensures { OnOk result (out.new ≡ out.old ++ requests_text n draws.state) }
@@ -33,6 +34,7 @@ fn push_windows(out: &mut Text, mut draws: Draws, n: u32) -> Result<(), OutOfMem
 }
 
 /// Puts the rows of a window.
+#[tactic(auto, unfolding(crate::specs::Bundle::window_rows))]
 fn push_window(out: &mut Text, draws: &mut Draws, n: u32, window: u32) -> Result<(), OutOfMemory>
     requires { n ≤ 100000 }
     ensures rows { OnOk result (out.new ≡ out.old ++ window_rows n draws.old.state window) }
@@ -50,10 +52,18 @@ fn push_answers(out: &mut Text, draws: &mut Draws, n: u32, window: u32) -> Resul
     ensures state { OnOk result (draws.new.state ≡ after n draws.old.state) }
 {
     for candidate in 0..n {
-        let choice = choice_name(draws.draw(20));
-        push_answer(out, window, candidate + 1, choice)?;
+        push_drawn(out, draws, window, candidate + 1)?;
     }
     Ok(())
+}
+
+/// Puts the row of an answer that is drawn.
+fn push_drawn(out: &mut Text, draws: &mut Draws, window: u32, id: u32) -> Result<(), OutOfMemory>
+    ensures row { OnOk result (out.new ≡ out.old ++ answer_row window id (choice_name (drawn 20 draws.old.state))) }
+    ensures state { draws.new.state ≡ next draws.old.state }
+{
+    let choice = choice_name(draws.draw(20));
+    push_answer(out, window, id, choice)
 }
 
 /// The answer of a number below 20.
@@ -69,6 +79,7 @@ fn choice_name(number: u32) -> &'static str
 }
 
 /// Puts the row of an answer.
+#[tactic(auto, unfolding(crate::specs::Bundle::answer_row))]
 fn push_answer(out: &mut Text, window: u32, id: u32, choice: &str) -> Result<(), OutOfMemory>
     ensures { OnOk result (out.new ≡ out.old ++ answer_row window id choice.now) }
 {
@@ -82,6 +93,7 @@ fn push_answer(out: &mut Text, window: u32, id: u32, choice: &str) -> Result<(),
 }
 
 /// Puts the row of a cut.
+#[tactic(auto, unfolding(crate::specs::Bundle::cut_row))]
 fn push_cut(out: &mut Text, window: u32) -> Result<(), OutOfMemory>
     ensures { OnOk result (out.new ≡ out.old ++ cut_row window) }
 {

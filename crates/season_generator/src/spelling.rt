@@ -33,6 +33,7 @@ pub(crate) fn traits_name(women: bool, disabled: bool) -> &'static str
 }
 
 /// Puts a number in eight digits.
+#[tactic(auto, using(crate::proofs::SpellingLemmas::eight_at_most))]
 pub(crate) fn push_eight_digits(out: &mut Text, number: u32) -> Result<(), OutOfMemory>
     requires { number < 100000000 }
     ensures { OnOk result (out.new ≡ out.old ++ eight_digits number) }
