@@ -7,7 +7,7 @@ use Rattle.season_generator.specs.Draws.{after, drawn, next}
 -- a step that wraps twice
 pub next_is : (state : ℕ) → (state * 6364136223846793005 % 2 ^ 64 + 1442695040888963407) % 2 ^ 64 ≡ next state
 unfolding next
-next_is state = mod-add-mod (state * 6364136223846793005) 1442695040888963407 (2 ^ 64)
+next_is state = mod-add-mod (state * 6364136223846793005) (2 ^ 64) 1442695040888963407
 
 -- the upper bits of a state fit 32 bits
 pub value_below : (state : ℕ) → state < 2 ^ 64 → state / 2 ^ 33 < 2 ^ 32

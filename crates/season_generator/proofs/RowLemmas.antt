@@ -1,5 +1,5 @@
 -- One line more.
-use Rattle.std.proofs.Common.{◌≡◌, ℕ, ◌+◌, List, [], ◌∷◌, ◌++◌, ◌<◌, length, drop, get_or, zero, suc, refl, sym, ap, ◌∙◌, arith, add-one, add-zero, zero-add, append_assoc, append-nil}
+use Rattle.std.proofs.Common.{◌≡◌, ℕ, ◌+◌, List, [], ◌∷◌, ◌++◌, ◌<◌, length, drop, get_or, zero, suc, sym, ap, ◌∙◌, arith, add-one, add-zero, zero-add, append_assoc, append-nil}
 use Rattle.std.specs.List.{flat_map, range_with_len}
 use Rattle.std.proofs.lemmas.List.Concat.{flat_map-append}
 use Rattle.std.proofs.lemmas.List.{drop_more}
@@ -52,3 +52,12 @@ rounds_go_on rounds at before now whole within so_far more =
     let line = round_line (at + 1) (get_or rounds at 0) in
     let rest = round_lines (at + 1 + 1) (drop (at + 1) rounds) in
     ap (λ z. z ++ rest) more ∙ append_assoc before line rest ∙ ap (λ xs. before ++ round_lines (at + 1) xs) (sym (drop_more rounds at 0 within)) ∙ so_far
+
+-- two pieces put one after another are put as one
+pub put_two : (out first second before now : List ℕ) → before ≡ out ++ first → now ≡ before ++ second → now ≡ out ++ (first ++ second)
+put_two out first second before now one two = two ∙ ap (λ z. z ++ second) one ∙ append_assoc out first second
+
+-- and so are three
+pub put_three : (out first second third before between now : List ℕ) → before ≡ out ++ first → between ≡ before ++ second → now ≡ between ++ third → now ≡ out ++ (first ++ second ++ third)
+put_three out first second third before between now one two three =
+    put_two out (first ++ second) third between now (put_two out first second before between one two) three

@@ -1,5 +1,5 @@
 -- How large numbers are, and how long.
-use Rattle.std.proofs.Common.{◌≤◌, ◌<◌, ◌+◌, ◌*◌, ℕ, length, arith}
+use Rattle.std.proofs.Common.{◌≤◌, ◌<◌, ◌*◌, ℕ, length, arith}
 use Rattle.std.specs.Fmt.{decimal}
 use Rattle.std.proofs.lemmas.Fmt.{length-decimal-le}
 

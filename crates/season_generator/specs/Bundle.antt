@@ -159,7 +159,7 @@ abbrev pub season_head : List ℕ
 season_head = codes "office bundle 1\n[season]\nrounds,6\nclerk,clerk0001\n"
 
 -- the season of n candidates that a seed gives
-abbrev pub generated : ℕ → ℕ → List ℕ
+unfoldable pub generated : ℕ → ℕ → List ℕ
 generated n seed =
     let second = after (n - 1) seed in
     let profiles = after (n - 1) second in

@@ -21,6 +21,7 @@ const LONGEST_HEADS: usize = 16_384;
 /// The season bundle of `n` candidates, from 1 to 100,000, that a seed gives: six rounds, 100 programmes of ten institutes over two
 /// merit lists, forty choices a candidate, and a script in which each candidate answers once in each window after window 0. The same
 /// numbers give the same bytes.
+#[tactic(auto, unfolding(crate::specs::Bundle::generated))]
 pub fn generate(alloc: Global, n: u32, seed: u32) -> Result<Text, OutOfMemory>
     requires low { 1 ≤ n }
     requires high { n ≤ 100000 }

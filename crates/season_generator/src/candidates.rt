@@ -14,7 +14,6 @@ const CHOICES: u32 = 40;
 
 /// Puts the register: the profiles of its candidates are drawn from here on, and `first` and `second` are their places in the
 /// lists 1 and 2.
-#[tactic(auto, unfolding(crate::specs::Bundle::register_text))]
 pub(crate) fn push_register(
     out: &mut Text,
     draws: Draws,

@@ -12,7 +12,6 @@ use office_text::push_number;
 const ROUNDS: u32 = 6;
 
 /// Puts the requests of `n` candidates and of the clerk. The answers are drawn from here on.
-#[tactic(auto, unfolding(crate::specs::Bundle::requests_text))]
 pub(crate) fn push_requests(out: &mut Text, draws: Draws, n: u32) -> Result<(), OutOfMemory>
     requires { n ≤ 100000 }
     ensures { OnOk result (out.new ≡ out.old ++ requests_text n draws.state) }

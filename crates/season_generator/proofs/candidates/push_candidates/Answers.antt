@@ -1,4 +1,4 @@
-use Rattle.std.proofs.Common.{◌∙◌, ◌+◌, ◌*◌, ℕ, ap, sym}
+use Rattle.std.proofs.Common.{◌∙◌, ◌+◌, ◌*◌, ap, sym}
 use Rattle.std.specs.Prelude.{slice_index}
 use Rattle.season_generator.specs.Bundle.{profile_at, register_row}
 use Rattle.season_generator.specs.Draws.{after}

@@ -1,4 +1,4 @@
-use Rattle.std.proofs.Common.{◌∙◌, ◌+◌, ℕ, ap, sym}
+use Rattle.std.proofs.Common.{◌∙◌, ◌+◌, ap, sym}
 use Rattle.season_generator.specs.Bundle.{answer_row, choice_name}
 use Rattle.season_generator.specs.Draws.{after, drawn, next}
 use Rattle.season_generator.proofs.DrawLemmas.{after_more, after_none}

@@ -1,4 +1,4 @@
-use Rattle.std.proofs.Common.{◌∙◌, ◌+◌, ◌*◌, ℕ, ap, sym}
+use Rattle.std.proofs.Common.{◌∙◌, ◌+◌, ◌*◌, ap, sym}
 use Rattle.season_generator.specs.Bundle.{window_rows}
 use Rattle.season_generator.specs.Draws.{after}
 use Rattle.season_generator.proofs.DrawLemmas.{after_no_times, after_times}

@@ -1,7 +1,7 @@
 use Rattle.std.proofs.Common.{◌≡◌, ◌<◌, ◌-◌, length}
 use Rattle.season_generator.specs.Bundle.{exchanged}
 use Rattle.season_generator.specs.Draws.{after}
-use Rattle.season_generator.proofs.places.Draws.exchange.Given as goal
+use Rattle.season_generator.proofs.draws.Draws.exchange.Given as goal
 
 abbrev pub invariant-loop-last : goal.invariant-loop-last
 invariant-loop-last l = record {

@@ -1,6 +1,6 @@
-use Rattle.std.proofs.Common.{arith, sym, ap, ◌∙◌, length, ◌<◌, ◌-◌}
+use Rattle.std.proofs.Common.{arith}
 use Rattle.season_generator.proofs.DrawLemmas.{draws_end, draws_go_on, exchange_ends, exchange_goes_on}
-use Rattle.season_generator.proofs.places.Draws.exchange.Goals as goal
+use Rattle.season_generator.proofs.draws.Draws.exchange.Goals as goal
 
 pub loop-last-preserved : goal.loop-last-preserved
 loop-last-preserved c = record {
