@@ -38,10 +38,10 @@ def choices(candidates, programmes, each):
         yield f"{number_of(k)},{named}"
 
 
-def bundle(candidates, programmes, each):
+def bundle(candidates, programmes, each, rounds=6):
     yield "office bundle 1"
     yield "[season]"
-    yield "rounds,6"
+    yield f"rounds,{rounds}"
     yield "clerk,clerkoffice"
     yield from register(candidates)
     yield from matrix(programmes)

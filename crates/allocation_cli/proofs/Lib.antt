@@ -3,4 +3,3 @@ mod Ended
 mod OfficeEnds
 mod OneAnswer
 mod RunEnds
-mod Spelling

@@ -1,4 +1,3 @@
 pub mod Check
 pub mod Program
 pub mod Run
-pub mod Words

@@ -5,12 +5,12 @@ use Rattle.command_answers.specs.Answers.{Answers, Tells}
 use Rattle.allocation_cli.specs.Check.{IsBundle, IsFaultyBundle, check_answers}
 use Rattle.allocation_cli.specs.Run.{EndsRun, TellsNoSeason}
 use Rattle.step_command.specs.Step.{IsFaultySheet, IsSheet, step_answers}
-use Rattle.allocation_cli.specs.Words.{SpellNothing, words_of}
-use Rattle.command_answers.specs.Writes.{IsTextOf, Writes}
+use Rattle.command_words.specs.Words.{Spell, SpellNothing}
+use Rattle.command_answers.specs.Writes.{IsTextOf, Writes, memory_line}
 use Rattle.command_answers.specs.declared.status.Status.{Status}
 use Rattle.command_answers.specs.declared.status.Status.TheVariants.{Ok as Done, Usage, BadInput, ReadFault, WriteFault, KeeperFault, OutOfMemory}
-use Rattle.allocation_cli.specs.declared.words.Command.{Command}
-use Rattle.allocation_cli.specs.declared.words.Command.TheVariants.{Step, Check, Run}
+use Rattle.command_words.specs.declared.words.Command.{Command}
+use Rattle.command_words.specs.declared.words.Command.TheVariants.{Step, Check, Run}
 
 abbrev pub usage_line : List ℕ
 usage_line = codes "fault: usage\n"
@@ -25,6 +25,16 @@ IsUsageText WriteFault text = ⊥
 IsUsageText KeeperFault text = ⊥
 IsUsageText OutOfMemory text = ⊥
 
+-- the whole text that goes with each status where there was no memory to divide the words
+abbrev pub IsWantText : Status → List ℕ → Type 0
+IsWantText Done text = ⊥
+IsWantText Usage text = ⊥
+IsWantText BadInput text = ⊥
+IsWantText ReadFault text = ⊥
+IsWantText WriteFault text = ⊥
+IsWantText KeeperFault text = ⊥
+IsWantText OutOfMemory text = text ≡ memory_line
+
 -- what a command that answers with one text writes, with its status; the tables are as before
 abbrev pub EndsText : Answers → Option (List ℕ) → Tables → Tables → Status → List ℕ → Type 0
 EndsText answers left before after status output = Writes (IsTextOf answers left) status output × (after ≡ before)
@@ -33,37 +43,47 @@ EndsText answers left before after status output = Writes (IsTextOf answers left
 abbrev pub Ends : Command → Option (List ℕ) → Tables → Tables → Status → List ℕ → Type 0
 Ends Step left before after = EndsText step_answers left before after
 Ends Check left before after = EndsText check_answers left before after
-Ends Run left before after = EndsRun left before after
+Ends (Run store) left before after = EndsRun left before after
 
 -- the same for words that spell no command: the tables are as before
 abbrev pub EndsUsage : Tables → Tables → Status → List ℕ → Type 0
 EndsUsage before after status output = Writes IsUsageText status output × (after ≡ before)
 
+-- the same where there was no memory to divide the words
+abbrev pub EndsUnread : Tables → Tables → Status → List ℕ → Type 0
+EndsUnread before after status output = Writes IsWantText status output × (after ≡ before)
+
 -- what is written, the status with it, and what the tables stand for, for the words, the bytes that the source had left and the tables before
 abbrev pub IsWritten : List (List ℕ) → Option (List ℕ) → Tables → Tables → Status → List ℕ → Type 0
-IsWritten words left before after status output =
-    (SpellNothing words × EndsUsage before after status output) ⊎ ((command : Command) × (words ≡ words_of command) × Ends command left before after status output)
+IsWritten words left before after status output = EndsUnread before after status output
+    ⊎ ((SpellNothing words × EndsUsage before after status output) ⊎ ((command : Command) × Spell words command × Ends command left before after status output))
 
 -- the source tells its bytes, and they are the command's input without faults
 abbrev pub TellsInput : Command → Option (List ℕ) → Type 0
 TellsInput Step left = Tells IsSheet left
 TellsInput Check left = Tells IsBundle left
-TellsInput Run left = Tells IsBundle left
+TellsInput (Run store) left = Tells IsBundle left
 
 -- the source tells its bytes, and they have a fault as the command's input
 abbrev pub TellsFault : Command → Option (List ℕ) → Type 0
 TellsFault Step left = Tells IsFaultySheet left
 TellsFault Check left = Tells IsFaultyBundle left
-TellsFault Run left = Tells IsFaultyBundle left
+TellsFault (Run store) left = Tells IsFaultyBundle left
 
 -- the keeper is as the command needs it: under `run` it tells that it holds no season
 abbrev pub IsReady : Command → Tables → Type 0
 IsReady Step tables = Unit {0}
 IsReady Check tables = Unit {0}
-IsReady Run tables = TellsNoSeason tables
+IsReady (Run store) tables = TellsNoSeason tables
+
+-- the command begins an office
+abbrev pub BeginsOffice : Command → Type 0
+BeginsOffice Step = ⊥
+BeginsOffice Check = ⊥
+BeginsOffice (Run store) = Unit {0}
 
 -- the command begins no office
 abbrev pub BeginsNone : Command → Type 0
 BeginsNone Step = Unit {0}
 BeginsNone Check = Unit {0}
-BeginsNone Run = ⊥
+BeginsNone (Run store) = ⊥

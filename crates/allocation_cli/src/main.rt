@@ -10,32 +10,39 @@ mod laws;
 mod program;
 #[cfg(test)]
 mod tests;
-mod words;
 
 use crate::program::allocate;
-use command_answers::tell_no_memory;
+use command_answers::{Status, tell_no_memory};
 use keeper_mem::SureKeeper;
 use office_base::{OutOfMemory, Words};
-use standard_streams::{StandardInput, StandardOutput};
+use standard_streams::{StandardInput, StandardOutput, tell_unheld};
 use std::alloc::Global;
+use std::io::IsTerminal;
 use std::process::ExitCode;
 use std::rt::Env;
 use std::{env, io};
 
 fn main(rt: HostRuntime) -> ExitCode {
     let alloc = rt.alloc();
-    let mut source = StandardInput::new(rt.stdin());
-    let mut sink = StandardOutput::new(rt.stdout());
+    let output = rt.stdout();
+    let at_once = output.is_terminal();
+    let Ok(mut sink) = StandardOutput::new(alloc, output, at_once) else {
+        return ExitCode::from(tell_unheld(rt.stdout()).code());
+    };
     let status = match words_of(&rt, alloc) {
         Ok(words) => allocate(
             alloc,
             &words,
-            &mut source,
+            &mut StandardInput::new(rt.stdin()),
             &mut sink,
             SureKeeper::new(alloc),
         )
         .0,
         Err(OutOfMemory) => tell_no_memory(&mut sink),
+    };
+    let status = match sink.finish() {
+        Ok(()) => status,
+        Err(_) => Status::WriteFault,
     };
     ExitCode::from(status.code())
 }

@@ -1,17 +1,17 @@
 // The top call of the office.
 ghost use Rattle.std.specs.Prelude.{◌≡◌, ◌≢◌, ◌≤◌, ◌⊎◌, ℕ, List};
 ghost use Rattle.office_base.specs.Outside.{Rose, IsAtEnd, Appends};
-ghost use Rattle.allocation_cli.specs.Program.{BeginsNone, Ends, IsReady, IsWritten, TellsFault, TellsInput};
+ghost use Rattle.allocation_cli.specs.Program.{BeginsNone, BeginsOffice, Ends, IsReady, IsWritten, TellsFault, TellsInput};
 ghost use Rattle.allocation_cli.specs.Run.{TellsSeason};
-ghost use Rattle.allocation_cli.specs.Words.{SpellNothing, words_of};
-ghost use Rattle.allocation_cli.specs.declared.words.Command.{Command as AnyCommand};
-ghost use Rattle.allocation_cli.specs.declared.words.Command.TheVariants.{Run};
+ghost use Rattle.command_words.specs.Words.{Spell, SpellNothing};
+ghost use Rattle.command_words.specs.declared.words.Command.{Command as AnyCommand};
 
 use crate::commands::check::check_answer;
 use crate::commands::run::run_season;
-use crate::laws::{one_answer, one_spelling};
-use crate::words::{Command, read_words};
-use command_answers::{Status, finish, write_answer};
+use crate::laws::one_answer;
+use command_answers::{Status, finish, tell_no_memory, write_answer};
+use command_words::laws::one_spelling;
+use command_words::{Command, Store, WordsFault, read_words};
 use keeper_mem::Keeper;
 use office_base::{Sink, Source, Words};
 use std::alloc::Global;
@@ -37,7 +37,7 @@ pub fn allocate<S: Source, K: Sink, P: Keeper>(
     // Words that spell no command leave the source as it was; and the keeper, as a command that begins no office does.
     ensures unread { SpellNothing words.now → (S.left source.new ≡ S.left source.old) × (S.faults source.new ≡ S.faults source.old) }
     ensures unkept { SpellNothing words.now → result.1 ≡ keeper }
-    ensures untouched { (command : AnyCommand) → words.now ≡ words_of command → BeginsNone command → result.1 ≡ keeper }
+    ensures untouched { (command : AnyCommand) → Spell words.now command → BeginsNone command → result.1 ≡ keeper }
 
     // A fault of the outside comes only where that object failed in this call.
     ensures read_fault { result.0 ≡ Status.ReadFault → Rose (S.faults source.old) (S.faults source.new) }
@@ -52,21 +52,22 @@ pub fn allocate<S: Source, K: Sink, P: Keeper>(
     ensures keeper_steady { result.0 ≢ Status.KeeperFault → result.0 ≢ Status.WriteFault → result.0 ≢ Status.OutOfMemory → P.faults result.1 ≡ P.faults keeper }
 
     // Where none failed, the answer is the one that the words, the bytes and the tables call for, or want of memory.
-    ensures usage { SpellNothing words.now → ¬ Rose (K.faults sink.old) (K.faults sink.new) → result.0 ≡ Status.Usage }
-    ensures complete { (command : AnyCommand) → words.now ≡ words_of command → TellsInput command (S.left source.old) → IsReady command (P.tables keeper)
+    ensures usage { SpellNothing words.now → ¬ Rose (K.faults sink.old) (K.faults sink.new) → (result.0 ≡ Status.Usage) ⊎ (result.0 ≡ Status.OutOfMemory) }
+    ensures complete { (command : AnyCommand) → Spell words.now command → TellsInput command (S.left source.old) → IsReady command (P.tables keeper)
         → ¬ Rose (S.faults source.old) (S.faults source.new) → ¬ Rose (K.faults sink.old) (K.faults sink.new) → ¬ Rose (P.faults keeper) (P.faults result.1)
         → (result.0 ≡ Status.Ok) ⊎ (result.0 ≡ Status.OutOfMemory) }
-    ensures refused { (command : AnyCommand) → words.now ≡ words_of command → TellsFault command (S.left source.old)
+    ensures refused { (command : AnyCommand) → Spell words.now command → TellsFault command (S.left source.old)
         → ¬ Rose (S.faults source.old) (S.faults source.new) → ¬ Rose (K.faults sink.old) (K.faults sink.new)
         → (result.0 ≡ Status.BadInput) ⊎ (result.0 ≡ Status.OutOfMemory) }
-    ensures not_empty { words.now ≡ words_of Run → TellsSeason (P.tables keeper)
+    ensures not_empty { (command : AnyCommand) → Spell words.now command → BeginsOffice command → TellsSeason (P.tables keeper)
         → ¬ Rose (S.faults source.old) (S.faults source.new) → ¬ Rose (K.faults sink.old) (K.faults sink.new) → ¬ Rose (P.faults keeper) (P.faults result.1)
         → (result.0 ≡ Status.BadInput) ⊎ (result.0 ≡ Status.OutOfMemory) }
 {
     one_spelling();
-    match read_words(words) {
-        Some(command) => run(alloc, command, source, sink, keeper),
-        None => (write_answer(sink, b"fault: usage\n", Status::Usage), keeper),
+    match read_words(alloc, words) {
+        Ok(command) => run(alloc, command, source, sink, keeper),
+        Err(WordsFault::Usage) => (write_answer(sink, b"fault: usage\n", Status::Usage), keeper),
+        Err(WordsFault::OutOfMemory) => (tell_no_memory(sink), keeper),
     }
 }
 
@@ -95,7 +96,7 @@ fn run<S: Source, K: Sink, P: Keeper>(
     ensures refused { TellsFault command (S.left source.old)
         → ¬ Rose (S.faults source.old) (S.faults source.new) → ¬ Rose (K.faults sink.old) (K.faults sink.new)
         → (result.0 ≡ Status.BadInput) ⊎ (result.0 ≡ Status.OutOfMemory) }
-    ensures not_empty { command ≡ Command.Run → TellsSeason (P.tables keeper)
+    ensures not_empty { BeginsOffice command → TellsSeason (P.tables keeper)
         → ¬ Rose (S.faults source.old) (S.faults source.new) → ¬ Rose (K.faults sink.old) (K.faults sink.new) → ¬ Rose (P.faults keeper) (P.faults result.1)
         → (result.0 ≡ Status.BadInput) ⊎ (result.0 ≡ Status.OutOfMemory) }
 {
@@ -103,6 +104,6 @@ fn run<S: Source, K: Sink, P: Keeper>(
     match command {
         Command::Step => (finish(sink, step_answer(alloc, source)), keeper),
         Command::Check => (finish(sink, check_answer(alloc, source)), keeper),
-        Command::Run => run_season(alloc, source, sink, keeper),
+        Command::Run(Store::Memory) => run_season(alloc, source, sink, keeper),
     }
 }

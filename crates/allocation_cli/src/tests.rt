@@ -381,27 +381,31 @@ fn the_real_streams_fail_once(rt: HostRuntime) -> Result<(), Fail> {
         (5, 3, 0, Status::WriteFault, "fault: read\n", 6),
     ];
     for (read, write, nothing, status, text, count) in cases {
-        let mut source = StandardInput::new(Pieces {
-            bytes: b"step sheet 1\nseats,0\n",
-            calls: 0,
-            fail_at: read,
-        });
-        let mut writer = Slow {
-            bytes: Vec::new(alloc),
-            calls: 0,
-            fail_at: write,
-            nothing_at: nothing,
-        };
-        let mut sink = StandardOutput::new(&mut writer);
-        let (ended, _) = allocate(
-            alloc,
-            &words,
-            &mut source,
-            &mut sink,
-            SureKeeper::new(alloc),
-        );
-        assert_eq!(rt; ended, status);
-        assert!(rt; Some(writer.bytes.as_slice()) == text.as_bytes().get(..count));
+        for at_once in [false, true] {
+            let mut source = StandardInput::new(Pieces {
+                bytes: b"step sheet 1\nseats,0\n",
+                calls: 0,
+                fail_at: read,
+            });
+            let mut writer = Slow {
+                bytes: Vec::new(alloc),
+                calls: 0,
+                fail_at: write,
+                nothing_at: nothing,
+            };
+            let Ok(mut sink) = StandardOutput::new(alloc, &mut writer, at_once) else {
+                return Err(Fail::new("no block"));
+            };
+            let keeper = SureKeeper::new(alloc);
+            let (ended, _) = allocate(alloc, &words, &mut source, &mut sink, keeper);
+            let ended = if sink.finish().is_ok() {
+                ended
+            } else {
+                Status::WriteFault
+            };
+            assert_eq!(rt; ended, status);
+            assert!(rt; Some(writer.bytes.as_slice()) == text.as_bytes().get(..count));
+        }
     }
     Ok(())
 }

@@ -6,4 +6,4 @@
 
 mod streams;
 
-pub use streams::{StandardInput, StandardOutput};
+pub use streams::{StandardInput, StandardOutput, tell_unheld};

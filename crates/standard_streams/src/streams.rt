@@ -1,9 +1,11 @@
 // Standard input and output as a source and a sink. They are the trusted edge: they tell no bytes, and raise a counter,
 // which begins with 0, at each error.
-ghost use Rattle.std.specs.Prelude.{◌≡◌, None};
+ghost use Rattle.std.specs.Prelude.{◌≡◌, ◌≤◌, IfOk, None, length};
 
-use office_base::{Failed, Sink, Source};
-use std::io::{Read, Write};
+use command_answers::Status;
+use office_base::{Failed, OutOfMemory, Sink, Source};
+use std::alloc::Global;
+use std::io::{self, BufWriter, Read, Write};
 
 /// A reader whose bytes are not told.
 #[derive(Drop)]
@@ -36,33 +38,79 @@ impl<R: Read> Source for StandardInput<R> {
     }
 }
 
-/// A writer whose bytes are not told.
+// How many bytes are held before they are given on.
+const BLOCK_LEN: usize = 65_536;
+
+/// A writer whose bytes are not told. They are held in a block, and given on where it is full, at the end, and where `at_once` is set at each write.
 #[derive(Drop)]
-pub struct StandardOutput<W: Write> {
-    writer: W,
+pub struct StandardOutput<W: Write + Drop> {
+    writer: BufWriter<W>,
+    at_once: bool,
     faults: u64,
 }
 
-impl<W: Write> StandardOutput<W> {
-    pub fn new(writer: W) -> StandardOutput<W>
-        ensures { result.faults ≡ 0 }
+impl<W: Write + Drop> StandardOutput<W> {
+    /// It takes the memory of the block. `at_once` is for a terminal, where what is written should be seen before more is read.
+    pub fn new(alloc: Global, writer: W, at_once: bool) -> Result<StandardOutput<W>, OutOfMemory>
+        ensures { IfOk result (λ output. output.faults ≡ 0) }
     {
-        StandardOutput { writer, faults: 0 }
+        let Ok(writer) = BufWriter::with_capacity(alloc, BLOCK_LEN, writer) else {
+            return Err(OutOfMemory);
+        };
+        Ok(StandardOutput {
+            writer,
+            at_once,
+            faults: 0,
+        })
+    }
+
+    /// Gives on what is held. After an error, here or before, what is still held is given up.
+    pub fn finish(self) -> Result<(), Failed> {
+        let StandardOutput {
+            mut writer,
+            at_once: _,
+            faults,
+        } = self;
+        if faults == 0 && writer.flush().is_ok() {
+            return Ok(());
+        }
+        let (_, _) = writer.into_parts();
+        Err(Failed)
+    }
+
+    // Takes a prefix of the piece into the block.
+    fn hold(&mut self, piece: &[u8]) -> io::Result<usize>
+        ensures within { IfOk result (λ n. n ≤ length piece.now) }
+        ensures faults { self.new.faults ≡ self.old.faults }
+    {
+        let count = self.writer.write(piece)?;
+        if self.at_once {
+            self.writer.flush()?;
+        }
+        Ok(count)
     }
 }
 
-impl<W: Write> Sink for StandardOutput<W> {
+impl<W: Write + Drop> Sink for StandardOutput<W> {
     ghost written = { λ _. None };
 
     ghost faults = { λ output. output.faults };
 
     fn write(&mut self, piece: &[u8]) -> Result<usize, Failed> {
-        match self.writer.write(piece) {
+        match self.hold(piece) {
             Ok(count) if 0 < count || piece.is_empty() => Ok(count),
             _ => {
                 self.faults = self.faults.saturating_add(1);
                 Err(Failed)
             }
         }
+    }
+}
+
+/// Tells a writer that no memory was found to hold what is written to it.
+pub fn tell_unheld<W: Write + Drop>(mut writer: W) -> Status {
+    match writer.write_all(b"fault: memory\n") {
+        Ok(()) => Status::OutOfMemory,
+        Err(_) => Status::WriteFault,
     }
 }

@@ -5,19 +5,28 @@
 #![tactic(auto)]
 
 use command_answers::{Status, finish, write_answer};
-use standard_streams::{StandardInput, StandardOutput};
+use standard_streams::{StandardInput, StandardOutput, tell_unheld};
 use std::env;
+use std::io::IsTerminal;
 use std::process::ExitCode;
 use std::rt::Env;
 use step_command::step_answer;
 
 fn main(rt: HostRuntime) -> ExitCode {
-    let mut source = StandardInput::new(rt.stdin());
-    let mut sink = StandardOutput::new(rt.stdout());
+    let output = rt.stdout();
+    let at_once = output.is_terminal();
+    let Ok(mut sink) = StandardOutput::new(rt.alloc(), output, at_once) else {
+        return ExitCode::from(tell_unheld(rt.stdout()).code());
+    };
     let status = if asks_for_a_step(&rt) {
+        let mut source = StandardInput::new(rt.stdin());
         finish(&mut sink, step_answer(rt.alloc(), &mut source))
     } else {
         write_answer(&mut sink, b"fault: usage\n", Status::Usage)
+    };
+    let status = match sink.finish() {
+        Ok(()) => status,
+        Err(_) => Status::WriteFault,
     };
     ExitCode::from(status.code())
 }

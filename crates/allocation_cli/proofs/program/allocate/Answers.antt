@@ -1,14 +1,19 @@
-use Rattle.std.proofs.Common.{inl, refl}
-use Rattle.allocation_cli.specs.Program.{IsUsageText, usage_line}
-use Rattle.command_answers.specs.declared.status.Status.TheVariants.{Usage}
-use Rattle.allocation_cli.specs.declared.words.Command.TheVariants.{Run}
+use Rattle.std.proofs.Common.{inl, inr, refl}
+use Rattle.allocation_cli.specs.Program.{IsUsageText, IsWantText, usage_line}
+use Rattle.command_answers.specs.Writes.{memory_line}
+use Rattle.command_answers.specs.declared.status.Status.TheVariants.{OutOfMemory, Usage}
 use Rattle.command_answers.proofs.Ended.{told_is_written}
 use Rattle.allocation_cli.proofs.program.allocate.Goals as goal
 
-pub returns-in-None-clause-written : goal.returns-in-None-clause-written
-returns-in-None-clause-written g c =
+pub returns-in-Err-Usage-clause-written : goal.returns-in-Err-Usage-clause-written
+returns-in-Err-Usage-clause-written g c =
     let (output, appends, writes) = told_is_written IsUsageText Usage c.write_answer.result usage_line _ _ _ refl c.write_answer.ensures.told in
-    (output, appends, inl (c.in-None.ensures.none, (writes, refl)))
+    (output, appends, inr (inl (c.in-Err-Usage.ensures.usage refl, (writes, refl))))
 
-pub returns-in-None-clause-not_empty : goal.returns-in-None-clause-not_empty
-returns-in-None-clause-not_empty g c spelled tells read wrote kept = absurd (c.in-None.ensures.none Run spelled)
+pub returns-in-Err-Usage-clause-not_empty : goal.returns-in-Err-Usage-clause-not_empty
+returns-in-Err-Usage-clause-not_empty g c command spelled begins tells read wrote kept = absurd (c.in-Err-Usage.ensures.usage refl command spelled)
+
+pub returns-in-Err-OutOfMemory-clause-written : goal.returns-in-Err-OutOfMemory-clause-written
+returns-in-Err-OutOfMemory-clause-written g c =
+    let (output, appends, writes) = told_is_written IsWantText OutOfMemory c.tell_no_memory.result memory_line _ _ _ refl c.tell_no_memory.ensures.told in
+    (output, appends, inl (writes, refl))

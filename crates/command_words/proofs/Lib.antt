@@ -1,0 +1,3 @@
+mod Divided
+mod Lines
+mod Spelling

@@ -1,0 +1,69 @@
+// The words of a command line in their places, divided by `clap`.
+ghost use Rattle.std.specs.Prelude.{◌≡◌, ◌≢◌, ◌<◌, ◌⊎◌, IfOk, IsErrOf, length, map};
+ghost use Rattle.clap.specs.Values.{kind_of};
+ghost use Rattle.clap.specs.Words.{app_of, found_of, rows_of};
+ghost use Rattle.command_words.specs.Parts.{ArePlain, AreParts, AreRows, program};
+
+use crate::words::WordsFault;
+use clap::error::ErrorKind;
+use clap::{Arg, ArgMatches, Command as Parser, Error};
+use std::alloc::{AllocError, Global};
+
+/// The words of a command line, each in its place.
+#[derive(Clone, Copy, Debug)]
+pub struct Parts<'a> {
+    pub command: Option<&'a str>,
+    pub first: Option<&'a str>,
+    pub second: Option<&'a str>,
+    pub third: Option<&'a str>,
+}
+
+/// The places of the words, of which none is empty or begins with `-`. `Usage` comes only where there is none, or more than four.
+pub fn parts_of<'a>(alloc: Global, line: &'a [&'a str]) -> Result<Parts<'a>, WordsFault>
+    requires { ArePlain (map (λ word. word.now) line.now) }
+    ensures parts { IfOk result (AreParts (map (λ word. word.now) line.entry.now)) }
+    ensures usage { IsErrOf result WordsFault.Usage → (length line.entry.now ≡ 0) ⊎ (4 < length line.entry.now) }
+{
+    let matches = divided(alloc, line)?;
+    Ok(Parts {
+        command: matches.get_str("command"),
+        first: matches.get_str("first"),
+        second: matches.get_str("second"),
+        third: matches.get_str("third"),
+    })
+}
+
+/// What `clap` finds in the words, of which none is empty or begins with `-`.
+fn divided<'a>(alloc: Global, line: &'a [&'a str]) -> Result<ArgMatches<'a>, WordsFault>
+    requires { ArePlain (map (λ word. word.now) line.now) }
+    ensures rows { IfOk result (λ matches. AreRows (map (λ word. word.now) line.entry.now) (rows_of (found_of matches))) }
+    ensures usage { IsErrOf result WordsFault.Usage → (length line.entry.now ≡ 0) ⊎ (4 < length line.entry.now) }
+{
+    let parser = parser(alloc)?;
+    match parser.try_get_matches_from(line) {
+        Ok(matches) => Ok(matches),
+        Err(error) => Err(fault_of(&error)),
+    }
+}
+
+/// The fault for an error of `clap`.
+fn fault_of(error: &Error) -> WordsFault
+    ensures { result ≡ WordsFault.Usage → kind_of error.now ≢ ErrorKind.OutOfMemory }
+{
+    match error.kind() {
+        ErrorKind::OutOfMemory => WordsFault::OutOfMemory,
+        _ => WordsFault::Usage,
+    }
+}
+
+/// What `clap` reads: a command, and up to three words after it.
+fn parser<'a>(alloc: Global) -> Result<Parser<'a>, AllocError>
+    ensures { IfOk result (λ parser. app_of parser ≡ program) }
+{
+    let command = Arg::new(alloc, "command").required(true);
+    let first = Arg::new(alloc, "first");
+    let second = Arg::new(alloc, "second");
+    let third = Arg::new(alloc, "third");
+    let named = Parser::new(alloc, "allocation_cli").no_binary_name(true);
+    named.arg(command)?.arg(first)?.arg(second)?.arg(third)
+}

@@ -1,0 +1,4 @@
+pub mod DrawLemmas
+pub mod PlaceLemmas
+pub mod RowLemmas
+pub mod SpellingLemmas

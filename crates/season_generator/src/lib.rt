@@ -1,0 +1,21 @@
+// Seasons that are made up from a number: a whole season bundle with its requests, and the summary of one that was run.
+//
+// The command that generates stands on it. `specs/Bundle` says every row as a function of what is drawn for it, and `specs/Draws` what is drawn;
+// the call gives exactly these bytes. What it draws with is a linear congruential generator: the same number gives the same season
+// everywhere, and nothing is promised about chance. It must never know how a season is read, who gets a seat, or of commands.
+#![tactic(auto)]
+
+mod bundle;
+mod candidates;
+mod draws;
+pub mod laws;
+mod places;
+mod profile;
+mod programmes;
+mod requests;
+mod spelling;
+mod summary;
+
+pub use bundle::{MOST_GENERATED, generate};
+pub use profile::Profile;
+pub use summary::{Summary, summary_text};

@@ -1,0 +1,102 @@
+// The requests of a generated season.
+ghost use Rattle.std.specs.Prelude.{◌≡◌, ◌≤◌, ◌+◌, ◌*◌, ◌++◌, OnOk};
+ghost use Rattle.season_generator.specs.Bundle.{answer_row, choice_name, cut_row, lines, requests_text, window_rows};
+ghost use Rattle.season_generator.specs.Draws.{after, drawn, next};
+
+use crate::draws::Draws;
+use crate::spelling::push_field;
+use office_base::{OutOfMemory, Text};
+use office_text::push_number;
+
+/// How many rounds a generated season has.
+const ROUNDS: u32 = 6;
+
+/// Puts the requests of `n` candidates and of the clerk. The answers are drawn from here on.
+pub(crate) fn push_requests(out: &mut Text, draws: Draws, n: u32) -> Result<(), OutOfMemory>
+    requires { n ≤ 100000 }
+    ensures { OnOk result (out.new ≡ out.old ++ requests_text n draws.state) }
+{
+    out.extend_from_slice(b"[requests]\n")?;
+    push_cut(out, 0)?;
+    push_windows(out, draws, n)
+}
+
+/// Puts the rows of the windows after window 0.
+fn push_windows(out: &mut Text, mut draws: Draws, n: u32) -> Result<(), OutOfMemory>
+    requires { n ≤ 100000 }
+    ensures { OnOk result (out.new ≡ out.old ++ lines 6 (λ before. window_rows n (after (n * before) draws.state) (before + 1))) }
+{
+    for before in 0..ROUNDS {
+        push_window(out, &mut draws, n, before + 1)?;
+    }
+    Ok(())
+}
+
+/// Puts the rows of a window.
+#[tactic(auto, unfolding(crate::specs::Bundle::window_rows))]
+fn push_window(out: &mut Text, draws: &mut Draws, n: u32, window: u32) -> Result<(), OutOfMemory>
+    requires { n ≤ 100000 }
+    ensures rows { OnOk result (out.new ≡ out.old ++ window_rows n draws.old.state window) }
+    ensures state { OnOk result (draws.new.state ≡ after n draws.old.state) }
+{
+    push_answers(out, draws, n, window)?;
+    push_cut(out, window)
+}
+
+/// Puts an answer of each candidate.
+fn push_answers(out: &mut Text, draws: &mut Draws, n: u32, window: u32) -> Result<(), OutOfMemory>
+    requires { n ≤ 100000 }
+    ensures rows { OnOk result (out.new ≡ out.old ++ lines n
+        (λ candidate. answer_row window (candidate + 1) (choice_name (drawn 20 (after candidate draws.old.state))))) }
+    ensures state { OnOk result (draws.new.state ≡ after n draws.old.state) }
+{
+    for candidate in 0..n {
+        push_drawn(out, draws, window, candidate + 1)?;
+    }
+    Ok(())
+}
+
+/// Puts the row of an answer that is drawn.
+fn push_drawn(out: &mut Text, draws: &mut Draws, window: u32, id: u32) -> Result<(), OutOfMemory>
+    ensures row { OnOk result (out.new ≡ out.old ++ answer_row window id (choice_name (drawn 20 draws.old.state))) }
+    ensures state { draws.new.state ≡ next draws.old.state }
+{
+    let choice = choice_name(draws.draw(20));
+    push_answer(out, window, id, choice)
+}
+
+/// The answer of a number below 20.
+fn choice_name(number: u32) -> &'static str
+    ensures { result.now ≡ choice_name number }
+{
+    match number {
+        0 => "withdraw",
+        1..=3 => "freeze",
+        4..=6 => "slide",
+        _ => "float",
+    }
+}
+
+/// Puts the row of an answer.
+#[tactic(auto, unfolding(crate::specs::Bundle::answer_row))]
+fn push_answer(out: &mut Text, window: u32, id: u32, choice: &str) -> Result<(), OutOfMemory>
+    ensures { OnOk result (out.new ≡ out.old ++ answer_row window id choice.now) }
+{
+    out.extend_from_slice(b"answer")?;
+    push_field(out, id)?;
+    push_field(out, id)?;
+    push_field(out, window)?;
+    out.extend_from_slice(b",1,")?;
+    out.extend_from_slice(choice.as_bytes())?;
+    out.extend_from_slice(b"\n")
+}
+
+/// Puts the row of a cut.
+#[tactic(auto, unfolding(crate::specs::Bundle::cut_row))]
+fn push_cut(out: &mut Text, window: u32) -> Result<(), OutOfMemory>
+    ensures { OnOk result (out.new ≡ out.old ++ cut_row window) }
+{
+    out.extend_from_slice(b"cut,clerk,")?;
+    push_number(out, window)?;
+    out.extend_from_slice(b"\n")
+}
