@@ -1,5 +1,1 @@
-mod CheckFaults
 mod Ended
-mod OfficeEnds
-mod OneAnswer
-mod RunEnds

@@ -1,3 +1,1 @@
-pub mod Check
 pub mod Program
-pub mod Run

@@ -2,8 +2,8 @@
 use Rattle.std.specs.Prelude.{◌≡◌, ◌⊎◌, ℕ, List, Option, codes}
 use Rattle.keeper_mem.specs.Tables.{Tables}
 use Rattle.command_answers.specs.Answers.{Answers, Tells}
-use Rattle.allocation_cli.specs.Check.{IsBundle, IsFaultyBundle, check_answers}
-use Rattle.allocation_cli.specs.Run.{EndsRun, TellsNoSeason}
+use Rattle.season_commands.specs.Check.{IsBundle, IsFaultyBundle, check_answers}
+use Rattle.season_commands.specs.Run.{EndsRun, TellsNoSeason}
 use Rattle.step_command.specs.Step.{IsFaultySheet, IsSheet, step_answers}
 use Rattle.command_words.specs.Words.{Spell, SpellNothing}
 use Rattle.command_answers.specs.Writes.{IsTextOf, Writes, memory_line}

@@ -5,7 +5,6 @@
 // bytes. Nothing stands on this crate, and it decides nothing of seats itself.
 #![tactic(auto)]
 
-mod commands;
 mod laws;
 mod program;
 #[cfg(test)]

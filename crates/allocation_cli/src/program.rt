@@ -2,18 +2,17 @@
 ghost use Rattle.std.specs.Prelude.{◌≡◌, ◌≢◌, ◌≤◌, ◌⊎◌, ℕ, List};
 ghost use Rattle.office_base.specs.Outside.{Rose, IsAtEnd, Appends};
 ghost use Rattle.allocation_cli.specs.Program.{BeginsNone, BeginsOffice, Ends, IsReady, IsWritten, TellsFault, TellsInput};
-ghost use Rattle.allocation_cli.specs.Run.{TellsSeason};
+ghost use Rattle.season_commands.specs.Run.{TellsSeason};
 ghost use Rattle.command_words.specs.Words.{Spell, SpellNothing};
 ghost use Rattle.command_words.specs.declared.words.Command.{Command as AnyCommand};
 
-use crate::commands::check::check_answer;
-use crate::commands::run::run_season;
 use crate::laws::one_answer;
 use command_answers::{Status, finish, tell_no_memory, write_answer};
 use command_words::laws::one_spelling;
 use command_words::{Command, Store, WordsFault, read_words};
 use keeper_mem::Keeper;
 use office_base::{Sink, Source, Words};
+use season_commands::{check_answer, run_season};
 use std::alloc::Global;
 use step_command::step_answer;
 

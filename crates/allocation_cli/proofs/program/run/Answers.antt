@@ -1,4 +1,4 @@
-use Rattle.allocation_cli.specs.Check.{check_answers}
+use Rattle.season_commands.specs.Check.{check_answers}
 use Rattle.step_command.specs.Step.{step_answers}
 use Rattle.command_answers.proofs.Ended.{fault_is_refused, input_is_answered, source_held}
 use Rattle.allocation_cli.proofs.Ended.{text_is_written}

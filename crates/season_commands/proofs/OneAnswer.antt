@@ -17,7 +17,7 @@ use Rattle.season_file.specs.Season.{content_of}
 use Rattle.season_file.specs.declared.season.Season.{Season}
 use Rattle.season_texts.specs.Texts.{counts_line, fault_line, line_of_counts}
 use Rattle.command_answers.specs.Answers.{HaveOneAnswer}
-use Rattle.allocation_cli.specs.Check.{IsCheckOutput, check_answers}
+use Rattle.season_commands.specs.Check.{IsCheckOutput, check_answers}
 use Rattle.step_command.specs.Step.{IsStepOutput, IsStepText, step_answers}
 
 -- people are counted alike by tests that are alike

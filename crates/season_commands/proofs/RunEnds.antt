@@ -8,9 +8,9 @@ use Rattle.round_cut.specs.declared.fault.BeginFault.{BeginFault}
 use Rattle.round_cut.specs.declared.fault.BeginFault.TheVariants.{NotEmpty, KeeperFault as NoKeeper, OutOfMemory as NoMemory}
 use Rattle.season_file.specs.Season.{content_of}
 use Rattle.command_answers.specs.Answers.{HaveOneAnswer, IsFailureOf, Tells}
-use Rattle.allocation_cli.specs.Check.{IsBundle, IsFaultyBundle, IsLeftBundle, check_answers}
+use Rattle.season_commands.specs.Check.{IsBundle, IsFaultyBundle, IsLeftBundle, check_answers}
 use Rattle.command_answers.specs.Writes.{status_of, text_of}
-use Rattle.allocation_cli.specs.Run.{EndsRun, EndsSeason, IsUnbegunText, IsUnreadText, begin_status, begin_text}
+use Rattle.season_commands.specs.Run.{EndsRun, EndsSeason, IsUnbegunText, IsUnreadText, begin_status, begin_text}
 use Rattle.command_answers.specs.Writes.{IsTold}
 use Rattle.command_answers.specs.declared.failure.Failure.{Failure}
 use Rattle.command_answers.specs.declared.failure.Failure.TheVariants.{Read, Bad, NoMemory as NoMemoryToRead}

@@ -7,7 +7,7 @@ use Rattle.season_file.specs.declared.fault.SeasonFault.{SeasonFault}
 use Rattle.season_file.specs.declared.fault.SeasonFault.TheVariants.{ReadFault, TooLong, OutOfMemory}
 use Rattle.season_texts.specs.Texts.{fault_line}
 use Rattle.command_answers.specs.Answers.{HasLeft, IsFailureOf}
-use Rattle.allocation_cli.specs.Check.{IsBundleFaultLine, TellsSeasonFault, check_answers}
+use Rattle.season_commands.specs.Check.{IsBundleFaultLine, TellsSeasonFault, check_answers}
 use Rattle.command_answers.specs.declared.failure.Failure.{Failure}
 use Rattle.command_answers.specs.declared.failure.Failure.TheVariants.{Read, Bad, NoMemory}
 use Rattle.command_answers.proofs.Ended.{all_left, long_left}

@@ -1,7 +1,7 @@
 use Rattle.std.proofs.Common.{Err, ap, sym, ◌∙◌}
-use Rattle.allocation_cli.proofs.CheckFaults.{season_failed, season_held}
+use Rattle.season_commands.proofs.CheckFaults.{season_failed, season_held}
 use Rattle.command_answers.proofs.Ended.{all_left}
-use Rattle.allocation_cli.proofs.commands.bundle.read_bundle.Goals as goal
+use Rattle.season_commands.proofs.bundle.read_bundle.Goals as goal
 
 pub returns-in-Ok-clause-bundle : goal.returns-in-Ok-clause-bundle
 returns-in-Ok-clause-bundle g c =

@@ -1,5 +1,5 @@
-use Rattle.allocation_cli.proofs.OfficeEnds.{keeper_ends, memory_ends}
-use Rattle.allocation_cli.proofs.commands.run.answer_script.Goals as goal
+use Rattle.season_commands.proofs.OfficeEnds.{keeper_ends, memory_ends}
+use Rattle.season_commands.proofs.run.answer_script.Goals as goal
 
 pub returns-in-KeeperFault-clause-written : goal.returns-in-KeeperFault-clause-written
 returns-in-KeeperFault-clause-written g c =

@@ -1,8 +1,8 @@
 use Rattle.std.proofs.Common.{Err}
-use Rattle.allocation_cli.specs.Check.{check_answers}
+use Rattle.season_commands.specs.Check.{check_answers}
 use Rattle.command_answers.proofs.Ended.{input_is_answered}
-use Rattle.allocation_cli.proofs.RunEnds.{no_faulty_bundle, read_ends, unread_ends}
-use Rattle.allocation_cli.proofs.commands.run.run_season.Goals as goal
+use Rattle.season_commands.proofs.RunEnds.{no_faulty_bundle, read_ends, unread_ends}
+use Rattle.season_commands.proofs.run.run_season.Goals as goal
 
 pub returns-in-Ok-clause-written : goal.returns-in-Ok-clause-written
 returns-in-Ok-clause-written g c =
@@ -11,7 +11,7 @@ returns-in-Ok-clause-written g c =
 
 pub returns-in-Ok-clause-refused : goal.returns-in-Ok-clause-refused
 returns-in-Ok-clause-refused g c tells read wrote =
-    absurd (no_faulty_bundle _ c.in-Ok.season c.in-Ok.script c.one_answer.ensures.check c.in-Ok.ensures.bundle tells)
+    absurd (no_faulty_bundle _ c.in-Ok.season c.in-Ok.script c.one_answer.ensures c.in-Ok.ensures.bundle tells)
 
 pub returns-in-Err-clause-written : goal.returns-in-Err-clause-written
 returns-in-Err-clause-written g c =
@@ -19,4 +19,4 @@ returns-in-Err-clause-written g c =
 
 pub returns-in-Err-clause-complete : goal.returns-in-Err-clause-complete
 returns-in-Err-clause-complete g c tells none read wrote kept =
-    input_is_answered check_answers _ _ (Err c.in-Err.failure) c.tell_failure.result _ _ _ c.one_answer.ensures.check c.in-Err.ensures.failure c.tell_failure.ensures.told tells read wrote
+    input_is_answered check_answers _ _ (Err c.in-Err.failure) c.tell_failure.result _ _ _ c.one_answer.ensures c.in-Err.ensures.failure c.tell_failure.ensures.told tells read wrote

@@ -2,9 +2,9 @@
 ghost use Rattle.std.specs.Prelude.{◌≡◌, ◌≤◌, IfOk, IfErr, OnOk, IsErrOf};
 ghost use Rattle.office_base.specs.Outside.{Rose, IsAtEnd};
 ghost use Rattle.command_answers.specs.Answers.{HasLeft, IsFailureOf};
-ghost use Rattle.allocation_cli.specs.Check.{check_answers};
+ghost use Rattle.season_commands.specs.Check.{check_answers};
 
-use crate::commands::bundle::read_bundle;
+use crate::bundle::read_bundle;
 use command_answers::Failure;
 use office_base::{Source, Text};
 use season_texts::counts_text;

@@ -7,11 +7,11 @@ ghost use Rattle.keeper_mem.specs.Tables.{IsFound};
 ghost use Rattle.office_moves.specs.Stands.{Stand};
 ghost use Rattle.office_moves.specs.State.{opening};
 ghost use Rattle.command_answers.specs.Answers.{IsFailureOf, Tells};
-ghost use Rattle.allocation_cli.specs.Check.{IsBundle, IsFaultyBundle, check_answers};
-ghost use Rattle.allocation_cli.specs.Run.{EndsOffice, EndsRun, EndsSeason, TellsNoSeason, TellsSeason, begin_status, begin_text};
+ghost use Rattle.season_commands.specs.Check.{IsBundle, IsFaultyBundle, check_answers};
+ghost use Rattle.season_commands.specs.Run.{EndsOffice, EndsRun, EndsSeason, TellsNoSeason, TellsSeason, begin_status, begin_text};
 ghost use Rattle.command_answers.specs.Writes.{IsTold};
 
-use crate::commands::bundle::read_bundle;
+use crate::bundle::read_bundle;
 use crate::laws::one_answer;
 use command_answers::{Failure, Status, tell_failure, write_answer};
 use keeper_mem::Keeper;

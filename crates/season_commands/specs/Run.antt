@@ -12,7 +12,7 @@ use Rattle.round_cut.specs.declared.fault.BeginFault.{BeginFault}
 use Rattle.round_cut.specs.declared.fault.BeginFault.TheVariants.{NotEmpty, KeeperFault as NoKeeper, OutOfMemory as NoMemory}
 use Rattle.script_runs.specs.Runs.{AfterOneMore, AfterSome, reply_bytes}
 use Rattle.command_answers.specs.Answers.{HasLeft}
-use Rattle.allocation_cli.specs.Check.{IsBundleFaultLine, IsLeftBundle}
+use Rattle.season_commands.specs.Check.{IsBundleFaultLine, IsLeftBundle}
 use Rattle.command_answers.specs.Writes.{Writes, memory_line, read_line}
 use Rattle.command_answers.specs.declared.status.Status.{Status}
 use Rattle.command_answers.specs.declared.status.Status.TheVariants.{Ok as Done, Usage, BadInput, ReadFault, WriteFault, KeeperFault, OutOfMemory}

@@ -1,5 +1,5 @@
-use Rattle.allocation_cli.proofs.RunEnds.{unbegun_ends}
-use Rattle.allocation_cli.proofs.commands.run.run_script.Goals as goal
+use Rattle.season_commands.proofs.RunEnds.{unbegun_ends}
+use Rattle.season_commands.proofs.run.run_script.Goals as goal
 
 pub returns-in-Err-clause-written : goal.returns-in-Err-clause-written
 returns-in-Err-clause-written g c =

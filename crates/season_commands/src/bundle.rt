@@ -3,7 +3,7 @@ ghost use Rattle.std.specs.Prelude.{◌≡◌, ◌≤◌, IfOk, IfErr, OnOk, IsE
 ghost use Rattle.office_base.specs.Outside.{Rose, IsAtEnd};
 ghost use Rattle.season_file.specs.Season.{IsSeason};
 ghost use Rattle.command_answers.specs.Answers.{IsFailureOf};
-ghost use Rattle.allocation_cli.specs.Check.{IsLeftBundle, TellsSeasonFault, check_answers};
+ghost use Rattle.season_commands.specs.Check.{IsLeftBundle, TellsSeasonFault, check_answers};
 
 use command_answers::Failure;
 use office_base::{OutOfMemory, Source};

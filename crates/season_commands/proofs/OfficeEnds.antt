@@ -6,7 +6,7 @@ use Rattle.keeper_mem.specs.Tables.{Tables}
 use Rattle.office_moves.specs.Facts.{SeasonFacts}
 use Rattle.office_moves.specs.State.{State, opening}
 use Rattle.script_runs.specs.Runs.{Ended, EndsBefore, EndsShort, EndsWithin}
-use Rattle.allocation_cli.specs.Run.{EndsOffice, FollowsOneMore, FollowsSome, keeper_line}
+use Rattle.season_commands.specs.Run.{EndsOffice, FollowsOneMore, FollowsSome, keeper_line}
 use Rattle.command_answers.specs.Writes.{IsTold, memory_line}
 use Rattle.command_answers.specs.declared.status.Status.{Status}
 use Rattle.command_answers.specs.declared.status.Status.TheVariants.{WriteFault, KeeperFault, OutOfMemory}

@@ -1,0 +1,4 @@
+mod CheckFaults
+mod OfficeEnds
+mod OneAnswer
+mod RunEnds
