@@ -1,0 +1,4 @@
+pub mod Fields
+pub mod HeadEnds
+pub mod Messages
+pub mod Told
