@@ -1,5 +1,5 @@
 -- What the fields of a head say of the body and of the connection.
-use Rattle.std.specs.Prelude.{ℕ, ◌==◌, ◌&&◌, ◌||◌, Bool, List, [], ◌∷◌, length, map, filter, Option, None, Some, Result, Ok, Err, nat_le, nat_lt, bytes_eq, codes, if◌then◌else◌}
+use Rattle.std.specs.Prelude.{ℕ, ◌==◌, ◌&&◌, ◌||◌, Bool, List, [], ◌∷◌, length, map, filter, Option, None, Some, is_some, Result, Ok, Err, nat_le, nat_lt, bytes_eq, codes, if◌then◌else◌}
 use Rattle.std.specs.List.{list_all, list_any}
 use Rattle.std.specs.Str.{str_eq_ignore_ascii_case}
 use Rattle.httparse.specs.Grammar.{trim_ows}
@@ -33,7 +33,7 @@ first_value name fields = first_of (values name fields)
 
 -- some field has that name
 abbrev pub has_field : List ℕ → List Pair → Bool
-has_field name fields = list_any (is_named name) fields
+has_field name fields = is_some (first_value name fields)
 
 -- a run of 1 to 18 digits
 abbrev pub is_length : List ℕ → Bool
@@ -43,14 +43,14 @@ is_length text = nat_le 1 (length text) && nat_le (length text) 18 && are_digits
 abbrev pub is_length_of : ℕ → List ℕ → Bool
 is_length_of n text = is_length text && value_of text == n
 
--- The number that all the lengths spell, of which the first is given; 400 where one is no length, or two differ.
-abbrev pub shared_length : List ℕ → List (List ℕ) → Result (Option ℕ) ℕ
-shared_length first lengths = if is_length first && list_all (is_length_of (value_of first)) lengths then Ok (Some (value_of first)) else Err 400
+-- The number that lengths spell, of which the first is given: none where there is no length, 400 where one is none, or two differ.
+abbrev pub shared_length : Option (List ℕ) → List (List ℕ) → Result (Option ℕ) ℕ
+shared_length None lengths = Ok None
+shared_length (Some first) lengths = if is_length first && list_all (is_length_of (value_of first)) lengths then Ok (Some (value_of first)) else Err 400
 
--- the number that lengths spell, where there are any
+-- the number that all the lengths spell, where there are any
 abbrev pub one_length : List (List ℕ) → Result (Option ℕ) ℕ
-one_length [] = Ok None
-one_length (first ∷ others) = shared_length first (first ∷ others)
+one_length lengths = shared_length (first_of lengths) lengths
 
 -- How long a body is, by the method and the length that is told: 411 where a POST tells none, 413 where it is above 4,096.
 abbrev pub length_for : List ℕ → Result (Option ℕ) ℕ → Result ℕ ℕ

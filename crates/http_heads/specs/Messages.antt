@@ -1,5 +1,5 @@
 -- What bytes begin with: a whole message, what is refused at once, or the beginning of a message.
-use Rattle.std.specs.Prelude.{◌≡◌, ◌<◌, ◌≤◌, ◌+◌, ◌⊎◌, ℕ, List, ◌++◌, length, take, drop, map, Option, None, Some, Ok, Err}
+use Rattle.std.specs.Prelude.{◌≡◌, ◌<◌, ◌≤◌, ◌+◌, ◌⊎◌, ℕ, List, ◌++◌, length, take, drop, map, None, Some, Ok, Err}
 use Rattle.httparse.specs.Grammar.{RequestHead, ReadsRequest}
 use Rattle.httparse.specs.Spans.{name_and_value}
 use Rattle.http_heads.specs.Fields.{Pair, body_len}
@@ -59,9 +59,13 @@ IsNoHead bytes = (end : ℕ) × HeadEnds bytes end × ((head : RequestHead) → 
 abbrev pub IsUnframed : List ℕ → ℕ → Type 0
 IsUnframed bytes status = (end : ℕ) × (head : RequestHead) × HeadEnds bytes end × Reads (take end bytes) head × (body_len head.method (pairs head) ≡ Err status)
 
+-- a head ended, and with this status it is refused
+abbrev pub IsRefusedHead : List ℕ → ℕ → Type 0
+IsRefusedHead bytes status = ((status ≡ 400) × IsNoHead bytes) ⊎ IsUnframed bytes status
+
 -- the bytes are refused with this status, whatever follows
 abbrev pub IsRefused : List ℕ → ℕ → Type 0
-IsRefused bytes status = ((status ≡ 431) × IsTooLong bytes) ⊎ ((status ≡ 400) × IsNoHead bytes) ⊎ IsUnframed bytes status
+IsRefused bytes status = ((status ≡ 431) × IsTooLong bytes) ⊎ IsRefusedHead bytes status
 
 -- no head has ended yet, and one still can
 abbrev pub HasNoHeadYet : List ℕ → Type 0

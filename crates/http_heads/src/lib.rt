@@ -7,7 +7,13 @@
 #![tactic(auto)]
 
 pub mod fields;
+pub mod head_ends;
+pub mod heads;
 pub mod held;
+pub mod laws;
+pub mod message;
+pub mod values;
 
 pub use fields::Fields;
-pub use held::{Held, HeldMessage};
+pub use held::held_message;
+pub use message::{Held, HeldMessage};
