@@ -43,14 +43,14 @@ is_length text = nat_le 1 (length text) && nat_le (length text) 18 && are_digits
 abbrev pub is_length_of : ℕ → List ℕ → Bool
 is_length_of n text = is_length text && value_of text == n
 
--- The number that lengths spell, of which the first is given: none where there is no length, 400 where one is none, or two differ.
+-- The number that values spell as lengths, of which the first is given: none where there is no value, 400 where one spells no length, or two differ.
 abbrev pub shared_length : Option (List ℕ) → List (List ℕ) → Result (Option ℕ) ℕ
-shared_length None lengths = Ok None
-shared_length (Some first) lengths = if is_length first && list_all (is_length_of (value_of first)) lengths then Ok (Some (value_of first)) else Err 400
+shared_length None texts = Ok None
+shared_length (Some first) texts = if is_length first && list_all (is_length_of (value_of first)) texts then Ok (Some (value_of first)) else Err 400
 
--- the number that all the lengths spell, where there are any
+-- the number that all values spell as lengths, where there are any
 abbrev pub one_length : List (List ℕ) → Result (Option ℕ) ℕ
-one_length lengths = shared_length (first_of lengths) lengths
+one_length texts = shared_length (first_of texts) texts
 
 -- How long a body is, by the method and the length that is told: 411 where a POST tells none, 413 where it is above 4,096.
 abbrev pub length_for : List ℕ → Result (Option ℕ) ℕ → Result ℕ ℕ
