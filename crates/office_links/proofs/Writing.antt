@@ -1,5 +1,5 @@
 -- What several writes, one after another, do to what is told.
-use Rattle.std.proofs.Common.{◌≡◌, ℕ, List, [], ◌++◌, Option, Some, None, take, length, refl, sym, ap, ◌∙◌, subst, append_assoc}
+use Rattle.std.proofs.Common.{◌≡◌, ℕ, List, [], ◌++◌, Option, Some, None, take, length, ◌<◌, refl, sym, ap, ◌∙◌, subst, append_assoc, arith, length-append}
 use Rattle.std.proofs.lemmas.List.{append-nil, take_at}
 use Rattle.office_base.specs.Outside.{AppendsPrefix, Appends}
 
@@ -15,7 +15,10 @@ Appends-more done piece n (Some bytes) mid after a f =
     let e : after ≡ Some ((bytes ++ done) ++ take n piece) = subst (λ (m : Option (List ℕ)). AppendsPrefix n piece m after) a f in
     e ∙ ap (λ (x : List ℕ). Some x) (append_assoc bytes done (take n piece))
 
--- what was written is a prefix of the piece, also after a call that wrote nothing
-pub written_prefix : (piece done rest : List ℕ) (before mid after : Option (List ℕ)) → piece ≡ done ++ rest → Appends done before mid → after ≡ mid → (n : ℕ) × Appends (take n piece) before after
-written_prefix piece done rest before mid after e a k =
-    (length done, subst (λ (x : List ℕ). Appends x before after) (sym (ap (λ (x : List ℕ). take (length done) x) e ∙ take_at done rest (length done) refl)) (subst (λ (m : Option (List ℕ)). Appends done before m) (sym k) a))
+-- what was written is a prefix of the piece and not all of it, also after a call that wrote nothing
+pub written_prefix : (piece done rest : List ℕ) (before mid after : Option (List ℕ)) → piece ≡ done ++ rest → 0 < length rest → Appends done before mid → after ≡ mid → (n : ℕ) × (n < length piece) × Appends (take n piece) before after
+written_prefix piece done rest before mid after e some a k = (
+  length done,
+  omega (arith, ap length e, length-append done rest),
+  subst (λ (x : List ℕ). Appends x before after) (sym (ap (λ (x : List ℕ). take (length done) x) e ∙ take_at done rest (length done) refl)) (subst (λ (m : Option (List ℕ)). Appends done before m) (sym k) a),
+)
