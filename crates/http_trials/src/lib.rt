@@ -5,3 +5,7 @@
 
 #[cfg(test)]
 mod heads;
+#[cfg(test)]
+mod links;
+#[cfg(test)]
+mod replies;
