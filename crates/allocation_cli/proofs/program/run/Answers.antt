@@ -2,7 +2,7 @@ use Rattle.season_commands.specs.Check.{check_answers}
 use Rattle.step_command.specs.Step.{step_answers}
 use Rattle.command_answers.proofs.Ended.{fault_is_refused, input_is_answered, source_held}
 use Rattle.allocation_cli.proofs.Ended.{text_is_written}
-use Rattle.allocation_cli.proofs.GeneratedEnds.{generated_answered, generated_ends, no_read_fault}
+use Rattle.allocation_cli.proofs.GeneratedEnds.{generated_ends}
 use Rattle.allocation_cli.proofs.program.run.Goals as goal
 
 pub returns-in-Step-clause-written : goal.returns-in-Step-clause-written
@@ -37,14 +37,6 @@ pub returns-in-Check-clause-source_steady : goal.returns-in-Check-clause-source_
 returns-in-Check-clause-source_steady g c =
     source_held c.check_answer.result _ _ _ _ _ c.check_answer.ensures.steady c.finish-in-Check.ensures.told
 
-pub returns-in-Generate-clause-written : goal.returns-in-Generate-clause-written
-returns-in-Generate-clause-written g c =
-    rw c.in-Generate.is (generated_ends c.in-Generate.n c.in-Generate.seed c.generate_answer.result _ _ _ _ _ c.generate_answer.ensures.output c.generate_answer.ensures.failure c.finish-in-Generate.ensures.told)
-
-pub returns-in-Generate-clause-complete : goal.returns-in-Generate-clause-complete
-returns-in-Generate-clause-complete g c tells ready read wrote kept =
-    generated_answered c.generate_answer.result c.finish-in-Generate.result _ _ _ c.generate_answer.ensures.failure c.finish-in-Generate.ensures.told wrote
-
-pub returns-in-Generate-clause-read_fault : goal.returns-in-Generate-clause-read_fault
-returns-in-Generate-clause-read_fault g c fault =
-    absurd (no_read_fault c.generate_answer.result c.finish-in-Generate.result _ _ _ c.generate_answer.ensures.failure c.finish-in-Generate.ensures.told fault)
+pub returns-in-Generate-default-default-Text-clause-written : goal.returns-in-Generate-default-default-Text-clause-written
+returns-in-Generate-default-default-Text-clause-written g c =
+    rw c.in-Generate-default-default-Text.is (generated_ends c.in-Generate-default-default-Text.n c.in-Generate-default-default-Text.seed c.generate_answer.result _ _ _ _ _ c.generate_answer.ensures.output c.generate_answer.ensures.failure c.finish-in-Generate-default-default-Text.ensures.told)
