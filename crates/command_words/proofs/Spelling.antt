@@ -1,6 +1,6 @@
 -- How commands are spelled.
 use Rattle.std.proofs.Common.{◌≡◌, ◌≤◌, ◌<◌, ◌^◌, ◌⊎◌, inl, inr, true≢false, ℕ, Bool, true, false, leb, List, [], ◌∷◌, Option, Some, None, length, codes, refl, sym, ap, subst, arith, ◌∙◌}
-use Rattle.std.specs.Prelude.{IfNone, IfSome, ◌&&◌, not, option_map, slice_get}
+use Rattle.std.specs.Prelude.{IfNone, IfSome, ◌&&◌, option_map}
 use Rattle.std.specs.Borrow.{Bor}
 use Rattle.std.specs.Fmt.{decimal}
 use Rattle.std.proofs.lemmas.Bool.{and_from, and_parts, cond-true, le-leb, leb-true}

@@ -1,5 +1,5 @@
 use Rattle.std.proofs.Common.{◌≡◌, Some}
-use Rattle.command_words.proofs.Spelling.{none_named, none_numbered, none_stored, some_named, some_numbered, some_stored, three_spell_nothing}
+use Rattle.command_words.proofs.Spelling.{none_named, none_stored, some_named, some_numbered, some_stored}
 use Rattle.command_words.proofs.words.command_of.Goals as goal
 
 pub returns-in-Some-first-clause-some : goal.returns-in-Some-first-clause-some

@@ -1,4 +1,4 @@
-use Rattle.std.proofs.Common.{Err, ◌≡◌, ◌∙◌, ◌<◌, ◌⊎◌, inl, inr, ap, arith, length, map}
+use Rattle.std.proofs.Common.{Err, ◌≡◌, ◌∙◌, inl, inr, ap, arith, length, map}
 use Rattle.std.proofs.lemmas.List.{length-map}
 use Rattle.command_words.specs.declared.words.WordsFault.TheVariants.{Usage}
 use Rattle.command_words.proofs.Spelling.{many_spell_nothing}
