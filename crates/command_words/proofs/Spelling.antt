@@ -1,12 +1,10 @@
 -- How commands are spelled.
-use Rattle.std.proofs.Common.{◌≡◌, ◌≤◌, ◌<◌, ◌^◌, ◌⊎◌, inl, inr, true≢false, ℕ, Bool, true, false, leb, List, [], ◌∷◌, Option, Some, None, length, codes, refl, sym, ap, subst, arith, ◌∙◌}
-use Rattle.std.specs.Prelude.{IfNone, IfSome, ◌&&◌, option_map}
+use Rattle.std.proofs.Common.{◌≡◌, ◌≤◌, ◌<◌, ◌^◌, ◌⊎◌, inl, inr, true≢false, ℕ, Bool, true, false, List, [], ◌∷◌, Option, Some, None, length, refl, sym, ap, subst, arith, ◌∙◌}
+use Rattle.std.specs.Prelude.{IfNone, IfSome, option_map}
 use Rattle.std.specs.Borrow.{Bor}
 use Rattle.std.specs.Fmt.{decimal}
-use Rattle.std.proofs.lemmas.Bool.{and_from, and_parts, cond-true, le-leb, leb-true}
 use Rattle.std.proofs.lemmas.Bool.Decides.{eqb_tells}
-use Rattle.std.proofs.lemmas.Option.{cond_some}
-use Rattle.office_text.specs.Number.{AreInverse, is_number, number_of, number_within, value_of}
+use Rattle.office_text.specs.Number.{AreInverse, is_number, number_of}
 use Rattle.command_words.specs.Parts.{ArePlain, AreParts, is_plain}
 use Rattle.command_words.specs.Words.{IsInRange, Spell, SpellNothing, word_out, words_of}
 use Rattle.command_words.specs.declared.parts.Parts.{Parts}
@@ -21,26 +19,6 @@ use Rattle.command_words.specs.declared.words.Store.TheVariants.{Memory}
 -- digits are read as their number
 digits_of : AreInverse → (n : ℕ) → n < 2 ^ 32 → number_of (decimal n) ≡ Some n
 digits_of own n small = own.read_back n (omega (arith, small))
-
--- digits within the bounds are read as their number
-read_within : AreInverse → (low high n : ℕ) → n < 2 ^ 32 → low ≤ n → n ≤ high → number_within low high (decimal n) ≡ Some n
-read_within own low high n small above below =
-    let (number, value) = cond_some (is_number (decimal n)) (value_of (decimal n)) n (digits_of own n small) in
-    let least : leb low (value_of (decimal n)) ≡ true = le-leb low (value_of (decimal n)) (omega (arith, value, above)) in
-    let most : leb (value_of (decimal n)) high ≡ true = le-leb (value_of (decimal n)) high (omega (arith, value, below)) in
-    cond-true _ (Some (value_of (decimal n))) None (and_from _ _ (and_from _ _ number least) most) ∙ ap (λ (m : ℕ). Some m) value
-
--- what is read within the bounds is the digits of its number
-pub written_within : AreInverse → (low high n : ℕ) (text : List ℕ) → high < 2 ^ 64 → number_within low high text ≡ Some n → (text ≡ decimal n) × (low ≤ n) × (n ≤ high)
-written_within own low high n text small read =
-    let (all, value) = cond_some (is_number text && leb low (value_of text) && leb (value_of text) high) (value_of text) n read in
-    let (first, top) = and_parts (is_number text && leb low (value_of text)) (leb (value_of text) high) all in
-    let (number, bottom) = and_parts (is_number text) (leb low (value_of text)) first in
-    let whole : number_of text ≡ Some n = cond-true (is_number text) (Some (value_of text)) None number ∙ ap (λ (m : ℕ). Some m) value in (
-      own.written_back text n (omega (arith, small, value, leb-true (value_of text) high top)) whole,
-      omega (arith, value, leb-true low (value_of text) bottom),
-      omega (arith, value, leb-true (value_of text) high top),
-    )
 
 -- numbers with the same digits are one
 one_number : AreInverse → (m n : ℕ) → m < 2 ^ 32 → n < 2 ^ 32 → decimal m ≡ decimal n → m ≡ n
@@ -129,48 +107,6 @@ many_spell_nothing words many command spelled =
     let same : length words ≡ length (words_of command) = ap length spelled.0 in
     elim many [ inl none ↦ omega (arith, few.0, none, same) | inr more ↦ omega (arith, few.1, more, same) ]
 
--- ---- a generated season
-
--- Words that are read as a season spell it.
-pub season_spelled : AreInverse → (name first second last : List ℕ) (n seed : ℕ) (out : OutKind) → name ≡ codes "generate" → number_within 1 100000 first ≡ Some n
-    → number_within 0 4294967295 second ≡ Some seed → last ≡ word_out out → Spell (name ∷ first ∷ second ∷ last ∷ []) (Generate n seed out)
-season_spelled own name first second last n seed out named one two kind =
-    let a = written_within own 1 100000 n first (omega arith) one in
-    let b = written_within own 0 4294967295 seed second (omega arith) two in
-    let same : first ≡ decimal n = a.0 in
-    let also : second ≡ decimal seed = b.0 in
-    (cc, (a.1, a.2, omega (arith, b.2)))
-
--- Four words spell nothing where they are no season.
-no_season : (name first second last : List ℕ) → ((n seed : ℕ) (out : OutKind) → IsInRange (Generate n seed out) → name ≡ codes "generate" → first ≡ decimal n → second ≡ decimal seed → last ≡ word_out out → ⊥)
-    → SpellNothing (name ∷ first ∷ second ∷ last ∷ [])
-no_season name first second last none Step spelled = let bad = spelled.0 in cc
-no_season name first second last none Check spelled = let bad = spelled.0 in cc
-no_season name first second last none (Run Memory) spelled = let bad = spelled.0 in cc
-no_season name first second last none (Generate n seed out) spelled =
-    let same = spelled.0 in
-    let a : name ≡ codes "generate" = cc in
-    let b : first ≡ decimal n = cc in
-    let d : second ≡ decimal seed = cc in
-    let e : last ≡ word_out out = cc in
-    none n seed out spelled.1 a b d e
-
-pub other_name : (name first second last : List ℕ) → (name ≡ codes "generate" → ⊥) → SpellNothing (name ∷ first ∷ second ∷ last ∷ [])
-other_name name first second last other = no_season name first second last (λ n seed out range a b d e. other a)
-
-pub no_number : AreInverse → (name first second last : List ℕ) → number_within 1 100000 first ≡ None → SpellNothing (name ∷ first ∷ second ∷ last ∷ [])
-no_number own name first second last none = no_season name first second last (λ n seed out range a b d e.
-    let read : number_within 1 100000 first ≡ Some n = ap (number_within 1 100000) b ∙ read_within own 1 100000 n (omega (arith, range.1)) range.0 range.1 in
-    let bad : None ≡ Some n = sym none ∙ read in cc)
-
-pub no_seed : AreInverse → (name first second last : List ℕ) → number_within 0 4294967295 second ≡ None → SpellNothing (name ∷ first ∷ second ∷ last ∷ [])
-no_seed own name first second last none = no_season name first second last (λ n seed out range a b d e.
-    let read : number_within 0 4294967295 second ≡ Some seed = ap (number_within 0 4294967295) d ∙ read_within own 0 4294967295 seed range.2 (omega arith) (omega (arith, range.2)) in
-    let bad : None ≡ Some seed = sym none ∙ read in cc)
-
-pub no_out : (name first second last : List ℕ) → ((out : OutKind) → last ≡ word_out out → ⊥) → SpellNothing (name ∷ first ∷ second ∷ last ∷ [])
-no_out name first second last none = no_season name first second last (λ n seed out range a b d e. none out e)
-
 -- ---- by places
 
 -- the one word that there is
@@ -249,31 +185,3 @@ pub some_numbered : (parts : Parts) (name first second out : Bor (List ℕ)) (fo
     → IfSome found (λ command. (words : List (List ℕ)) → AreParts words parts → Spell words command)
 some_numbered parts name first second out found named one two three is =
     some_spelled parts (name.now ∷ first.now ∷ second.now ∷ out.now ∷ []) found (λ words are. four_words words parts name first second out are named one two three) is
-
-pub none_numbered : (parts : Parts) (name first second out : Bor (List ℕ)) (found : Option Command) → parts.command ≡ Some name → parts.first ≡ Some first → parts.second ≡ Some second
-    → parts.third ≡ Some out → IfNone found (SpellNothing (name.now ∷ first.now ∷ second.now ∷ out.now ∷ []))
-    → IfNone found ((words : List (List ℕ)) → AreParts words parts → SpellNothing words)
-none_numbered parts name first second out found named one two three is =
-    none_spelled parts (name.now ∷ first.now ∷ second.now ∷ out.now ∷ []) found (λ words are. four_words words parts name first second out are named one two three) is
-
--- There is no fourth word after fewer than three.
-pub no_gap : (words : List (List ℕ)) (parts : Parts) (out : Bor (List ℕ)) → AreParts words parts → parts.third ≡ Some out → (parts.first ≡ None) ⊎ (parts.second ≡ None) → ⊥
-no_gap [] parts out are last gap = let bad : Some out.now ≡ None = sym (ap (option_map (λ s. s.now)) last) ∙ are.third in cc
-no_gap (w ∷ []) parts out are last gap = let bad : Some out.now ≡ None = sym (ap (option_map (λ s. s.now)) last) ∙ are.third in cc
-no_gap (w ∷ x ∷ []) parts out are last gap = let bad : Some out.now ≡ None = sym (ap (option_map (λ s. s.now)) last) ∙ are.third in cc
-no_gap (w ∷ x ∷ y ∷ words) parts out are last gap = elim gap [
-  | inl none ↦ let bad : None ≡ Some x = sym (ap (option_map (λ s. s.now)) none) ∙ are.first in cc
-  | inr none ↦ let bad : None ≡ Some y = sym (ap (option_map (λ s. s.now)) none) ∙ are.second in cc
-]
-
--- Three words spell no command.
-pub three_spell_nothing : (words : List (List ℕ)) (parts : Parts) (word : Bor (List ℕ)) → AreParts words parts → parts.second ≡ Some word → parts.third ≡ None → SpellNothing words
-three_spell_nothing words parts word are there none command spelled =
-    (some_words command).2 (sym (ap length spelled.0) ∙ three words are)
-  where
-    three : (words : List (List ℕ)) → AreParts words parts → length words ≡ 3
-    three [] are = let bad : Some word.now ≡ None = sym (ap (option_map (λ s. s.now)) there) ∙ are.second in absurd cc
-    three (w ∷ []) are = let bad : Some word.now ≡ None = sym (ap (option_map (λ s. s.now)) there) ∙ are.second in absurd cc
-    three (w ∷ x ∷ []) are = let bad : Some word.now ≡ None = sym (ap (option_map (λ s. s.now)) there) ∙ are.second in absurd cc
-    three (w ∷ x ∷ y ∷ []) are = refl
-    three (w ∷ x ∷ y ∷ z ∷ words) are = let bad : None ≡ Some z = sym (ap (option_map (λ s. s.now)) none) ∙ are.third in absurd cc
