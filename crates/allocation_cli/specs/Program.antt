@@ -6,11 +6,12 @@ use Rattle.season_commands.specs.Check.{IsBundle, IsFaultyBundle, check_answers}
 use Rattle.season_commands.specs.Run.{EndsRun, TellsNoSeason}
 use Rattle.step_command.specs.Step.{IsFaultySheet, IsSheet, step_answers}
 use Rattle.command_words.specs.Words.{Spell, SpellNothing}
+use Rattle.season_generator.specs.Bundle.{generated}
 use Rattle.command_answers.specs.Writes.{IsTextOf, Writes, memory_line}
 use Rattle.command_answers.specs.declared.status.Status.{Status}
 use Rattle.command_answers.specs.declared.status.Status.TheVariants.{Ok as Done, Usage, BadInput, ReadFault, WriteFault, KeeperFault, OutOfMemory}
 use Rattle.command_words.specs.declared.words.Command.{Command}
-use Rattle.command_words.specs.declared.words.Command.TheVariants.{Step, Check, Run}
+use Rattle.command_words.specs.declared.words.Command.TheVariants.{Step, Check, Run, Generate}
 
 abbrev pub usage_line : List ℕ
 usage_line = codes "fault: usage\n"
@@ -39,11 +40,26 @@ IsWantText OutOfMemory text = text ≡ memory_line
 abbrev pub EndsText : Answers → Option (List ℕ) → Tables → Tables → Status → List ℕ → Type 0
 EndsText answers left before after status output = Writes (IsTextOf answers left) status output × (after ≡ before)
 
+-- the whole text that goes with each status where a season is generated and written
+abbrev pub IsGeneratedText : ℕ → ℕ → Status → List ℕ → Type 0
+IsGeneratedText n seed Done text = text ≡ generated n seed
+IsGeneratedText n seed Usage text = ⊥
+IsGeneratedText n seed BadInput text = ⊥
+IsGeneratedText n seed ReadFault text = ⊥
+IsGeneratedText n seed WriteFault text = ⊥
+IsGeneratedText n seed KeeperFault text = ⊥
+IsGeneratedText n seed OutOfMemory text = text ≡ memory_line
+
+-- what is written of a generated season, with its status; the tables are as before
+abbrev pub EndsGenerated : ℕ → ℕ → Tables → Tables → Status → List ℕ → Type 0
+EndsGenerated n seed before after status output = Writes (IsGeneratedText n seed) status output × (after ≡ before)
+
 -- what a command writes, the status with which it ends, and what the tables of the keeper stand for, by what they told before
 abbrev pub Ends : Command → Option (List ℕ) → Tables → Tables → Status → List ℕ → Type 0
 Ends Step left before after = EndsText step_answers left before after
 Ends Check left before after = EndsText check_answers left before after
 Ends (Run store) left before after = EndsRun left before after
+Ends (Generate n seed out) left before after = EndsGenerated n seed before after
 
 -- the same for words that spell no command: the tables are as before
 abbrev pub EndsUsage : Tables → Tables → Status → List ℕ → Type 0
@@ -63,27 +79,46 @@ abbrev pub TellsInput : Command → Option (List ℕ) → Type 0
 TellsInput Step left = Tells IsSheet left
 TellsInput Check left = Tells IsBundle left
 TellsInput (Run store) left = Tells IsBundle left
+TellsInput (Generate n seed out) left = Unit {0}
 
 -- the source tells its bytes, and they have a fault as the command's input
 abbrev pub TellsFault : Command → Option (List ℕ) → Type 0
 TellsFault Step left = Tells IsFaultySheet left
 TellsFault Check left = Tells IsFaultyBundle left
 TellsFault (Run store) left = Tells IsFaultyBundle left
+TellsFault (Generate n seed out) left = ⊥
 
 -- the keeper is as the command needs it: under `run` it tells that it holds no season
 abbrev pub IsReady : Command → Tables → Type 0
 IsReady Step tables = Unit {0}
 IsReady Check tables = Unit {0}
 IsReady (Run store) tables = TellsNoSeason tables
+IsReady (Generate n seed out) tables = Unit {0}
 
 -- the command begins an office
 abbrev pub BeginsOffice : Command → Type 0
 BeginsOffice Step = ⊥
 BeginsOffice Check = ⊥
 BeginsOffice (Run store) = Unit {0}
+BeginsOffice (Generate n seed out) = ⊥
 
 -- the command begins no office
 abbrev pub BeginsNone : Command → Type 0
 BeginsNone Step = Unit {0}
 BeginsNone Check = Unit {0}
 BeginsNone (Run store) = ⊥
+BeginsNone (Generate n seed out) = Unit {0}
+
+-- the command reads the source
+abbrev pub ReadsSource : Command → Type 0
+ReadsSource Step = Unit {0}
+ReadsSource Check = Unit {0}
+ReadsSource (Run store) = Unit {0}
+ReadsSource (Generate n seed out) = ⊥
+
+-- the command reads no source
+abbrev pub ReadsNone : Command → Type 0
+ReadsNone Step = ⊥
+ReadsNone Check = ⊥
+ReadsNone (Run store) = ⊥
+ReadsNone (Generate n seed out) = Unit {0}

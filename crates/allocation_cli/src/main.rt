@@ -5,6 +5,7 @@
 // bytes. Nothing stands on this crate, and it decides nothing of seats itself.
 #![tactic(auto)]
 
+mod generate;
 mod laws;
 mod program;
 #[cfg(test)]

@@ -1,15 +1,16 @@
 // The top call of the office.
 ghost use Rattle.std.specs.Prelude.{◌≡◌, ◌≢◌, ◌≤◌, ◌⊎◌, ℕ, List};
 ghost use Rattle.office_base.specs.Outside.{Rose, IsAtEnd, Appends};
-ghost use Rattle.allocation_cli.specs.Program.{BeginsNone, BeginsOffice, Ends, IsReady, IsWritten, TellsFault, TellsInput};
+ghost use Rattle.allocation_cli.specs.Program.{BeginsNone, BeginsOffice, Ends, IsReady, IsWritten, ReadsNone, ReadsSource, TellsFault, TellsInput};
 ghost use Rattle.season_commands.specs.Run.{TellsSeason};
-ghost use Rattle.command_words.specs.Words.{Spell, SpellNothing};
+ghost use Rattle.command_words.specs.Words.{IsInRange, Spell, SpellNothing};
 ghost use Rattle.command_words.specs.declared.words.Command.{Command as AnyCommand};
 
+use crate::generate::generate_answer;
 use crate::laws::one_answer;
 use command_answers::{Status, finish, tell_no_memory, write_answer};
 use command_words::laws::one_spelling;
-use command_words::{Command, Store, WordsFault, read_words};
+use command_words::{Command, OutKind, Store, WordsFault, read_words};
 use keeper_mem::Keeper;
 use office_base::{Sink, Source, Words};
 use season_commands::{check_answer, run_season};
@@ -19,7 +20,8 @@ use step_command::step_answer;
 /// Runs the command that the words spell, from the bytes of the source to the bytes of the sink, and gives back the keeper.
 ///
 /// The command `step` reads a step sheet and writes whom the step admits; `check` reads a season bundle and writes how much it has; `run` reads a season
-/// bundle with its requests, begins an office over the keeper and answers them, each reply written before the next request is handled.
+/// bundle with its requests, begins an office over the keeper and answers them, each reply written before the next request is handled; `generate` makes up
+/// a season from a seed and writes its bundle.
 pub fn allocate<S: Source, K: Sink, P: Keeper>(
     alloc: Global,
     words: &Words,
@@ -31,9 +33,10 @@ pub fn allocate<S: Source, K: Sink, P: Keeper>(
     // and cuts leads to a state in which the office keeps its word, and for which the tables stand.
     ensures written { (output : List ℕ) × Appends output (K.written sink.old) (K.written sink.new)
         × IsWritten words.now (S.left source.old) (P.tables keeper) (P.tables result.1) result.0 output }
-    ensures read_whole { result.0 ≡ Status.Ok → IsAtEnd (S.left source.new) }
+    ensures read_whole { (command : AnyCommand) → Spell words.now command → ReadsSource command → result.0 ≡ Status.Ok → IsAtEnd (S.left source.new) }
 
-    // Words that spell no command leave the source as it was; and the keeper, as a command that begins no office does.
+    // Words that spell no command leave the source as it was, as a command that reads none does; and the keeper, as a command that begins no office does.
+    ensures spared { (command : AnyCommand) → Spell words.now command → ReadsNone command → (S.left source.new ≡ S.left source.old) × (S.faults source.new ≡ S.faults source.old) }
     ensures unread { SpellNothing words.now → (S.left source.new ≡ S.left source.old) × (S.faults source.new ≡ S.faults source.old) }
     ensures unkept { SpellNothing words.now → result.1 ≡ keeper }
     ensures untouched { (command : AnyCommand) → Spell words.now command → BeginsNone command → result.1 ≡ keeper }
@@ -78,9 +81,11 @@ fn run<S: Source, K: Sink, P: Keeper>(
     sink: &mut K,
     keeper: P,
 ) -> (Status, P)
+    requires { IsInRange command }
     ensures written { (output : List ℕ) × Appends output (K.written sink.old) (K.written sink.new)
         × Ends command (S.left source.old) (P.tables keeper) (P.tables result.1) result.0 output }
-    ensures read_whole { result.0 ≡ Status.Ok → IsAtEnd (S.left source.new) }
+    ensures read_whole { ReadsSource command → result.0 ≡ Status.Ok → IsAtEnd (S.left source.new) }
+    ensures spared { ReadsNone command → (S.left source.new ≡ S.left source.old) × (S.faults source.new ≡ S.faults source.old) }
     ensures untouched { BeginsNone command → result.1 ≡ keeper }
     ensures read_fault { result.0 ≡ Status.ReadFault → Rose (S.faults source.old) (S.faults source.new) }
     ensures write_fault { result.0 ≡ Status.WriteFault → Rose (K.faults sink.old) (K.faults sink.new) }
@@ -104,5 +109,10 @@ fn run<S: Source, K: Sink, P: Keeper>(
         Command::Step => (finish(sink, step_answer(alloc, source)), keeper),
         Command::Check => (finish(sink, check_answer(alloc, source)), keeper),
         Command::Run(Store::Memory) => run_season(alloc, source, sink, keeper),
+        Command::Generate {
+            n,
+            seed,
+            out: OutKind::Text,
+        } => (finish(sink, generate_answer(alloc, n, seed)), keeper),
     }
 }

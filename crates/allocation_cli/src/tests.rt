@@ -223,6 +223,37 @@ fn a_fault_of_a_season_is_told(rt: HostRuntime) -> Result<(), Fail> {
 }
 
 #[test]
+fn a_season_is_generated_and_read(rt: HostRuntime) -> Result<(), Fail> {
+    let alloc = rt.alloc();
+    let words = words_of(alloc, &["generate", "800", "7", "text"])?;
+    let mut source = SureSource::new(alloc, b"", 1)?;
+    let mut sink = MemSink::new(alloc, 1_000_000, &[])?;
+    let (ended, _) = allocate(
+        alloc,
+        &words,
+        &mut source,
+        &mut sink,
+        SureKeeper::new(alloc),
+    );
+    assert_eq!(rt; ended, Status::Ok);
+    let check = words_of(alloc, &["check"])?;
+    let mut season = SureSource::new(alloc, sink.bytes(), 4096)?;
+    let mut line = MemSink::new(alloc, 100, &[])?;
+    let (ended, _) = allocate(
+        alloc,
+        &check,
+        &mut season,
+        &mut line,
+        SureKeeper::new(alloc),
+    );
+    assert_eq!(rt; ended, Status::Ok);
+    assert!(rt;
+        line.bytes() == b"bundle candidates 800 programmes 100 choices 32000 rounds 6\n".as_slice()
+    );
+    Ok(())
+}
+
+#[test]
 fn wrong_words_are_refused(rt: HostRuntime) -> Result<(), Fail> {
     let alloc = rt.alloc();
     for words in [
@@ -233,6 +264,14 @@ fn wrong_words_are_refused(rt: HostRuntime) -> Result<(), Fail> {
         words_of(alloc, &["run", "season.db"])?,
         words_of(alloc, &["run", "memory", "memory"])?,
         words_of(alloc, &["--help"])?,
+        words_of(alloc, &["run", ""])?,
+        words_of(alloc, &["generate", "1", "1"])?,
+        words_of(alloc, &["generate", "07", "1", "text"])?,
+        words_of(alloc, &["generate", "0", "1", "text"])?,
+        words_of(alloc, &["generate", "100001", "1", "text"])?,
+        words_of(alloc, &["generate", "1", "4294967296", "text"])?,
+        words_of(alloc, &["generate", "1", "+1", "text"])?,
+        words_of(alloc, &["generate", "1", "1", "text", "text"])?,
     ] {
         let mut source = SureSource::new(alloc, b"", 1)?;
         let mut sink = MemSink::new(alloc, 100, &[])?;

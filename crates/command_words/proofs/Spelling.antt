@@ -1,51 +1,110 @@
 -- How commands are spelled.
-use Rattle.std.proofs.Common.{◌≡◌, ◌≤◌, ◌<◌, ◌⊎◌, inl, inr, ℕ, List, [], ◌∷◌, Option, Some, None, length, refl, sym, ap, subst, arith, ◌∙◌}
-use Rattle.std.specs.Prelude.{IfNone, IfSome, option_map, slice_get}
+use Rattle.std.proofs.Common.{◌≡◌, ◌≤◌, ◌<◌, ◌^◌, ◌⊎◌, inl, inr, true≢false, ℕ, Bool, true, false, List, [], ◌∷◌, Option, Some, None, length, refl, sym, ap, subst, arith, ◌∙◌}
+use Rattle.std.specs.Prelude.{IfNone, IfSome, option_map}
 use Rattle.std.specs.Borrow.{Bor}
-use Rattle.command_words.specs.Parts.{ArePlain, AreParts}
-use Rattle.command_words.specs.Words.{Spell, SpellNothing, words_of}
+use Rattle.std.specs.Fmt.{decimal}
+use Rattle.std.proofs.lemmas.Bool.Decides.{eqb_tells}
+use Rattle.office_text.specs.Number.{AreInverse, is_number, number_of}
+use Rattle.command_words.specs.Parts.{ArePlain, AreParts, is_plain}
+use Rattle.command_words.specs.Words.{IsInRange, Spell, SpellNothing, word_out, words_of}
 use Rattle.command_words.specs.declared.parts.Parts.{Parts}
 use Rattle.command_words.specs.declared.words.Command.{Command}
-use Rattle.command_words.specs.declared.words.Command.TheVariants.{Step, Check, Run}
+use Rattle.command_words.specs.declared.words.Command.TheVariants.{Step, Check, Run, Generate}
+use Rattle.command_words.specs.declared.words.OutKind.{OutKind}
+use Rattle.command_words.specs.declared.words.OutKind.TheVariants as out_kind
 use Rattle.command_words.specs.declared.words.Store.TheVariants.{Memory}
 
+-- ---- numbers
+
+-- digits are read as their number
+digits_of : AreInverse → (n : ℕ) → n < 2 ^ 32 → number_of (decimal n) ≡ Some n
+digits_of own n small = own.read_back n (omega (arith, small))
+
+-- numbers with the same digits are one
+one_number : AreInverse → (m n : ℕ) → m < 2 ^ 32 → n < 2 ^ 32 → decimal m ≡ decimal n → m ≡ n
+one_number own m n first second same =
+    let read : Some m ≡ Some n = sym (digits_of own m first) ∙ (ap number_of same ∙ digits_of own n second) in cc
+
+-- what is read as a number is one
+is_read : (text : List ℕ) (n : ℕ) → number_of text ≡ Some n → is_number text ≡ true
+is_read text n read = go (is_number text) refl
+  where
+    go : (b : Bool) → is_number text ≡ b → is_number text ≡ true
+    go true same = same
+    go false same = let none : number_of text ≡ None = rw same refl in absurd cc
+
+-- a number is no flag
+plain_number : (text : List ℕ) → is_number text ≡ true → is_plain text ≡ true
+plain_number [] is = is
+plain_number (byte ∷ bytes) is =
+    elim (eqb_tells byte 45) [ inl same ↦ absurd (no_dash bytes (subst (λ (b : ℕ). is_number (b ∷ bytes) ≡ true) same.1 is)) | inr other ↦ rw other.0 refl ]
+  where
+    no_dash : (bytes : List ℕ) → is_number (45 ∷ bytes) ≡ true → ⊥
+    no_dash [] is = true≢false (sym is)
+    no_dash (next ∷ bytes) is = true≢false (sym is)
+
+plain_digits : AreInverse → (n : ℕ) → n < 2 ^ 32 → is_plain (decimal n) ≡ true
+plain_digits own n small = plain_number (decimal n) (is_read (decimal n) n (digits_of own n small))
+
+-- ---- commands
+
+one_out : (out other : OutKind) → word_out out ≡ word_out other → out ≡ other
+one_out out_kind.Text out_kind.Text same = refl
+
 -- no two commands are spelled alike
-one_command : (command other : Command) → words_of command ≡ words_of other → command ≡ other
-one_command Step Step same = refl
-one_command Step Check same = absurd cc
-one_command Step (Run Memory) same = absurd cc
-one_command Check Step same = absurd cc
-one_command Check Check same = refl
-one_command Check (Run Memory) same = absurd cc
-one_command (Run Memory) Step same = absurd cc
-one_command (Run Memory) Check same = absurd cc
-one_command (Run Memory) (Run Memory) same = refl
+one_command : AreInverse → (command other : Command) → IsInRange command → IsInRange other → words_of command ≡ words_of other → command ≡ other
+one_command own Step Step first second same = refl
+one_command own Step Check first second same = absurd cc
+one_command own Step (Run Memory) first second same = absurd cc
+one_command own Step (Generate n seed out) first second same = absurd cc
+one_command own Check Step first second same = absurd cc
+one_command own Check Check first second same = refl
+one_command own Check (Run Memory) first second same = absurd cc
+one_command own Check (Generate n seed out) first second same = absurd cc
+one_command own (Run Memory) Step first second same = absurd cc
+one_command own (Run Memory) Check first second same = absurd cc
+one_command own (Run Memory) (Run Memory) first second same = refl
+one_command own (Run Memory) (Generate n seed out) first second same = absurd cc
+one_command own (Generate n seed out) Step first second same = absurd cc
+one_command own (Generate n seed out) Check first second same = absurd cc
+one_command own (Generate n seed out) (Run Memory) first second same = absurd cc
+one_command own (Generate m seed out) (Generate n other last) first second same =
+    let numbers : decimal m ≡ decimal n = cc in
+    let seeds : decimal seed ≡ decimal other = cc in
+    let words : word_out out ≡ word_out last = cc in
+    let number = one_number own m n (omega (arith, first.1)) (omega (arith, second.1)) numbers in
+    let from = one_number own seed other first.2 second.2 seeds in
+    let kind = one_out out last words in
+    cc
 
 -- Words spell at most one command.
-pub one_spelled : (words : List (List ℕ)) (command other : Command) → Spell words command → Spell words other → command ≡ other
-one_spelled words command other spelled also = one_command command other (sym spelled ∙ also)
+pub one_spelled : AreInverse → (words : List (List ℕ)) (command other : Command) → Spell words command → Spell words other → command ≡ other
+one_spelled own words command other spelled also = one_command own command other spelled.1 also.1 (sym spelled.0 ∙ also.0)
 
 -- the words of a command are plain
-plain_command : (command : Command) → ArePlain (words_of command)
-plain_command Step = refl
-plain_command Check = refl
-plain_command (Run Memory) = refl
+plain_command : AreInverse → (command : Command) → IsInRange command → ArePlain (words_of command)
+plain_command own Step range = refl
+plain_command own Check range = refl
+plain_command own (Run Memory) range = refl
+plain_command own (Generate n seed out_kind.Text) range =
+    rw (plain_digits own n (omega (arith, range.1)), plain_digits own seed range.2) refl
 
--- a command has one word or two
-few_words : (command : Command) → (0 < length (words_of command)) × (length (words_of command) ≤ 2)
-few_words Step = (omega arith, omega arith)
-few_words Check = (omega arith, omega arith)
-few_words (Run Memory) = (omega arith, omega arith)
+-- a command has one word, two or four
+some_words : (command : Command) → (0 < length (words_of command)) × (length (words_of command) ≤ 4) × (length (words_of command) ≡ 3 → ⊥)
+some_words Step = (omega arith, omega arith, λ h. omega (arith, h))
+some_words Check = (omega arith, omega arith, λ h. omega (arith, h))
+some_words (Run Memory) = (omega arith, omega arith, λ h. omega (arith, h))
+some_words (Generate n seed out) = (omega arith, omega arith, λ h. omega (arith, h))
 
 -- Words that are not all plain spell no command.
-pub flags_spell_nothing : (words : List (List ℕ)) → (ArePlain words → ⊥) → SpellNothing words
-flags_spell_nothing words flag command spelled = flag (subst ArePlain (sym spelled) (plain_command command))
+pub flags_spell_nothing : AreInverse → (words : List (List ℕ)) → (ArePlain words → ⊥) → SpellNothing words
+flags_spell_nothing own words flag command spelled = flag (subst ArePlain (sym spelled.0) (plain_command own command spelled.1))
 
 -- No words, and more than four, spell no command.
 pub many_spell_nothing : (words : List (List ℕ)) → (length words ≡ 0) ⊎ (4 < length words) → SpellNothing words
 many_spell_nothing words many command spelled =
-    let few = few_words command in
-    let same : length words ≡ length (words_of command) = ap length spelled in
+    let few = some_words command in
+    let same : length words ≡ length (words_of command) = ap length spelled.0 in
     elim many [ inl none ↦ omega (arith, few.0, none, same) | inr more ↦ omega (arith, few.1, more, same) ]
 
 -- ---- by places
@@ -72,6 +131,24 @@ two_words (w ∷ x ∷ []) parts name store are named stored none =
     let word : name.now ≡ w = cc in let other : store.now ≡ x = cc in cc
 two_words (w ∷ x ∷ y ∷ words) parts name store are named stored none =
     let bad : None ≡ Some y = sym (ap (option_map (λ s. s.now)) none) ∙ are.second in absurd cc
+
+-- the four words that there are
+four_words : (words : List (List ℕ)) (parts : Parts) (name first second out : Bor (List ℕ)) → AreParts words parts → parts.command ≡ Some name → parts.first ≡ Some first
+    → parts.second ≡ Some second → parts.third ≡ Some out → words ≡ name.now ∷ first.now ∷ second.now ∷ out.now ∷ []
+four_words [] parts name first second out are named one two three = let bad = are.some in absurd (omega arith)
+four_words (w ∷ []) parts name first second out are named one two three =
+    let bad : Some out.now ≡ None = sym (ap (option_map (λ s. s.now)) three) ∙ are.third in absurd cc
+four_words (w ∷ x ∷ []) parts name first second out are named one two three =
+    let bad : Some out.now ≡ None = sym (ap (option_map (λ s. s.now)) three) ∙ are.third in absurd cc
+four_words (w ∷ x ∷ y ∷ []) parts name first second out are named one two three =
+    let bad : Some out.now ≡ None = sym (ap (option_map (λ s. s.now)) three) ∙ are.third in absurd cc
+four_words (w ∷ x ∷ y ∷ z ∷ []) parts name first second out are named one two three =
+    let a : Some name.now ≡ Some w = sym (ap (option_map (λ s. s.now)) named) ∙ are.command in
+    let b : Some first.now ≡ Some x = sym (ap (option_map (λ s. s.now)) one) ∙ are.first in
+    let d : Some second.now ≡ Some y = sym (ap (option_map (λ s. s.now)) two) ∙ are.second in
+    let e : Some out.now ≡ Some z = sym (ap (option_map (λ s. s.now)) three) ∙ are.third in
+    let word : name.now ≡ w = cc in let other : first.now ≡ x = cc in let third : second.now ≡ y = cc in let last : out.now ≡ z = cc in cc
+four_words (w ∷ x ∷ y ∷ z ∷ u ∷ words) parts name first second out are named one two three = let bad = are.few in absurd (omega arith)
 
 -- what holds of the spelled words holds of the words that are they
 some_spelled : (parts : Parts) (spelled : List (List ℕ)) (found : Option Command) → ((words : List (List ℕ)) → AreParts words parts → words ≡ spelled) → IfSome found (Spell spelled)
@@ -102,27 +179,9 @@ pub none_stored : (parts : Parts) (name store : Bor (List ℕ)) (found : Option 
     → IfNone found (SpellNothing (name.now ∷ store.now ∷ [])) → IfNone found ((words : List (List ℕ)) → AreParts words parts → SpellNothing words)
 none_stored parts name store found named stored none is = none_spelled parts (name.now ∷ store.now ∷ []) found (λ words are. two_words words parts name store are named stored none) is
 
--- Three words or four spell no command.
-pub third_spells_nothing : (words : List (List ℕ)) (parts : Parts) (word : Bor (List ℕ)) → AreParts words parts → parts.third ≡ Some word → SpellNothing words
-third_spells_nothing words parts word are there command spelled =
-    let few = few_words command in
-    let same : length words ≡ length (words_of command) = ap length spelled in
-    long words are (omega (arith, few.1, same))
-  where
-    long : (words : List (List ℕ)) → AreParts words parts → length words ≤ 2 → ⊥
-    long [] are few = let bad : Some word.now ≡ None = sym (ap (option_map (λ s. s.now)) there) ∙ are.third in cc
-    long (w ∷ []) are few = let bad : Some word.now ≡ None = sym (ap (option_map (λ s. s.now)) there) ∙ are.third in cc
-    long (w ∷ x ∷ []) are few = let bad : Some word.now ≡ None = sym (ap (option_map (λ s. s.now)) there) ∙ are.third in cc
-    long (w ∷ x ∷ y ∷ words) are few = omega arith
-
-pub second_spells_nothing : (words : List (List ℕ)) (parts : Parts) (word : Bor (List ℕ)) → AreParts words parts → parts.second ≡ Some word → SpellNothing words
-second_spells_nothing words parts word are there command spelled =
-    let few = few_words command in
-    let same : length words ≡ length (words_of command) = ap length spelled in
-    long words are (omega (arith, few.1, same))
-  where
-    long : (words : List (List ℕ)) → AreParts words parts → length words ≤ 2 → ⊥
-    long [] are few = let bad : Some word.now ≡ None = sym (ap (option_map (λ s. s.now)) there) ∙ are.second in cc
-    long (w ∷ []) are few = let bad : Some word.now ≡ None = sym (ap (option_map (λ s. s.now)) there) ∙ are.second in cc
-    long (w ∷ x ∷ []) are few = let bad : Some word.now ≡ None = sym (ap (option_map (λ s. s.now)) there) ∙ are.second in cc
-    long (w ∷ x ∷ y ∷ words) are few = omega arith
+-- A name with two numbers and a last word.
+pub some_numbered : (parts : Parts) (name first second out : Bor (List ℕ)) (found : Option Command) → parts.command ≡ Some name → parts.first ≡ Some first → parts.second ≡ Some second
+    → parts.third ≡ Some out → IfSome found (Spell (name.now ∷ first.now ∷ second.now ∷ out.now ∷ []))
+    → IfSome found (λ command. (words : List (List ℕ)) → AreParts words parts → Spell words command)
+some_numbered parts name first second out found named one two three is =
+    some_spelled parts (name.now ∷ first.now ∷ second.now ∷ out.now ∷ []) found (λ words are. four_words words parts name first second out are named one two three) is

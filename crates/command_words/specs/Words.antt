@@ -1,7 +1,10 @@
 -- The words that spell a command.
-use Rattle.std.specs.Prelude.{◌≡◌, ℕ, List, [], ◌∷◌, codes}
+use Rattle.std.specs.Prelude.{◌≡◌, ◌<◌, ◌≤◌, ◌^◌, ℕ, List, [], ◌∷◌, codes}
+use Rattle.std.specs.Fmt.{decimal}
 use Rattle.command_words.specs.declared.words.Command.{Command}
-use Rattle.command_words.specs.declared.words.Command.TheVariants.{Step, Check, Run}
+use Rattle.command_words.specs.declared.words.Command.TheVariants.{Step, Check, Run, Generate}
+use Rattle.command_words.specs.declared.words.OutKind.{OutKind}
+use Rattle.command_words.specs.declared.words.OutKind.TheVariants as out_kind
 use Rattle.command_words.specs.declared.words.Store.{Store}
 use Rattle.command_words.specs.declared.words.Store.TheVariants.{Memory}
 
@@ -9,15 +12,27 @@ use Rattle.command_words.specs.declared.words.Store.TheVariants.{Memory}
 abbrev pub word_of : Store → List ℕ
 word_of Memory = codes "memory"
 
--- the words of a command: its name alone; or `run`, and where the records are kept
+-- the word for what is written of a generated season
+abbrev pub word_out : OutKind → List ℕ
+word_out out_kind.Text = codes "text"
+
+-- the words of a command: its name alone; `run`, and where the records are kept; or `generate`, how many candidates, the seed, and what is written
 abbrev pub words_of : Command → List (List ℕ)
 words_of Step = codes "step" ∷ []
 words_of Check = codes "check" ∷ []
 words_of (Run store) = codes "run" ∷ word_of store ∷ []
+words_of (Generate n seed out) = codes "generate" ∷ decimal n ∷ decimal seed ∷ word_out out ∷ []
+
+-- the numbers of a command lie in their ranges
+abbrev pub IsInRange : Command → Type 0
+IsInRange Step = Unit {0}
+IsInRange Check = Unit {0}
+IsInRange (Run store) = Unit {0}
+IsInRange (Generate n seed out) = (1 ≤ n) × (n ≤ 100000) × (seed < 2 ^ 32)
 
 -- the words spell the command
 abbrev pub Spell : List (List ℕ) → Command → Type 0
-Spell words command = words ≡ words_of command
+Spell words command = (words ≡ words_of command) × IsInRange command
 
 -- the words spell no command
 abbrev pub SpellNothing : List (List ℕ) → Type 0

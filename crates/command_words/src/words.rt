@@ -1,12 +1,18 @@
 // What the words of a command line ask for.
 ghost use Rattle.std.specs.Prelude.{◌≡◌, [], ◌∷◌, ℕ, List, IsErrOf, IfNone, IfOk, IfSome, OnOk, map};
 ghost use Rattle.command_words.specs.Parts.{ArePlain, AreParts, is_plain};
-ghost use Rattle.command_words.specs.Words.{Spell, SpellNothing};
+ghost use Rattle.command_words.specs.Words.{Spell, SpellNothing, word_out};
+ghost use Rattle.command_words.specs.declared.words.OutKind.{OutKind as AnyOutKind};
 ghost use Rattle.command_words.specs.declared.words.WordsFault.TheVariants.{OutOfMemory as NoMemory};
 
 use crate::parts::{Parts, parts_of};
 use office_base::Words;
+use office_text::laws::numbers_are_inverse;
+use office_text::read_number;
 use std::alloc::{AllocError, AllocFailed, Global};
+
+// How many candidates a generated season may have.
+const MOST_CANDIDATES: u32 = 100_000;
 
 /// A command of the office.
 #[derive(Clone, Copy, Debug, PartialEq, Eq)]
@@ -17,6 +23,8 @@ pub enum Command {
     Check,
     /// Reads a season bundle with its requests and answers them over a keeper.
     Run(Store),
+    /// Generates a season bundle of 1 to 100,000 candidates from a seed.
+    Generate { n: u32, seed: u32, out: OutKind },
 }
 
 /// Where a keeper keeps its records.
@@ -24,6 +32,13 @@ pub enum Command {
 pub enum Store {
     /// In memory, as long as the program runs.
     Memory,
+}
+
+/// What is written of a generated season.
+#[derive(Clone, Copy, Debug, PartialEq, Eq)]
+pub enum OutKind {
+    /// Its bundle.
+    Text,
 }
 
 /// Why no command was read.
@@ -51,16 +66,31 @@ impl<T: Drop> From<AllocFailed<T>> for WordsFault {
     }
 }
 
-/// The command that the words spell: its name alone, or `run` with `memory`. `Usage` comes exactly where they spell none, but for want of memory.
+/// The command that the words spell: its name alone; `run` with `memory`; or `generate` with how many candidates, a seed, and `text`. `Usage` comes
+/// exactly where they spell none, but for want of memory.
 pub fn read_words(alloc: Global, words: &Words) -> Result<Command, WordsFault>
     ensures command { IfOk result (Spell words.now) }
     ensures usage { IsErrOf result WordsFault.Usage → SpellNothing words.now }
 {
-    let line = line_of(alloc, words)?;
-    let parts = parts_of(alloc, line.as_slice())?;
-    match command_of(parts) {
-        Some(command) => Ok(command),
-        None => Err(WordsFault::Usage),
+    numbers_are_inverse();
+    match line_of(alloc, words) {
+        Ok(line) => read_line(alloc, line.as_slice()),
+        Err(fault) => Err(fault),
+    }
+}
+
+/// The command that the words of a line spell, of which none is empty or begins with `-`.
+fn read_line(alloc: Global, line: &[&str]) -> Result<Command, WordsFault>
+    requires { ArePlain (map (λ word. word.now) line.now) }
+    ensures command { IfOk result (Spell (map (λ word. word.now) line.now)) }
+    ensures usage { IsErrOf result WordsFault.Usage → SpellNothing (map (λ word. word.now) line.now) }
+{
+    match parts_of(alloc, line) {
+        Ok(parts) => match command_of(parts) {
+            Some(command) => Ok(command),
+            None => Err(WordsFault::Usage),
+        },
+        Err(fault) => Err(fault),
     }
 }
 
@@ -100,7 +130,11 @@ fn command_of(parts: Parts<'_>) -> Option<Command>
 {
     let name = parts.command?;
     match parts.third {
-        Some(_) => None,
+        Some(out) => {
+            let first = parts.first?;
+            let second = parts.second?;
+            read_season(name, first, second, out)
+        }
         None => match parts.second {
             Some(_) => None,
             None => match parts.first {
@@ -130,6 +164,32 @@ fn read_store(name: &str, store: &str) -> Option<Command>
 {
     match (name, store) {
         ("run", "memory") => Some(Command::Run(Store::Memory)),
+        _ => None,
+    }
+}
+
+/// The command of this name with two numbers and this last word.
+fn read_season(name: &str, first: &str, second: &str, out: &str) -> Option<Command>
+    ensures command { IfSome result (Spell (name.now ∷ first.now ∷ second.now ∷ out.now ∷ [])) }
+    ensures none { IfNone result (SpellNothing (name.now ∷ first.now ∷ second.now ∷ out.now ∷ [])) }
+{
+    numbers_are_inverse();
+    if name != "generate" {
+        return None;
+    }
+    let n = read_number(first.as_bytes(), 1, MOST_CANDIDATES)?;
+    let seed = read_number(second.as_bytes(), 0, u32::MAX)?;
+    let out = read_out(out)?;
+    Some(Command::Generate { n, seed, out })
+}
+
+/// What is written, by its word.
+fn read_out(word: &str) -> Option<OutKind>
+    ensures some { IfSome result (λ out. word.now ≡ word_out out) }
+    ensures none { IfNone result ((out : AnyOutKind) → word.now ≡ word_out out → ⊥) }
+{
+    match word {
+        "text" => Some(OutKind::Text),
         _ => None,
     }
 }

@@ -1,4 +1,5 @@
-use Rattle.std.proofs.Common.{inl, inr, refl}
+use Rattle.std.proofs.Common.{◌≡◌, Err, ap, inl, inr, refl}
+use Rattle.command_words.specs.declared.words.WordsFault.TheVariants as words_fault
 use Rattle.allocation_cli.specs.Program.{IsUsageText, IsWantText, usage_line}
 use Rattle.command_answers.specs.Writes.{memory_line}
 use Rattle.command_answers.specs.declared.status.Status.TheVariants.{OutOfMemory, Usage}
@@ -7,11 +8,14 @@ use Rattle.allocation_cli.proofs.program.allocate.Goals as goal
 
 pub returns-in-Err-Usage-clause-written : goal.returns-in-Err-Usage-clause-written
 returns-in-Err-Usage-clause-written g c =
+    let fault : c.in-Err-Usage.field-0 ≡ words_fault.Usage = cc in
     let (output, appends, writes) = told_is_written IsUsageText Usage c.write_answer.result usage_line _ _ _ refl c.write_answer.ensures.told in
-    (output, appends, inr (inl (c.in-Err-Usage.ensures.usage refl, (writes, refl))))
+    (output, appends, inr (inl (c.in-Err-Usage.ensures.usage (ap Err fault), (writes, refl))))
 
 pub returns-in-Err-Usage-clause-not_empty : goal.returns-in-Err-Usage-clause-not_empty
-returns-in-Err-Usage-clause-not_empty g c command spelled begins tells read wrote kept = absurd (c.in-Err-Usage.ensures.usage refl command spelled)
+returns-in-Err-Usage-clause-not_empty g c command spelled begins tells read wrote kept =
+    let fault : c.in-Err-Usage.field-0 ≡ words_fault.Usage = cc in
+    absurd (c.in-Err-Usage.ensures.usage (ap Err fault) command spelled)
 
 pub returns-in-Err-OutOfMemory-clause-written : goal.returns-in-Err-OutOfMemory-clause-written
 returns-in-Err-OutOfMemory-clause-written g c =

@@ -1,8 +1,7 @@
 use Rattle.std.proofs.Common.{rules, ap, ap₂, codes, true, false, ◌≡◌, ◌∙◌}
 use Rattle.std.proofs.lemmas.Result.{IfOk-weaker}
 use Rattle.clap.specs.Simple.{Shape, app_of_fields, on_top}
-use Rattle.clap.specs.Words.{App, app_of, new_app, new_rule, rule_of, with_rule}
-use Rattle.command_words.specs.Parts.{program}
+use Rattle.clap.specs.Words.{app_of, new_app, new_rule, rule_of, with_rule}
 use Rattle.command_words.proofs.parts.parser.Goals as goal
 
 abbrev unnamed : Shape → Shape
