@@ -3,15 +3,16 @@ use Rattle.std.specs.Prelude.{◌≡◌, ◌⊎◌, ℕ, List, Option, codes}
 use Rattle.keeper_mem.specs.Tables.{Tables}
 use Rattle.command_answers.specs.Answers.{Answers, Tells}
 use Rattle.season_commands.specs.Check.{IsBundle, IsFaultyBundle, check_answers}
+use Rattle.season_commands.specs.Resume.{EndsResume, IsScript, TellsSound}
 use Rattle.season_commands.specs.Run.{EndsRun, TellsNoSeason}
 use Rattle.step_command.specs.Step.{IsFaultySheet, IsSheet, step_answers}
 use Rattle.command_words.specs.Words.{Spell, SpellNothing}
 use Rattle.season_generator.specs.Bundle.{generated}
 use Rattle.command_answers.specs.Writes.{IsTextOf, Writes, memory_line}
 use Rattle.command_answers.specs.declared.status.Status.{Status}
-use Rattle.command_answers.specs.declared.status.Status.TheVariants.{Ok as Done, Usage, BadInput, ReadFault, WriteFault, KeeperFault, OutOfMemory}
+use Rattle.command_answers.specs.declared.status.Status.TheVariants.{Ok as Done, Usage, BadInput, ReadFault, WriteFault, KeeperFault, OutOfMemory, Differs}
 use Rattle.command_words.specs.declared.words.Command.{Command}
-use Rattle.command_words.specs.declared.words.Command.TheVariants.{Step, Check, Run, Generate}
+use Rattle.command_words.specs.declared.words.Command.TheVariants.{Step, Check, Run, Resume, Generate}
 
 abbrev pub usage_line : List ℕ
 usage_line = codes "fault: usage\n"
@@ -25,6 +26,7 @@ IsUsageText ReadFault text = ⊥
 IsUsageText WriteFault text = ⊥
 IsUsageText KeeperFault text = ⊥
 IsUsageText OutOfMemory text = ⊥
+IsUsageText Differs text = ⊥
 
 -- the whole text that goes with each status where there was no memory to divide the words
 abbrev pub IsWantText : Status → List ℕ → Type 0
@@ -35,6 +37,7 @@ IsWantText ReadFault text = ⊥
 IsWantText WriteFault text = ⊥
 IsWantText KeeperFault text = ⊥
 IsWantText OutOfMemory text = text ≡ memory_line
+IsWantText Differs text = ⊥
 
 -- what a command that answers with one text writes, with its status; the tables are as before
 abbrev pub EndsText : Answers → Option (List ℕ) → Tables → Tables → Status → List ℕ → Type 0
@@ -49,6 +52,7 @@ IsGeneratedText n seed ReadFault text = ⊥
 IsGeneratedText n seed WriteFault text = ⊥
 IsGeneratedText n seed KeeperFault text = ⊥
 IsGeneratedText n seed OutOfMemory text = text ≡ memory_line
+IsGeneratedText n seed Differs text = ⊥
 
 -- what is written of a generated season, with its status; the tables are as before
 abbrev pub EndsGenerated : ℕ → ℕ → Tables → Tables → Status → List ℕ → Type 0
@@ -59,6 +63,7 @@ abbrev pub Ends : Command → Option (List ℕ) → Tables → Tables → Status
 Ends Step left before after = EndsText step_answers left before after
 Ends Check left before after = EndsText check_answers left before after
 Ends (Run store) left before after = EndsRun left before after
+Ends (Resume store) left before after = EndsResume left before after
 Ends (Generate n seed out) left before after = EndsGenerated n seed before after
 
 -- the same for words that spell no command: the tables are as before
@@ -79,34 +84,39 @@ abbrev pub TellsInput : Command → Option (List ℕ) → Type 0
 TellsInput Step left = Tells IsSheet left
 TellsInput Check left = Tells IsBundle left
 TellsInput (Run store) left = Tells IsBundle left
+TellsInput (Resume store) left = Tells IsScript left
 TellsInput (Generate n seed out) left = Unit {0}
 
--- the source tells its bytes, and they have a fault as the command's input
+-- the source tells its bytes, and they have a fault as the command's input, which is read before all else; under `resume` the records are judged first
 abbrev pub TellsFault : Command → Option (List ℕ) → Type 0
 TellsFault Step left = Tells IsFaultySheet left
 TellsFault Check left = Tells IsFaultyBundle left
 TellsFault (Run store) left = Tells IsFaultyBundle left
+TellsFault (Resume store) left = ⊥
 TellsFault (Generate n seed out) left = ⊥
 
--- the keeper is as the command needs it: under `run` it tells that it holds no season
+-- the keeper is as the command needs it: under `run` it tells that it holds no season, under `resume` records without a fault
 abbrev pub IsReady : Command → Tables → Type 0
 IsReady Step tables = Unit {0}
 IsReady Check tables = Unit {0}
 IsReady (Run store) tables = TellsNoSeason tables
+IsReady (Resume store) tables = TellsSound tables
 IsReady (Generate n seed out) tables = Unit {0}
 
--- the command begins an office
+-- the command begins an office anew
 abbrev pub BeginsOffice : Command → Type 0
 BeginsOffice Step = ⊥
 BeginsOffice Check = ⊥
 BeginsOffice (Run store) = Unit {0}
+BeginsOffice (Resume store) = ⊥
 BeginsOffice (Generate n seed out) = ⊥
 
--- the command begins no office
+-- the command neither begins an office nor goes on with one
 abbrev pub BeginsNone : Command → Type 0
 BeginsNone Step = Unit {0}
 BeginsNone Check = Unit {0}
 BeginsNone (Run store) = ⊥
+BeginsNone (Resume store) = ⊥
 BeginsNone (Generate n seed out) = Unit {0}
 
 -- the command reads the source
@@ -114,6 +124,7 @@ abbrev pub ReadsSource : Command → Type 0
 ReadsSource Step = Unit {0}
 ReadsSource Check = Unit {0}
 ReadsSource (Run store) = Unit {0}
+ReadsSource (Resume store) = Unit {0}
 ReadsSource (Generate n seed out) = ⊥
 
 -- the command reads no source
@@ -121,4 +132,5 @@ abbrev pub ReadsNone : Command → Type 0
 ReadsNone Step = ⊥
 ReadsNone Check = ⊥
 ReadsNone (Run store) = ⊥
+ReadsNone (Resume store) = ⊥
 ReadsNone (Generate n seed out) = Unit {0}

@@ -2,9 +2,13 @@
 ghost use Rattle.std.specs.Prelude.{◌≡◌, ◌≢◌, ◌≤◌, ◌⊎◌, ℕ, List};
 ghost use Rattle.office_base.specs.Outside.{Rose, IsAtEnd, Appends};
 ghost use Rattle.allocation_cli.specs.Program.{BeginsNone, BeginsOffice, Ends, IsReady, IsWritten, ReadsNone, ReadsSource, TellsFault, TellsInput};
-ghost use Rattle.season_commands.specs.Run.{TellsSeason};
+ghost use Rattle.command_answers.specs.Answers.{Tells};
+ghost use Rattle.season_commands.specs.Resume.{IsFaultyScript, TellsSound};
+ghost use Rattle.season_commands.specs.Run.{TellsNoSeason, TellsSeason};
 ghost use Rattle.command_words.specs.Words.{IsInRange, Spell, SpellNothing};
 ghost use Rattle.command_words.specs.declared.words.Command.{Command as AnyCommand};
+ghost use Rattle.command_words.specs.declared.words.Command.TheVariants.{Resume};
+ghost use Rattle.command_words.specs.declared.words.Store.{Store as AnyStore};
 
 use crate::generate::generate_answer;
 use crate::laws::one_answer;
@@ -13,15 +17,15 @@ use command_words::laws::one_spelling;
 use command_words::{Command, OutKind, Store, WordsFault, read_words};
 use keeper_mem::Keeper;
 use office_base::{Sink, Source, Words};
-use season_commands::{check_answer, run_season};
+use season_commands::{check_answer, resume_season, run_season};
 use std::alloc::Global;
 use step_command::step_answer;
 
 /// Runs the command that the words spell, from the bytes of the source to the bytes of the sink, and gives back the keeper.
 ///
 /// The command `step` reads a step sheet and writes whom the step admits; `check` reads a season bundle and writes how much it has; `run` reads a season
-/// bundle with its requests, begins an office over the keeper and answers them, each reply written before the next request is handled; `generate` makes up
-/// a season from a seed and writes its bundle.
+/// bundle with its requests, begins an office over the keeper and answers them, each reply written before the next request is handled; `resume` goes on
+/// with the office that the keeper holds, reads requests and answers them in the same way; `generate` makes up a season from a seed and writes its bundle.
 pub fn allocate<S: Source, K: Sink, P: Keeper>(
     alloc: Global,
     words: &Words,
@@ -64,6 +68,12 @@ pub fn allocate<S: Source, K: Sink, P: Keeper>(
     ensures not_empty { (command : AnyCommand) → Spell words.now command → BeginsOffice command → TellsSeason (P.tables keeper)
         → ¬ Rose (S.faults source.old) (S.faults source.new) → ¬ Rose (K.faults sink.old) (K.faults sink.new) → ¬ Rose (P.faults keeper) (P.faults result.1)
         → (result.0 ≡ Status.BadInput) ⊎ (result.0 ≡ Status.OutOfMemory) }
+    ensures unasked { (store : AnyStore) → Spell words.now (Resume store) → Tells IsFaultyScript (S.left source.old) → TellsSound (P.tables keeper)
+        → ¬ Rose (S.faults source.old) (S.faults source.new) → ¬ Rose (K.faults sink.old) (K.faults sink.new) → ¬ Rose (P.faults keeper) (P.faults result.1)
+        → (result.0 ≡ Status.BadInput) ⊎ (result.0 ≡ Status.OutOfMemory) }
+    ensures none_kept { (store : AnyStore) → Spell words.now (Resume store) → TellsNoSeason (P.tables keeper)
+        → ¬ Rose (K.faults sink.old) (K.faults sink.new) → ¬ Rose (P.faults keeper) (P.faults result.1)
+        → (result.0 ≡ Status.BadInput) ⊎ (result.0 ≡ Status.OutOfMemory) }
 {
     one_spelling();
     match read_words(alloc, words) {
@@ -103,12 +113,19 @@ fn run<S: Source, K: Sink, P: Keeper>(
     ensures not_empty { BeginsOffice command → TellsSeason (P.tables keeper)
         → ¬ Rose (S.faults source.old) (S.faults source.new) → ¬ Rose (K.faults sink.old) (K.faults sink.new) → ¬ Rose (P.faults keeper) (P.faults result.1)
         → (result.0 ≡ Status.BadInput) ⊎ (result.0 ≡ Status.OutOfMemory) }
+    ensures unasked { (store : AnyStore) → command ≡ Resume store → Tells IsFaultyScript (S.left source.old) → TellsSound (P.tables keeper)
+        → ¬ Rose (S.faults source.old) (S.faults source.new) → ¬ Rose (K.faults sink.old) (K.faults sink.new) → ¬ Rose (P.faults keeper) (P.faults result.1)
+        → (result.0 ≡ Status.BadInput) ⊎ (result.0 ≡ Status.OutOfMemory) }
+    ensures none_kept { (store : AnyStore) → command ≡ Resume store → TellsNoSeason (P.tables keeper)
+        → ¬ Rose (K.faults sink.old) (K.faults sink.new) → ¬ Rose (P.faults keeper) (P.faults result.1)
+        → (result.0 ≡ Status.BadInput) ⊎ (result.0 ≡ Status.OutOfMemory) }
 {
     one_answer();
     match command {
         Command::Step => (finish(sink, step_answer(alloc, source)), keeper),
         Command::Check => (finish(sink, check_answer(alloc, source)), keeper),
         Command::Run(Store::Memory) => run_season(alloc, source, sink, keeper),
+        Command::Resume(Store::Memory) => resume_season(alloc, source, sink, keeper),
         Command::Generate {
             n,
             seed,

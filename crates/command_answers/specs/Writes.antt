@@ -5,7 +5,7 @@ use Rattle.command_answers.specs.Answers.{Answers, HasLeft}
 use Rattle.command_answers.specs.declared.failure.Failure.{Failure}
 use Rattle.command_answers.specs.declared.failure.Failure.TheVariants.{Read, Bad, NoMemory}
 use Rattle.command_answers.specs.declared.status.Status.{Status}
-use Rattle.command_answers.specs.declared.status.Status.TheVariants.{Ok as Done, Usage, BadInput, ReadFault, WriteFault, KeeperFault, OutOfMemory}
+use Rattle.command_answers.specs.declared.status.Status.TheVariants.{Ok as Done, Usage, BadInput, ReadFault, WriteFault, KeeperFault, OutOfMemory, Differs}
 
 -- the line of a source that failed
 abbrev pub read_line : List ℕ
@@ -33,6 +33,7 @@ IsTextOf answers left ReadFault text = text ≡ read_line
 IsTextOf answers left WriteFault text = ⊥
 IsTextOf answers left KeeperFault text = ⊥
 IsTextOf answers left OutOfMemory text = text ≡ memory_line
+IsTextOf answers left Differs text = ⊥
 
 -- the status of a command's answer, and the text that goes with it
 abbrev pub status_of : Result (List ℕ) Failure → Status

@@ -19,6 +19,8 @@ pub enum Status {
     KeeperFault = 6,
     /// There was no memory. It is the one answer that no cause is claimed for.
     OutOfMemory = 7,
+    /// The records of the keeper do not replay: the line written names the first row, or the first seat that differs.
+    Differs = 9,
 }
 
 impl Status {

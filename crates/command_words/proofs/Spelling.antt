@@ -9,7 +9,7 @@ use Rattle.command_words.specs.Parts.{ArePlain, AreParts, is_plain}
 use Rattle.command_words.specs.Words.{IsInRange, Spell, SpellNothing, word_out, words_of}
 use Rattle.command_words.specs.declared.parts.Parts.{Parts}
 use Rattle.command_words.specs.declared.words.Command.{Command}
-use Rattle.command_words.specs.declared.words.Command.TheVariants.{Step, Check, Run, Generate}
+use Rattle.command_words.specs.declared.words.Command.TheVariants.{Step, Check, Run, Resume, Generate}
 use Rattle.command_words.specs.declared.words.OutKind.{OutKind}
 use Rattle.command_words.specs.declared.words.OutKind.TheVariants as out_kind
 use Rattle.command_words.specs.declared.words.Store.TheVariants.{Memory}
@@ -56,18 +56,27 @@ one_command : AreInverse → (command other : Command) → IsInRange command →
 one_command own Step Step first second same = refl
 one_command own Step Check first second same = absurd cc
 one_command own Step (Run Memory) first second same = absurd cc
+one_command own Step (Resume Memory) first second same = absurd cc
 one_command own Step (Generate n seed out) first second same = absurd cc
 one_command own Check Step first second same = absurd cc
 one_command own Check Check first second same = refl
 one_command own Check (Run Memory) first second same = absurd cc
+one_command own Check (Resume Memory) first second same = absurd cc
 one_command own Check (Generate n seed out) first second same = absurd cc
 one_command own (Run Memory) Step first second same = absurd cc
 one_command own (Run Memory) Check first second same = absurd cc
 one_command own (Run Memory) (Run Memory) first second same = refl
+one_command own (Run Memory) (Resume Memory) first second same = absurd cc
 one_command own (Run Memory) (Generate n seed out) first second same = absurd cc
+one_command own (Resume Memory) Step first second same = absurd cc
+one_command own (Resume Memory) Check first second same = absurd cc
+one_command own (Resume Memory) (Run Memory) first second same = absurd cc
+one_command own (Resume Memory) (Resume Memory) first second same = refl
+one_command own (Resume Memory) (Generate n seed out) first second same = absurd cc
 one_command own (Generate n seed out) Step first second same = absurd cc
 one_command own (Generate n seed out) Check first second same = absurd cc
 one_command own (Generate n seed out) (Run Memory) first second same = absurd cc
+one_command own (Generate n seed out) (Resume Memory) first second same = absurd cc
 one_command own (Generate m seed out) (Generate n other last) first second same =
     let numbers : decimal m ≡ decimal n = cc in
     let seeds : decimal seed ≡ decimal other = cc in
@@ -86,6 +95,7 @@ plain_command : AreInverse → (command : Command) → IsInRange command → Are
 plain_command own Step range = refl
 plain_command own Check range = refl
 plain_command own (Run Memory) range = refl
+plain_command own (Resume Memory) range = refl
 plain_command own (Generate n seed out_kind.Text) range =
     rw (plain_digits own n (omega (arith, range.1)), plain_digits own seed range.2) refl
 
@@ -94,6 +104,7 @@ some_words : (command : Command) → (0 < length (words_of command)) × (length 
 some_words Step = (omega arith, omega arith, λ h. omega (arith, h))
 some_words Check = (omega arith, omega arith, λ h. omega (arith, h))
 some_words (Run Memory) = (omega arith, omega arith, λ h. omega (arith, h))
+some_words (Resume Memory) = (omega arith, omega arith, λ h. omega (arith, h))
 some_words (Generate n seed out) = (omega arith, omega arith, λ h. omega (arith, h))
 
 -- Words that are not all plain spell no command.

@@ -2,7 +2,7 @@
 use Rattle.std.specs.Prelude.{◌≡◌, ◌<◌, ◌≤◌, ◌^◌, ℕ, List, [], ◌∷◌, codes}
 use Rattle.std.specs.Fmt.{decimal}
 use Rattle.command_words.specs.declared.words.Command.{Command}
-use Rattle.command_words.specs.declared.words.Command.TheVariants.{Step, Check, Run, Generate}
+use Rattle.command_words.specs.declared.words.Command.TheVariants.{Step, Check, Run, Resume, Generate}
 use Rattle.command_words.specs.declared.words.OutKind.{OutKind}
 use Rattle.command_words.specs.declared.words.OutKind.TheVariants as out_kind
 use Rattle.command_words.specs.declared.words.Store.{Store}
@@ -16,11 +16,12 @@ word_of Memory = codes "memory"
 abbrev pub word_out : OutKind → List ℕ
 word_out out_kind.Text = codes "text"
 
--- the words of a command: its name alone; `run`, and where the records are kept; or `generate`, how many candidates, the seed, and what is written
+-- the words of a command: its name alone; `run` or `resume`, and where the records are kept; or `generate`, how many candidates, the seed, and what is written
 abbrev pub words_of : Command → List (List ℕ)
 words_of Step = codes "step" ∷ []
 words_of Check = codes "check" ∷ []
 words_of (Run store) = codes "run" ∷ word_of store ∷ []
+words_of (Resume store) = codes "resume" ∷ word_of store ∷ []
 words_of (Generate n seed out) = codes "generate" ∷ decimal n ∷ decimal seed ∷ word_out out ∷ []
 
 -- the numbers of a command lie in their ranges
@@ -28,6 +29,7 @@ abbrev pub IsInRange : Command → Type 0
 IsInRange Step = Unit {0}
 IsInRange Check = Unit {0}
 IsInRange (Run store) = Unit {0}
+IsInRange (Resume store) = Unit {0}
 IsInRange (Generate n seed out) = (1 ≤ n) × (n ≤ 100000) × (seed < 2 ^ 32)
 
 -- the words spell the command

@@ -23,6 +23,8 @@ pub enum Command {
     Check,
     /// Reads a season bundle with its requests and answers them over a keeper.
     Run(Store),
+    /// Goes on with the office that a keeper holds, and answers the requests that are read.
+    Resume(Store),
     /// Generates a season bundle of 1 to 100,000 candidates from a seed.
     Generate { n: u32, seed: u32, out: OutKind },
 }
@@ -66,7 +68,7 @@ impl<T: Drop> From<AllocFailed<T>> for WordsFault {
     }
 }
 
-/// The command that the words spell: its name alone; `run` with `memory`; or `generate` with how many candidates, a seed, and `text`. `Usage` comes
+/// The command that the words spell: its name alone; `run` or `resume` with `memory`; or `generate` with how many candidates, a seed, and `text`. `Usage` comes
 /// exactly where they spell none, but for want of memory.
 pub fn read_words(alloc: Global, words: &Words) -> Result<Command, WordsFault>
     ensures command { IfOk result (Spell words.now) }
@@ -164,6 +166,7 @@ fn read_store(name: &str, store: &str) -> Option<Command>
 {
     match (name, store) {
         ("run", "memory") => Some(Command::Run(Store::Memory)),
+        ("resume", "memory") => Some(Command::Resume(Store::Memory)),
         _ => None,
     }
 }

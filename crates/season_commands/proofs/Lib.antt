@@ -1,4 +1,6 @@
 mod CheckFaults
 mod OfficeEnds
 mod OneAnswer
+mod Requests
+mod ResumeEnds
 mod RunEnds

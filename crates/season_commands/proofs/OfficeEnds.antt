@@ -1,12 +1,12 @@
--- How the requests of a season end, over an office that just began.
+-- How requests end that are answered over an office.
 use Rattle.std.proofs.Common.{◌≡◌, inl, inr, ℕ, List, ◌++◌, Option, Some, None, take, refl, sym, ap, subst, ◌∙◌, append_assoc, append-nil}
 use Rattle.office_base.specs.Outside.{Appends}
 use Rattle.office_base.specs.declared.asks.Request.{Request}
 use Rattle.keeper_mem.specs.Tables.{Tables}
 use Rattle.office_moves.specs.Facts.{SeasonFacts}
-use Rattle.office_moves.specs.State.{State, opening}
+use Rattle.office_moves.specs.State.{State}
 use Rattle.script_runs.specs.Runs.{Ended, EndsBefore, EndsShort, EndsWithin}
-use Rattle.season_commands.specs.Run.{EndsOffice, FollowsOneMore, FollowsSome, keeper_line}
+use Rattle.season_commands.specs.Office.{EndsOffice, FollowsOneMore, FollowsSome, keeper_line}
 use Rattle.command_answers.specs.Writes.{IsTold, memory_line}
 use Rattle.command_answers.specs.declared.status.Status.{Status}
 use Rattle.command_answers.specs.declared.status.Status.TheVariants.{WriteFault, KeeperFault, OutOfMemory}
@@ -17,72 +17,71 @@ appends_on xs ys None b c first second = subst (λ o. Appends ys o c) first seco
 appends_on xs ys (Some bytes) b c first second = subst (λ o. Appends ys o c) first second ∙ ap Some (append_assoc bytes xs ys)
 
 -- how the requests end, with what was written
-abbrev pub IsEnd : SeasonFacts → List Request → Tables → Option (List ℕ) → Option (List ℕ) → Status → Type 0
-IsEnd facts script tables before after status = (output : List ℕ) × Appends output before after × EndsOffice facts script tables status output
+abbrev pub IsEnd : SeasonFacts → State → List Request → Tables → Option (List ℕ) → Option (List ℕ) → Status → Type 0
+IsEnd facts start script tables before after status = (output : List ℕ) × Appends output before after × EndsOffice facts start script tables status output
 
 -- the end of this status is that of the result
-as_result : (facts : SeasonFacts) (script : List Request) (tables : Tables) (before after : Option (List ℕ)) (status result : Status) → result ≡ status
-    → IsEnd facts script tables before after status → IsEnd facts script tables before after result
-as_result facts script tables before after status result same end = subst (λ s. IsEnd facts script tables before after s) (sym same) end
+as_result : (facts : SeasonFacts) (start : State) (script : List Request) (tables : Tables) (before after : Option (List ℕ)) (status result : Status) → result ≡ status
+    → IsEnd facts start script tables before after status → IsEnd facts start script tables before after result
+as_result facts start script tables before after status result same end = subst (λ s. IsEnd facts start script tables before after s) (sym same) end
 
 -- a text after the output of the first requests
-follows_some : (facts : SeasonFacts) (script : List Request) (ended : Ended) (after : Option (List ℕ)) (text : List ℕ) → EndsBefore facts opening script ended → Appends text ended.after after
-    → (output : List ℕ) × Appends output ended.before after × FollowsSome facts script ended.tables text output
-follows_some facts script ended after text end told =
+follows_some : (facts : SeasonFacts) (start : State) (script : List Request) (ended : Ended) (after : Option (List ℕ)) (text : List ℕ) → EndsBefore facts start script ended → Appends text ended.after after
+    → (output : List ℕ) × Appends output ended.before after × FollowsSome facts start script ended.tables text output
+follows_some facts start script ended after text end told =
     let (j, some, fewer, answered, written) = end in
     (some ++ text, appends_on some text ended.before ended.after after written told, record { j = j; some = some; state = ended.state; fewer = fewer; answered = answered; written = refl })
 
 -- a text after the output of the first requests, where one more is answered
-follows_more : (facts : SeasonFacts) (script : List Request) (ended : Ended) (after : Option (List ℕ)) (text : List ℕ) → EndsWithin facts opening script ended 0 → Appends text ended.after after
-    → (output : List ℕ) × Appends output ended.before after × FollowsOneMore facts script ended.tables text output
-follows_more facts script ended after text end told =
+follows_more : (facts : SeasonFacts) (start : State) (script : List Request) (ended : Ended) (after : Option (List ℕ)) (text : List ℕ) → EndsWithin facts start script ended 0 → Appends text ended.after after
+    → (output : List ℕ) × Appends output ended.before after × FollowsOneMore facts start script ended.tables text output
+follows_more facts start script ended after text end told =
     let (j, some, reply, answered, written) = end in
     let whole : Appends some ended.before ended.after = subst (λ bytes. Appends bytes ended.before ended.after) (append-nil some) written in
     (some ++ text, appends_on some text ended.before ended.after after whole told, record { j = j; some = some; reply = reply; state = ended.state; answered = answered; written = refl })
 
 -- The keeper failed.
-pub keeper_ends : (facts : SeasonFacts) (script : List Request) (start : State) (ended : Ended) (after : Option (List ℕ)) (broke : Type 0) (result : Status) → start ≡ opening
-    → EndsBefore facts start script ended → IsTold KeeperFault keeper_line ended.after after broke result → IsEnd facts script ended.tables ended.before after result
-keeper_ends facts script start ended after broke result first end told =
-    let here = subst (λ s. EndsBefore facts s script ended) first end in
+pub keeper_ends : (facts : SeasonFacts) (start : State) (script : List Request) (ended : Ended) (after : Option (List ℕ)) (broke : Type 0) (result : Status)
+    → EndsBefore facts start script ended → IsTold KeeperFault keeper_line ended.after after broke result → IsEnd facts start script ended.tables ended.before after result
+keeper_ends facts start script ended after broke result here told =
     elim told [
-      | inl whole ↦ as_result facts script ended.tables ended.before after KeeperFault result whole.0 (follows_some facts script ended after keeper_line here whole.1)
+      | inl whole ↦ as_result facts start script ended.tables ended.before after KeeperFault result whole.0 (follows_some facts start script ended after keeper_line here whole.1)
       | inr cut ↦
-          let some = follows_some facts script ended after (take cut.2.0 keeper_line) here cut.2.1 in
-          as_result facts script ended.tables ended.before after WriteFault result cut.0 (some.0, some.1, inr (cut.2.0, inl some.2))
+          let some = follows_some facts start script ended after (take cut.2.0 keeper_line) here cut.2.1 in
+          as_result facts start script ended.tables ended.before after WriteFault result cut.0 (some.0, some.1, inr (cut.2.0, inl some.2))
     ]
 
 -- There was no memory for a request.
-short_before : (facts : SeasonFacts) (script : List Request) (ended : Ended) (after : Option (List ℕ)) (broke : Type 0) (result : Status)
-    → EndsBefore facts opening script ended → IsTold OutOfMemory memory_line ended.after after broke result → IsEnd facts script ended.tables ended.before after result
-short_before facts script ended after broke result here told =
+short_before : (facts : SeasonFacts) (start : State) (script : List Request) (ended : Ended) (after : Option (List ℕ)) (broke : Type 0) (result : Status)
+    → EndsBefore facts start script ended → IsTold OutOfMemory memory_line ended.after after broke result → IsEnd facts start script ended.tables ended.before after result
+short_before facts start script ended after broke result here told =
     elim told [
       | inl whole ↦
-          let some = follows_some facts script ended after memory_line here whole.1 in
-          as_result facts script ended.tables ended.before after OutOfMemory result whole.0 (some.0, some.1, inl some.2)
+          let some = follows_some facts start script ended after memory_line here whole.1 in
+          as_result facts start script ended.tables ended.before after OutOfMemory result whole.0 (some.0, some.1, inl some.2)
       | inr cut ↦
-          let some = follows_some facts script ended after (take cut.2.0 memory_line) here cut.2.1 in
-          as_result facts script ended.tables ended.before after WriteFault result cut.0 (some.0, some.1, inr (cut.2.0, inr (inl some.2)))
+          let some = follows_some facts start script ended after (take cut.2.0 memory_line) here cut.2.1 in
+          as_result facts start script ended.tables ended.before after WriteFault result cut.0 (some.0, some.1, inr (cut.2.0, inr (inl some.2)))
     ]
 
 -- there was no memory for a reply
-short_within : (facts : SeasonFacts) (script : List Request) (ended : Ended) (after : Option (List ℕ)) (broke : Type 0) (result : Status)
-    → EndsWithin facts opening script ended 0 → IsTold OutOfMemory memory_line ended.after after broke result → IsEnd facts script ended.tables ended.before after result
-short_within facts script ended after broke result here told =
+short_within : (facts : SeasonFacts) (start : State) (script : List Request) (ended : Ended) (after : Option (List ℕ)) (broke : Type 0) (result : Status)
+    → EndsWithin facts start script ended 0 → IsTold OutOfMemory memory_line ended.after after broke result → IsEnd facts start script ended.tables ended.before after result
+short_within facts start script ended after broke result here told =
     elim told [
       | inl whole ↦
-          let more = follows_more facts script ended after memory_line here whole.1 in
-          as_result facts script ended.tables ended.before after OutOfMemory result whole.0 (more.0, more.1, inr more.2)
+          let more = follows_more facts start script ended after memory_line here whole.1 in
+          as_result facts start script ended.tables ended.before after OutOfMemory result whole.0 (more.0, more.1, inr more.2)
       | inr cut ↦
-          let more = follows_more facts script ended after (take cut.2.0 memory_line) here cut.2.1 in
-          as_result facts script ended.tables ended.before after WriteFault result cut.0 (more.0, more.1, inr (cut.2.0, inr (inr more.2)))
+          let more = follows_more facts start script ended after (take cut.2.0 memory_line) here cut.2.1 in
+          as_result facts start script ended.tables ended.before after WriteFault result cut.0 (more.0, more.1, inr (cut.2.0, inr (inr more.2)))
     ]
 
 -- There was no memory.
-pub memory_ends : (facts : SeasonFacts) (script : List Request) (start : State) (ended : Ended) (after : Option (List ℕ)) (broke : Type 0) (result : Status) → start ≡ opening
-    → EndsShort facts start script ended → IsTold OutOfMemory memory_line ended.after after broke result → IsEnd facts script ended.tables ended.before after result
-memory_ends facts script start ended after broke result first end told =
-    elim (subst (λ s. EndsShort facts s script ended) first end) [
-      | inl here ↦ short_before facts script ended after broke result here told
-      | inr here ↦ short_within facts script ended after broke result here told
+pub memory_ends : (facts : SeasonFacts) (start : State) (script : List Request) (ended : Ended) (after : Option (List ℕ)) (broke : Type 0) (result : Status)
+    → EndsShort facts start script ended → IsTold OutOfMemory memory_line ended.after after broke result → IsEnd facts start script ended.tables ended.before after result
+memory_ends facts start script ended after broke result end told =
+    elim end [
+      | inl here ↦ short_before facts start script ended after broke result here told
+      | inr here ↦ short_within facts start script ended after broke result here told
     ]

@@ -1,16 +1,7 @@
 -- The input of a command that answers with one text has one answer.
 use Rattle.std.proofs.Common.{◌≡◌, ◌≢◌, ◌+◌, ℕ, true, List, [], ◌∷◌, length, refl, sym, ap, subst, ◌∙◌}
 use Rattle.std.specs.Prelude.{fold}
-use Rattle.office_base.specs.Certificate.{IsCanonical}
-use Rattle.office_base.specs.StepChoice.{IsStep}
 use Rattle.office_base.specs.declared.person.Person.{Person}
-use Rattle.office_base.specs.declared.step.Pair.{Pair}
-use Rattle.office_base.specs.declared.step.Step.{Step as StepOfSheet}
-use Rattle.placements.proofs.Ranks.{pairwise_sublist}
-use Rattle.merit_choice.specs.Laws.{OneChoice}
-use Rattle.slot_cert.specs.Laws.{OneCertificate}
-use Rattle.step_sheet.specs.Output.{fault_output, step_output}
-use Rattle.step_sheet.specs.Sheet as sheet
 use Rattle.choice_lists.specs.Choices.{list_of}
 use Rattle.season_file.specs.Laws as season_laws
 use Rattle.season_file.specs.Season.{content_of}
@@ -18,7 +9,6 @@ use Rattle.season_file.specs.declared.season.Season.{Season}
 use Rattle.season_texts.specs.Texts.{counts_line, fault_line, line_of_counts}
 use Rattle.command_answers.specs.Answers.{HaveOneAnswer}
 use Rattle.season_commands.specs.Check.{IsCheckOutput, check_answers}
-use Rattle.step_command.specs.Step.{IsStepOutput, IsStepText, step_answers}
 
 -- people are counted alike by tests that are alike
 counted_alike : (f g : Person → ℕ) (a : ℕ) (people : List Person) → ((person : Person) → f person ≡ g person) → fold (λ n x. n + f x) a people ≡ fold (λ n x. n + g x) a people

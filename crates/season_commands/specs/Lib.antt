@@ -1,2 +1,5 @@
 pub mod Check
+pub mod Office
+pub mod Resume
 pub mod Run
+pub mod Stray

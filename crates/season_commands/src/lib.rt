@@ -1,13 +1,18 @@
-// The commands on a season: `check`, which reads a bundle and counts it, and `run`, which answers its requests over a keeper.
+// The commands on a season: `check`, which reads a bundle and counts it, `run`, which answers its requests over a keeper, and `resume`, which goes on with
+// the office that a keeper holds.
 //
-// The program stands on it. `specs/Check` and `specs/Run` say what the commands answer to the bytes that a source had left, how they end with each status,
+// The program stands on it. `specs/Check`, `specs/Run` and `specs/Resume` say what the commands answer to the bytes that a source had left, how they end with each status,
 // and what the tables of the keeper stand for then. It must never know of the words of a command line, nor of other commands.
 #![tactic(auto)]
 
 mod bundle;
 mod check;
 pub mod laws;
+mod office;
+mod resume;
 mod run;
+mod stray;
 
 pub use check::check_answer;
+pub use resume::resume_season;
 pub use run::run_season;

@@ -8,16 +8,16 @@ ghost use Rattle.office_moves.specs.Stands.{Stand};
 ghost use Rattle.office_moves.specs.State.{opening};
 ghost use Rattle.command_answers.specs.Answers.{IsFailureOf, Tells};
 ghost use Rattle.season_commands.specs.Check.{IsBundle, IsFaultyBundle, check_answers};
-ghost use Rattle.season_commands.specs.Run.{EndsOffice, EndsRun, EndsSeason, TellsNoSeason, TellsSeason, begin_status, begin_text};
+ghost use Rattle.season_commands.specs.Run.{EndsRun, EndsSeason, TellsNoSeason, TellsSeason, begin_status, begin_text};
 ghost use Rattle.command_answers.specs.Writes.{IsTold};
 
 use crate::bundle::read_bundle;
 use crate::laws::one_answer;
+use crate::office::run_office;
 use command_answers::{Failure, Status, tell_failure, write_answer};
 use keeper_mem::Keeper;
 use office_base::{Request, Sink, Source};
 use round_cut::{BeginFault, Office};
-use script_runs::{RunEnd, answer_all};
 use season_file::Season;
 use std::alloc::Global;
 
@@ -94,57 +94,5 @@ fn tell_unbegun<K: Sink>(sink: &mut K, fault: BeginFault) -> Status
         }
         BeginFault::KeeperFault => write_answer(sink, b"fault: keeper\n", Status::KeeperFault),
         BeginFault::OutOfMemory => write_answer(sink, b"fault: memory\n", Status::OutOfMemory),
-    }
-}
-
-/// Answers the requests over an office that just began, and gives back its keeper.
-fn run_office<K: Sink, P: Keeper>(
-    alloc: Global,
-    mut office: Office<P>,
-    script: &[Request],
-    sink: &mut K,
-) -> (Status, P)
-    requires entries { office.entries ≡ [] }
-    requires state { office.state ≡ opening }
-    requires stands { Stand office.season office.state (P.tables office.keeper) }
-    ensures written { (output : List ℕ) × Appends output (K.written sink.old) (K.written sink.new)
-        × EndsOffice office.season script.now (P.tables result.1) result.0 output }
-    ensures write_fault { result.0 ≡ Status.WriteFault → Rose (K.faults sink.old) (K.faults sink.new) }
-    ensures keeper_fault { result.0 ≡ Status.KeeperFault → Rose (P.faults office.keeper) (P.faults result.1) }
-    ensures sink_steady { result.0 ≢ Status.WriteFault → K.faults sink.new ≡ K.faults sink.old }
-    ensures keeper_count { P.faults office.keeper ≤ P.faults result.1 }
-    ensures keeper_steady { result.0 ≡ Status.Ok → P.faults result.1 ≡ P.faults office.keeper }
-    ensures complete { ¬ Rose (K.faults sink.old) (K.faults sink.new) → ¬ Rose (P.faults office.keeper) (P.faults result.1)
-        → (result.0 ≡ Status.Ok) ⊎ (result.0 ≡ Status.OutOfMemory) }
-{
-    let status = answer_script(alloc, &mut office, script, sink);
-    (status, office.into_keeper())
-}
-
-/// Answers the requests over an office that just began, and tells why they are not all answered, where they are not.
-fn answer_script<K: Sink, P: Keeper>(
-    alloc: Global,
-    office: &mut Office<P>,
-    script: &[Request],
-    sink: &mut K,
-) -> Status
-    requires entries { office.old.entries ≡ [] }
-    requires state { office.old.state ≡ opening }
-    requires stands { Stand office.old.season office.old.state (P.tables office.old.keeper) }
-    ensures written { (output : List ℕ) × Appends output (K.written sink.old) (K.written sink.new)
-        × EndsOffice office.old.season script.now (P.tables office.new.keeper) result output }
-    ensures write_fault { result ≡ Status.WriteFault → Rose (K.faults sink.old) (K.faults sink.new) }
-    ensures keeper_fault { result ≡ Status.KeeperFault → Rose (P.faults office.old.keeper) (P.faults office.new.keeper) }
-    ensures sink_steady { result ≢ Status.WriteFault → K.faults sink.new ≡ K.faults sink.old }
-    ensures keeper_count { P.faults office.old.keeper ≤ P.faults office.new.keeper }
-    ensures keeper_steady { result ≡ Status.Ok → P.faults office.new.keeper ≡ P.faults office.old.keeper }
-    ensures complete { ¬ Rose (K.faults sink.old) (K.faults sink.new) → ¬ Rose (P.faults office.old.keeper) (P.faults office.new.keeper)
-        → (result ≡ Status.Ok) ⊎ (result ≡ Status.OutOfMemory) }
-{
-    match answer_all(alloc, office, script, sink) {
-        RunEnd::Done => Status::Ok,
-        RunEnd::WriteFault => Status::WriteFault,
-        RunEnd::KeeperFault => write_answer(sink, b"fault: keeper\n", Status::KeeperFault),
-        RunEnd::OutOfMemory => write_answer(sink, b"fault: memory\n", Status::OutOfMemory),
     }
 }

@@ -1,0 +1,140 @@
+-- The command `resume`: an office goes on from what the keeper holds; its input are requests alone, and its output are the replies to them.
+use Rattle.std.specs.Prelude.{◌≡◌, ◌≢◌, ◌<◌, ◌⊎◌, ℕ, false, List, Option, Ok, Err, codes, length}
+use Rattle.std.specs.Str.{IsUtf8}
+use Rattle.office_base.specs.Limits.{most_bundle_bytes}
+use Rattle.office_base.specs.Outside.{AreLeft}
+use Rattle.office_base.specs.declared.asks.Request.{Request}
+use Rattle.section_rows.specs.Rows.{rows_of}
+use Rattle.request_rows.specs.Requests.{script_of}
+use Rattle.season_file.specs.Laws.{HasFault}
+use Rattle.season_file.specs.Season.{IsSeason, IsText}
+use Rattle.season_file.specs.declared.fault.SeasonFault.{SeasonFault}
+use Rattle.season_file.specs.declared.fault.SeasonFault.TheVariants.{TooLong, NotUtf8, BadRequest}
+use Rattle.season_file.specs.declared.season.Season.{Season}
+use Rattle.season_texts.specs.Texts.{fault_line}
+use Rattle.keeper_mem.specs.Tables.{Tables, Untold, NoSeason, Records, AreTold, IsFound, IsLoaded}
+use Rattle.keeper_mem.specs.declared.rows.Kept.{Kept}
+use Rattle.office_moves.specs.Facts.{SeasonFacts}
+use Rattle.office_moves.specs.Season.{facts_of}
+use Rattle.office_moves.specs.State.{State}
+use Rattle.replays.specs.Faults.{IsReplayFault}
+use Rattle.replays.specs.declared.fault.ReplayFault.{ReplayFault}
+use Rattle.replays.specs.declared.fault.ReplayFault.TheVariants.{OutOfMemory as NoMemory}
+use Rattle.round_cut.specs.Resume.{IsJudged, IsResumed}
+use Rattle.round_cut.specs.declared.fault.ResumeFault.{ResumeFault}
+use Rattle.round_cut.specs.declared.fault.ResumeFault.TheVariants.{NoSeason as NoneKept, BadSeason, Stray, StrayRaise, Differs as SeatsDiffer, KeeperFault as KeeperFailed, OutOfMemory as NoMemoryToResume}
+use Rattle.command_answers.specs.Answers.{Answers, HasLeft}
+use Rattle.command_answers.specs.Writes.{Writes, memory_line, read_line}
+use Rattle.command_answers.specs.declared.status.Status.{Status}
+use Rattle.command_answers.specs.declared.status.Status.TheVariants.{Ok as Done, Usage, BadInput, ReadFault, WriteFault, KeeperFault, OutOfMemory, Differs}
+use Rattle.season_commands.specs.Office.{EndsOffice, keeper_line}
+use Rattle.season_commands.specs.Stray.{replay_line}
+
+abbrev pub no_season_line : List ℕ
+no_season_line = codes "fault: keeper holds no season\n"
+
+-- ---- the input
+
+-- the bytes are requests without faults
+abbrev pub AreRequests : List ℕ → List Request → Type 0
+AreRequests bytes script = IsText bytes × (script_of (rows_of bytes) ≡ Ok script)
+
+-- the bytes that were left are requests without faults
+abbrev pub AreLeftRequests : Option (List ℕ) → List Request → Type 0
+AreLeftRequests left script = (bytes : List ℕ) × AreLeft bytes left × AreRequests bytes script
+
+-- the bytes have this fault as requests
+abbrev pub HaveRequestFault : List ℕ → SeasonFault → Type 0
+HaveRequestFault bytes TooLong = most_bundle_bytes < length bytes
+HaveRequestFault bytes NotUtf8 = IsUtf8 bytes → ⊥
+HaveRequestFault bytes (BadRequest row) = IsText bytes × (script_of (rows_of bytes) ≡ Err row)
+HaveRequestFault bytes fault = ⊥
+
+-- the bytes have a fault as requests, and this is its line
+abbrev pub IsRequestFaultLine : List ℕ → List ℕ → Type 0
+IsRequestFaultLine bytes line = (fault : SeasonFault) × HaveRequestFault bytes fault × (line ≡ fault_line fault)
+
+-- some requests, and some fault
+abbrev pub IsScript : List ℕ → Type 0
+IsScript bytes = (script : List Request) × AreRequests bytes script
+
+abbrev pub IsFaultyScript : List ℕ → Type 0
+IsFaultyScript bytes = (fault : SeasonFault) × HaveRequestFault bytes fault
+
+-- what the requests come to: their replies are no one text
+abbrev pub script_answers : Answers
+script_answers = record { IsInput = IsScript; IsFaulty = IsFaultyScript; IsOutput = λ bytes output. ⊥; IsFaultLine = IsRequestFaultLine }
+
+-- ---- the records
+
+-- the text that is kept is no bundle, and this is the line of its fault
+abbrev pub IsTextFaultLine : Kept → List ℕ → Type 0
+IsTextFaultLine records line = (fault : SeasonFault) × HasFault false records.season fault × (line ≡ fault_line fault)
+
+-- the records of a season do not replay, and this is the line of their fault
+abbrev pub IsReplayFaultLine : Kept → List ℕ → Type 0
+IsReplayFaultLine records line = (season : Season) × (fault : ReplayFault) × (other : Season) × IsSeason records.season season × IsReplayFault (facts_of season) records fault
+    × (fault ≢ NoMemory) × IsSeason records.season other × (line ≡ replay_line other.matrix fault)
+
+-- there is no season, or the text that is kept is no bundle, and this is the line of that
+abbrev pub IsKeptFaultLine : Tables → List ℕ → Type 0
+IsKeptFaultLine tables line = (IsFound false tables × (line ≡ no_season_line)) ⊎ ((records : Kept) × IsLoaded tables records × IsTextFaultLine records line)
+
+-- ---- how the command ends
+
+-- the whole text that goes with each status where no office goes on, by what the tables told before
+abbrev pub IsUnresumedText : Tables → Status → List ℕ → Type 0
+IsUnresumedText before Done text = ⊥
+IsUnresumedText before Usage text = ⊥
+IsUnresumedText before BadInput text = IsKeptFaultLine before text
+IsUnresumedText before ReadFault text = ⊥
+IsUnresumedText before WriteFault text = ⊥
+IsUnresumedText before KeeperFault text = text ≡ keeper_line
+IsUnresumedText before OutOfMemory text = text ≡ memory_line
+IsUnresumedText before Differs text = (records : Kept) × IsLoaded before records × IsReplayFaultLine records text
+
+-- the whole text that goes with each status where an office goes on and no requests are read, for the bytes that the source had left
+abbrev pub IsUnaskedText : Option (List ℕ) → Status → List ℕ → Type 0
+IsUnaskedText left Done text = ⊥
+IsUnaskedText left Usage text = ⊥
+IsUnaskedText left BadInput text = HasLeft IsRequestFaultLine left text
+IsUnaskedText left ReadFault text = text ≡ read_line
+IsUnaskedText left WriteFault text = ⊥
+IsUnaskedText left KeeperFault text = ⊥
+IsUnaskedText left OutOfMemory text = text ≡ memory_line
+IsUnaskedText left Differs text = ⊥
+
+-- how an office that went on ends: no requests are read, and the tables are as before; or they are answered from its state
+abbrev pub EndsAsked : SeasonFacts → State → Option (List ℕ) → Tables → Tables → Status → List ℕ → Type 0
+EndsAsked facts start left before after status output = (Writes (IsUnaskedText left) status output × AreTold before after)
+    ⊎ ((script : List Request) × AreLeftRequests left script × EndsOffice facts start script after status output)
+
+-- how `resume` ends: no office goes on, and the tables are as before; or the records lead to the state of a season, and an office goes on from it
+abbrev pub EndsResume : Option (List ℕ) → Tables → Tables → Status → List ℕ → Type 0
+EndsResume left before after status output = (Writes (IsUnresumedText before) status output × AreTold before after)
+    ⊎ ((facts : SeasonFacts) × (start : State) × IsResumed before facts start × EndsAsked facts start left before after status output)
+
+-- the records have no fault: their text is a bundle, and they replay
+pub record HaveNoFault (records : Kept) : Type 0 where
+  pub text : (fault : SeasonFault) → HasFault false records.season fault → ⊥
+  pub rows : (season : Season) (fault : ReplayFault) → IsSeason records.season season → IsReplayFault (facts_of season) records fault → fault ≡ NoMemory
+
+-- the keeper tells records that have no fault
+abbrev pub TellsSound : Tables → Type 0
+TellsSound Untold = ⊥
+TellsSound NoSeason = ⊥
+TellsSound (Records records) = HaveNoFault records
+
+-- the status of why no office goes on
+abbrev pub unresumed_status : ResumeFault → Status
+unresumed_status NoneKept = BadInput
+unresumed_status (BadSeason fault) = BadInput
+unresumed_status (Stray row) = Differs
+unresumed_status (StrayRaise row) = Differs
+unresumed_status (SeatsDiffer round cand one other) = Differs
+unresumed_status KeeperFailed = KeeperFault
+unresumed_status NoMemoryToResume = OutOfMemory
+
+-- the line that tells it is one that goes with its status
+abbrev pub IsUnresumedLine : Option Kept → ResumeFault → List ℕ → Type 0
+IsUnresumedLine records fault line = (tables : Tables) → IsJudged tables records fault → IsUnresumedText tables (unresumed_status fault) line
