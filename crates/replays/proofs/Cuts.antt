@@ -1,21 +1,17 @@
 -- The cut of the open window, and the seats that are published.
-use Rattle.std.proofs.Common.{◌≡◌, ◌≢◌, ◌<◌, ◌≤◌, ◌+◌, ◌⊎◌, inl, inr, ℕ, zero, suc, Bool, true, false, List, [], ◌∷◌, Option, Some, None, length, refl, sym, ap, ◌∙◌, subst, arith, ◌==◌, nat_lt, if◌then◌else◌}
-use Rattle.std.specs.Prelude.{◌||◌, slice_get, replicate, option_map}
-use Rattle.std.specs.Option.{option_and_then}
+use Rattle.std.proofs.Common.{◌≡◌, ◌<◌, ◌≤◌, ◌+◌, inl, inr, ℕ, Bool, true, false, List, [], Option, Some, None, length, refl, sym, ap, ◌∙◌, subst, arith, ◌==◌, nat_lt, if◌then◌else◌}
+use Rattle.std.specs.Prelude.{◌||◌}
 use Rattle.std.proofs.lemmas.Bool.{cases_Bool}
-use Rattle.allocations.proofs.Places.{eq_means, eq_true, lt_means, lt_true}
-use Rattle.office_base.specs.Person.{at_person}
-use Rattle.office_base.specs.declared.asks.By.TheVariants.{Clerk}
+use Rattle.allocations.proofs.Places.{eq_means, eq_true, lt_means}
 use Rattle.office_base.specs.declared.asks.Seat.{Seat}
 use Rattle.office_base.specs.declared.person.Person.{Person}
 use Rattle.keeper_mem.specs.declared.rows.AllotRow.{AllotRow}
-use Rattle.rank_lists.specs.Register.{row_of}
 use Rattle.rounds.specs.Round.{seated}
 use Rattle.rounds.specs.declared.round.Round.{Round}
 use Rattle.office_moves.specs.Decided.{decided}
 use Rattle.office_moves.specs.Facts.{SeasonFacts}
 use Rattle.office_moves.specs.History.{asked, newly}
-use Rattle.office_moves.specs.Judge.{judge_cut, refuse_if}
+use Rattle.office_moves.specs.Judge.{refuse_if}
 use Rattle.office_moves.specs.Moves.{Does, IsNextRound, final_rows, rows_along}
 use Rattle.office_moves.specs.State.{State, with_finals, with_round}
 use Rattle.office_moves.specs.declared.decide.Decision.{Decision}

@@ -1,16 +1,14 @@
 -- The least of some numbers, and what is kept of windows and rounds that no counted cut closes.
-use Rattle.std.proofs.Common.{◌≡◌, ◌≢◌, ◌<◌, ◌≤◌, ◌⊎◌, inl, inr, ℕ, zero, suc, Bool, true, false, List, [], ◌∷◌, Option, Some, None, arith, refl, sym, ap, ◌∙◌, subst, ◌==◌, nat_lt, if◌then◌else◌}
-use Rattle.std.specs.Prelude.{◌||◌}
+use Rattle.std.proofs.Common.{◌≡◌, ◌<◌, ◌≤◌, ◌⊎◌, inl, inr, ℕ, Bool, true, false, List, [], ◌∷◌, Option, Some, None, arith, refl, sym, ap, ◌∙◌, subst, ◌==◌, nat_lt, if◌then◌else◌}
 use Rattle.std.proofs.lemmas.Bool.{cases_Bool, cases_lt}
 use Rattle.allocations.proofs.Places.{eq_means, eq_true, lt_means, lt_true, or_left, or_means, or_right}
-use Rattle.office_base.specs.declared.asks.Seat.{Seat}
 use Rattle.keeper_mem.specs.declared.rows.AllotRow.{AllotRow}
 use Rattle.keeper_mem.specs.declared.rows.AnswerRow.{AnswerRow}
 use Rattle.keeper_mem.specs.declared.rows.Kept.{Kept}
 use Rattle.keeper_mem.specs.declared.rows.RaiseRow.{RaiseRow}
 use Rattle.office_moves.specs.Stands.{first_allot, raises_in}
 use Rattle.office_moves.specs.State.{in_window}
-use Rattle.replays.specs.Later.{IsEmptyRound, IsEmptyWindow, IsLaterRound, IsLaterWindow, is_later, is_uncounted, least_by, lesser}
+use Rattle.replays.specs.Later.{IsEmptyRound, IsLaterRound, IsLaterWindow, is_later, is_uncounted, least_by, lesser}
 use Rattle.replays.specs.Replay.{IsUncounted}
 use Rattle.replays.proofs.Seats.{row_hits, row_skips}
 

@@ -1,5 +1,5 @@
 -- The numbers of entries that count up.
-use Rattle.std.proofs.Common.{◌≡◌, ◌+◌, ℕ, List, [], ◌∷◌, ◌++◌, refl, ap, ◌∙◌, subst, sym}
+use Rattle.std.proofs.Common.{◌≡◌, ◌+◌, ℕ, List, [], ◌∷◌, ◌++◌, ap, ◌∙◌, subst, sym}
 use Rattle.std.specs.Prelude.{map}
 use Rattle.office_base.specs.Numbered.{last_from}
 use Rattle.office_moves.specs.declared.moves.Act.{Act}

@@ -1,30 +1,25 @@
 -- What is so of a state to which kept records were replayed: it has their rows and their seats.
-use Rattle.std.proofs.Common.{◌≡◌, ◌≢◌, ◌<◌, ◌≤◌, ◌+◌, ◌⊎◌, inl, inr, ℕ, zero, suc, add-one, Bool, true, false, List, [], ◌∷◌, ◌++◌, Option, Some, None, Result, Ok, Err, length, arith, refl, sym, ap, ◌∙◌, subst, append-nil, ◌==◌, nat_lt, if◌then◌else◌}
+use Rattle.std.proofs.Common.{◌≡◌, ◌≢◌, ◌<◌, ◌≤◌, ◌+◌, ◌⊎◌, inl, inr, ℕ, zero, suc, add-one, Bool, true, false, List, [], ◌∷◌, ◌++◌, Option, Some, length, arith, refl, sym, ap, ◌∙◌, subst, append-nil, ◌==◌, nat_lt, if◌then◌else◌}
 use Rattle.std.specs.Prelude.{slice_get}
 use Rattle.std.proofs.lemmas.Bool.{cases_Bool, cases_lt}
-use Rattle.allocations.proofs.Places.{eq_means, eq_true, lt_means, lt_true}
+use Rattle.allocations.proofs.Places.{eq_means, lt_means, lt_true}
 use Rattle.office_base.specs.declared.asks.By.TheVariants.{Clerk}
-use Rattle.office_base.specs.declared.asks.Seat.{Seat}
 use Rattle.keeper_mem.specs.declared.rows.AllotRow.{AllotRow}
 use Rattle.keeper_mem.specs.declared.rows.AnswerRow.{AnswerRow}
 use Rattle.keeper_mem.specs.declared.rows.Kept.{Kept}
 use Rattle.keeper_mem.specs.declared.rows.RaiseRow.{RaiseRow}
 use Rattle.rounds.specs.declared.round.Round.{Round}
 use Rattle.seat_matrix.specs.Matrix.{AreSeats}
-use Rattle.office_moves.specs.Decided.{decided}
 use Rattle.office_moves.specs.Facts.{SeasonFacts}
-use Rattle.office_moves.specs.History.{asked, newly}
-use Rattle.office_moves.specs.Judge.{judge_cut}
 use Rattle.office_moves.specs.Moves.{Does, IsNextRound, final_rows}
-use Rattle.office_moves.specs.Stands.{AreRecordsOf, first_allot, published_seat, raises_in, seat_in_finals}
+use Rattle.office_moves.specs.Stands.{AreRecordsOf, published_seat, raises_in, seat_in_finals}
 use Rattle.office_moves.specs.State.{State, in_window, opening, round_at, seat_in, seat_of, with_finals, with_round}
 use Rattle.office_moves.specs.declared.decide.Decision.{Decision}
 use Rattle.office_moves.specs.declared.decide.Decision.TheVariants.{Finish, Publish}
 use Rattle.office_moves.specs.declared.moves.Act.TheVariants.{Cut}
-use Rattle.office_moves.specs.declared.moves.Reply.{Reply}
-use Rattle.office_moves.proofs.Chains.{cut_new, lt_fails}
-use Rattle.replays.specs.Replay.{AllPass, AreAllotsOf, Closes, CutPasses, IsReplayed, IsUncounted, Pass, RowsPass, WindowPasses}
-use Rattle.replays.proofs.RowLemmas.{answers_ahead, answers_lead, raises_ahead, raises_lead, with_raises, with_rows}
+use Rattle.office_moves.proofs.Chains.{cut_new}
+use Rattle.replays.specs.Replay.{AllPass, AreAllotsOf, Closes, CutPasses, IsReplayed, Pass, RowsPass}
+use Rattle.replays.proofs.RowLemmas.{answers_ahead, answers_lead, raises_ahead, raises_lead}
 
 eq_fails : (m n : ℕ) → m ≢ n → (m == n) ≡ false
 eq_fails m n apart = elim (cases_Bool (m == n)) [ inl same ↦ absurd (apart (eq_means m n same)) | inr other ↦ other ]

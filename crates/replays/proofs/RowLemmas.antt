@@ -1,6 +1,6 @@
 -- Kept rows, each accepted where it stands, or not.
-use Rattle.std.proofs.Common.{◌≡◌, ◌≢◌, ◌<◌, ◌≤◌, ◌+◌, ◌⊎◌, inl, inr, ℕ, zero, suc, Bool, true, false, List, [], ◌∷◌, ◌++◌, Option, Some, None, Result, Ok, Err, length, map, arith, refl, sym, ap, ◌∙◌, subst, append-nil, append_assoc, ◌==◌, nat_lt, if◌then◌else◌, cond, drop, get_or}
-use Rattle.std.specs.Prelude.{not, is_some, option_map, slice_get, bytes_eq, position, ◌&&◌, ◌||◌}
+use Rattle.std.proofs.Common.{◌≡◌, ◌≢◌, ◌<◌, ◌≤◌, ◌+◌, inl, inr, ℕ, zero, suc, Bool, true, false, List, [], ◌∷◌, ◌++◌, Option, Some, None, Result, Ok, Err, length, arith, refl, sym, ap, ◌∙◌, subst, append-nil, append_assoc, ◌==◌, nat_lt, if◌then◌else◌, cond, drop, get_or}
+use Rattle.std.specs.Prelude.{not, is_some, option_map, slice_get, bytes_eq, ◌&&◌, ◌||◌}
 use Rattle.std.specs.List.{AllByRecursion, position_or_len}
 use Rattle.std.specs.Option.{unwrap_or}
 use Rattle.std.proofs.lemmas.Bool.{cases_Bool}
@@ -18,7 +18,7 @@ use Rattle.seat_matrix.specs.declared.entry.Home.{Home}
 use Rattle.office_moves.specs.Decided.{answer_looks, decide_raise_of, decided, raise_looks}
 use Rattle.office_moves.specs.Facts.{SeasonFacts, code_in, find_programme}
 use Rattle.office_moves.specs.History.{asked, newly}
-use Rattle.office_moves.specs.Judge.{judge_answer, not_open, with_programme}
+use Rattle.office_moves.specs.Judge.{with_programme}
 use Rattle.office_moves.specs.Stands.{raises_in}
 use Rattle.office_moves.specs.State.{State, in_window, view_of, with_raise, with_row}
 use Rattle.office_moves.specs.declared.decide.Decision.{Decision}

@@ -15,7 +15,7 @@ use Rattle.keeper_mem.specs.declared.rows.AllotRow.{AllotRow}
 use Rattle.rank_lists.specs.Register.{row_of}
 use Rattle.office_moves.specs.Moves.{row_before, rows_along}
 use Rattle.office_moves.specs.Stands.{first_allot}
-use Rattle.replays.specs.Differences.{AreFound, IsComparison, IsComparisonOf, IsFirstApart, IsFirstPlace, IsOfNobody, IsOfPeople, IsStranger, seat_along, seat_or}
+use Rattle.replays.specs.Differences.{AreFound, IsComparison, IsComparisonOf, IsFirstPlace, IsOfNobody, IsOfPeople, IsStranger, seat_along, seat_or}
 use Rattle.replays.specs.declared.compare.Difference.{Difference}
 
 eq_means : (m n : ℕ) → m == n ≡ true → m ≡ n

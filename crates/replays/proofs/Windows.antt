@@ -1,19 +1,18 @@
 -- Windows that pass, one after another, and the faults that stop them.
-use Rattle.std.proofs.Common.{◌≡◌, ◌≢◌, ◌<◌, ◌≤◌, ◌+◌, ◌⊎◌, inl, inr, ℕ, zero, suc, add-one, Bool, true, false, List, [], ◌∷◌, Option, Some, None, Result, Ok, Err, length, arith, refl, sym, ap, ◌∙◌, subst, ◌==◌, nat_lt, if◌then◌else◌}
+use Rattle.std.proofs.Common.{◌≡◌, ◌<◌, ◌≤◌, ◌+◌, ◌⊎◌, inl, inr, ℕ, zero, suc, add-one, Bool, true, false, List, [], ◌∷◌, Option, Some, None, length, arith, refl, sym, ap, ◌∙◌, subst, ◌==◌, if◌then◌else◌}
 use Rattle.std.specs.Prelude.{slice_get}
 use Rattle.std.proofs.lemmas.Bool.{cases_lt}
 use Rattle.allocations.proofs.Places.{eq_means, lt_true}
-use Rattle.office_base.specs.declared.asks.Seat.{Seat}
 use Rattle.keeper_mem.specs.declared.rows.AllotRow.{AllotRow}
 use Rattle.keeper_mem.specs.declared.rows.Kept.{Kept}
 use Rattle.rounds.specs.declared.round.Round.{Round}
 use Rattle.seat_matrix.specs.Matrix.{AreSeats}
 use Rattle.histories.specs.Orderly.{IsOrderly}
 use Rattle.office_moves.specs.Facts.{SeasonFacts}
-use Rattle.office_moves.specs.Stands.{first_allot, published_seat, seat_in_finals}
-use Rattle.office_moves.specs.State.{State, opening, round_at, seat_in, seat_of}
-use Rattle.replays.specs.Faults.{IsFaultOfWindow, IsFirstDifference, IsReplayFault, IsStrayRow, IsUncountedSeat, StopsInWindow}
-use Rattle.replays.specs.Later.{IsEmptyRound, IsEmptyWindow, IsLaterRound, IsLaterWindow}
+use Rattle.office_moves.specs.Stands.{published_seat, seat_in_finals}
+use Rattle.office_moves.specs.State.{State, round_at, seat_in, seat_of}
+use Rattle.replays.specs.Faults.{IsFaultOfWindow, IsFirstDifference, IsReplayFault, IsStrayRow, StopsInWindow}
+use Rattle.replays.specs.Later.{IsEmptyWindow, IsLaterRound, IsLaterWindow}
 use Rattle.replays.specs.Replay.{AllPass, AreAllotsOf, Closes, CutPasses, IsReplayed, IsUncounted, Pass, RowsPass, WindowPasses}
 use Rattle.replays.specs.Steps.{IsDifference, IsRefusedCut}
 use Rattle.replays.specs.declared.fault.ReplayFault.{ReplayFault}

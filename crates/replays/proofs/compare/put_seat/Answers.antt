@@ -1,7 +1,6 @@
-use Rattle.std.proofs.Common.{◌≡◌, ◌∙◌, ◌<◌, List, Option, Some, None, sym, ap, arith, length, subst}
+use Rattle.std.proofs.Common.{◌≡◌, ◌∙◌, ◌<◌, Some, None, sym, ap, arith, length, subst}
 use Rattle.std.specs.Prelude.{slice_get}
 use Rattle.std.proofs.lemmas.Option.{get_or_from_slice_get, slice_get-get_or}
-use Rattle.office_base.specs.declared.asks.Seat.{Seat}
 use Rattle.replays.proofs.Seats.{found_more, found_skips, not_there, one_place, stands}
 use Rattle.replays.proofs.compare.put_seat.Goals as goal
 

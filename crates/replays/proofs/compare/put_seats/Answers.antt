@@ -1,4 +1,4 @@
-use Rattle.std.proofs.Common.{subst, drop}
+use Rattle.std.proofs.Common.{subst}
 use Rattle.std.proofs.lemmas.List.{drop_more}
 use Rattle.replays.specs.Differences.{AreFound}
 use Rattle.replays.proofs.compare.put_seats.Goals as goal

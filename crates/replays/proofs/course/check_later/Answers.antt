@@ -1,4 +1,4 @@
-use Rattle.std.proofs.Common.{subst, ◌∙◌}
+use Rattle.std.proofs.Common.{subst}
 use Rattle.std.proofs.lemmas.Result.{err_from_is_err_and}
 use Rattle.office_moves.specs.Facts.{IsSound, SeasonFacts}
 use Rattle.replays.proofs.Windows.{later_fault, not_ahead, not_uncounted, replayed, uncounted_fault}

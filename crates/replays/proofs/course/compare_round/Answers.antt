@@ -1,4 +1,4 @@
-use Rattle.std.proofs.Common.{◌≡◌, ◌∙◌, ℕ, List, Option, Some, None, ap, subst, sym, refl}
+use Rattle.std.proofs.Common.{◌∙◌, List, Option, ap, subst}
 use Rattle.office_moves.specs.Facts.{SeasonFacts}
 use Rattle.office_moves.specs.Stands.{first_allot, published_seat}
 use Rattle.office_base.specs.declared.asks.Seat.{Seat}

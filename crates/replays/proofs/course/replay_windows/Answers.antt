@@ -1,8 +1,6 @@
-use Rattle.std.proofs.Common.{◌∙◌, sym, ap, arith, subst, refl, ◌+◌}
-use Rattle.office_moves.specs.Facts.{SeasonFacts}
-use Rattle.replays.specs.Faults.{IsFaultOfWindow}
+use Rattle.std.proofs.Common.{◌∙◌, ap, arith, refl, ◌+◌}
 use Rattle.replays.proofs.Passed.{rows_lead}
-use Rattle.replays.proofs.Windows.{fault_moved, one_more, stray_row, window_open}
+use Rattle.replays.proofs.Windows.{one_more}
 use Rattle.replays.proofs.course.replay_windows.Goals as goal
 
 pub loop-window-init : goal.loop-window-init

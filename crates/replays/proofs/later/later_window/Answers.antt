@@ -1,4 +1,4 @@
-use Rattle.std.proofs.Common.{◌≡◌, ◌∙◌, List, None, Some, ap, subst, sym}
+use Rattle.std.proofs.Common.{◌∙◌, List, None, Some, ap, subst, sym}
 use Rattle.keeper_mem.specs.declared.rows.AnswerRow.{AnswerRow}
 use Rattle.keeper_mem.specs.declared.rows.RaiseRow.{RaiseRow}
 use Rattle.replays.specs.Later.{IsLaterWindow, is_later, least_by}

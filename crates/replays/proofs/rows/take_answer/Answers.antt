@@ -1,7 +1,4 @@
-use Rattle.std.proofs.Common.{◌∙◌, ap, sym, true, false, refl}
-use Rattle.std.specs.Prelude.{List}
-use Rattle.office_moves.specs.declared.moves.Entry.{Entry}
-use Rattle.replays.specs.Counted.{AreCounted}
+use Rattle.std.proofs.Common.{◌∙◌, sym, true, false, refl}
 use Rattle.replays.proofs.Numbers.{counted_from}
 use Rattle.replays.proofs.RowLemmas.{answer_refused, answer_taken, moved_answer, note_own}
 use Rattle.replays.proofs.rows.take_answer.Goals as goal

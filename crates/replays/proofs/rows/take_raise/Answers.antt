@@ -1,8 +1,8 @@
-use Rattle.std.proofs.Common.{◌∙◌, ◌<◌, ◌≤◌, ap, arith, length, sym, subst, true, false, refl}
+use Rattle.std.proofs.Common.{◌∙◌, ◌<◌, ap, arith, length, sym, subst, true, false, refl}
 use Rattle.seat_matrix.specs.Matrix.{AreSeats, SeatTable}
 use Rattle.office_moves.specs.Facts.{SeasonFacts}
 use Rattle.replays.proofs.Numbers.{counted_from}
-use Rattle.replays.proofs.RowLemmas.{asks_as, lift_own, moved_raise, own_code, raise_refused, raise_taken, raise_unknown}
+use Rattle.replays.proofs.RowLemmas.{asks_as, lift_own, moved_raise, own_code, raise_refused, raise_taken}
 use Rattle.replays.proofs.rows.take_raise.Goals as goal
 
 pub lift-requires-clause-decided : goal.lift-requires-clause-decided
