@@ -1,5 +1,6 @@
 mod Asked
 mod Counts
 mod Publishing
+mod Resumed
 mod Standing
 mod StillIn

@@ -1,11 +1,13 @@
-// Why an office does not begin, or does not answer.
+// Why an office does not begin, does not go on, or does not answer.
 ghost use Rattle.std.specs.Prelude.{◌≡◌};
-ghost use Rattle.round_cut.specs.Faults.{begin_fault, office_fault};
+ghost use Rattle.round_cut.specs.Faults.{begin_fault, load_fault, office_fault, replay_fault, season_fault};
 ghost use Rattle.round_cut.specs.declared.fault.BeginFault.TheVariants.{OutOfMemory as NoMemoryToBegin};
 ghost use Rattle.round_cut.specs.declared.fault.OfficeFault.TheVariants.{OutOfMemory as NoMemory};
 
 use keeper_mem::KeepFault;
-use office_base::OutOfMemory;
+use office_base::{CandId, OutOfMemory, Seat};
+use replays::ReplayFault;
+use season_file::SeasonFault;
 
 /// Why an office did not begin.
 #[derive(Clone, Copy, Debug, PartialEq, Eq, thiserror::Error)]
@@ -13,6 +15,44 @@ pub enum BeginFault {
     /// The keeper holds a season.
     #[error("a season is kept")]
     NotEmpty,
+    /// The keeper failed: its count of faults rose.
+    #[error("the keeper failed")]
+    KeeperFault,
+    /// There was no memory.
+    #[error("out of memory")]
+    OutOfMemory,
+}
+
+/// Why an office did not go on from the records of a keeper, whose tables are as before. Of two faults the one of the earlier window is told, and in a
+/// window a stray raise before a stray answer, and this before a difference.
+#[derive(Clone, Copy, Debug, PartialEq, Eq, thiserror::Error)]
+pub enum ResumeFault {
+    /// No season is kept.
+    #[error("no season is kept")]
+    NoSeason,
+    /// The kept text is no bundle of a season without requests: its first fault, which is never want of memory.
+    #[error("the kept season: {0}")]
+    BadSeason(SeasonFault),
+    /// The kept answer at this place of its table, counted from 1, is the first that is not newly accepted where it stands. With 0, the cuts pass the
+    /// rounds by more than one.
+    #[error("stray answer {row}")]
+    Stray {
+        row: u64,
+    },
+    /// The kept raise at this place of its table, counted from 1, is the first that is not newly accepted where it stands.
+    #[error("stray raise {row}")]
+    StrayRaise {
+        row: u64,
+    },
+    /// The kept seats of a round are not the computed ones: the first round, and in it the first candidate by id, with both seats. The final seats have
+    /// the number of rounds plus 1.
+    #[error("the kept seats of round {round} are not the computed ones")]
+    Differs {
+        round: u16,
+        cand: CandId,
+        kept: Option<Seat>,
+        computed: Option<Seat>,
+    },
     /// The keeper failed: its count of faults rose.
     #[error("the keeper failed")]
     KeeperFault,
@@ -48,6 +88,51 @@ impl From<OutOfMemory> for BeginFault {
 
     fn from(_: OutOfMemory) -> Self {
         BeginFault::OutOfMemory
+    }
+}
+
+impl From<KeepFault> for ResumeFault {
+    ghost from_gives = { λ fault made. made ≡ load_fault fault };
+
+    fn from(fault: KeepFault) -> Self {
+        match fault {
+            KeepFault::Failed => ResumeFault::KeeperFault,
+            KeepFault::OutOfMemory => ResumeFault::OutOfMemory,
+        }
+    }
+}
+
+impl From<SeasonFault> for ResumeFault {
+    ghost from_gives = { λ fault made. made ≡ season_fault fault };
+
+    fn from(fault: SeasonFault) -> Self {
+        match fault {
+            SeasonFault::OutOfMemory => ResumeFault::OutOfMemory,
+            fault => ResumeFault::BadSeason(fault),
+        }
+    }
+}
+
+impl From<ReplayFault> for ResumeFault {
+    ghost from_gives = { λ fault made. made ≡ replay_fault fault };
+
+    fn from(fault: ReplayFault) -> Self {
+        match fault {
+            ReplayFault::Stray { row } => ResumeFault::Stray { row },
+            ReplayFault::StrayRaise { row } => ResumeFault::StrayRaise { row },
+            ReplayFault::Differs {
+                round,
+                cand,
+                kept,
+                computed,
+            } => ResumeFault::Differs {
+                round,
+                cand,
+                kept,
+                computed,
+            },
+            ReplayFault::OutOfMemory => ResumeFault::OutOfMemory,
+        }
     }
 }
 

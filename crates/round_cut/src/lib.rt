@@ -8,6 +8,7 @@ mod cut;
 pub mod fault;
 mod moves;
 pub mod office;
+mod resume;
 
-pub use fault::{BeginFault, OfficeFault};
+pub use fault::{BeginFault, OfficeFault, ResumeFault};
 pub use office::Office;

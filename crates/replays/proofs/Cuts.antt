@@ -1,0 +1,91 @@
+-- The cut of the open window, and the seats that are published.
+use Rattle.std.proofs.Common.{◌≡◌, ◌<◌, ◌≤◌, ◌+◌, inl, inr, ℕ, Bool, true, false, List, [], Option, Some, None, length, refl, sym, ap, ◌∙◌, subst, arith, ◌==◌, nat_lt, if◌then◌else◌}
+use Rattle.std.specs.Prelude.{◌||◌}
+use Rattle.std.proofs.lemmas.Bool.{cases_Bool}
+use Rattle.allocations.proofs.Places.{eq_means, eq_true, lt_means}
+use Rattle.office_base.specs.declared.asks.Seat.{Seat}
+use Rattle.office_base.specs.declared.person.Person.{Person}
+use Rattle.keeper_mem.specs.declared.rows.AllotRow.{AllotRow}
+use Rattle.rounds.specs.Round.{seated}
+use Rattle.rounds.specs.declared.round.Round.{Round}
+use Rattle.office_moves.specs.Decided.{decided}
+use Rattle.office_moves.specs.Facts.{SeasonFacts}
+use Rattle.office_moves.specs.History.{asked, newly}
+use Rattle.office_moves.specs.Judge.{refuse_if}
+use Rattle.office_moves.specs.Moves.{Does, IsNextRound, final_rows, rows_along}
+use Rattle.office_moves.specs.State.{State, with_finals, with_round}
+use Rattle.office_moves.specs.declared.decide.Decision.{Decision}
+use Rattle.office_moves.specs.declared.decide.Decision.TheVariants.{CutAgain, Finish, Publish}
+use Rattle.office_moves.specs.declared.moves.Act.TheVariants.{Cut}
+use Rattle.office_moves.specs.declared.moves.Reply.TheVariants.{Final, Published}
+use Rattle.office_moves.specs.declared.refusal.Refusal.{Refusal}
+use Rattle.office_moves.specs.declared.refusal.Refusal.TheVariants.{Ahead}
+use Rattle.histories.specs.Orderly.{IsOrderly}
+use Rattle.office_moves.specs.Promise.{kept_to_the_end}
+use Rattle.office_moves.specs.Stands.{first_allot, seat_in_finals}
+use Rattle.replays.specs.Differences.{AreFound, IsOfNobody, seat_along}
+use Rattle.replays.specs.Replay.{CutPasses}
+use Rattle.replays.proofs.Seats.{AreRising, found_along, rows_outside}
+
+lt_false : (m n : ℕ) → n ≤ m → nat_lt m n ≡ false
+lt_false m n few = elim (cases_Bool (nat_lt m n)) [ inl less ↦ absurd (let f = lt_means m n less in omega (arith, f, few)) | inr other ↦ other ]
+
+chain : (early ahead last : Bool) (now : ℕ) (refusal : Refusal) → early ≡ false → ahead ≡ false → (if early then CutAgain now else refuse_if ahead refusal (if last then Finish else Publish)) ≡ (if last then Finish else Publish)
+chain true ahead last now refusal e f = absurd (cc)
+chain false true last now refusal e f = absurd (cc)
+chain false false last now refusal e f = refl
+
+neither : (a b : Bool) → a ≡ false → b ≡ false → a || b ≡ false
+neither true b e f = absurd (cc)
+neither false b e f = f
+
+ends : (facts : SeasonFacts) (state : State) → state.now ≤ facts.rounds → decided facts state (asked facts (Cut state.now)) ≡ (if state.now == facts.rounds then Finish else Publish)
+ends facts state few =
+    chain (nat_lt state.now state.now) (nat_lt state.now state.now || nat_lt facts.rounds state.now) (state.now == facts.rounds) state.now (Ahead state.now) (lt_false state.now state.now (omega arith))
+    (neither (nat_lt state.now state.now) (nat_lt facts.rounds state.now) (lt_false state.now state.now (omega arith)) (lt_false facts.rounds state.now few))
+
+pub publishes : (facts : SeasonFacts) (state : State) → state.now < facts.rounds → decided facts state (asked facts (Cut state.now)) ≡ Publish
+publishes facts state less = ends facts state (omega (arith, less)) ∙ step (state.now == facts.rounds) refl
+  where
+    step : (b : Bool) → (state.now == facts.rounds) ≡ b → (if b then Finish else Publish) ≡ Publish
+    step true e = absurd (let f = eq_means state.now facts.rounds e in omega (arith, f, less))
+    step false e = refl
+
+pub finishes : (facts : SeasonFacts) (state : State) → state.now ≡ facts.rounds → decided facts state (asked facts (Cut state.now)) ≡ Finish
+finishes facts state last = ends facts state (omega (arith, last)) ∙ step (state.now == facts.rounds) (eq_true state.now facts.rounds last)
+  where
+    step : (b : Bool) → b ≡ true → (if b then Finish else Publish) ≡ Finish
+    step true e = refl
+    step false e = absurd (cc)
+
+pub round_cut : (facts : SeasonFacts) (old new : State) (round : Round) → old.now < facts.rounds → IsNextRound facts old round → new ≡ with_round old round → CutPasses facts old new
+round_cut facts old new round less next is =
+    let decides = publishes facts old less in
+    record {
+      accepted = ap (newly old.now) decides;
+      reply = Published (old.now + 1) (seated round.seats);
+      moves = subst (λ (d : Decision). Does facts old d (Published (old.now + 1) (seated round.seats)) new) (sym decides) (round, next, refl, is);
+    }
+
+pub last_cut : (facts : SeasonFacts) (old new : State) (rows : List AllotRow) → old.now ≡ facts.rounds → rows ≡ final_rows facts old → new ≡ with_finals old rows → CutPasses facts old new
+last_cut facts old new rows last same is =
+    let decides = finishes facts old last in
+    record {
+      accepted = ap (newly old.now) decides;
+      reply = Final (length (final_rows facts old));
+      moves = subst (λ (d : Decision). Does facts old d (Final (length (final_rows facts old))) new) (sym decides) (refl, is ∙ ap (λ (r : List AllotRow). with_finals old r) same);
+    }
+
+-- ---- the final seats
+
+pub final_along : (facts : SeasonFacts) (people : List Person) (state : State) (rows slice : List AllotRow) (number : ℕ) (found : List (Option Seat)) → IsOrderly facts state → AreRising people
+    → people ≡ facts.people → Some rows ≡ state.finals → slice ≡ rows → AreFound number people slice [] found
+    → (id : ℕ) → seat_along facts.people found id ≡ seat_in_finals state.finals number id
+final_along facts people state rows slice number found orderly rising same last read are id =
+    let along : slice ≡ rows_along (facts.rounds + 1) (kept_to_the_end facts state) facts.people = read ∙ orderly.course.finals rows (sym last) in
+    let strangers : (other : ℕ) → IsOfNobody people other → first_allot number other slice ≡ None = λ other nobody.
+    ap (λ (r : List AllotRow). first_allot number other r) along
+    ∙ rows_outside (facts.rounds + 1) number other (kept_to_the_end facts state) facts.people (subst (λ (p : List Person). IsOfNobody p other) same nobody) in
+    ap (λ (p : List Person). seat_along p found id) (sym same)
+    ∙ (found_along number people slice found rising are strangers id
+    ∙ (ap (λ (r : List AllotRow). first_allot number id r) read ∙ ap (λ (f : Option (List AllotRow)). seat_in_finals f number id) last))

@@ -1,0 +1,7 @@
+pub mod Cuts
+pub mod Least
+pub mod Numbers
+pub mod Passed
+pub mod RowLemmas
+pub mod Seats
+pub mod Windows

@@ -1,0 +1,79 @@
+// The cut of the open window.
+ghost use Rattle.std.specs.Prelude.{◌≡◌, ◌<◌, ◌+◌, IfOk, IfErr, OnOk};
+ghost use Rattle.office_moves.specs.Moves.{IsNextRound};
+ghost use Rattle.proceedings.specs.Proceeding.{last_of};
+ghost use Rattle.replays.specs.Counted.{AreCounted};
+ghost use Rattle.replays.specs.Replay.{CutPasses};
+ghost use Rattle.replays.specs.Steps.{IsRefusedCut};
+
+use crate::fault::ReplayFault;
+use crate::rows::next_entry;
+use apply_engine::plain_round;
+use office_base::OutOfMemory;
+use proceedings::Proceedings;
+use rounds::Round;
+use std::alloc::Global;
+
+/// The next round.
+fn next_round(alloc: Global, book: &Proceedings) -> Result<Round, OutOfMemory>
+    requires { book.now.state.now < book.now.season.rounds }
+    ensures { IfOk result (λ round. IsNextRound book.now.season book.now.state round) }
+{
+    let seeks = book.seeks(alloc)?;
+    let season = book.season();
+    let number = book.now();
+    if number >= season.rounds {
+        unreachable!("there is a round left")
+    }
+    plain_round(alloc, season, book.matrix(), number + 1, seeks)
+}
+
+/// The cut publishes the next round, as entry of this number.
+fn publish(alloc: Global, book: &mut Proceedings, number: u64) -> Result<(), OutOfMemory>
+    requires left { book.old.state.now < book.old.season.rounds }
+    requires number { number ≡ last_of book.old.entries + 1 }
+    requires space { book.old.still < book.old.room }
+    ensures passes { OnOk result (CutPasses book.old.season book.old.state book.new.state) }
+    ensures season { book.new.season ≡ book.old.season }
+    ensures counted { OnOk result (AreCounted book.old.entries → AreCounted book.new.entries) }
+{
+    let round = next_round(alloc, book)?;
+    let table = book.next_table(alloc)?;
+    book.publish(number, round, table);
+    Ok(())
+}
+
+/// The last cut gives the final rows, as entry of this number.
+fn finish(alloc: Global, book: &mut Proceedings, number: u64) -> Result<(), OutOfMemory>
+    requires last { book.old.state.now ≡ book.old.season.rounds }
+    requires number { number ≡ last_of book.old.entries + 1 }
+    requires space { book.old.still < book.old.room }
+    ensures passes { OnOk result (CutPasses book.old.season book.old.state book.new.state) }
+    ensures season { book.new.season ≡ book.old.season }
+    ensures counted { OnOk result (AreCounted book.old.entries → AreCounted book.new.entries) }
+{
+    let rows = book.final_rows(alloc)?;
+    book.finish(number, rows);
+    Ok(())
+}
+
+/// The cut of the open window; there is none after the last one.
+pub(crate) fn replay_cut(alloc: Global, book: &mut Proceedings) -> Result<(), ReplayFault>
+    ensures passes { OnOk result (CutPasses book.old.season book.old.state book.new.state) }
+    ensures season { book.new.season ≡ book.old.season }
+    ensures counted { OnOk result (AreCounted book.old.entries → AreCounted book.new.entries) }
+    ensures fault { IfErr result (λ fault. IsRefusedCut book.old.season book.old.state fault) }
+{
+    let number = next_entry(book)?;
+    let window = book.now();
+    let rounds = book.season().rounds;
+    if window > rounds {
+        return Err(ReplayFault::Stray { row: 0 });
+    }
+    if window < rounds {
+        publish(alloc, book, number)?;
+    } else {
+        finish(alloc, book, number)?;
+    }
+    Ok(())
+}

@@ -1,0 +1,76 @@
+-- An office goes on from what a keeper holds.
+use Rattle.std.specs.Prelude.{◌≡◌, false, Option}
+use Rattle.office_base.specs.declared.asks.Seat.{Seat}
+use Rattle.season_file.specs.Laws.{HasFault}
+use Rattle.season_file.specs.Season.{IsSeason}
+use Rattle.season_file.specs.declared.season.Season.{Season}
+use Rattle.keeper_mem.specs.Tables.{IsFound, IsLoaded, Tables}
+use Rattle.keeper_mem.specs.declared.rows.Kept.{Kept}
+use Rattle.office_moves.specs.Facts.{SeasonFacts}
+use Rattle.office_moves.specs.Season.{facts_of}
+use Rattle.office_moves.specs.State.{State}
+use Rattle.replays.specs.Faults.{IsReplayFault}
+use Rattle.replays.specs.Replay.{IsReplayed}
+use Rattle.replays.specs.declared.fault.ReplayFault.{ReplayFault}
+use Rattle.replays.specs.declared.fault.ReplayFault.TheVariants.{Stray as StrayAnswer, StrayRaise as StrayLift, Differs as SeatsDiffer}
+use Rattle.round_cut.specs.declared.fault.ResumeFault.{ResumeFault}
+use Rattle.round_cut.specs.declared.fault.ResumeFault.TheVariants.{NoSeason, BadSeason, Stray, StrayRaise, Differs, KeeperFault, OutOfMemory}
+
+-- Records lead to a state of a season: their text reads as the season, and their rows and seats are replayed to the state.
+pub record LeadTo (records : Kept) (facts : SeasonFacts) (state : State) : Type 0 where
+  pub season : Season
+  pub read : IsSeason records.season season
+  pub same : facts ≡ facts_of season
+  pub replayed : IsReplayed facts records state
+
+-- the records of these tables, or any where nothing is told, lead to a state of a season
+abbrev pub IsResumed : Tables → SeasonFacts → State → Type 0
+IsResumed tables facts state = (records : Kept) × IsLoaded tables records × LeadTo records facts state
+
+-- the text reads as a season, and the rows and seats have this fault first
+abbrev pub HaveReplayFault : Kept → ReplayFault → Type 0
+HaveReplayFault records fault = (season : Season) × IsSeason records.season season × IsReplayFault (facts_of season) records fault
+
+-- The records have this fault first: their text is no bundle, or they are not replayed. Want of memory may come at any time.
+abbrev pub HaveFault : Kept → ResumeFault → Type 0
+HaveFault records NoSeason = ⊥
+HaveFault records (BadSeason fault) = HasFault false records.season fault
+HaveFault records (Stray row) = HaveReplayFault records (StrayAnswer row)
+HaveFault records (StrayRaise row) = HaveReplayFault records (StrayLift row)
+HaveFault records (Differs round cand one other) = HaveReplayFault records (SeatsDiffer round cand one other)
+HaveFault records KeeperFault = ⊥
+HaveFault records OutOfMemory = Unit {0}
+
+-- the records of these tables, or any where nothing is told, have this fault first
+abbrev pub IsLoadedFault : Tables → ResumeFault → Type 0
+IsLoadedFault tables fault = (records : Kept) × IsLoaded tables records × HaveFault records fault
+
+-- Why an office does not go on from these tables. A fault of the keeper has its own clause.
+abbrev pub IsResumeFault : Tables → ResumeFault → Type 0
+IsResumeFault tables NoSeason = IsFound false tables
+IsResumeFault tables (BadSeason fault) = IsLoadedFault tables (BadSeason fault)
+IsResumeFault tables (Stray row) = IsLoadedFault tables (Stray row)
+IsResumeFault tables (StrayRaise row) = IsLoadedFault tables (StrayRaise row)
+IsResumeFault tables (Differs round cand one other) = IsLoadedFault tables (Differs round cand one other)
+IsResumeFault tables KeeperFault = Unit {0}
+IsResumeFault tables OutOfMemory = Unit {0}
+
+-- the records were not loaded
+abbrev pub IsLoadFault : Tables → ResumeFault → Type 0
+IsLoadFault tables NoSeason = IsFound false tables
+IsLoadFault tables (BadSeason fault) = ⊥
+IsLoadFault tables (Stray row) = ⊥
+IsLoadFault tables (StrayRaise row) = ⊥
+IsLoadFault tables (Differs round cand one other) = ⊥
+IsLoadFault tables KeeperFault = Unit {0}
+IsLoadFault tables OutOfMemory = Unit {0}
+
+-- there was no room
+abbrev pub IsRoomFault : ResumeFault → Type 0
+IsRoomFault NoSeason = ⊥
+IsRoomFault (BadSeason fault) = ⊥
+IsRoomFault (Stray row) = ⊥
+IsRoomFault (StrayRaise row) = ⊥
+IsRoomFault (Differs round cand one other) = ⊥
+IsRoomFault KeeperFault = Unit {0}
+IsRoomFault OutOfMemory = Unit {0}
