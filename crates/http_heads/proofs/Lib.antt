@@ -1,0 +1,4 @@
+pub mod FieldsLemmas
+pub mod HeadEndsLemmas
+pub mod LawsLemmas
+pub mod MessagesLemmas

@@ -1,0 +1,5 @@
+pub mod Fields
+pub mod HeadEnds
+pub mod Laws
+pub mod Messages
+pub mod Told

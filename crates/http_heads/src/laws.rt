@@ -1,0 +1,24 @@
+// What holds of heads and messages, whoever reads them.
+ghost use Rattle.std.specs.Prelude.{ℕ, ◌<◌, List, length};
+ghost use Rattle.http_heads.specs.Laws.{AreHeads, HasOneAnswer, IsSettled};
+ghost use Rattle.http_heads.specs.Messages.{IsUnfinished};
+
+/// A head is some empty lines, then one or more lines none of which is empty, then an empty line, and no shorter prefix is.
+pub fn head_is_its_lines()
+    ensures { AreHeads }
+{}
+
+/// Bytes are a whole message, or refused, or unfinished, in one way.
+pub fn bytes_come_to_one_answer()
+    ensures { (bytes : List ℕ) → HasOneAnswer bytes }
+{}
+
+/// The answer to a stream does not depend on how it was cut: what settles some of its bytes settles all of them.
+pub fn the_cut_does_not_matter()
+    ensures { (bytes more : List ℕ) → IsSettled bytes more }
+{}
+
+/// Bytes to which more is wanted are fewer than a head and a body may have.
+pub fn unfinished_bytes_are_few()
+    ensures { (bytes : List ℕ) → IsUnfinished bytes → length bytes < 12288 }
+{}

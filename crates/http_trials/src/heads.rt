@@ -1,0 +1,248 @@
+// What held bytes come to: tables of messages with their answers from outside, and each cut at every byte.
+use http_heads::{Held, held_message};
+use httparse::spans::EMPTY_HEADER_SPAN;
+use office_base::OutOfMemory;
+use std::alloc::Global;
+use std::test::Fail;
+
+/// What held bytes come to: a status, or 200 with how many bytes the message takes, or 100 where more is wanted.
+fn comes_to(held: &[u8]) -> (u16, usize) {
+    let mut room = [EMPTY_HEADER_SPAN; 64];
+    match held_message(held, &mut room) {
+        Held::More => (100, 0),
+        Held::Refused(status) => (status, 0),
+        Held::Whole(message) => (200, message.len),
+    }
+}
+
+/// Bytes, and what they come to.
+const ANSWERS: [(&str, u16, usize); 43] = [
+    ("", 100, 0),
+    ("\r\n", 100, 0),
+    ("\n\r\n\n", 100, 0),
+    ("GET / HTTP/1.1\r\n", 100, 0),
+    ("GET / HTTP/1.1\r\n\r", 100, 0),
+    ("GET / HTTP/1.1\r\n\r\n", 200, 18),
+    ("GET / HTTP/1.1\n\n", 200, 16),
+    ("\r\n\nGET / HTTP/1.0\r\nHost: a\n\r\n", 200, 29),
+    ("GET / HTTP/1.1\r\n\r\nGET / HTTP/1.1\r\n\r\n", 200, 18),
+    ("HEAD /v1/state?x=1 HTTP/1.1\r\n\r\n", 200, 31),
+    ("GET / HTTP/1.1\r\nContent-Length: 3\r\n\r\nab", 100, 0),
+    ("GET / HTTP/1.1\r\nContent-Length: 3\r\n\r\nabc", 200, 40),
+    ("GET / HTTP/1.1\r\nContent-Length: 3\r\n\r\nabcd", 200, 40),
+    ("POST / HTTP/1.1\r\nContent-Length: 0\r\n\r\n", 200, 38),
+    ("POST / HTTP/1.1\r\nCONTENT-length:  2  \r\n\r\n{}", 200, 43),
+    (
+        "POST / HTTP/1.1\r\nContent-Length: 000000000000000002\r\n\r\n{}",
+        200,
+        57,
+    ),
+    (
+        "POST / HTTP/1.1\r\nContent-Length: 0000000000000000002\r\n\r\n{}",
+        400,
+        0,
+    ),
+    (
+        "POST / HTTP/1.1\r\nContent-Length: 2\r\nContent-Length: 02\r\n\r\n{}",
+        200,
+        60,
+    ),
+    (
+        "POST / HTTP/1.1\r\nContent-Length: 50\r\nContent-Length: 050\r\n\r\n",
+        100,
+        0,
+    ),
+    (
+        "POST / HTTP/1.1\r\nContent-Length: 50\r\nContent-Length: 51\r\n\r\n",
+        400,
+        0,
+    ),
+    (
+        "POST / HTTP/1.1\r\nContent-Length: 2\r\nContent-Length: a\r\n\r\n",
+        400,
+        0,
+    ),
+    (
+        "POST / HTTP/1.1\r\nContent-Length: a\r\nContent-Length: 2\r\n\r\n",
+        400,
+        0,
+    ),
+    ("POST / HTTP/1.1\r\nContent-Length:\r\n\r\n", 400, 0),
+    ("POST / HTTP/1.1\r\nContent-Length: +2\r\n\r\n", 400, 0),
+    ("POST / HTTP/1.1\r\nContent-Length: 2, 2\r\n\r\n", 400, 0),
+    ("GET / HTTP/1.1\r\nContent-Length: -1\r\n\r\n", 400, 0),
+    ("POST / HTTP/1.1\r\nContent-Length: 4096\r\n\r\n", 100, 0),
+    ("POST / HTTP/1.1\r\nContent-Length: 4097\r\n\r\n", 413, 0),
+    (
+        "POST / HTTP/1.1\r\nContent-Length: 999999999999999999\r\n\r\n",
+        413,
+        0,
+    ),
+    ("GET / HTTP/1.1\r\nContent-Length: 4097\r\n\r\n", 413, 0),
+    ("POST / HTTP/1.1\r\n\r\n", 411, 0),
+    ("post / HTTP/1.1\r\n\r\n", 200, 19),
+    ("PUT / HTTP/1.1\r\n\r\n", 200, 18),
+    (
+        "POST / HTTP/1.1\r\nTransfer-Encoding: chunked\r\n\r\n",
+        501,
+        0,
+    ),
+    (
+        "GET / HTTP/1.1\r\ntransfer-encoding: identity\r\n\r\n",
+        501,
+        0,
+    ),
+    (
+        "POST / HTTP/1.1\r\nTransfer-Encoding: chunked\r\nContent-Length: a\r\n\r\n",
+        501,
+        0,
+    ),
+    ("GET / HTTP/1.2\r\n\r\n", 400, 0),
+    ("GET / HTTP/2.0\r\n\r\n", 400, 0),
+    ("GET  / HTTP/1.1\r\n\r\n", 400, 0),
+    ("GET / HTTP/1.1\r\nno colon\r\n\r\n", 400, 0),
+    ("GET / HTTP/1.1\r\nName : a\r\n\r\n", 400, 0),
+    ("no request\n", 100, 0),
+    ("no request\n\n", 400, 0),
+];
+
+#[test]
+fn messages_are_told(rt: HostRuntime) {
+    for (bytes, status, len) in ANSWERS {
+        assert!(rt; comes_to(bytes.as_bytes()) == (status, len), "{bytes:?}");
+    }
+}
+
+#[test]
+fn the_cut_does_not_matter(rt: HostRuntime) {
+    for (bytes, status, len) in ANSWERS {
+        let bytes = bytes.as_bytes();
+        for end in 0..bytes.len() {
+            let (held, _) = bytes.split_at(end);
+            let answer = comes_to(held);
+            assert!(rt; answer == (100, 0) || answer == (status, len), "{end}");
+        }
+    }
+}
+
+/// A head of so many bytes, at least 22.
+fn long_head(alloc: Global, len: usize) -> Result<Vec<u8>, OutOfMemory> {
+    let mut head = Vec::new(alloc);
+    head.extend_from_slice(b"GET / HTTP/1.1\r\nA:")?;
+    for _ in 22..len {
+        head.push(b'a')?;
+    }
+    head.extend_from_slice(b"\r\n\r\n")?;
+    Ok(head)
+}
+
+#[test]
+fn heads_have_8192_bytes_at_most(rt: HostRuntime) -> Result<(), Fail> {
+    let longest = long_head(rt.alloc(), 8192)?;
+    assert_eq!(rt; comes_to(longest.as_slice()), (200, 8192));
+    let (held, _) = longest.as_slice().split_at(longest.len().saturating_sub(1));
+    assert_eq!(rt; comes_to(held), (100, 0));
+    let longer = long_head(rt.alloc(), 8193)?;
+    assert_eq!(rt; comes_to(longer.as_slice()), (431, 0));
+    let (held, _) = longer.as_slice().split_at(longer.len().saturating_sub(1));
+    assert_eq!(rt; comes_to(held), (431, 0));
+    let (held, _) = longer.as_slice().split_at(longer.len().saturating_sub(2));
+    assert_eq!(rt; comes_to(held), (100, 0));
+    let mut later = Vec::new(rt.alloc());
+    later.extend_from_slice(b"\r\n")?;
+    later.extend_from_slice(long_head(rt.alloc(), 8190)?.as_slice())?;
+    assert_eq!(rt; comes_to(later.as_slice()), (200, 8192));
+    later.clear();
+    later.extend_from_slice(b"\r\n")?;
+    later.extend_from_slice(long_head(rt.alloc(), 8191)?.as_slice())?;
+    assert_eq!(rt; comes_to(later.as_slice()), (431, 0));
+    Ok(())
+}
+
+/// A head with so many fields.
+fn many_fields(alloc: Global, count: u8) -> Result<Vec<u8>, OutOfMemory> {
+    let mut head = Vec::new(alloc);
+    head.extend_from_slice(b"GET / HTTP/1.1\r\n")?;
+    for _ in 0..count {
+        head.extend_from_slice(b"A: b\r\n")?;
+    }
+    head.extend_from_slice(b"\r\n")?;
+    Ok(head)
+}
+
+#[test]
+fn heads_have_64_fields_at_most(rt: HostRuntime) -> Result<(), Fail> {
+    assert_eq!(rt;
+        comes_to(many_fields(rt.alloc(), 64)?.as_slice()),
+        (200, 402)
+    );
+    assert_eq!(rt; comes_to(many_fields(rt.alloc(), 65)?.as_slice()), (400, 0));
+    Ok(())
+}
+
+/// A body of 4,096 bytes is read whole.
+#[test]
+fn the_longest_body_is_read(rt: HostRuntime) -> Result<(), Fail> {
+    let mut bytes = Vec::new(rt.alloc());
+    bytes.extend_from_slice(b"POST / HTTP/1.1\r\nContent-Length: 4096\r\n\r\n")?;
+    for _ in 0..4095u32 {
+        bytes.push(b'x')?;
+    }
+    assert_eq!(rt; comes_to(bytes.as_slice()), (100, 0));
+    bytes.push(b'x')?;
+    assert_eq!(rt; comes_to(bytes.as_slice()), (200, 4137));
+    Ok(())
+}
+
+#[test]
+fn the_parts_of_a_message_are_told(rt: HostRuntime) -> Result<(), Fail> {
+    let bytes =
+        b"\r\nPOST /v1/cut?a HTTP/1.1\r\nX-Office-Token: \t one \r\nx-office-token: two\r\nContent-Length: 2\r\n\r\n{}GET";
+    let mut room = [EMPTY_HEADER_SPAN; 64];
+    let Held::Whole(message) = held_message(bytes, &mut room) else {
+        panic!(rt; "no message");
+    };
+    assert_eq!(rt; message.method, b"POST".as_slice());
+    assert_eq!(rt; message.target, b"/v1/cut?a".as_slice());
+    assert_eq!(rt; message.minor, 1);
+    assert_eq!(rt; message.body, b"{}".as_slice());
+    assert_eq!(rt;
+        message.fields.first(b"X-OFFICE-TOKEN"),
+        Some(b"one".as_slice())
+    );
+    assert_eq!(rt; message.fields.first(b"X-Office"), None);
+    assert!(rt; message.fields.has(b"content-length") && !message.fields.has(b"host"));
+    assert!(rt; !message.closes());
+    Ok(())
+}
+
+/// The first line and the fields of heads, and whether the connection closes after them.
+const CLOSINGS: [(&str, bool); 10] = [
+    ("GET / HTTP/1.1\r\n\r\n", false),
+    ("GET / HTTP/1.0\r\n\r\n", true),
+    ("GET / HTTP/1.0\r\nConnection: keep-alive\r\n\r\n", true),
+    ("GET / HTTP/1.1\r\nConnection: close\r\n\r\n", true),
+    (
+        "GET / HTTP/1.1\r\nCONNECTION: Keep-Alive,\t CLOSE \r\n\r\n",
+        true,
+    ),
+    ("GET / HTTP/1.1\r\nConnection: Close, TE\r\n\r\n", true),
+    (
+        "GET / HTTP/1.1\r\nConnection: keep-alive\r\nConnection: close\r\n\r\n",
+        true,
+    ),
+    ("GET / HTTP/1.1\r\nConnection: closed\r\n\r\n", false),
+    ("GET / HTTP/1.1\r\nConnection: not close\r\n\r\n", false),
+    ("GET / HTTP/1.1\r\nHost: close\r\n\r\n", false),
+];
+
+#[test]
+fn closings_are_told(rt: HostRuntime) {
+    for (bytes, closes) in CLOSINGS {
+        let mut room = [EMPTY_HEADER_SPAN; 64];
+        let Held::Whole(message) = held_message(bytes.as_bytes(), &mut room) else {
+            panic!(rt; "no message");
+        };
+        assert!(rt; message.closes() == closes, "{bytes:?}");
+    }
+}
