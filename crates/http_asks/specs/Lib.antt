@@ -1,0 +1,4 @@
+pub mod Bodies
+pub mod Pages
+pub mod Told
+pub mod Verdicts
