@@ -4,4 +4,10 @@
 #![tactic(auto)]
 
 #[cfg(test)]
+mod asks;
+#[cfg(test)]
 mod heads;
+#[cfg(test)]
+mod links;
+#[cfg(test)]
+mod replies;

@@ -1,0 +1,15 @@
+// The bytes of replies over HTTP, as `specs/Replies` says: a head with its status, lengths and fields, and a body.
+//
+// An `Outbox` holds one reply at a time. Its room is taken when it is made, so that the replies that tell of a want of memory take none. The
+// codes and phrases are those of the crate `http`. No function here reads requests, or knows which status an answer of the office has.
+#![tactic(auto)]
+
+pub mod allow;
+pub mod faults;
+pub mod laws;
+mod lines;
+mod outbox;
+
+pub use allow::Allow;
+pub use faults::Fault;
+pub use outbox::{BODY_ROOM, Outbox};
