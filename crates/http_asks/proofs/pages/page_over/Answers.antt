@@ -14,4 +14,4 @@ pub returns-in_default-Some-first_piece : goal.returns-in_default-Some-first_pie
 returns-in_default-Some-first_piece c =
     let one = rw c.in_default-Some.is-1 at c.first_piece.ensures.more in
     let two = rw c.in_default-Some-first_piece.is-1 at c.first_piece-in_default-Some.ensures.more in
-    too-many _ _ _ _ _ _ one two
+    too-many c.args.name.now c.args.rest.now c.in_default-Some.after.now c.in_default-Some-first_piece.field-0-1.now c.first_piece.result.0.now c.first_piece-in_default-Some.result.0.now one two
