@@ -110,10 +110,17 @@ fn page_over(name: &[u8], rest: &[u8]) -> Option<Page>
 {
     match first_piece(rest, b'/') {
         (first, None) => page_over_one(name, first),
-        (first, Some(after)) => match first_piece(after, b'/') {
-            (second, None) => page_over_two(name, first, second),
-            (_, Some(_)) => None,
-        },
+        (first, Some(after)) => page_over_more(name, first, after),
+    }
+}
+
+/// The page of a name, of one piece after it and of what comes after that.
+fn page_over_more(name: &[u8], first: &[u8], rest: &[u8]) -> Option<Page>
+    ensures { result ≡ page_named (name.now ∷ first.now ∷ cut_at 47 rest.now) }
+{
+    match first_piece(rest, b'/') {
+        (second, None) => page_over_two(name, first, second),
+        (_, Some(_)) => None,
     }
 }
 
