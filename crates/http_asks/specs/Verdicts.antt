@@ -1,7 +1,7 @@
 -- What a message comes to: something that it asks, or a status that refuses it.
 use Rattle.std.specs.Prelude.{ℕ, ◌&&◌, Bool, false, List, Option, Some, None, length, nat_lt, bytes_eq, codes, if◌then◌else◌}
 use Rattle.office_base.specs.declared.asks.Ask.{Ask}
-use Rattle.http_heads.specs.Fields.{first_value}
+use Rattle.http_heads.specs.Fields.{Pair, first_value}
 use Rattle.http_heads.specs.Messages.{Message}
 use Rattle.http_asks.specs.Bodies.{ask_of}
 use Rattle.http_asks.specs.Pages.{method_name, method_of, page_of, takes_body}
@@ -12,9 +12,13 @@ pub data Verdict : Type 0 where
   refuses : (status : ℕ) (allow : Option (List ℕ)) → Verdict
   asks : (token : Option (List ℕ)) (ask : Ask) → Verdict
 
--- the token of a message: the value of its first field of that name
+-- the token that fields have: the value of the first of that name
+abbrev pub token_in : List Pair → Option (List ℕ)
+token_in fields = first_value (codes "x-office-token") fields
+
+-- the token of a message
 abbrev pub token_of : Message → Option (List ℕ)
-token_of message = first_value (codes "x-office-token") message.fields
+token_of message = token_in message.fields
 
 -- what is asked with that token; 400 where the body is not what the page needs
 abbrev pub verdict_asked : Option (List ℕ) → Option Ask → Verdict

@@ -8,7 +8,8 @@
 
 pub mod bodies;
 pub mod judging;
+pub mod laws;
 pub mod pages;
 
-pub use judging::{Judged, judge};
+pub use judging::{Judged, judge, token};
 pub use pages::{Method, Page};
