@@ -8,12 +8,11 @@ use Rattle.std.proofs.lemmas.List.{append-nil}
 use Rattle.std.proofs.lemmas.Slice.Eq.{bytes_eq-Decides}
 use Rattle.office_base.specs.Codes.{is_code}
 use Rattle.office_base.specs.Limits.{last_id, last_window}
-use Rattle.office_base.specs.declared.asks.Ask.{Ask}
 use Rattle.office_base.specs.declared.asks.Ask.TheVariants.{Seat, Why, List as ListOf, State}
 use Rattle.office_base.specs.declared.person.CandId.{CandId}
 use Rattle.office_text.specs.Lines.{cut_at, onto_first}
 use Rattle.office_text.specs.Names.{code_of}
-use Rattle.office_text.specs.Number.{AreInverse, is_number, number_of, number_within, value_of}
+use Rattle.office_text.specs.Number.{AreInverse, is_number, number_within, value_of}
 use Rattle.http_asks.specs.Laws.{page_text}
 use Rattle.http_asks.specs.Pages.{page_alone, page_at, page_named, page_of, page_over_one, page_over_two, path_of, read_page}
 use Rattle.http_asks.specs.declared.pages.Page.{Page}
@@ -55,6 +54,9 @@ choose false here other x G e there elsewhere = elsewhere e
 same-page : (known page : Page) → Some known ≡ Some page → known ≡ page
 same-page known page e = ap (λ (o : Option Page). unwrap_or o known) e
 
+below : (value n high : ℕ) → value ≡ n → value ≤ high → high < 2 ^ 64 → n < 2 ^ 64
+below value n high same most small = omega arith
+
 -- a piece that is read as a number is its digits
 digits : AreInverse → (low high : ℕ) (text : List ℕ) (n : ℕ) → high < 2 ^ 64 → number_within low high text ≡ Some n → text ≡ decimal n
 digits inverse low high text n small e =
@@ -62,8 +64,7 @@ digits inverse low high text n small e =
     let inside = and_parts _ _ tests in
     let most : value_of text ≤ high = leb-true _ _ inside.1 in
     let value : value_of text ≡ n = ap (λ (o : Option ℕ). unwrap_or o 0) same in
-    let below : n < 2 ^ 64 = omega arith in
-    inverse.written_back text n below (cond-true (is_number text) (Some (value_of text)) None (and_parts _ _ inside.0).0 ∙ same)
+    inverse.written_back text n (below (value_of text) n high value most small) (cond-true (is_number text) (Some (value_of text)) None (and_parts _ _ inside.0).0 ∙ same)
 
 -- a piece that is read as a code is it
 coded : (text code : List ℕ) → code_of text ≡ Some code → text ≡ code
