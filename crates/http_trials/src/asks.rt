@@ -321,25 +321,30 @@ const OTHER_BODIES: [(&str, &str, Option<u16>); 14] = [
     ),
 ];
 
+/// What a body of a cut or of a raise is read as, where it has this window.
+fn expected(target: &str, window: u16) -> Result<Ask, Fail> {
+    if target == "/v1/cut" {
+        return Ok(Ask::Cut { window });
+    }
+    Ok(Ask::Raise {
+        window,
+        prog: code(b"A")?,
+        step: StepKind::Open,
+        seats: 3,
+    })
+}
+
 #[test]
 fn cuts_and_raises_are_read(rt: HostRuntime) -> Result<(), Fail> {
-    let (prog, step, seats) = (code(b"A")?, StepKind::Open, 3);
     for (target, body, window) in OTHER_BODIES {
         let came = posted(rt.alloc(), target, body.as_bytes())?;
-        let expected = match window {
-            None => (400, None),
-            Some(window) if target == "/v1/cut" => (200, Some(Ask::Cut { window })),
+        match window {
+            None => assert!(rt; came == (400, None), "{target} {body}"),
             Some(window) => {
-                let raise = Ask::Raise {
-                    window,
-                    prog,
-                    step,
-                    seats,
-                };
-                (200, Some(raise))
+                let ask = expected(target, window)?;
+                assert!(rt; came == (200, Some(ask)), "{target} {body}");
             }
-        };
-        assert!(rt; came == expected, "{target} {body}");
+        }
     }
     Ok(())
 }
