@@ -1,0 +1,5 @@
+pub mod Bodies
+pub mod Laws
+pub mod Pages
+pub mod Told
+pub mod Verdicts

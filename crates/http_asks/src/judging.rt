@@ -1,0 +1,70 @@
+// What a message comes to: something that it asks, or a status that refuses it.
+ghost use Rattle.std.specs.Prelude.{◌≡◌, true, IfOk, OnErr, option_copied};
+ghost use Rattle.http_heads.specs.Told.{told_fields, told_message};
+ghost use Rattle.http_asks.specs.Bodies.{ask_of};
+ghost use Rattle.http_asks.specs.Told.{told};
+ghost use Rattle.http_asks.specs.Verdicts.{needs_memory, reads_body, token_in, verdict_of};
+ghost use Rattle.http_asks.specs.declared.judging.Judged.TheVariants.{Refused};
+
+use crate::bodies::{ask_in, read_body};
+use crate::pages::{Method, Page, page_of};
+use http_heads::{Fields, HeldMessage};
+use office_base::{Ask, OutOfMemory};
+use std::alloc::Global;
+
+/// What a message comes to. The connection may go on after either.
+#[derive(Clone, Copy, Debug, PartialEq, Eq)]
+pub enum Judged {
+    /// It is refused with this status: 404 where its target names no page; else 405, with the method that the page has, where its
+    /// method is another; else 400 where its body is not what the page needs.
+    Refused { status: u16, allow: Option<Method> },
+    /// It asks this of the office, with its token.
+    Asked(Ask),
+}
+
+/// The token of a message: the value of its first field `X-Office-Token`, where it has one.
+pub fn token<'a>(fields: &Fields<'a>) -> Option<&'a [u8]>
+    ensures { option_copied result ≡ token_in (told_fields fields.now) }
+{
+    fields.first(b"x-office-token")
+}
+
+/// What a message comes to; what it asks, it asks with its `token`. Memory may be wanted for a body that is read, and for nothing
+/// else.
+pub fn judge(alloc: Global, message: &HeldMessage<'_>) -> Result<Judged, OutOfMemory>
+    ensures exact { IfOk result (λ judged. told (told_message message.now) judged ≡ verdict_of (told_message message.now)) }
+    ensures memory { OnErr result (reads_body (told_message message.now) ≡ true) }
+{
+    let Some(page) = page_of(message.target) else {
+        return Ok(refused(404, None));
+    };
+    let method = page.method();
+    if message.method != method.name() {
+        return Ok(refused(405, Some(method)));
+    }
+    match read_ask(alloc, &page, message.body)? {
+        None => Ok(refused(400, None)),
+        Some(ask) => Ok(Judged::Asked(ask)),
+    }
+}
+
+/// A refusal with this status.
+fn refused(status: u16, allow: Option<Method>) -> Judged
+    ensures { result ≡ Refused status allow }
+{
+    Judged::Refused { status, allow }
+}
+
+/// What a page asks with a body. None where the body is not what the page needs.
+fn read_ask(alloc: Global, page: &Page, body: &[u8]) -> Result<Option<Ask>, OutOfMemory>
+    ensures value { IfOk result (λ asked. asked ≡ ask_of page.now body.now) }
+    ensures memory { OnErr result (needs_memory page.now body.now ≡ true) }
+{
+    if let Page::Reads(ask) = page {
+        return Ok(Some(*ask));
+    }
+    match read_body(alloc, body)? {
+        Some(value) => Ok(ask_in(page, &value)),
+        None => Ok(None),
+    }
+}
