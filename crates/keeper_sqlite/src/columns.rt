@@ -1,5 +1,5 @@
 // The numbers in the columns of a row.
-ghost use Rattle.std.specs.Prelude.{◌≡◌, ◌<◌, ◌≤◌, ◌^◌, ℕ, IfOk, IfErr, OnOk, pos};
+ghost use Rattle.std.specs.Prelude.{ℕ, IfOk, IfErr, OnOk};
 ghost use Rattle.keeper_sqlite.specs.Halts.{WantsMemory};
 ghost use Rattle.keeper_sqlite.specs.Columns.{Holds, IsNumbered, IsChoiceAt, IsStepAt};
 ghost use Rattle.office_base.specs.declared.asks.Choice.{Choice};

@@ -1,7 +1,6 @@
 // The keeper over a connection.
-ghost use Rattle.std.specs.Prelude.{◌≡◌, ◌≤◌, OnErr, OnOk, IsErrOf, IfOk, IfErr};
+ghost use Rattle.std.specs.Prelude.{◌≡◌, ◌≤◌, IsErrOf, IfOk, IfErr};
 ghost use Rattle.office_base.specs.Memory.{counted};
-ghost use Rattle.keeper_mem.specs.declared.keeper.KeepFault.TheVariants.{OutOfMemory as NoRoom};
 ghost use Rattle.keeper_sqlite.specs.Halts.{keep_fault, faults_after};
 
 use crate::halt::Halt;
