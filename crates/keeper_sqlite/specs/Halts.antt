@@ -1,0 +1,30 @@
+-- What comes of a transaction that was rolled back.
+use Rattle.std.specs.Prelude.{ℕ}
+use Rattle.sqlite.specs.declared.error.Error.TheVariants.{SqliteFailure}
+use Rattle.sqlite.specs.declared.error.ErrorCode.TheVariants.{OutOfMemory as NoRoom}
+use Rattle.office_base.specs.Memory.{counted}
+use Rattle.keeper_mem.specs.declared.keeper.KeepFault.{KeepFault}
+use Rattle.keeper_mem.specs.declared.keeper.KeepFault.TheVariants.{Failed, OutOfMemory}
+use Rattle.keeper_sqlite.specs.declared.halt.Halt.{Halt}
+use Rattle.keeper_sqlite.specs.declared.halt.Halt.TheVariants.{Refused, InTransaction, Unfit, NoMemory}
+
+-- want of memory, here or in the database, is told as such; all else is a fault
+abbrev pub keep_fault : Halt → KeepFault
+keep_fault NoMemory = OutOfMemory
+keep_fault (Refused (SqliteFailure NoRoom)) = OutOfMemory
+keep_fault (Refused error) = Failed
+keep_fault InTransaction = Failed
+keep_fault Unfit = Failed
+
+-- a fault is counted, want of memory is not
+abbrev pub faults_after : KeepFault → ℕ → ℕ
+faults_after Failed faults = counted faults
+faults_after OutOfMemory faults = faults
+
+-- there was no memory, here or in the database
+abbrev pub WantsMemory : Halt → Type 0
+WantsMemory halt = Is (keep_fault halt)
+  where
+    Is : KeepFault → Type 0
+    Is OutOfMemory = Unit {0}
+    Is Failed = ⊥

@@ -1,0 +1,5 @@
+pub mod Columns
+pub mod Halts
+pub mod Numbers
+pub mod Rising
+pub mod Stored

@@ -1,0 +1,17 @@
+-- The order of published seats: by round, and inside a round by candidate.
+use Rattle.std.specs.Prelude.{◌==◌, ◌&&◌, ◌||◌, nat_lt, Bool, true, List, [], ◌∷◌, Option, Some, None}
+use Rattle.keeper_mem.specs.declared.rows.AllotRow.{AllotRow}
+use Rattle.keeper_sqlite.specs.declared.rising.Key.{Key}
+
+abbrev pub key_of : AllotRow → Key
+key_of row = record { round = row.round; cand = row.cand }
+
+-- the row comes after this key, where there is one
+abbrev pub is_above : Option Key → AllotRow → Bool
+is_above None row = true
+is_above (Some key) row = nat_lt key.round row.round || ((key.round == row.round) && nat_lt key.cand.0 row.cand.0)
+
+-- each row comes after the one before it, and the first after this key
+abbrev pub are_rising : Option Key → List AllotRow → Bool
+are_rising last [] = true
+are_rising last (row ∷ rows) = is_above last row && are_rising (Some (key_of row)) rows

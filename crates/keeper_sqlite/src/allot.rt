@@ -1,0 +1,115 @@
+// The table of published seats.
+ghost use Rattle.std.specs.Prelude.{◌≡◌, IfOk, IfErr};
+ghost use Rattle.keeper_mem.specs.declared.rows.AllotRow.{AllotRow};
+ghost use Rattle.keeper_sqlite.specs.Halts.{WantsMemory};
+ghost use Rattle.keeper_sqlite.specs.Columns.{IsAllotRow, IsKeyRow};
+ghost use Rattle.keeper_sqlite.specs.declared.rising.Key.{Key};
+
+use crate::columns::{number_at, small_number_at, step_at};
+use crate::halt::Halt;
+use crate::numbers::number_of_step;
+use crate::rising::Key;
+use keeper_mem::{AllotRow, AllotRows};
+use office_base::{CandId, Listed, ProgId};
+use sqlite::{Alter, Row, Transaction, params};
+use std::alloc::Global;
+
+/// Makes the table where it is not there.
+pub(crate) fn create<S: Alter>(tx: &mut Transaction<'_, S>) -> Result<(), Halt>
+    ensures { tx.new.conn.ghost_name ≡ tx.old.conn.ghost_name }
+{
+    tx.execute(
+        "CREATE TABLE IF NOT EXISTS allot (rnd INTEGER NOT NULL, cand INTEGER NOT NULL, prog INTEGER NOT NULL, step INTEGER NOT NULL, PRIMARY KEY (rnd, cand)) STRICT",
+        &[],
+    )?;
+    Ok(())
+}
+
+/// Tests that no row is there.
+pub(crate) fn expect_empty<S: Alter>(tx: &mut Transaction<'_, S>) -> Result<(), Halt>
+    ensures { tx.new.conn.ghost_name ≡ tx.old.conn.ghost_name }
+{
+    if !tx
+        .query_all("SELECT rnd FROM allot LIMIT 1", &[])?
+        .is_empty()
+    {
+        return Err(Halt::Unfit);
+    }
+    Ok(())
+}
+
+/// Puts rows, by one statement that is prepared once.
+pub(crate) fn insert_all<S: Alter>(
+    tx: &mut Transaction<'_, S>,
+    rows: &[AllotRow],
+) -> Result<(), Halt>
+    ensures { tx.new.conn.ghost_name ≡ tx.old.conn.ghost_name }
+{
+    let insert = tx.prepare("INSERT INTO allot (rnd, cand, prog, step) VALUES (?1, ?2, ?3, ?4)")?;
+    for row in rows {
+        tx.execute_prepared(
+            &insert,
+            params![
+                u32::from(row.round),
+                row.cand.0,
+                u32::from(row.prog.0),
+                number_of_step(row.step)
+            ],
+        )?;
+    }
+    Ok(())
+}
+
+/// The last key by round and candidate, where a row stands.
+pub(crate) fn last_key<S: Alter>(tx: &mut Transaction<'_, S>) -> Result<Option<Key>, Halt>
+    ensures { tx.new.conn.ghost_name ≡ tx.old.conn.ghost_name }
+{
+    let rows = tx.query_all(
+        "SELECT rnd, cand FROM allot ORDER BY rnd DESC, cand DESC LIMIT 1",
+        &[],
+    )?;
+    match rows.first() {
+        None => Ok(None),
+        Some(row) => Ok(Some(key_of(row)?)),
+    }
+}
+
+fn key_of(row: &Row) -> Result<Key, Halt>
+    ensures ok { IfOk result (IsKeyRow row.now) }
+    ensures err { IfErr result (λ halt. ¬ WantsMemory halt → (key : Key) → ¬ IsKeyRow row.now key) }
+{
+    Ok(Key {
+        round: small_number_at(row, 0)?,
+        cand: CandId(number_at(row, 1)?),
+    })
+}
+
+/// All rows, by rising round and candidate.
+pub(crate) fn read_all<S: Alter>(
+    tx: &mut Transaction<'_, S>,
+    alloc: Global,
+) -> Result<AllotRows, Halt>
+    ensures { tx.new.conn.ghost_name ≡ tx.old.conn.ghost_name }
+{
+    let rows = tx.query_all(
+        "SELECT rnd, cand, prog, step FROM allot ORDER BY rnd, cand",
+        &[],
+    )?;
+    let mut allots = Vec::with_capacity(alloc, rows.len())?;
+    for row in &rows {
+        allots.push(allot_of(row)?)?;
+    }
+    Ok(Listed::from_vec(allots))
+}
+
+fn allot_of(row: &Row) -> Result<AllotRow, Halt>
+    ensures ok { IfOk result (IsAllotRow row.now) }
+    ensures err { IfErr result (λ halt. ¬ WantsMemory halt → (allot : AllotRow) → ¬ IsAllotRow row.now allot) }
+{
+    Ok(AllotRow {
+        round: small_number_at(row, 0)?,
+        cand: CandId(number_at(row, 1)?),
+        prog: ProgId(small_number_at(row, 2)?),
+        step: step_at(row, 3)?,
+    })
+}

@@ -1,0 +1,52 @@
+// Why a transaction was rolled back.
+ghost use Rattle.std.specs.Prelude.{◌≡◌};
+ghost use Rattle.keeper_sqlite.specs.declared.halt.Halt.TheVariants.{Refused, NoMemory};
+
+use office_base::OutOfMemory;
+use sqlite::Error;
+use std::alloc::{AllocError, AllocFailed};
+
+/// Why a transaction came to no end. Nothing of it stays.
+#[derive(Clone, Copy, Debug, PartialEq, Eq, Drop)]
+pub(crate) enum Halt {
+    /// The database refused a statement or failed.
+    Refused(Error),
+    /// The connection is in a transaction that somebody else began.
+    InTransaction,
+    /// A row stands that is no record, or that may not stand beside the new ones.
+    Unfit,
+    /// There was no memory for what was read.
+    NoMemory,
+}
+
+impl From<Error> for Halt {
+    ghost from_gives = { λ error halt. halt ≡ Refused error };
+
+    fn from(error: Error) -> Self {
+        Halt::Refused(error)
+    }
+}
+
+impl From<OutOfMemory> for Halt {
+    ghost from_gives = { λ _ halt. halt ≡ NoMemory };
+
+    fn from(_: OutOfMemory) -> Self {
+        Halt::NoMemory
+    }
+}
+
+impl From<AllocError> for Halt {
+    ghost from_gives = { λ _ halt. halt ≡ NoMemory };
+
+    fn from(_: AllocError) -> Self {
+        Halt::NoMemory
+    }
+}
+
+impl<T: Drop> From<AllocFailed<T>> for Halt {
+    ghost from_gives = { λ _ halt. halt ≡ NoMemory };
+
+    fn from(_: AllocFailed<T>) -> Self {
+        Halt::NoMemory
+    }
+}

@@ -1,0 +1,148 @@
+// The keeper over a connection.
+ghost use Rattle.std.specs.Prelude.{◌≡◌, ◌≤◌, IsErrOf, IfOk, IfErr};
+ghost use Rattle.office_base.specs.Memory.{counted};
+ghost use Rattle.keeper_sqlite.specs.Halts.{keep_fault, faults_after};
+
+use crate::halt::Halt;
+use crate::transactions;
+use keeper_mem::{AllotRow, AnswerRow, KeepFault, Keeper, Kept, RaiseRow};
+use sqlite::{Alter, Connection, Error, ErrorCode};
+use std::alloc::Global;
+use std::marker::Model;
+
+/// A keeper over a database. It tells no tables and holds no room in advance. Each method is one transaction; where one answers `Failed`, the
+/// database refused or failed, or a row stands that is no record, and the count of faults rose by one, up to 2^64 - 1.
+#[derive(Drop)]
+pub struct SqliteKeeper<S: Alter> {
+    connection: Connection<S>,
+    faults: u64,
+}
+
+impl<S: Alter> Model for SqliteKeeper<S> {
+    ghost use Rattle.keeper_sqlite.specs.Stored.{Stored, stored_code};
+
+    ghost Value = { Stored S };
+
+    ghost coded = { stored_code S.code };
+
+    ghost view = { λ k. record { connection = k.connection; faults = k.faults } };
+}
+
+impl<S: Alter> SqliteKeeper<S> {
+    /// A keeper over this connection, with no faults. It takes no memory and touches no table.
+    pub fn new(connection: Connection<S>) -> SqliteKeeper<S>
+        ensures { result ≡ record { connection = connection; faults = 0 } }
+    {
+        SqliteKeeper {
+            connection,
+            faults: 0,
+        }
+    }
+
+    /// How often it has failed, up to 2^64 - 1.
+    pub fn faults(&self) -> u64
+        ensures { result ≡ self.now.faults }
+    {
+        self.faults
+    }
+
+    /// The connection, as the last call left it.
+    pub fn into_connection(self) -> Connection<S>
+        ensures { result ≡ self.connection }
+    {
+        let SqliteKeeper {
+            connection,
+            faults: _,
+        } = self;
+        connection
+    }
+
+    /// Makes the tables that are not there, all or none, and leaves those that are. A database without the table of raises becomes one that has
+    /// none.
+    pub fn make_tables(&mut self) -> Result<(), KeepFault>
+        ensures count { self.old.faults ≤ self.new.faults }
+        ensures steady { ¬ IsErrOf result KeepFault.Failed → self.new.faults ≡ self.old.faults }
+        ensures counted { IsErrOf result KeepFault.Failed → self.new.faults ≡ counted self.old.faults }
+    {
+        let done = transactions::make_tables(&mut self.connection);
+        self.settle(done)
+    }
+
+    /// What a method answers.
+    fn settle<T>(&mut self, done: Result<T, Halt>) -> Result<T, KeepFault>
+        ensures ok { IfOk result (λ value. done ≡ Ok value) }
+        ensures err { IfErr result (λ fault. IfErr done (λ halt. fault ≡ keep_fault halt)) }
+        ensures count { self.old.faults ≤ self.new.faults }
+        ensures steady { ¬ IsErrOf result KeepFault.Failed → self.new ≡ self.old }
+        ensures counted { IsErrOf result KeepFault.Failed → self.new ≡ record self.old { faults = counted self.old.faults } }
+    {
+        match done {
+            Ok(value) => Ok(value),
+            Err(halt) => Err(self.fault_of(halt)),
+        }
+    }
+
+    /// The fault of a transaction that was rolled back: want of memory is told as such, all else is counted.
+    fn fault_of(&mut self, halt: Halt) -> KeepFault
+        ensures count { self.old.faults ≤ self.new.faults }
+        ensures fault { result ≡ keep_fault halt }
+        ensures faults { self.new ≡ record self.old { faults = faults_after result self.old.faults } }
+    {
+        match halt {
+            Halt::NoMemory | Halt::Refused(Error::SqliteFailure(ErrorCode::OutOfMemory)) => {
+                KeepFault::OutOfMemory
+            }
+            Halt::Refused(_) | Halt::InTransaction | Halt::Unfit => {
+                self.faults = self.faults.saturating_add(1);
+                KeepFault::Failed
+            }
+        }
+    }
+}
+
+impl<S: Alter> Keeper for SqliteKeeper<S> {
+    ghost use Rattle.std.specs.Prelude.{false};
+    ghost use Rattle.keeper_mem.specs.Tables.{Untold};
+
+    ghost tables = { λ _. Untold };
+
+    ghost faults = { λ k. k.faults };
+
+    ghost holds_room = { λ _. false };
+
+    ghost spare = { λ _. 0 };
+
+    fn has_season(&mut self) -> Result<bool, KeepFault> {
+        let done = transactions::has_season(&mut self.connection);
+        self.settle(done)
+    }
+
+    fn put_season(&mut self, text: &[u8]) -> Result<(), KeepFault> {
+        let done = transactions::put_season(&mut self.connection, text);
+        self.settle(done)
+    }
+
+    fn reserve_answers(&mut self, _n: u32) -> Result<(), KeepFault> {
+        Ok(())
+    }
+
+    fn put_answer(&mut self, row: AnswerRow) -> Result<(), KeepFault> {
+        let done = transactions::put_answer(&mut self.connection, row);
+        self.settle(done)
+    }
+
+    fn put_raise(&mut self, row: RaiseRow) -> Result<(), KeepFault> {
+        let done = transactions::put_raise(&mut self.connection, row);
+        self.settle(done)
+    }
+
+    fn put_cut(&mut self, rows: &[AllotRow]) -> Result<(), KeepFault> {
+        let done = transactions::put_cut(&mut self.connection, rows);
+        self.settle(done)
+    }
+
+    fn load(&mut self, alloc: Global) -> Result<Option<Kept>, KeepFault> {
+        let done = transactions::load(&mut self.connection, alloc);
+        self.settle(done)
+    }
+}

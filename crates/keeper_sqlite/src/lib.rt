@@ -1,0 +1,22 @@
+// A keeper over a database: the records of a season as rows of five tables.
+//
+// It meets the trait of keepers over a connection to any store, a file or memory. Each method is one transaction, and each statement stands in a
+// function of its own, one module a table. Whatever the database refuses, want of memory apart, is a counted fault, and so are rows that are no
+// records. It tells no tables: what is proved is that a fault comes only with a count that rose, and each row is read as what its numbers stand for.
+// No function here knows what the records mean to an office.
+#![tactic(auto)]
+
+mod allot;
+mod answer;
+mod columns;
+mod halt;
+mod keeper;
+pub mod laws;
+mod lift;
+mod numbers;
+mod phase;
+mod rising;
+mod season;
+mod transactions;
+
+pub use keeper::SqliteKeeper;

@@ -1,0 +1,84 @@
+// The table of raises.
+ghost use Rattle.std.specs.Prelude.{◌≡◌, IfOk, IfErr};
+ghost use Rattle.keeper_mem.specs.declared.rows.RaiseRow.{RaiseRow};
+ghost use Rattle.keeper_sqlite.specs.Halts.{WantsMemory};
+ghost use Rattle.keeper_sqlite.specs.Columns.{IsRaiseRow};
+
+use crate::columns::{expect_number, small_number_at, step_at};
+use crate::halt::Halt;
+use crate::numbers::number_of_step;
+use keeper_mem::{RaiseRow, RaiseRows};
+use office_base::{Listed, ProgId};
+use sqlite::{Alter, Row, Transaction, params};
+use std::alloc::Global;
+
+/// Makes the table where it is not there.
+pub(crate) fn create<S: Alter>(tx: &mut Transaction<'_, S>) -> Result<(), Halt>
+    ensures { tx.new.conn.ghost_name ≡ tx.old.conn.ghost_name }
+{
+    tx.execute(
+        "CREATE TABLE IF NOT EXISTS lift (seq INTEGER PRIMARY KEY, win INTEGER NOT NULL, prog INTEGER NOT NULL, step INTEGER NOT NULL, seats INTEGER NOT NULL) STRICT",
+        &[],
+    )?;
+    Ok(())
+}
+
+/// Tests that no row is there.
+pub(crate) fn expect_empty<S: Alter>(tx: &mut Transaction<'_, S>) -> Result<(), Halt>
+    ensures { tx.new.conn.ghost_name ≡ tx.old.conn.ghost_name }
+{
+    if !tx
+        .query_all("SELECT seq FROM lift LIMIT 1", &[])?
+        .is_empty()
+    {
+        return Err(Halt::Unfit);
+    }
+    Ok(())
+}
+
+/// Puts a row after the others.
+pub(crate) fn insert<S: Alter>(tx: &mut Transaction<'_, S>, row: RaiseRow) -> Result<(), Halt>
+    ensures { tx.new.conn.ghost_name ≡ tx.old.conn.ghost_name }
+{
+    tx.execute(
+        "INSERT INTO lift (win, prog, step, seats) VALUES (?1, ?2, ?3, ?4)",
+        params![
+            u32::from(row.window),
+            u32::from(row.prog.0),
+            number_of_step(row.step),
+            u32::from(row.seats)
+        ],
+    )?;
+    Ok(())
+}
+
+/// All rows, in the order in which they were put.
+pub(crate) fn read_all<S: Alter>(
+    tx: &mut Transaction<'_, S>,
+    alloc: Global,
+) -> Result<RaiseRows, Halt>
+    ensures { tx.new.conn.ghost_name ≡ tx.old.conn.ghost_name }
+{
+    let rows = tx.query_all(
+        "SELECT seq, win, prog, step, seats FROM lift ORDER BY seq",
+        &[],
+    )?;
+    let mut raises = Vec::with_capacity(alloc, rows.len())?;
+    for row in &rows {
+        raises.push(raise_of(row)?)?;
+    }
+    Ok(Listed::from_vec(raises))
+}
+
+fn raise_of(row: &Row) -> Result<RaiseRow, Halt>
+    ensures ok { IfOk result (IsRaiseRow row.now) }
+    ensures err { IfErr result (λ halt. ¬ WantsMemory halt → (raise : RaiseRow) → ¬ IsRaiseRow row.now raise) }
+{
+    expect_number(row)?;
+    Ok(RaiseRow {
+        window: small_number_at(row, 1)?,
+        prog: ProgId(small_number_at(row, 2)?),
+        step: step_at(row, 3)?,
+        seats: small_number_at(row, 4)?,
+    })
+}

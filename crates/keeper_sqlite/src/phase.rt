@@ -1,0 +1,63 @@
+// The table of one row that says that a season is there, and how many cuts were made.
+ghost use Rattle.std.specs.Prelude.{◌≡◌, ℕ, IfOk, IfErr};
+ghost use Rattle.keeper_sqlite.specs.Halts.{WantsMemory};
+ghost use Rattle.keeper_sqlite.specs.Columns.{IsPhaseRow};
+
+use crate::columns::{number_at, small_number_at};
+use crate::halt::Halt;
+use sqlite::{Alter, Row, Transaction, params};
+
+/// The one key.
+const ID: u32 = 1;
+
+/// Makes the table where it is not there.
+pub(crate) fn create<S: Alter>(tx: &mut Transaction<'_, S>) -> Result<(), Halt>
+    ensures { tx.new.conn.ghost_name ≡ tx.old.conn.ghost_name }
+{
+    tx.execute(
+        "CREATE TABLE IF NOT EXISTS phase (id INTEGER PRIMARY KEY, cuts INTEGER NOT NULL) STRICT",
+        &[],
+    )?;
+    Ok(())
+}
+
+/// Puts the row of a season without cuts. The database refuses it where the row is there.
+pub(crate) fn insert<S: Alter>(tx: &mut Transaction<'_, S>) -> Result<(), Halt>
+    ensures { tx.new.conn.ghost_name ≡ tx.old.conn.ghost_name }
+{
+    tx.execute("INSERT INTO phase (id, cuts) VALUES (?1, 0)", params![ID])?;
+    Ok(())
+}
+
+/// Writes the number of cuts.
+pub(crate) fn upsert<S: Alter>(tx: &mut Transaction<'_, S>, cuts: u16) -> Result<(), Halt>
+    ensures { tx.new.conn.ghost_name ≡ tx.old.conn.ghost_name }
+{
+    tx.execute(
+        "INSERT INTO phase (id, cuts) VALUES (?1, ?2) ON CONFLICT (id) DO UPDATE SET cuts = excluded.cuts",
+        params![ID, u32::from(cuts)],
+    )?;
+    Ok(())
+}
+
+/// The number of cuts, or None where no season is.
+pub(crate) fn read<S: Alter>(tx: &mut Transaction<'_, S>) -> Result<Option<u16>, Halt>
+    ensures { tx.new.conn.ghost_name ≡ tx.old.conn.ghost_name }
+{
+    let rows = tx.query_all("SELECT id, cuts FROM phase ORDER BY id", &[])?;
+    match rows.as_slice() {
+        [] => Ok(None),
+        [row] => Ok(Some(cuts_of(row)?)),
+        _ => Err(Halt::Unfit),
+    }
+}
+
+fn cuts_of(row: &Row) -> Result<u16, Halt>
+    ensures ok { IfOk result (IsPhaseRow row.now) }
+    ensures err { IfErr result (λ halt. ¬ WantsMemory halt → (cuts : ℕ) → ¬ IsPhaseRow row.now cuts) }
+{
+    if number_at(row, 0)? != ID {
+        return Err(Halt::Unfit);
+    }
+    small_number_at(row, 1)
+}

@@ -1,0 +1,41 @@
+// The order of published seats: by round, and inside a round by candidate.
+ghost use Rattle.std.specs.Prelude.{◌≡◌};
+ghost use Rattle.keeper_sqlite.specs.Rising.{are_rising, is_above};
+
+use keeper_mem::AllotRow;
+use office_base::CandId;
+
+/// The key of a published seat.
+#[derive(Clone, Copy, Debug, PartialEq, Eq)]
+pub(crate) struct Key {
+    pub round: u16,
+    pub cand: CandId,
+}
+
+/// Whether the rows rise by round and candidate, and above the last key where there is one.
+pub(crate) fn are_rising(last: Option<Key>, rows: &[AllotRow]) -> bool
+    ensures { result ≡ are_rising last rows.now }
+{
+    let mut above = last;
+    for row in rows {
+        if !is_above(above, row) {
+            return false;
+        }
+        above = Some(Key {
+            round: row.round,
+            cand: row.cand,
+        });
+    }
+    true
+}
+
+fn is_above(last: Option<Key>, row: &AllotRow) -> bool
+    ensures { result ≡ is_above last row.now }
+{
+    match last {
+        None => true,
+        Some(key) => {
+            key.round < row.round || (key.round == row.round && key.cand.0 < row.cand.0)
+        }
+    }
+}
