@@ -7,6 +7,13 @@
 
 pub mod fault;
 mod head;
+pub mod laws;
+mod list_pieces;
+mod list_reader;
+mod list_stage;
+mod list_words;
+pub mod lists;
+mod numbers;
 mod parts;
 mod pieces;
 mod reading;
@@ -16,5 +23,6 @@ mod sort;
 mod stage;
 
 pub use fault::TextFault;
+pub use lists::{ListRead, read_list};
 pub use published_texts::{final_text, list_text, reason_text, round_text};
 pub use reads::{FinalRead, RoundRead, read_final, read_round};
