@@ -1,16 +1,15 @@
 -- What completes a list: it is there exactly where the numbers allow it.
-use Rattle.std.proofs.Common.{◌≡◌, ◌<◌, ◌≤◌, ◌+◌, ◌-◌, ◌^◌, ℕ, zero, suc, List, [], ◌∷◌, ◌++◌, Option, Some, None, IfSome, length, refl, sym, inl, inr, ap, subst, ◌∙◌, arith}
+use Rattle.std.proofs.Common.{◌<◌, ◌≤◌, ◌-◌, ℕ, zero, suc, List, [], ◌∷◌, ◌++◌, Option, Some, None, IfSome, length, refl, inl, inr, arith}
 use Rattle.std.proofs.lemmas.Bool.{cases_lt}
 use Rattle.office_base.specs.declared.person.Person.{Person}
 use Rattle.office_base.specs.declared.step.Pair.{Pair}
 use Rattle.office_base.specs.declared.step.StepKind.{StepKind}
 use Rattle.office_base.specs.declared.step.StepKind.TheVariants.{Open, Ews, Obc, Sc, St, Dereserved}
 use Rattle.programme_lists.specs.declared.programme.StepList.{StepList}
-use Rattle.rank_lists.specs.Register.{find_person}
 use Rattle.seat_matrix.specs.Matrix.{SeatTable}
-use Rattle.publish.specs.ListLines.{CanStand, IsListEnd, IsListHead, IsStepHead, Said, entry_words, honoured_text, honoured_words, last_words, lines_text, list_words, most_slots, rows_text, slots_in, step_list, step_text, step_words, steps_text}
+use Rattle.publish.specs.ListLines.{CanStand, IsListEnd, IsListHead, IsStepHead, Said, entry_words, honoured_text, honoured_words, last_words, lines_text, list_words, most_slots, rows_text, slots_in, step_list, step_words, steps_text}
 use Rattle.publish.specs.ListReader.{AreRising, free_in}
-use Rattle.publish.specs.Listing.{Entry, is_listed, pair_of, step_kinds}
+use Rattle.publish.specs.Listing.{pair_of, step_kinds}
 use Rattle.publish.specs.Reading.{Begins, Grammar}
 use Rattle.publish.proofs.FreeLemmas.{free-less, free-some}
 use Rattle.publish.proofs.LineThen.{then-some}

@@ -1,5 +1,5 @@
 -- A text is the list of one value alone.
-use Rattle.std.proofs.Common.{◌≡◌, ◌<◌, ◌≤◌, ◌+◌, ◌-◌, ◌^◌, ℕ, zero, suc, List, [], ◌∷◌, ◌++◌, length, refl, sym, ap, subst, ◌∙◌, arith}
+use Rattle.std.proofs.Common.{◌≡◌, ◌<◌, ◌≤◌, ◌-◌, ◌^◌, ℕ, zero, suc, List, [], ◌∷◌, ◌++◌, length, refl, sym, ap, subst, ◌∙◌, arith}
 use Rattle.office_base.specs.declared.person.Person.{Person}
 use Rattle.office_base.specs.declared.step.Pair.{Pair}
 use Rattle.office_base.specs.declared.step.StepKind.{StepKind}
@@ -7,7 +7,7 @@ use Rattle.programme_lists.specs.declared.programme.StepList.{StepList}
 use Rattle.seat_matrix.specs.Matrix.{SeatTable}
 use Rattle.publish.specs.ListLines.{CanStand, IsLineThen, IsListEnd, IsListHead, IsStepHead, Said, entry_words, honoured_text, honoured_words, last_words, lines_text, list_words, most_slots, rows_text, slots_in, step_list, step_text, step_words, steps_text}
 use Rattle.publish.specs.ListReader.{AreKnown}
-use Rattle.publish.specs.Listing.{Entry, IsListText, pair_of, step_kinds}
+use Rattle.publish.specs.Listing.{IsListText, pair_of, step_kinds}
 use Rattle.publish.specs.Reading.{Grammar, HasNo}
 use Rattle.publish.specs.declared.lists.ListRead.{ListRead}
 use Rattle.publish.proofs.FollowLemmas.{slots-few}

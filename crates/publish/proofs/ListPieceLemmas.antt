@@ -1,5 +1,5 @@
 -- What a piece of a line of a list begins, part by part.
-use Rattle.std.proofs.Common.{◌≡◌, ◌≢◌, ◌<◌, ◌≤◌, ◌+◌, ◌-◌, ◌^◌, ℕ, zero, suc, Bool, true, false, List, [], ◌∷◌, ◌++◌, Option, Some, None, IfSome, length, get_or, refl, sym, inl, inr, ap, subst, ◌∙◌, arith, append_assoc, unwrap_or, is_some, eq-eqb, eqb}
+use Rattle.std.proofs.Common.{◌≡◌, ◌<◌, ◌≤◌, ◌-◌, ◌^◌, ℕ, zero, suc, true, false, List, [], ◌∷◌, ◌++◌, Option, Some, None, IfSome, length, get_or, refl, sym, inl, inr, ap, subst, ◌∙◌, arith, append_assoc, unwrap_or, is_some, eq-eqb, eqb}
 use Rattle.std.proofs.lemmas.Bool.{cases_eq, cond-true, cond-false, false≢true, ne_eqb}
 use Rattle.std.specs.Fmt.{decimal}
 use Rattle.std.specs.Prelude.{codes}
@@ -12,10 +12,9 @@ use Rattle.step_lines.specs.Lines.{slot_letter, step_name}
 use Rattle.publish.specs.ListLines.{BeginsLine, CanStand, IsListHead, IsStepHead, entry_words, honoured_words, list_words, slots_in, step_words}
 use Rattle.publish.specs.ListPieces.{BeginsCandidates, BeginsCount, BeginsEntry, BeginsLetter, BeginsListCode, BeginsNumbered, BeginsSeats, BeginsSlot, IsPast}
 use Rattle.publish.specs.ListReader.{AreRising}
-use Rattle.publish.specs.Listing.{Entry, is_listed}
+use Rattle.publish.specs.Listing.{is_listed}
 use Rattle.publish.specs.Parts.{IsApart, IsLeft, is_prefix}
-use Rattle.publish.specs.Reading.{HasNo}
-use Rattle.publish.proofs.FreeLemmas.{found-all, found-later}
+use Rattle.publish.proofs.FreeLemmas.{found-later}
 
 -- ---- the first line
 

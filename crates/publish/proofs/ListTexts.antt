@@ -1,5 +1,5 @@
 -- The texts of lists by their lines are those that are published.
-use Rattle.std.proofs.Common.{◌≡◌, ◌<◌, ◌≤◌, ◌+◌, ◌-◌, ◌^◌, ℕ, zero, suc, Bool, true, false, eqb, List, [], ◌∷◌, ◌++◌, Option, Some, None, length, map, refl, sym, ap, subst, ◌∙◌, arith, append_assoc, length-append, eq-eqb}
+use Rattle.std.proofs.Common.{◌≡◌, ◌<◌, ◌≤◌, ◌+◌, ◌-◌, ◌^◌, ℕ, zero, suc, true, false, eqb, List, [], ◌∷◌, ◌++◌, Option, Some, None, length, refl, sym, ap, subst, ◌∙◌, arith, append_assoc, length-append, eq-eqb}
 use Rattle.std.proofs.lemmas.Bool.{cond-true, cond-false, false≢true, ne_eqb}
 use Rattle.std.proofs.lemmas.List.{append-nil}
 use Rattle.std.specs.Fmt.{decimal}
@@ -14,12 +14,12 @@ use Rattle.office_base.specs.declared.step.StepKind.{StepKind}
 use Rattle.office_base.specs.declared.step.StepKind.TheVariants.{Open, Ews, Obc, Sc, St, Dereserved}
 use Rattle.programme_lists.specs.declared.programme.Programme.{Programme}
 use Rattle.programme_lists.specs.declared.programme.StepList.{StepList}
-use Rattle.published_texts.specs.Texts.{code_in, list_head, list_step, list_text}
+use Rattle.published_texts.specs.Texts.{code_in, list_head, list_step}
 use Rattle.seat_matrix.specs.Matrix.{SeatTable}
-use Rattle.step_lines.specs.Lines.{admitted_line, count_lines, slot_letter, step_lines, step_name}
-use Rattle.publish.specs.ListLines.{CanStand, IsListEnd, IsListHead, IsStepHead, IsLineThen, Said, entry_words, honoured_text, honoured_words, last_words, lines_text, list_words, most_slots, rows_text, slots_in, step_list, step_text, step_words, steps_text}
+use Rattle.step_lines.specs.Lines.{admitted_line, count_lines, slot_letter, step_name}
+use Rattle.publish.specs.ListLines.{Said, entry_words, honoured_words, lines_text, list_words, most_slots, rows_text, slots_in, step_list, step_text, step_words, steps_text}
 use Rattle.publish.specs.ListReader.{AreRising, free_in}
-use Rattle.publish.specs.Listing.{AreEntries, AreStepLists, Entry, IsEntry, IsListText, IsStepList, is_listed, pair_of, pairs_of, persons_of, step_kinds}
+use Rattle.publish.specs.Listing.{AreEntries, AreStepLists, Entry, IsListText, IsStepList, is_listed, pair_of, pairs_of, persons_of, step_kinds}
 use Rattle.publish.specs.Reading.{Grammar, IsTextFault}
 use Rattle.publish.specs.declared.fault.TextFault.{TextFault}
 use Rattle.publish.specs.declared.lists.ListRead.{ListRead}

@@ -1,26 +1,22 @@
 -- What is published is read back as it was written.
-use Rattle.std.proofs.Common.{◌≡◌, ◌≢◌, ◌<◌, ◌≤◌, ◌+◌, ◌^◌, ℕ, zero, suc, Bool, true, false, cond, eqb, List, [], ◌∷◌, ◌++◌, Option, Some, None, length, map, get_or, refl, sym, inl, inr, ap, subst, ◌∙◌, arith, append_assoc, length-append}
+use Rattle.std.proofs.Common.{◌≡◌, ◌<◌, ◌^◌, ℕ, cond, eqb, List, [], ◌∷◌, ◌++◌, Option, Some, None, length, map, get_or, refl, sym, inl, inr, ap, subst, ◌∙◌, arith}
 use Rattle.std.specs.Fmt.{decimal}
 use Rattle.std.specs.List.{AllByRecursion, flat_map}
 use Rattle.std.specs.Prelude.{codes}
 use Rattle.keeper_mem.specs.declared.rows.AllotRow.{AllotRow}
 use Rattle.office_base.specs.Lists.{IsSublist}
 use Rattle.office_base.specs.declared.asks.Seat.{Seat}
-use Rattle.office_base.specs.declared.person.CandId.{CandId}
 use Rattle.office_base.specs.declared.person.Person.{Person}
-use Rattle.office_base.specs.declared.person.ProgId.{ProgId}
 use Rattle.office_base.specs.declared.step.StepKind.{StepKind}
 use Rattle.office_base.specs.declared.step.StepKind.TheVariants.{Open, Ews, Obc, Sc, St, Dereserved}
 use Rattle.published_texts.specs.Texts.{AreSeatsOf, allot_line, allot_lines, code_in, round_head}
 use Rattle.rounds.specs.Round.{seated}
-use Rattle.rounds.specs.declared.round.Round.{Round}
 use Rattle.seat_matrix.specs.Matrix.{SeatTable}
 use Rattle.step_lines.specs.Lines.{step_name}
-use Rattle.publish.specs.Laws.{AreDistinct, FinalsAreOne, FinalsAreRead, RoundsAreOne, RoundsAreRead, row_of, rows_of}
+use Rattle.publish.specs.Laws.{AreDistinct, FinalsAreOne, FinalsAreRead, RoundsAreOne, RoundsAreRead, rows_of}
 use Rattle.publish.specs.Parts.{IsRow, row_words}
 use Rattle.publish.specs.Reader.{AreSmall}
-use Rattle.publish.specs.Reading.{HasNo}
-use Rattle.publish.specs.Rows.{AreRows, IsRowsText, allot_row_line, head_words, row_line, tail_text, word}
+use Rattle.publish.specs.Rows.{AreRows, IsRowsText, allot_row_line, head_words, tail_text, word}
 use Rattle.publish.specs.declared.sort.Sort.{Sort}
 use Rattle.publish.specs.declared.sort.Sort.TheVariants.{Round as RoundSort, Final}
 use Rattle.publish.proofs.HeadLemmas.{head-clear, head-one}

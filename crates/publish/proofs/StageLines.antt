@@ -1,17 +1,17 @@
 -- The stages of a list: what a line leads to at each of them.
-use Rattle.std.proofs.Common.{◌≡◌, ◌≢◌, ◌<◌, ◌≤◌, ◌+◌, ◌-◌, ◌^◌, ℕ, zero, suc, true, List, [], ◌∷◌, ◌++◌, Option, Some, None, IfSome, length, refl, sym, inl, inr, ap, subst, ◌∙◌, arith, unwrap_or}
+use Rattle.std.proofs.Common.{◌≡◌, ◌≢◌, ◌<◌, ◌≤◌, ◌-◌, ◌^◌, ℕ, suc, true, List, [], ◌∷◌, ◌++◌, Option, length, refl, sym, ap, ◌∙◌, arith, unwrap_or}
 use Rattle.office_base.specs.declared.person.Person.{Person}
 use Rattle.office_base.specs.declared.step.Pair.{Pair}
 use Rattle.office_base.specs.declared.step.StepKind.{StepKind}
 use Rattle.programme_lists.specs.declared.programme.StepList.{StepList}
 use Rattle.rank_lists.specs.Register.{find_person}
 use Rattle.seat_matrix.specs.Matrix.{SeatTable}
-use Rattle.publish.specs.ListLines.{BeginsLine, CanStand, IsListEnd, IsListHead, IsStepHead, Said, after_rows, entry_words, honoured_text, honoured_words, last_words, lines_text, list_words, most_slots, rows_text, slots_in, step_list, step_text, step_words, steps_text}
-use Rattle.publish.specs.ListReader.{AreKnown, AreRising, free_in}
-use Rattle.publish.specs.Listing.{Entry, is_listed, pair_of, step_kinds}
+use Rattle.publish.specs.ListLines.{BeginsLine, CanStand, IsListEnd, IsListHead, IsStepHead, Said, after_rows, entry_words, honoured_text, honoured_words, last_words, lines_text, list_words, most_slots, rows_text, slots_in, step_list, step_words, steps_text}
+use Rattle.publish.specs.ListReader.{AreKnown, free_in}
+use Rattle.publish.specs.Listing.{Entry, pair_of, step_kinds}
 use Rattle.publish.specs.Parts.{is_prefix}
 use Rattle.publish.specs.Reading.{Begins, EndsWithLines, Grammar, HasNo, IsRefused, Leads}
-use Rattle.publish.proofs.FollowLemmas.{no-slots, slots-few, some-end, some-rows, some-steps, some-text}
+use Rattle.publish.proofs.FollowLemmas.{no-slots, slots-few, some-end, some-rows, some-steps}
 use Rattle.publish.proofs.FreeLemmas.{found-small, free-all, free-less}
 use Rattle.publish.proofs.LineThen.{begins-then, then-begins, then-ends, then-leads, then-refused, then-some}
 use Rattle.publish.proofs.WordLemmas.{honoured-clear, honoured-one, last-clear, list-clear, list-one, row-no-lf, row-one, step-head-clear, step-one}

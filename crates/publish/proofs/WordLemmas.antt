@@ -1,6 +1,6 @@
 -- The lines of a list: what each tells, and that it tells one thing and has no LF.
-use Rattle.std.proofs.Common.{◌≡◌, ◌≢◌, ◌<◌, ◌≤◌, ◌^◌, ℕ, zero, suc, Bool, true, false, not, eqb, List, [], ◌∷◌, ◌++◌, Option, Some, None, IfSome, length, get_or, map, is_some, refl, sym, inl, inr, ap, subst, ◌∙◌, arith, unwrap_or}
-use Rattle.std.proofs.lemmas.Bool.{cases_eq, false≢true}
+use Rattle.std.proofs.Common.{◌≡◌, ◌≢◌, ◌<◌, ◌≤◌, ◌^◌, ℕ, zero, suc, Bool, not, eqb, List, [], ◌∷◌, ◌++◌, Option, Some, None, IfSome, length, get_or, is_some, refl, sym, ap, ◌∙◌, arith, unwrap_or}
+use Rattle.std.proofs.lemmas.Bool.{false≢true}
 use Rattle.std.proofs.lemmas.Fmt.{decimal_injective}
 use Rattle.std.proofs.lemmas.List.{append_cancel_left}
 use Rattle.std.proofs.lemmas.List.Quantifiers.{position-Some}
@@ -10,19 +10,17 @@ use Rattle.std.specs.List.{AllByRecursion}
 use Rattle.std.specs.Option.{option_map}
 use Rattle.std.specs.Prelude.{codes, slice_get}
 use Rattle.office_base.specs.Lists.{Pairwise}
-use Rattle.office_base.specs.declared.person.Person.{Person}
 use Rattle.office_base.specs.declared.step.StepKind.{StepKind}
 use Rattle.office_text.specs.Traits.{letter, letters, trait_of}
 use Rattle.published_texts.specs.Texts.{code_in}
 use Rattle.seat_matrix.specs.Matrix.{SeatTable, codes_in}
 use Rattle.seat_matrix.specs.declared.entry.Home.{Home}
 use Rattle.step_lines.specs.Lines.{slot_letter, step_name}
-use Rattle.publish.specs.ListLines.{IsListHead, IsStepHead, entry_words, honoured_words, last_words, list_words, step_words}
-use Rattle.publish.specs.Listing.{Entry}
+use Rattle.publish.specs.ListLines.{IsListHead, IsStepHead, honoured_words, last_words, list_words, step_words}
 use Rattle.publish.specs.Parts.{AreSpelled}
 use Rattle.publish.specs.Reading.{HasNo}
 use Rattle.publish.proofs.NumberLines.{numbers-one}
-use Rattle.publish.proofs.PartsLemmas.{cut-one, has-no-append, has-no-tested}
+use Rattle.publish.proofs.PartsLemmas.{has-no-append, has-no-tested}
 use Rattle.publish.proofs.RowLemmas.{code-clear, digits-clear, step-clear}
 
 -- another byte than LF

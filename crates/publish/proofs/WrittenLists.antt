@@ -1,13 +1,13 @@
 -- A list as it is published is such as a text can tell.
-use Rattle.std.proofs.Common.{◌≡◌, ◌≢◌, ◌<◌, ℕ, true, false, List, [], ◌∷◌, ◌++◌, Option, Some, None, IfSome, length, map, get_or, drop, refl, sym, inl, inr, ap, subst, ◌∙◌, arith}
+use Rattle.std.proofs.Common.{◌≡◌, ◌≢◌, ◌<◌, ℕ, false, List, [], ◌∷◌, ◌++◌, Some, None, IfSome, length, map, get_or, drop, refl, sym, inl, inr, ap, subst, ◌∙◌, arith}
 use Rattle.std.specs.List.{AllByRecursion}
 use Rattle.office_base.specs.Lists.{IsSublist, Pairwise}
 use Rattle.office_base.specs.declared.person.CandId.{CandId}
 use Rattle.office_base.specs.declared.person.Person.{Person}
 use Rattle.office_base.specs.declared.step.Pair.{Pair}
 use Rattle.rank_lists.specs.Register.{find_person}
-use Rattle.publish.specs.Laws.{IsWritten, ListsAreTold}
-use Rattle.publish.specs.Listing.{AreEntries, Entry, IsEntry, is_listed, pair_of, pairs_of, persons_of}
+use Rattle.publish.specs.Laws.{ListsAreTold}
+use Rattle.publish.specs.Listing.{AreEntries, Entry, is_listed, pairs_of, persons_of}
 use Rattle.publish.proofs.FreeLemmas.{listed-other}
 
 -- rows of these persons with these pairs

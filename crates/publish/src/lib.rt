@@ -2,7 +2,8 @@
 //
 // Whoever checks published rounds stands on it. A text is read line by line into a reader that knows, as numbers, what can still
 // follow; the reader of any text tells the line of a fault by that alone. `specs/Reading` says which line that is for any grammar,
-// `specs/Rows` says the texts. It decides nothing about an allocation. It must never know of commands or of sinks.
+// `specs/Rows` and `specs/Listing` say the texts, and `laws` that what is written is read back. It decides nothing about an
+// allocation. It must never know of commands or of sinks.
 #![tactic(auto)]
 
 pub mod fault;

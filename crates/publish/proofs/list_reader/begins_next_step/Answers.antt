@@ -1,4 +1,4 @@
-use Rattle.std.proofs.Common.{[], ◌↔◌, IsTrue, sym, subst, ◌∙◌}
+use Rattle.std.proofs.Common.{◌↔◌, IsTrue, sym, subst, ◌∙◌}
 use Rattle.publish.specs.ListLines.{BeginsLine, IsStepHead, step_words, steps_text}
 use Rattle.publish.specs.Reading.{Begins}
 use Rattle.publish.proofs.StageLines.{last-from, last-to, step-from, step-to}

@@ -1,10 +1,9 @@
-use Rattle.std.proofs.Common.{◌≡◌, ◌<◌, ◌+◌, ◌-◌, ◌^◌, [], length, sym, ap, subst, arith}
+use Rattle.std.proofs.Common.{◌<◌, ◌-◌, ◌^◌, [], length, sym, subst, arith}
 use Rattle.publish.specs.ListLines.{lines_text}
-use Rattle.publish.specs.ListReader.{AreRising, list_at, list_left, most_lines}
-use Rattle.publish.specs.Listing.{IsListText, step_kinds}
+use Rattle.publish.specs.ListReader.{AreRising, list_at, list_left}
 use Rattle.publish.specs.Reading.{Begins, IsTextFault}
 use Rattle.publish.proofs.FollowLemmas.{some-text}
-use Rattle.publish.proofs.ListTexts.{lines-list, list-fault, read-list, six-read}
+use Rattle.publish.proofs.ListTexts.{list-fault, read-list, six-read}
 use Rattle.publish.proofs.lists.read_list.Goals as goal
 
 pub read_lines-requires-clause-some : goal.read_lines-requires-clause-some

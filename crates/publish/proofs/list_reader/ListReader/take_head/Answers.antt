@@ -1,4 +1,4 @@
-use Rattle.std.proofs.Common.{◌<◌, ◌+◌, [], length, sym, ap, subst, arith}
+use Rattle.std.proofs.Common.{◌<◌, ◌+◌, length, sym, subst, arith}
 use Rattle.publish.specs.ListLines.{steps_text}
 use Rattle.publish.specs.ListReader.{IsInStage, list_at, list_left, most_lines}
 use Rattle.publish.specs.Listing.{step_kinds}

@@ -1,6 +1,6 @@
-use Rattle.std.proofs.Common.{◌≡◌, ◌≢◌, ◌<◌, ◌≤◌, ◌+◌, ◌++◌, [], ◌∷◌, ℕ, length, refl, sym, ap, subst, ◌∙◌, arith}
-use Rattle.publish.specs.ListLines.{after_rows, honoured_text, honoured_words, most_slots, rows_text, step_list, steps_text}
-use Rattle.publish.specs.ListReader.{IsInStage, free_in, list_at, list_left, most_lines}
+use Rattle.std.proofs.Common.{◌≡◌, ◌≤◌, ◌++◌, [], ◌∷◌, length, sym, ap, subst, ◌∙◌, arith}
+use Rattle.publish.specs.ListLines.{after_rows, honoured_text, rows_text, step_list, steps_text}
+use Rattle.publish.specs.ListReader.{IsInStage, free_in, list_at}
 use Rattle.publish.specs.Reading.{IsRefused, Leads}
 use Rattle.publish.proofs.FollowLemmas.{slots-few}
 use Rattle.publish.proofs.FreeLemmas.{free-all}

@@ -1,8 +1,8 @@
-use Rattle.std.proofs.Common.{◌≡◌, ◌≢◌, ◌<◌, ◌≤◌, ◌+◌, ◌-◌, ◌++◌, [], ◌∷◌, ℕ, zero, suc, length, refl, sym, ap, subst, ◌∙◌, arith}
+use Rattle.std.proofs.Common.{◌≡◌, ◌-◌, ◌++◌, [], ◌∷◌, suc, sym, ap, subst, ◌∙◌, arith}
 use Rattle.std.specs.BTreeSet.{contains}
 use Rattle.std.specs.Ordering.{nat_cmp}
 use Rattle.publish.specs.ListLines.{after_rows, rows_text, slots_in, step_list, steps_text}
-use Rattle.publish.specs.ListReader.{IsInStage, free_in, list_at, list_left, most_lines}
+use Rattle.publish.specs.ListReader.{IsInStage, free_in, list_at}
 use Rattle.publish.specs.Listing.{is_listed, pair_of}
 use Rattle.publish.specs.Reading.{IsRefused, Leads}
 use Rattle.publish.proofs.FreeLemmas.{free-less, put-listed}

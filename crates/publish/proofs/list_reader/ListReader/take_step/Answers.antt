@@ -1,5 +1,5 @@
-use Rattle.std.proofs.Common.{◌≡◌, ◌<◌, ◌≤◌, ◌+◌, [], ◌∷◌, length, sym, ap, subst, ◌∙◌, arith}
-use Rattle.publish.specs.ListLines.{IsStepHead, after_rows, honoured_text, step_words, steps_text}
+use Rattle.std.proofs.Common.{◌<◌, ◌≤◌, ◌+◌, length, sym, subst, arith}
+use Rattle.publish.specs.ListLines.{IsStepHead, after_rows, honoured_text, steps_text}
 use Rattle.publish.specs.ListReader.{IsInStage, list_at, list_left, most_lines}
 use Rattle.publish.specs.Reading.{IsRefused, Leads}
 use Rattle.publish.proofs.StageLines.{step-leads, step-refused}

@@ -1,6 +1,6 @@
-use Rattle.std.proofs.Common.{◌≡◌, ◌≤◌, ◌+◌, ◌-◌, ◌↔◌, IsTrue, [], suc, refl, sym, subst, ◌∙◌, arith}
+use Rattle.std.proofs.Common.{◌≡◌, ◌≤◌, ◌-◌, ◌↔◌, IsTrue, suc, sym, subst, arith}
 use Rattle.std.proofs.lemmas.Bool.{false≢true}
-use Rattle.publish.specs.ListLines.{BeginsLine, CanStand, Said, after_rows, entry_words, honoured_words, most_slots, rows_text}
+use Rattle.publish.specs.ListLines.{BeginsLine, CanStand, after_rows, entry_words, honoured_words, rows_text}
 use Rattle.publish.specs.ListReader.{IsInStage, list_at}
 use Rattle.publish.specs.Reading.{Begins, EndsWithLines}
 use Rattle.publish.proofs.ListPieceLemmas.{honoured-line, line-honoured}

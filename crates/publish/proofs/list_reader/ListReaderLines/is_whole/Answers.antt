@@ -1,4 +1,4 @@
-use Rattle.std.proofs.Common.{◌≡◌, ◌+◌, ◌-◌, [], suc, refl, sym, subst, arith}
+use Rattle.std.proofs.Common.{◌≡◌, ◌-◌, [], suc, refl, sym, subst, arith}
 use Rattle.publish.specs.ListLines.{Said, after_rows, rows_text}
 use Rattle.publish.specs.ListReader.{IsInStage, list_at}
 use Rattle.publish.proofs.StageLines.{entry-ends', head-ends, honoured-ends, steps-ends}
