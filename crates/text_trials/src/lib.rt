@@ -12,8 +12,6 @@ mod choices;
 #[cfg(test)]
 mod limits;
 #[cfg(test)]
-mod lists;
-#[cfg(test)]
 mod matrices;
 #[cfg(test)]
 mod published;
