@@ -34,7 +34,7 @@ sub-nothing [] = refl
 sub-nothing (y ∷ ys) = inl (sub-nothing ys)
 
 -- without its first, it is still one
-sub-rest : (x : ℕ) (xs ys : List ℕ) → IsSublist (x ∷ xs) ys → IsSublist xs ys
+pub sub-rest : (x : ℕ) (xs ys : List ℕ) → IsSublist (x ∷ xs) ys → IsSublist xs ys
 sub-rest x xs [] e = absurd (omega (arith, ap length e))
 sub-rest x xs (y ∷ ys) (inl later) = inl (sub-rest x xs ys later)
 sub-rest x xs (y ∷ ys) (inr (rest, e, in')) = inl (subst (λ z. IsSublist z ys) (sym (tails x y xs rest e)) in')

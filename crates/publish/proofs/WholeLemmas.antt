@@ -84,14 +84,14 @@ final-text table people known number text rows is = record {
   same = is.same ∙ sym (final-same table number rows);
 }
 
-text-final : (table : SeatTable) (people : List Person) (known : ℕ) (text : List ℕ) (read : FinalRead) → IsFinalText table people known text read → IsRowsText Final table people known text (known, read.rows)
+pub text-final : (table : SeatTable) (people : List Person) (known : ℕ) (text : List ℕ) (read : FinalRead) → IsFinalText table people known text read → IsRowsText Final table people known text (known, read.rows)
 text-final table people known text read is = record { rows = is.rows; number = refl; same = is.same ∙ final-same table known read.rows }
 
 pub round-text : (table : SeatTable) (people : List Person) (known number : ℕ) (text : List ℕ) (rows : List AllotRow) → IsRowsText Round table people known text (number, rows)
     → IsRoundText table people text (record { round = number; rows = rows })
 round-text table people known number text rows is = record { rows = is.rows; number = is.number; same = is.same ∙ sym (round-same table number rows) }
 
-text-round : (table : SeatTable) (people : List Person) (known : ℕ) (text : List ℕ) (read : RoundRead) → IsRoundText table people text read → IsRowsText Round table people known text (read.round, read.rows)
+pub text-round : (table : SeatTable) (people : List Person) (known : ℕ) (text : List ℕ) (read : RoundRead) → IsRoundText table people text read → IsRowsText Round table people known text (read.round, read.rows)
 text-round table people known text read is = record { rows = is.rows; number = is.number; same = is.same ∙ round-same table read.round read.rows }
 
 -- ---- faults
@@ -115,7 +115,7 @@ module _ {V W : Type 0} (first : Grammar V) (second : Grammar W) (on : (text : L
     ];
   }
 
-  fault-on : (bytes : List ℕ) (fault : TextFault) → IsTextFault first bytes fault → IsTextFault second bytes fault
+  pub fault-on : (bytes : List ℕ) (fault : TextFault) → IsTextFault first bytes fault → IsTextFault second bytes fault
   fault-on bytes (Line n) is = line-on bytes n is
   fault-on bytes OutOfMemory is = tt
 

@@ -1,3 +1,8 @@
+pub mod Laws
+pub mod ListLines
+pub mod ListPieces
+pub mod ListReader
+pub mod Listing
 pub mod Parts
 pub mod Pieces
 pub mod Reader

@@ -65,7 +65,7 @@ fn read_final_head(known: u16, line: &[u8]) -> Option<Head>
 }
 
 /// Whether a piece without this byte begins a number up to this one, and the byte.
-fn begins_number(high: u32, piece: &[u8]) -> bool
+pub(crate) fn begins_number(high: u32, piece: &[u8]) -> bool
     ensures { (byte : ℕ) (tail : List ℕ) → HasNo byte piece.now → IsTrue result ↔ BeginsNumber high (byte ∷ tail) piece.now }
 {
     numbers_are_inverse();

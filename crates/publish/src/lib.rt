@@ -2,11 +2,19 @@
 //
 // Whoever checks published rounds stands on it. A text is read line by line into a reader that knows, as numbers, what can still
 // follow; the reader of any text tells the line of a fault by that alone. `specs/Reading` says which line that is for any grammar,
-// `specs/Rows` says the texts. It decides nothing about an allocation. It must never know of commands or of sinks.
+// `specs/Rows` and `specs/Listing` say the texts, and `laws` that what is written is read back. It decides nothing about an
+// allocation. It must never know of commands or of sinks.
 #![tactic(auto)]
 
 pub mod fault;
 mod head;
+pub mod laws;
+mod list_pieces;
+mod list_reader;
+mod list_stage;
+mod list_words;
+pub mod lists;
+mod numbers;
 mod parts;
 mod pieces;
 mod reading;
@@ -16,5 +24,6 @@ mod sort;
 mod stage;
 
 pub use fault::TextFault;
+pub use lists::{ListRead, read_list};
 pub use published_texts::{final_text, list_text, reason_text, round_text};
 pub use reads::{FinalRead, RoundRead, read_final, read_round};

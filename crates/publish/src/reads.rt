@@ -84,7 +84,7 @@ fn read_rows(
 }
 
 /// The people of a register, whose ids fit 32 bits.
-fn small_people(register: &Register) -> &[Person]
+pub(crate) fn small_people(register: &Register) -> &[Person]
     ensures same { result.now ≡ register.now.people }
     ensures small { AreSmall result.now }
     ensures few { length result.now < 2 ^ 31 }
@@ -93,7 +93,7 @@ fn small_people(register: &Register) -> &[Person]
 }
 
 /// All codes of a matrix are spelled as codes are.
-fn codes_are_spelled(matrix: &Matrix)
+pub(crate) fn codes_are_spelled(matrix: &Matrix)
     ensures { AreSpelled matrix.now }
 {
     for prog in 0..matrix.count() {
