@@ -9,6 +9,8 @@ mod generate;
 mod laws;
 mod program;
 #[cfg(test)]
+mod resumes;
+#[cfg(test)]
 mod tests;
 
 use crate::program::allocate;

@@ -8,7 +8,7 @@ use std::alloc::Global;
 use std::io;
 use std::test::Fail;
 
-fn words_of(alloc: Global, text: &[&str]) -> Result<Words, Fail> {
+pub(crate) fn words_of(alloc: Global, text: &[&str]) -> Result<Words, Fail> {
     let mut words = Words::new(alloc);
     for word in text {
         words.push(word)?;
@@ -131,7 +131,7 @@ const MATRIX: &str =
 
 const CHOICES: &str = "[choices]\ncandidate,programmes\n1,A\n2,A,B\n3,B,C\n4,C,E\n5,E\n";
 
-fn five_candidates(alloc: Global) -> Result<String, Fail> {
+pub(crate) fn five_candidates(alloc: Global) -> Result<String, Fail> {
     Ok(format!(in alloc; "{SEASON}{REGISTER}{MATRIX}{CHOICES}")?)
 }
 
@@ -450,7 +450,7 @@ fn the_real_streams_fail_once(rt: HostRuntime) -> Result<(), Fail> {
 }
 
 // What is asked in the season of five candidates, and the reply to each request: candidate 1 leaves, and everybody moves up.
-const REQUESTS: &str =
+pub(crate) const REQUESTS: &str =
     "[requests]\ncut,clerk,0\nanswer,1,1,1,1,withdraw\nanswer,2,2,1,1,float\nanswer,3,3,1,1,float\nanswer,4,4,1,1,float\ncut,clerk,1\n";
 
 const REPLIES: [&str; 6] = [
@@ -498,7 +498,7 @@ fn run_failing(
 }
 
 // The replies to the first requests, and a line.
-fn first_replies(alloc: Global, count: usize, line: &str) -> Result<String, Fail> {
+pub(crate) fn first_replies(alloc: Global, count: usize, line: &str) -> Result<String, Fail> {
     let mut text = String::new(alloc);
     for (at, reply) in REPLIES.iter().enumerate() {
         if at < count {
