@@ -1,5 +1,5 @@
 -- An office goes on from what a keeper holds.
-use Rattle.std.specs.Prelude.{◌≡◌, false, Option}
+use Rattle.std.specs.Prelude.{◌≡◌, false, Option, Some, None}
 use Rattle.office_base.specs.declared.asks.Seat.{Seat}
 use Rattle.season_file.specs.Laws.{HasFault}
 use Rattle.season_file.specs.Season.{IsSeason}
@@ -74,3 +74,19 @@ IsRoomFault (StrayRaise row) = ⊥
 IsRoomFault (Differs round cand one other) = ⊥
 IsRoomFault KeeperFault = Unit {0}
 IsRoomFault OutOfMemory = Unit {0}
+
+-- The fault of records that were loaded, or what may come at any time: the keeper failed, or there was no memory.
+abbrev pub IsFaultOf : Kept → ResumeFault → Type 0
+IsFaultOf records NoSeason = ⊥
+IsFaultOf records (BadSeason fault) = HaveFault records (BadSeason fault)
+IsFaultOf records (Stray row) = HaveFault records (Stray row)
+IsFaultOf records (StrayRaise row) = HaveFault records (StrayRaise row)
+IsFaultOf records (Differs round cand one other) = HaveFault records (Differs round cand one other)
+IsFaultOf records KeeperFault = Unit {0}
+IsFaultOf records OutOfMemory = Unit {0}
+
+-- Why an office does not go on, with the records that were judged: none were loaded; or they are those of these tables, or any where nothing is told, and have
+-- this fault first.
+abbrev pub IsJudged : Tables → Option Kept → ResumeFault → Type 0
+IsJudged tables None fault = IsLoadFault tables fault
+IsJudged tables (Some records) fault = IsLoaded tables records × IsFaultOf records fault

@@ -12,3 +12,4 @@ mod resume;
 
 pub use fault::{BeginFault, OfficeFault, ResumeFault};
 pub use office::Office;
+pub use resume::Unresumed;
