@@ -8,7 +8,6 @@ use Rattle.office_base.specs.declared.asks.Seat.{Seat}
 use Rattle.office_base.specs.declared.person.Person.{Person}
 use Rattle.office_base.specs.declared.person.ProgId.{ProgId}
 use Rattle.allocations.proofs.Course.{get_set_same, get_set_other}
-use Rattle.allocations.proofs.Those.{all_at}
 use Rattle.choice_lists.specs.Choices.{Lists}
 use Rattle.rank_lists.specs.Register.{row_of}
 use Rattle.seat_matrix.specs.Matrix.{SeatTable}

@@ -1,8 +1,7 @@
 -- The cut of the open window, and the seats that are published.
 use Rattle.std.proofs.Common.{◌≡◌, ◌<◌, ◌≤◌, ◌+◌, inl, inr, ℕ, Bool, true, false, List, [], Option, Some, None, length, refl, sym, ap, ◌∙◌, subst, arith, ◌==◌, nat_lt, if◌then◌else◌}
 use Rattle.std.specs.Prelude.{◌||◌}
-use Rattle.std.proofs.lemmas.Bool.{cases_Bool}
-use Rattle.allocations.proofs.Places.{eq_means, eq_true, lt_means}
+use Rattle.std.proofs.lemmas.Bool.{cases_Bool, eq-eqb, eqb-true, ltb-true}
 use Rattle.office_base.specs.declared.asks.Seat.{Seat}
 use Rattle.office_base.specs.declared.person.Person.{Person}
 use Rattle.keeper_mem.specs.declared.rows.AllotRow.{AllotRow}
@@ -28,7 +27,7 @@ use Rattle.replays.specs.Replay.{CutPasses}
 use Rattle.replays.proofs.Seats.{AreRising, found_along, rows_outside}
 
 lt_false : (m n : ℕ) → n ≤ m → nat_lt m n ≡ false
-lt_false m n few = elim (cases_Bool (nat_lt m n)) [ inl less ↦ absurd (let f = lt_means m n less in omega (arith, f, few)) | inr other ↦ other ]
+lt_false m n few = elim (cases_Bool (nat_lt m n)) [ inl less ↦ absurd (let f = ltb-true m n less in omega (arith, f, few)) | inr other ↦ other ]
 
 chain : (early ahead last : Bool) (now : ℕ) (refusal : Refusal) → early ≡ false → ahead ≡ false → (if early then CutAgain now else refuse_if ahead refusal (if last then Finish else Publish)) ≡ (if last then Finish else Publish)
 chain true ahead last now refusal e f = absurd (cc)
@@ -48,11 +47,11 @@ pub publishes : (facts : SeasonFacts) (state : State) → state.now < facts.roun
 publishes facts state less = ends facts state (omega (arith, less)) ∙ step (state.now == facts.rounds) refl
   where
     step : (b : Bool) → (state.now == facts.rounds) ≡ b → (if b then Finish else Publish) ≡ Publish
-    step true e = absurd (let f = eq_means state.now facts.rounds e in omega (arith, f, less))
+    step true e = absurd (let f = eqb-true state.now facts.rounds e in omega (arith, f, less))
     step false e = refl
 
 pub finishes : (facts : SeasonFacts) (state : State) → state.now ≡ facts.rounds → decided facts state (asked facts (Cut state.now)) ≡ Finish
-finishes facts state last = ends facts state (omega (arith, last)) ∙ step (state.now == facts.rounds) (eq_true state.now facts.rounds last)
+finishes facts state last = ends facts state (omega (arith, last)) ∙ step (state.now == facts.rounds) (eq-eqb state.now facts.rounds last)
   where
     step : (b : Bool) → b ≡ true → (if b then Finish else Publish) ≡ Finish
     step true e = refl

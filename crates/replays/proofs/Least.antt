@@ -1,7 +1,6 @@
 -- The least of some numbers, and what is kept of windows and rounds that no counted cut closes.
 use Rattle.std.proofs.Common.{◌≡◌, ◌<◌, ◌≤◌, ◌⊎◌, inl, inr, ℕ, Bool, true, false, List, [], ◌∷◌, Option, Some, None, arith, refl, sym, ap, ◌∙◌, subst, ◌==◌, nat_lt, if◌then◌else◌}
-use Rattle.std.proofs.lemmas.Bool.{cases_Bool, cases_lt}
-use Rattle.allocations.proofs.Places.{eq_means, eq_true, lt_means, lt_true, or_left, or_means, or_right}
+use Rattle.std.proofs.lemmas.Bool.{cases_Bool, cases_lt, eq-eqb, eqb-true, lt-ltb, ltb-true, or_cases, or_left, or_right}
 use Rattle.keeper_mem.specs.declared.rows.AllotRow.{AllotRow}
 use Rattle.keeper_mem.specs.declared.rows.AnswerRow.{AnswerRow}
 use Rattle.keeper_mem.specs.declared.rows.Kept.{Kept}
@@ -19,7 +18,7 @@ with_number number n (row ∷ rows) = if number row == n then row ∷ with_numbe
 
 lesser_low : (b n : ℕ) → lesser (Some b) n ≤ b
 lesser_low b n = elim (cases_Bool (nat_lt n b)) [
-  | inl less ↦ rw less (let f = lt_means n b less in omega (arith, f))
+  | inl less ↦ rw less (let f = ltb-true n b less in omega (arith, f))
   | inr other ↦ rw other (omega arith)
 ]
 
@@ -31,7 +30,7 @@ lesser_own (Some b) n = elim (cases_Bool (nat_lt n b)) [
 ]
   where
     not_below : (m n : ℕ) → nat_lt m n ≡ false → n ≤ m
-    not_below m n e = elim (cases_lt m n) [ inl less ↦ absurd (let f = lt_true m n less in cc) | inr past ↦ past ]
+    not_below m n e = elim (cases_lt m n) [ inl less ↦ absurd (let f = lt-ltb m n less in cc) | inr past ↦ past ]
 
 lesser_one : (best : Option ℕ) (n : ℕ) → (lesser best n ≡ n) ⊎ ((b : ℕ) × (best ≡ Some b) × (lesser best n ≡ b))
 lesser_one None n = inl refl
@@ -79,7 +78,7 @@ none_below {X} test number n best (row ∷ rows) passes above =
         omega (arith, high, low, few, same)
 
     step : (b : Bool) → (number row == n) ≡ b → with_number number n rows ≡ [] → (if b then row ∷ with_number number n rows else with_number number n rows) ≡ []
-    step true e rest = absurd (let same = eq_means (number row) n e in own (test row) (passes row same) above same)
+    step true e rest = absurd (let same = eqb-true (number row) n e in own (test row) (passes row same) above same)
     step false e rest = rest
 
 -- a row of this number that passes
@@ -97,7 +96,7 @@ there_later test number n first rows there = record { row = there.row; passes = 
     step false e = there.some e
 
 there_first : {X : Type 0} (test : X → Bool) (number : X → ℕ) (n : ℕ) (first : X) (rows : List X) → test first ≡ true → number first ≡ n → IsThere test number n (first ∷ rows)
-there_first test number n first rows passes own = record { row = first; passes = passes; own = own; some = step (number first == n) (eq_true (number first) n own) }
+there_first test number n first rows passes own = record { row = first; passes = passes; own = own; some = step (number first == n) (eq-eqb (number first) n own) }
   where
     step : (b : Bool) → b ≡ true → (if b then first ∷ with_number number n rows else with_number number n rows) ≡ [] → ⊥
     step true same e = cc
@@ -131,13 +130,13 @@ IsNext empty after (Some first) = (after < first) × (empty first → ⊥) × ((
 
 next_of : {X : Type 0} (number : X → ℕ) (after : ℕ) (rows : List X) (found : Option ℕ) → least_by (λ row. nat_lt after (number row)) number None rows ≡ found
     → IsNext (λ n. with_number number n rows ≡ []) after found
-next_of number after rows None e = λ n less. none_below (λ row. nat_lt after (number row)) number n None rows (λ row same. lt_true after (number row) (omega (arith, same, less))) (subst (λ (o : Option ℕ). IsAbove n o) (sym e) tt)
+next_of number after rows None e = λ n less. none_below (λ row. nat_lt after (number row)) number n None rows (λ row same. lt-ltb after (number row) (omega (arith, same, less))) (subst (λ (o : Option ℕ). IsAbove n o) (sym e) tt)
 next_of {X} number after rows (Some first) e = elim (least_there (λ row. nat_lt after (number row)) number None rows first e) [
   | inl none ↦ absurd (cc)
   | inr there ↦ (
-    (let less = lt_means after (number there.row) there.passes in let own = there.own in omega (arith, less, own)),
+    (let less = ltb-true after (number there.row) there.passes in let own = there.own in omega (arith, less, own)),
     there.some,
-    λ n less low. none_below (λ (row : X). nat_lt after (number row)) number n None rows (λ row same. lt_true after (number row) (omega (arith, same, less))) (subst (λ (o : Option ℕ). IsAbove n o) (sym e) low),
+    λ n less low. none_below (λ (row : X). nat_lt after (number row)) number n None rows (λ row same. lt-ltb after (number row) (omega (arith, same, less))) (subst (λ (o : Option ℕ). IsAbove n o) (sym e) low),
   )
 ]
 
@@ -189,14 +188,14 @@ answer_later kept None answer raises answers = (answers.0, λ empty. answers.1 e
 answer_later kept (Some first) answer raises answers = step (nat_lt answer first) refl
   where
     step : (b : Bool) → nat_lt answer first ≡ b → IsLaterWindow kept (Some (if b then answer else first))
-    step true e = (answers.0, λ empty. answers.1 empty.1, λ n less low. (raises.2 n less (let f = lt_means answer first e in omega (arith, f, low)), answers.2 n less low))
+    step true e = (answers.0, λ empty. answers.1 empty.1, λ n less low. (raises.2 n less (let f = ltb-true answer first e in omega (arith, f, low)), answers.2 n less low))
     step false e = (
       raises.0,
       λ empty. raises.1 empty.0,
       λ n less low. (
         raises.2 n less low,
         answers.2 n less (elim (cases_lt answer first) [
-          | inl before ↦ absurd (let f = lt_true answer first before in cc)
+          | inl before ↦ absurd (let f = lt-ltb answer first before in cc)
           | inr past ↦ omega (arith, past, low)
         ]),
       ),
@@ -205,13 +204,13 @@ answer_later kept (Some first) answer raises answers = step (nat_lt answer first
 -- ---- rounds
 
 uncounted_true : (kept : Kept) (number : ℕ) → IsUncounted kept number → is_uncounted kept.cuts number ≡ true
-uncounted_true kept number (inl none) = or_left (number == 0) (nat_lt kept.cuts number) (eq_true number 0 none)
-uncounted_true kept number (inr past) = or_right (number == 0) (nat_lt kept.cuts number) (lt_true kept.cuts number past)
+uncounted_true kept number (inl none) = or_left (number == 0) (nat_lt kept.cuts number) (eq-eqb number 0 none)
+uncounted_true kept number (inr past) = or_right (number == 0) (nat_lt kept.cuts number) (lt-ltb kept.cuts number past)
 
 uncounted_means : (kept : Kept) (number : ℕ) → is_uncounted kept.cuts number ≡ true → IsUncounted kept number
-uncounted_means kept number e = elim (or_means (number == 0) (nat_lt kept.cuts number) e) [
-  | inl none ↦ inl (eq_means number 0 none)
-  | inr past ↦ inr (lt_means kept.cuts number past)
+uncounted_means kept number e = elim (or_cases (number == 0) (nat_lt kept.cuts number) e) [
+  | inl none ↦ inl (eqb-true number 0 none)
+  | inr past ↦ inr (ltb-true kept.cuts number past)
 ]
 
 -- the rows of a round
@@ -224,15 +223,15 @@ round_empty number (row ∷ rows) none id = step (row.round == number) refl (λ 
   where
     step : (b : Bool) → (row.round == number) ≡ b → (in_round number rows ≡ [] → first_allot number id rows ≡ None) → (if b then row ∷ in_round number rows else in_round number rows) ≡ [] → first_allot number id (row ∷ rows) ≡ None
     step true e rest none = absurd (cc)
-    step false e rest none = row_skips number id row rows (λ same mine. let f = eq_true row.round number same in cc) ∙ rest none
+    step false e rest none = row_skips number id row rows (λ same mine. let f = eq-eqb row.round number same in cc) ∙ rest none
 
 round_filled : (number : ℕ) (rows : List AllotRow) → (in_round number rows ≡ [] → ⊥) → IsEmptyRound rows number → ⊥
 round_filled number [] some none = some refl
 round_filled number (row ∷ rows) some none = step (row.round == number) refl (round_filled number rows) some
   where
     step : (b : Bool) → (row.round == number) ≡ b → ((in_round number rows ≡ [] → ⊥) → IsEmptyRound rows number → ⊥) → ((if b then row ∷ in_round number rows else in_round number rows) ≡ [] → ⊥) → ⊥
-    step true e rest some = let hit = row_hits number row.cand.0 row rows (eq_means row.round number e) refl in let miss = none row.cand.0 in cc
-    step false e rest some = rest some (λ id. sym (row_skips number id row rows (λ same mine. let f = eq_true row.round number same in cc)) ∙ none id)
+    step true e rest some = let hit = row_hits number row.cand.0 row rows (eqb-true row.round number e) refl in let miss = none row.cand.0 in cc
+    step false e rest some = rest some (λ id. sym (row_skips number id row rows (λ same mine. let f = eq-eqb row.round number same in cc)) ∙ none id)
 
 pub later_round : (kept : Kept) (found : Option ℕ) → found ≡ least_by (λ row. is_uncounted kept.cuts row.round) (λ row. row.round) None kept.allots → IsLaterRound kept found
 later_round kept None e = λ number uncounted.

@@ -1,8 +1,7 @@
 -- What is so of a state to which kept records were replayed: it has their rows and their seats.
 use Rattle.std.proofs.Common.{◌≡◌, ◌≢◌, ◌<◌, ◌≤◌, ◌+◌, ◌⊎◌, inl, inr, ℕ, zero, suc, add-one, Bool, true, false, List, [], ◌∷◌, ◌++◌, Option, Some, length, arith, refl, sym, ap, ◌∙◌, subst, append-nil, ◌==◌, nat_lt, if◌then◌else◌}
 use Rattle.std.specs.Prelude.{slice_get}
-use Rattle.std.proofs.lemmas.Bool.{cases_Bool, cases_lt}
-use Rattle.allocations.proofs.Places.{eq_means, lt_means, lt_true}
+use Rattle.std.proofs.lemmas.Bool.{cases_Bool, cases_lt, eqb-true, lt-ltb, ltb-true}
 use Rattle.office_base.specs.declared.asks.By.TheVariants.{Clerk}
 use Rattle.keeper_mem.specs.declared.rows.AllotRow.{AllotRow}
 use Rattle.keeper_mem.specs.declared.rows.AnswerRow.{AnswerRow}
@@ -22,10 +21,10 @@ use Rattle.replays.specs.Replay.{AllPass, AreAllotsOf, Closes, CutPasses, IsRepl
 use Rattle.replays.proofs.RowLemmas.{answers_ahead, answers_lead, raises_ahead, raises_lead}
 
 eq_fails : (m n : ℕ) → m ≢ n → (m == n) ≡ false
-eq_fails m n apart = elim (cases_Bool (m == n)) [ inl same ↦ absurd (apart (eq_means m n same)) | inr other ↦ other ]
+eq_fails m n apart = elim (cases_Bool (m == n)) [ inl same ↦ absurd (apart (eqb-true m n same)) | inr other ↦ other ]
 
 pub lt_false : (m n : ℕ) → n ≤ m → nat_lt m n ≡ false
-lt_false m n few = elim (cases_Bool (nat_lt m n)) [ inl less ↦ absurd (let f = lt_means m n less in omega (arith, f, few)) | inr other ↦ other ]
+lt_false m n few = elim (cases_Bool (nat_lt m n)) [ inl less ↦ absurd (let f = ltb-true m n less in omega (arith, f, few)) | inr other ↦ other ]
 
 -- ---- the rows of one window
 
@@ -172,7 +171,7 @@ in_other window other (row ∷ rows) apart = step (row.window == window) refl (i
     skip false e rest = rest
 
     step : (b : Bool) → (row.window == window) ≡ b → in_window other (in_window window rows) ≡ [] → in_window other (if b then row ∷ in_window window rows else in_window window rows) ≡ []
-    step true e rest = skip (row.window == other) (eq_fails row.window other (λ same. apart (sym same ∙ eq_means row.window window e))) rest
+    step true e rest = skip (row.window == other) (eq_fails row.window other (λ same. apart (sym same ∙ eqb-true row.window window e))) rest
     step false e rest = rest
 
 raises_again : (window : ℕ) (rows : List RaiseRow) → raises_in window (raises_in window rows) ≡ raises_in window rows
@@ -196,7 +195,7 @@ raises_other window other (row ∷ rows) apart = step (row.window == window) ref
     skip false e rest = rest
 
     step : (b : Bool) → (row.window == window) ≡ b → raises_in other (raises_in window rows) ≡ [] → raises_in other (if b then row ∷ raises_in window rows else raises_in window rows) ≡ []
-    step true e rest = skip (row.window == other) (eq_fails row.window other (λ same. apart (sym same ∙ eq_means row.window window e))) rest
+    step true e rest = skip (row.window == other) (eq_fails row.window other (λ same. apart (sym same ∙ eqb-true row.window window e))) rest
     step false e rest = rest
 
 -- A state holds the rows of the first windows, so many, and no others.
@@ -279,7 +278,7 @@ passed_cut facts kept window old last new passed rows cut allots =
 
 closes_by : (facts : SeasonFacts) (kept : Kept) (window : ℕ) (last new : State) → window < kept.cuts → Closes facts kept window (nat_lt window kept.cuts) last new
     → CutPasses facts last new × AreAllotsOf facts new kept (window + 1)
-closes_by facts kept window last new less close = subst (λ (b : Bool). Closes facts kept window b last new) (lt_true window kept.cuts less) close
+closes_by facts kept window last new less close = subst (λ (b : Bool). Closes facts kept window b last new) (lt-ltb window kept.cuts less) close
 
 stays_by : (facts : SeasonFacts) (kept : Kept) (window : ℕ) (last new : State) → kept.cuts ≤ window → Closes facts kept window (nat_lt window kept.cuts) last new → new ≡ last
 stays_by facts kept window last new past close = subst (λ (b : Bool). Closes facts kept window b last new) (lt_false window kept.cuts past) close

@@ -3,10 +3,9 @@ use Rattle.std.proofs.Common.{◌≡◌, ◌≢◌, ◌<◌, ◌≤◌, ◌+◌,
 use Rattle.std.specs.Prelude.{not, is_some, option_map, slice_get, bytes_eq, ◌&&◌, ◌||◌}
 use Rattle.std.specs.List.{AllByRecursion, position_or_len}
 use Rattle.std.specs.Option.{unwrap_or}
-use Rattle.std.proofs.lemmas.Bool.{cases_Bool}
+use Rattle.std.proofs.lemmas.Bool.{cases_Bool, eq-eqb, eqb-true, lt-ltb, ltb-false, ltb-true}
 use Rattle.std.proofs.lemmas.List.{at_drop_all, at_drop_more}
 use Rattle.std.proofs.lemmas.Slice.Eq.{bytes_eq-Decides}
-use Rattle.allocations.proofs.Places.{eq_means, eq_true, lt_means, lt_true}
 use Rattle.office_base.specs.Lists.{Pairwise}
 use Rattle.office_base.specs.declared.asks.Ask.TheVariants.{Raise as AskRaise}
 use Rattle.office_base.specs.declared.asks.By.TheVariants.{Candidate, Clerk}
@@ -27,7 +26,7 @@ use Rattle.office_moves.specs.declared.moves.Act.{Act}
 use Rattle.office_moves.specs.declared.moves.Act.TheVariants.{Answer, Raise}
 use Rattle.office_moves.specs.declared.refusal.Refusal.{Refusal}
 use Rattle.office_moves.specs.declared.refusal.Refusal.TheVariants.{Late, Ahead}
-use Rattle.office_moves.proofs.Chains.{IsNewAnswer, IsNewRaise, answer_new, lt_fails, raise_new}
+use Rattle.office_moves.proofs.Chains.{IsNewAnswer, IsNewRaise, answer_new, raise_new}
 use Rattle.replays.specs.Faults.{IsStrayAnswer, IsStrayRaise}
 use Rattle.replays.specs.declared.fault.ReplayFault.{ReplayFault}
 use Rattle.replays.specs.Replay.{answers_replayed, raises_replayed, takes_answer, takes_raise}
@@ -65,8 +64,8 @@ pub answer_window : (facts : SeasonFacts) (state : State) (row : AnswerRow) → 
 answer_window facts state row e =
     let act = some_act (newly state.now (decided facts state (asked facts (Answer row)))) e in
     let opened = open_here (nat_lt row.window state.now) (nat_lt state.now row.window) (nat_lt facts.rounds row.window) (Late state.now) (Ahead state.now) (new_answer facts state row act.0 act.1).opened in
-    let low = lt_fails row.window state.now opened.0 in
-    let high = lt_fails state.now row.window opened.1 in
+    let low = ltb-false row.window state.now opened.0 in
+    let high = ltb-false state.now row.window opened.1 in
     omega (arith, low, high)
 
 -- ---- a raise
@@ -110,7 +109,7 @@ finds_own facts prog seats less =
     let code = code_in facts prog.0 in
     let place : position_or_len (bytes_eq code) codes ≡ prog.0 = place_of_own codes prog.0 code seats.codes (code_there facts.matrix.programmes prog.0 less) in
     let long = codes_long facts.matrix.programmes in
-    step (position_or_len (bytes_eq code) codes) place (nat_lt (position_or_len (bytes_eq code) codes) (length codes)) (lt_true _ _ (omega (arith, place, long, less)))
+    step (position_or_len (bytes_eq code) codes) place (nat_lt (position_or_len (bytes_eq code) codes) (length codes)) (lt-ltb _ _ (omega (arith, place, long, less)))
   where
     step : (n : ℕ) → n ≡ prog.0 → (b : Bool) → b ≡ true → option_map (λ (m : ℕ). let made : ProgId = record { 0 = m } in made) (cond b (Some n) None) ≡ Some prog
     step n same true e = ap (λ (m : ℕ). let made : Option ProgId = Some (record { 0 = m }) in made) same
@@ -138,7 +137,7 @@ both false b e f = absurd (cc)
 pub raise_taken : (facts : SeasonFacts) (state : State) (row other : RaiseRow) → row.prog.0 < length facts.matrix.programmes → decided facts state (asked facts (Raise row)) ≡ Lift other
     → takes_raise facts state row ≡ true
 raise_taken facts state row other less e =
-    both (nat_lt row.prog.0 (length facts.matrix.programmes)) (is_some (newly state.now (decided facts state (asked facts (Raise row))))) (lt_true _ _ less) (ap (λ (d : Decision). is_some (newly state.now d)) e)
+    both (nat_lt row.prog.0 (length facts.matrix.programmes)) (is_some (newly state.now (decided facts state (asked facts (Raise row))))) (lt-ltb _ _ less) (ap (λ (d : Decision). is_some (newly state.now d)) e)
 
 not_second : (a b : Bool) → (a ≡ true → b ≡ false) → a && b ≡ false
 not_second true b never = never refl
@@ -148,7 +147,7 @@ pub raise_refused : (facts : SeasonFacts) (state : State) (row : RaiseRow) → A
     → takes_raise facts state row ≡ false
 raise_refused facts state row seats never =
     not_second (nat_lt row.prog.0 (length facts.matrix.programmes)) (is_some (newly state.now (decided facts state (asked facts (Raise row)))))
-    (λ less. step (lt_means _ _ less) (newly state.now (decided facts state (asked facts (Raise row)))) refl)
+    (λ less. step (ltb-true _ _ less) (newly state.now (decided facts state (asked facts (Raise row)))) refl)
   where
     step : row.prog.0 < length facts.matrix.programmes → (o : Option Act) → newly state.now (decided facts state (asked facts (Raise row))) ≡ o → is_some o ≡ false
     step less None e = refl
@@ -157,7 +156,7 @@ raise_refused facts state row seats never =
 pub raise_unknown : (facts : SeasonFacts) (state : State) (row : RaiseRow) → length facts.matrix.programmes ≤ row.prog.0 → takes_raise facts state row ≡ false
 raise_unknown facts state row past =
     not_second (nat_lt row.prog.0 (length facts.matrix.programmes)) (is_some (newly state.now (decided facts state (asked facts (Raise row)))))
-    (λ less. absurd (let f = lt_means _ _ less in omega (arith, f, past)))
+    (λ less. absurd (let f = ltb-true _ _ less in omega (arith, f, past)))
 
 both_mean : (a b : Bool) → a && b ≡ true → (a ≡ true) × (b ≡ true)
 both_mean true b e = (refl, e)
@@ -167,10 +166,10 @@ pub raise_window : (facts : SeasonFacts) (state : State) (row : RaiseRow) → Ar
 raise_window facts state row seats e =
     let parts = both_mean (nat_lt row.prog.0 (length facts.matrix.programmes)) (is_some (newly state.now (decided facts state (asked facts (Raise row))))) e in
     let act = some_act (newly state.now (decided facts state (asked facts (Raise row)))) parts.1 in
-    let new = new_raise facts state row act.0 seats (lt_means _ _ parts.0) act.1 in
+    let new = new_raise facts state row act.0 seats (ltb-true _ _ parts.0) act.1 in
     let opened = open_here (nat_lt row.window state.now) (nat_lt state.now row.window) (nat_lt facts.rounds row.window) (Late state.now) (Ahead state.now) new.opened in
-    let low = lt_fails row.window state.now opened.0 in
-    let high = lt_fails state.now row.window opened.1 in
+    let low = ltb-false row.window state.now opened.0 in
+    let high = ltb-false state.now row.window opened.1 in
     omega (arith, low, high)
 
 -- ---- the same in a state that is another's equal
@@ -201,20 +200,20 @@ if_no true x y e = absurd (cc)
 if_no false x y e = refl
 
 eq_fails : (m n : ℕ) → m ≢ n → (m == n) ≡ false
-eq_fails m n apart = elim (cases_Bool (m == n)) [ inl same ↦ absurd (apart (eq_means m n same)) | inr other ↦ other ]
+eq_fails m n apart = elim (cases_Bool (m == n)) [ inl same ↦ absurd (apart (eqb-true m n same)) | inr other ↦ other ]
 
 pub answers_on : (facts : SeasonFacts) (window place : ℕ) (row : AnswerRow) (rest : List AnswerRow) (state : State) → row.window ≡ window → takes_answer facts state row ≡ true
     → answers_replayed facts window place (row ∷ rest) state ≡ answers_replayed facts window (place + 1) rest (with_row state row)
 answers_on facts window place row rest state here takes =
     if_yes (row.window == window) (if takes_answer facts state row then answers_replayed facts window (place + 1) rest (with_row state row) else Err place)
-    (answers_replayed facts window (place + 1) rest state) (eq_true row.window window here)
+    (answers_replayed facts window (place + 1) rest state) (eq-eqb row.window window here)
     ∙ if_yes (takes_answer facts state row) (answers_replayed facts window (place + 1) rest (with_row state row)) (Err place) takes
 
 pub answers_stop : (facts : SeasonFacts) (window place : ℕ) (row : AnswerRow) (rest : List AnswerRow) (state : State) → row.window ≡ window → takes_answer facts state row ≡ false
     → answers_replayed facts window place (row ∷ rest) state ≡ Err place
 answers_stop facts window place row rest state here refused =
     if_yes (row.window == window) (if takes_answer facts state row then answers_replayed facts window (place + 1) rest (with_row state row) else Err place)
-    (answers_replayed facts window (place + 1) rest state) (eq_true row.window window here)
+    (answers_replayed facts window (place + 1) rest state) (eq-eqb row.window window here)
     ∙ if_no (takes_answer facts state row) (answers_replayed facts window (place + 1) rest (with_row state row)) (Err place) refused
 
 pub answers_past : (facts : SeasonFacts) (window place : ℕ) (row : AnswerRow) (rest : List AnswerRow) (state : State) → row.window ≢ window
@@ -227,14 +226,14 @@ pub raises_on : (facts : SeasonFacts) (window place : ℕ) (row : RaiseRow) (res
     → raises_replayed facts window place (row ∷ rest) state ≡ raises_replayed facts window (place + 1) rest (with_raise state row)
 raises_on facts window place row rest state here takes =
     if_yes (row.window == window) (if takes_raise facts state row then raises_replayed facts window (place + 1) rest (with_raise state row) else Err place)
-    (raises_replayed facts window (place + 1) rest state) (eq_true row.window window here)
+    (raises_replayed facts window (place + 1) rest state) (eq-eqb row.window window here)
     ∙ if_yes (takes_raise facts state row) (raises_replayed facts window (place + 1) rest (with_raise state row)) (Err place) takes
 
 pub raises_stop : (facts : SeasonFacts) (window place : ℕ) (row : RaiseRow) (rest : List RaiseRow) (state : State) → row.window ≡ window → takes_raise facts state row ≡ false
     → raises_replayed facts window place (row ∷ rest) state ≡ Err place
 raises_stop facts window place row rest state here refused =
     if_yes (row.window == window) (if takes_raise facts state row then raises_replayed facts window (place + 1) rest (with_raise state row) else Err place)
-    (raises_replayed facts window (place + 1) rest state) (eq_true row.window window here)
+    (raises_replayed facts window (place + 1) rest state) (eq-eqb row.window window here)
     ∙ if_no (takes_raise facts state row) (raises_replayed facts window (place + 1) rest (with_raise state row)) (Err place) refused
 
 pub raises_past : (facts : SeasonFacts) (window place : ℕ) (row : RaiseRow) (rest : List RaiseRow) (state : State) → row.window ≢ window
@@ -340,7 +339,7 @@ answers_ahead facts window place (row ∷ rows) old new ahead e =
     step : (b : Bool) → (row.window == window) ≡ b → (t : Bool) → takes_answer facts old row ≡ t → (answers_replayed facts window (place + 1) rows old ≡ Ok new → in_window window rows ≡ [])
         → (if b then (if t then answers_replayed facts window (place + 1) rows (with_row old row) else Err place) else answers_replayed facts window (place + 1) rows old) ≡ Ok new
         → (if b then row ∷ in_window window rows else in_window window rows) ≡ []
-    step true same true takes past e = absurd (let w = answer_window facts old row takes in let s = eq_means row.window window same in omega (arith, w, s, ahead))
+    step true same true takes past e = absurd (let w = answer_window facts old row takes in let s = eqb-true row.window window same in omega (arith, w, s, ahead))
     step true same false takes past e = absurd (cc)
     step false same t takes past e = past e
 
@@ -353,7 +352,7 @@ raises_ahead facts window place (row ∷ rows) old new seats ahead e =
     step : (b : Bool) → (row.window == window) ≡ b → (t : Bool) → takes_raise facts old row ≡ t → (raises_replayed facts window (place + 1) rows old ≡ Ok new → raises_in window rows ≡ [])
         → (if b then (if t then raises_replayed facts window (place + 1) rows (with_raise old row) else Err place) else raises_replayed facts window (place + 1) rows old) ≡ Ok new
         → (if b then row ∷ raises_in window rows else raises_in window rows) ≡ []
-    step true same true takes past e = absurd (let w = raise_window facts old row seats takes in let s = eq_means row.window window same in omega (arith, w, s, ahead))
+    step true same true takes past e = absurd (let w = raise_window facts old row seats takes in let s = eqb-true row.window window same in omega (arith, w, s, ahead))
     step true same false takes past e = absurd (cc)
     step false same t takes past e = past e
 

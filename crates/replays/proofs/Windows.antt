@@ -1,8 +1,7 @@
 -- Windows that pass, one after another, and the faults that stop them.
 use Rattle.std.proofs.Common.{◌≡◌, ◌<◌, ◌≤◌, ◌+◌, ◌⊎◌, inl, inr, ℕ, zero, suc, add-one, Bool, true, false, List, [], ◌∷◌, Option, Some, None, length, arith, refl, sym, ap, ◌∙◌, subst, ◌==◌, if◌then◌else◌}
 use Rattle.std.specs.Prelude.{slice_get}
-use Rattle.std.proofs.lemmas.Bool.{cases_lt}
-use Rattle.allocations.proofs.Places.{eq_means, lt_true}
+use Rattle.std.proofs.lemmas.Bool.{cases_lt, eqb-true, lt-ltb}
 use Rattle.keeper_mem.specs.declared.rows.AllotRow.{AllotRow}
 use Rattle.keeper_mem.specs.declared.rows.Kept.{Kept}
 use Rattle.rounds.specs.declared.round.Round.{Round}
@@ -27,7 +26,7 @@ pub window_cut : (facts : SeasonFacts) (kept : Kept) (window : ℕ) (old last ne
 window_cut facts kept window old last new less rows cut allots = record {
   last = last;
   rows = rows;
-  close = subst (λ (b : Bool). Closes facts kept window b last new) (sym (lt_true window kept.cuts less)) (cut, allots);
+  close = subst (λ (b : Bool). Closes facts kept window b last new) (sym (lt-ltb window kept.cuts less)) (cut, allots);
 }
 
 pub window_open : (facts : SeasonFacts) (kept : Kept) (window : ℕ) (old new : State) → kept.cuts ≤ window → RowsPass facts kept window old new → WindowPasses facts kept window old new
@@ -178,7 +177,7 @@ unpublished facts kept state number id orderly now out = step (number == facts.r
     last is (inr past) = omega (arith, is, past, now)
 
     step : (b : Bool) → (number == facts.rounds + 1) ≡ b → (if b then seat_in_finals state.finals number id else seat_in facts state.rounds number id) ≡ None
-    step true e = no_finals state.finals number id (orderly.unfinished (last (eq_means number (facts.rounds + 1) e) out))
+    step true e = no_finals state.finals number id (orderly.unfinished (last (eqb-true number (facts.rounds + 1) e) out))
     step false e = ap (λ (r : Option Round). seat_of facts r id) (past_end state.rounds number beyond)
 
 pub replayed : (facts : SeasonFacts) (kept : Kept) (state : State) → IsOrderly facts state → state.now ≡ kept.cuts → Pass facts kept (kept.cuts + 1) state → IsLaterWindow kept None → IsLaterRound kept None
