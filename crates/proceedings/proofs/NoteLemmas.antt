@@ -5,7 +5,7 @@ use Rattle.std.specs.List.{AllByRecursion}
 use Rattle.std.proofs.lemmas.Bool.Decides.{eqb_tells}
 use Rattle.std.proofs.lemmas.List.{map-append}
 use Rattle.std.proofs.lemmas.Option.{same_Some}
-use Rattle.allocations.proofs.Those.{all_at}
+use Rattle.office_base.proofs.Lists.{all-get}
 use Rattle.office_base.specs.Lists.{Pairwise}
 use Rattle.office_base.specs.declared.asks.Choice.{Choice}
 use Rattle.office_base.specs.declared.asks.Choice.TheVariants.{Freeze as ToFreeze, Float as ToFloat, Slide as ToSlide, Withdraw as ToWithdraw}
@@ -136,7 +136,7 @@ still_noted facts state row (p ∷ people) zero person rising here is opens ther
     (subst (λ (s : Standing). StillAfter row.choice (in_after (still_among facts state people) (standing_then facts state state.now p.id.0)) (in_after (still_among facts state people) s))
     (sym (standing_own facts state row p.id.0 opens same)) first)
 still_noted facts state row (p ∷ people) (suc at) person rising here is opens there =
-    let less = all_at (λ (b : Person). p.id.0 < b.id.0) people at person rising.0 here in
+    let less = all-get (λ (b : Person). p.id.0 < b.id.0) people at person rising.0 here in
     let rest = still_noted facts state row people at person rising.1 here is opens there in
     subst (λ (s : Standing). StillAfter row.choice (in_after (still_among facts state people) (standing_then facts state state.now p.id.0)) (in_after (still_among facts (with_row state row) people) s))
     (sym (standing_other facts state row p.id.0 opens (omega (arith, less, is))))
@@ -182,7 +182,7 @@ put_along state row window (p ∷ people) zero person rising here is opens =
     let others = put_others state row window people (subst (λ (n : ℕ). AllByRecursion (λ (q : Person). n < q.id.0) people) same rising.0) in
     ap (λ (z : List Choice). z ∷ map (λ (q : Person). choices_in state window q.id.0) people) new ∙ ap (λ (z : List (List Choice)). choices_in (with_row state row) window p.id.0 ∷ z) (sym others)
 put_along state row window (p ∷ people) (suc at) person rising here is opens =
-    let less = all_at (λ (b : Person). p.id.0 < b.id.0) people at person rising.0 here in
+    let less = all-get (λ (b : Person). p.id.0 < b.id.0) people at person rising.0 here in
     ap (λ (z : List (List Choice)). choices_in state window p.id.0 ∷ z) (put_along state row window people at person rising.1 here is opens)
     ∙ ap (λ (rows : List AnswerRow). map (λ (r : AnswerRow). r.choice) rows ∷ map (λ (q : Person). choices_in (with_row state row) window q.id.0) people)
     (sym (other_candidate state row window p.id.0 (omega (arith, less, is))))
