@@ -12,6 +12,8 @@ mod choices;
 #[cfg(test)]
 mod limits;
 #[cfg(test)]
+mod lists;
+#[cfg(test)]
 mod matrices;
 #[cfg(test)]
 mod published;

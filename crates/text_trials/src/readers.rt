@@ -7,7 +7,7 @@ use std::alloc::Global;
 use std::test::Fail;
 
 /// Candidates 7, 9 and 12, and programmes A and B, in seven rounds.
-const SEASON: &str =
+pub(crate) const SEASON: &str =
     "office bundle 1\n[season]\nclerk,clerk0001\nrounds,7\n[register]\nid,category,traits,token,m1,m2,m3,m4\n12,SC,W,tok00012,3,1R\n7,GEN,-,tok00007,1\n9,GEN,-,tok00009,2\n[matrix]\nprogramme,institute,list,step,seats,W,D,X,S,F,L\nA,I1,1,OPEN,1\nA,I1,1,SC,2\nB,I2,2,SC,1\n[choices]\ncandidate,programmes\n12,B,A\n7,A\n";
 
 fn row(round: u16, cand: u32, prog: u16, step: StepKind) -> AllotRow {
