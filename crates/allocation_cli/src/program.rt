@@ -33,13 +33,13 @@ pub fn allocate<S: Source, K: Sink, P: Keeper>(
     sink: &mut K,
     keeper: P,
 ) -> (Status, P)
-    // What is written is a function of the words and of the bytes that the source had left, errors included; and under `run` a history of answers, raises
-    // and cuts leads to a state in which the office keeps its word, and for which the tables stand.
+    // What is written is told by the words and the bytes that the source had left, under `resume` by the tables too, errors included; and under `run` and
+    // `resume` a history of answers, raises and cuts leads to a state in which the office keeps its word, and for which the tables stand.
     ensures written { (output : List ℕ) × Appends output (K.written sink.old) (K.written sink.new)
         × IsWritten words.now (S.left source.old) (P.tables keeper) (P.tables result.1) result.0 output }
     ensures read_whole { (command : AnyCommand) → Spell words.now command → ReadsSource command → result.0 ≡ Status.Ok → IsAtEnd (S.left source.new) }
 
-    // Words that spell no command leave the source as it was, as a command that reads none does; and the keeper, as a command that begins no office does.
+    // Words that spell no command leave the source as it was, as a command that reads none does; and the keeper, as a command that has no office does.
     ensures spared { (command : AnyCommand) → Spell words.now command → ReadsNone command → (S.left source.new ≡ S.left source.old) × (S.faults source.new ≡ S.faults source.old) }
     ensures unread { SpellNothing words.now → (S.left source.new ≡ S.left source.old) × (S.faults source.new ≡ S.faults source.old) }
     ensures unkept { SpellNothing words.now → result.1 ≡ keeper }

@@ -4,12 +4,13 @@
 // that of the whole program, which stands on the same `step_answer`. Nothing stands on this crate.
 #![tactic(auto)]
 
-use command_answers::{Status, finish, write_answer};
+use command_answers::{Status, finish, tell_no_memory, write_answer};
+use office_base::OutOfMemory;
 use standard_streams::{StandardInput, StandardOutput, tell_unheld};
-use std::env;
 use std::io::IsTerminal;
 use std::process::ExitCode;
 use std::rt::Env;
+use std::{env, io};
 use step_command::step_answer;
 
 fn main(rt: HostRuntime) -> ExitCode {
@@ -18,11 +19,13 @@ fn main(rt: HostRuntime) -> ExitCode {
     let Ok(mut sink) = StandardOutput::new(rt.alloc(), output, at_once) else {
         return ExitCode::from(tell_unheld(rt.stdout()).code());
     };
-    let status = if asks_for_a_step(&rt) {
-        let mut source = StandardInput::new(rt.stdin());
-        finish(&mut sink, step_answer(rt.alloc(), &mut source))
-    } else {
-        write_answer(&mut sink, b"fault: usage\n", Status::Usage)
+    let status = match asks_for_a_step(&rt) {
+        Ok(true) => {
+            let mut source = StandardInput::new(rt.stdin());
+            finish(&mut sink, step_answer(rt.alloc(), &mut source))
+        }
+        Ok(false) => write_answer(&mut sink, b"fault: usage\n", Status::Usage),
+        Err(OutOfMemory) => tell_no_memory(&mut sink),
     };
     let status = match sink.finish() {
         Ok(()) => status,
@@ -32,14 +35,15 @@ fn main(rt: HostRuntime) -> ExitCode {
 }
 
 // Whether the words after the program's name are `step` alone.
-fn asks_for_a_step(rt: &(impl Env + AllocGlobal)) -> bool {
+fn asks_for_a_step(rt: &(impl Env + AllocGlobal)) -> Result<bool, OutOfMemory> {
     match env::args(rt) {
         Ok(args) => {
             let mut words = args.skip(1);
             let first = words.next();
             let other = words.next();
-            first.is_some_and(|word| word.as_str() == "step") && other.is_none()
+            Ok(first.is_some_and(|word| word.as_str() == "step") && other.is_none())
         }
-        Err(_) => false,
+        Err(error) if error.kind() == io::ErrorKind::OutOfMemory => Err(OutOfMemory),
+        Err(_) => Ok(false),
     }
 }
