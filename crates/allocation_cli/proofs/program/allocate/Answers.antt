@@ -1,4 +1,5 @@
 use Rattle.std.proofs.Common.{◌≡◌, Err, ap, inl, inr, refl}
+use Rattle.command_words.specs.declared.words.Command.TheVariants.{Resume}
 use Rattle.command_words.specs.declared.words.WordsFault.TheVariants as words_fault
 use Rattle.allocation_cli.specs.Program.{IsUsageText, IsWantText, usage_line}
 use Rattle.command_answers.specs.Writes.{memory_line}
@@ -16,6 +17,16 @@ pub returns-in-Err-Usage-clause-not_empty : goal.returns-in-Err-Usage-clause-not
 returns-in-Err-Usage-clause-not_empty g c command spelled begins tells read wrote kept =
     let fault : c.in-Err-Usage.field-0 ≡ words_fault.Usage = cc in
     absurd (c.in-Err-Usage.ensures.usage (ap Err fault) command spelled)
+
+pub returns-in-Err-Usage-clause-unasked : goal.returns-in-Err-Usage-clause-unasked
+returns-in-Err-Usage-clause-unasked g c store spelled tells sound read wrote kept =
+    let fault : c.in-Err-Usage.field-0 ≡ words_fault.Usage = cc in
+    absurd (c.in-Err-Usage.ensures.usage (ap Err fault) (Resume store) spelled)
+
+pub returns-in-Err-Usage-clause-none_kept : goal.returns-in-Err-Usage-clause-none_kept
+returns-in-Err-Usage-clause-none_kept g c store spelled none wrote kept =
+    let fault : c.in-Err-Usage.field-0 ≡ words_fault.Usage = cc in
+    absurd (c.in-Err-Usage.ensures.usage (ap Err fault) (Resume store) spelled)
 
 pub returns-in-Err-OutOfMemory-clause-written : goal.returns-in-Err-OutOfMemory-clause-written
 returns-in-Err-OutOfMemory-clause-written g c =
