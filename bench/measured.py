@@ -9,10 +9,11 @@ PROGRAM = os.path.join(TOP, "crates", "allocation_cli", "out", "allocation_cli")
 RUNS = 5
 
 
-def measure(words, path):
-    """The best wall time of some runs in seconds, and the peak memory in bytes."""
+def measure(words, path, before=lambda: None):
+    """The best wall time of some runs in seconds, and the peak memory in bytes. `before` is done before each run."""
     best, peak = None, 0
     for _ in range(RUNS):
+        before()
         with open(path, "rb") as source:
             begun = time.perf_counter()
             child = subprocess.Popen(words, stdin=source, stdout=subprocess.DEVNULL)

@@ -3,6 +3,7 @@ use Rattle.std.specs.Prelude.{◌≡◌, ◌⊎◌, ℕ, List, Option, codes}
 use Rattle.keeper_mem.specs.Tables.{Tables}
 use Rattle.command_answers.specs.Answers.{Answers, Tells}
 use Rattle.season_commands.specs.Check.{IsBundle, IsFaultyBundle, check_answers}
+use Rattle.season_commands.specs.Generated.{EndsGeneratedRun}
 use Rattle.season_commands.specs.Resume.{EndsResume, IsScript, TellsSound}
 use Rattle.season_commands.specs.Run.{EndsRun, TellsNoSeason}
 use Rattle.step_command.specs.Step.{IsFaultySheet, IsSheet, step_answers}
@@ -13,6 +14,7 @@ use Rattle.command_answers.specs.declared.status.Status.{Status}
 use Rattle.command_answers.specs.declared.status.Status.TheVariants.{Ok as Done, Usage, BadInput, ReadFault, WriteFault, KeeperFault, OutOfMemory, Differs}
 use Rattle.command_words.specs.declared.words.Command.{Command}
 use Rattle.command_words.specs.declared.words.Command.TheVariants.{Step, Check, Run, Resume, Generate}
+use Rattle.command_words.specs.declared.words.OutKind.TheVariants as out_kind
 
 abbrev pub usage_line : List ℕ
 usage_line = codes "fault: usage\n"
@@ -64,7 +66,8 @@ Ends Step left before after = EndsText step_answers left before after
 Ends Check left before after = EndsText check_answers left before after
 Ends (Run store) left before after = EndsRun left before after
 Ends (Resume store) left before after = EndsResume left before after
-Ends (Generate n seed out) left before after = EndsGenerated n seed before after
+Ends (Generate n seed out_kind.Text) left before after = EndsGenerated n seed before after
+Ends (Generate n seed out_kind.Run) left before after = EndsGeneratedRun n seed before after
 
 -- the same for words that spell no command: the tables are as before
 abbrev pub EndsUsage : Tables → Tables → Status → List ℕ → Type 0
@@ -87,21 +90,25 @@ TellsInput (Run store) left = Tells IsBundle left
 TellsInput (Resume store) left = Tells IsScript left
 TellsInput (Generate n seed out) left = Unit {0}
 
--- the source tells its bytes, and they have a fault as the command's input, which is read before all else; under `resume` the records are judged first
+-- the source tells its bytes, and they have a fault as the command's input, which is read before all else; under `resume` the records are judged first, and
+-- a generated season that is run has its own bundle for the input
 abbrev pub TellsFault : Command → Option (List ℕ) → Type 0
 TellsFault Step left = Tells IsFaultySheet left
 TellsFault Check left = Tells IsFaultyBundle left
 TellsFault (Run store) left = Tells IsFaultyBundle left
 TellsFault (Resume store) left = ⊥
-TellsFault (Generate n seed out) left = ⊥
+TellsFault (Generate n seed out_kind.Text) left = ⊥
+TellsFault (Generate n seed out_kind.Run) left = IsFaultyBundle (generated n seed)
 
--- the keeper is as the command needs it: under `run` it tells that it holds no season, under `resume` records without a fault
+-- the keeper is as the command needs it: under `run` it tells that it holds no season, under `resume` records without a fault; and a generated season is run
+-- where its bundle has no fault
 abbrev pub IsReady : Command → Tables → Type 0
 IsReady Step tables = Unit {0}
 IsReady Check tables = Unit {0}
 IsReady (Run store) tables = TellsNoSeason tables
 IsReady (Resume store) tables = TellsSound tables
-IsReady (Generate n seed out) tables = Unit {0}
+IsReady (Generate n seed out_kind.Text) tables = Unit {0}
+IsReady (Generate n seed out_kind.Run) tables = IsBundle (generated n seed) × TellsNoSeason tables
 
 -- the command begins an office anew
 abbrev pub BeginsOffice : Command → Type 0
@@ -109,7 +116,8 @@ BeginsOffice Step = ⊥
 BeginsOffice Check = ⊥
 BeginsOffice (Run store) = Unit {0}
 BeginsOffice (Resume store) = ⊥
-BeginsOffice (Generate n seed out) = ⊥
+BeginsOffice (Generate n seed out_kind.Text) = ⊥
+BeginsOffice (Generate n seed out_kind.Run) = Unit {0}
 
 -- the command neither begins an office nor goes on with one
 abbrev pub BeginsNone : Command → Type 0
@@ -117,7 +125,8 @@ BeginsNone Step = Unit {0}
 BeginsNone Check = Unit {0}
 BeginsNone (Run store) = ⊥
 BeginsNone (Resume store) = ⊥
-BeginsNone (Generate n seed out) = Unit {0}
+BeginsNone (Generate n seed out_kind.Text) = Unit {0}
+BeginsNone (Generate n seed out_kind.Run) = ⊥
 
 -- the command reads the source
 abbrev pub ReadsSource : Command → Type 0

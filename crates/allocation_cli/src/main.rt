@@ -1,28 +1,39 @@
-// The program: it hands the words, standard input and standard output to `allocate` and ends with its status.
+// The program: it hands the words, standard input, standard output and a keeper over the store that the words name to `allocate` and ends with its
+// status.
 //
 // `allocate` is the one top call of the office: what it writes and how it ends is proved, for the words and the bytes that
-// it was given. The adapters over the real streams are the trusted edge: they count their errors and tell no
-// bytes. Nothing stands on this crate, and it decides nothing of seats itself.
+// it was given. The adapters over the real streams and the keeper over a file are the trusted edge: they count their errors and tell no
+// bytes and no tables. Nothing stands on this crate, and it decides nothing of seats itself.
 #![tactic(auto)]
 
 mod generate;
+#[cfg(test)]
+mod generated_runs;
 mod laws;
 mod program;
 #[cfg(test)]
 mod resumes;
 #[cfg(test)]
+mod stored;
+#[cfg(test)]
 mod tests;
 
 use crate::program::allocate;
 use command_answers::{Status, tell_no_memory};
+use command_words::{Command, Store, WordsFault, read_words};
 use keeper_mem::SureKeeper;
-use office_base::{OutOfMemory, Words};
+use keeper_sqlite::SqliteKeeper;
+use office_base::{OutOfMemory, Sink, Text, Words};
+use sqlite::{Connection, File, FileStore};
 use standard_streams::{StandardInput, StandardOutput, tell_unheld};
 use std::alloc::Global;
 use std::io::IsTerminal;
 use std::process::ExitCode;
 use std::rt::Env;
-use std::{env, io};
+use std::{env, io, str};
+
+// How the program ends where the store that its words name cannot be opened.
+const NO_STORE: u8 = 1;
 
 fn main(rt: HostRuntime) -> ExitCode {
     let alloc = rt.alloc();
@@ -31,22 +42,65 @@ fn main(rt: HostRuntime) -> ExitCode {
     let Ok(mut sink) = StandardOutput::new(alloc, output, at_once) else {
         return ExitCode::from(tell_unheld(rt.stdout()).code());
     };
-    let status = match words_of(&rt, alloc) {
-        Ok(words) => allocate(
-            alloc,
-            &words,
-            &mut StandardInput::new(rt.stdin()),
-            &mut sink,
-            SureKeeper::new(alloc),
-        )
-        .0,
-        Err(OutOfMemory) => tell_no_memory(&mut sink),
+    let ended = match words_of(&rt, alloc) {
+        Ok(words) => over_store(&rt, alloc, &words, &mut sink),
+        Err(OutOfMemory) => Some(tell_no_memory(&mut sink)),
+    };
+    let Some(status) = ended else {
+        let _ = eprintln!(rt; "cannot open store");
+        return ExitCode::from(NO_STORE);
     };
     let status = match sink.finish() {
         Ok(()) => status,
         Err(_) => Status::WriteFault,
     };
     ExitCode::from(status.code())
+}
+
+// Runs the words over the store that they name, which is memory where they name none. None where it cannot be opened.
+fn over_store<K: Sink>(
+    rt: &HostRuntime,
+    alloc: Global,
+    words: &Words,
+    sink: &mut K,
+) -> Option<Status> {
+    match read_words(alloc, words) {
+        Ok(Command::Run(Store::File(name))) => over_file(rt, alloc, words, sink, &name),
+        Ok(Command::Resume(Store::File(name))) => over_file(rt, alloc, words, sink, &name),
+        Ok(_) | Err(WordsFault::Usage) => Some(over_memory(rt, alloc, words, sink)),
+        Err(WordsFault::OutOfMemory) => Some(tell_no_memory(sink)),
+    }
+}
+
+// Runs the words over a keeper in memory.
+fn over_memory<K: Sink>(rt: &HostRuntime, alloc: Global, words: &Words, sink: &mut K) -> Status {
+    let mut source = StandardInput::new(rt.stdin());
+    allocate(alloc, words, &mut source, sink, SureKeeper::new(alloc)).0
+}
+
+// Runs the words over a keeper over the file of this name. What it kept stands in the file and the log beside it, also where the log cannot be
+// copied into the file at the end.
+fn over_file<K: Sink>(
+    rt: &HostRuntime,
+    alloc: Global,
+    words: &Words,
+    sink: &mut K,
+    name: &Text,
+) -> Option<Status> {
+    let keeper = open_store(rt, name)?;
+    let mut source = StandardInput::new(rt.stdin());
+    let (status, keeper) = allocate(alloc, words, &mut source, sink, keeper);
+    let _ = keeper.into_connection().close();
+    Some(status)
+}
+
+// A keeper over the file of this name, with the tables made that are not there.
+fn open_store(rt: &HostRuntime, name: &Text) -> Option<SqliteKeeper<FileStore<File>>> {
+    let path = str::from_utf8(name.as_slice()).ok()?;
+    let connection = Connection::open(rt, path).ok()?;
+    let mut keeper = SqliteKeeper::new(connection);
+    keeper.make_tables().ok()?;
+    Some(keeper)
 }
 
 // The words after the program's name. Where the system tells none, or one of them is no text, there are none: they spell

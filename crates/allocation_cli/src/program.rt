@@ -1,5 +1,5 @@
 // The top call of the office.
-ghost use Rattle.std.specs.Prelude.{◌≡◌, ◌≢◌, ◌≤◌, ◌⊎◌, ℕ, List};
+ghost use Rattle.std.specs.Prelude.{◌≡◌, ◌≢◌, ◌≤◌, ◌⊎◌, ℕ, List, Option};
 ghost use Rattle.office_base.specs.Outside.{Rose, IsAtEnd, Appends};
 ghost use Rattle.allocation_cli.specs.Program.{BeginsNone, BeginsOffice, Ends, IsReady, IsWritten, ReadsNone, ReadsSource, TellsFault, TellsInput};
 ghost use Rattle.command_answers.specs.Answers.{Tells};
@@ -7,17 +7,17 @@ ghost use Rattle.season_commands.specs.Resume.{IsFaultyScript, TellsSound};
 ghost use Rattle.season_commands.specs.Run.{TellsNoSeason, TellsSeason};
 ghost use Rattle.command_words.specs.Words.{IsInRange, Spell, SpellNothing};
 ghost use Rattle.command_words.specs.declared.words.Command.{Command as AnyCommand};
-ghost use Rattle.command_words.specs.declared.words.Command.TheVariants.{Resume};
+ghost use Rattle.command_words.specs.declared.words.Command.TheVariants.{Generate, Resume};
 ghost use Rattle.command_words.specs.declared.words.Store.{Store as AnyStore};
 
 use crate::generate::generate_answer;
 use crate::laws::one_answer;
 use command_answers::{Status, finish, tell_no_memory, write_answer};
 use command_words::laws::one_spelling;
-use command_words::{Command, OutKind, Store, WordsFault, read_words};
+use command_words::{Command, OutKind, WordsFault, read_words};
 use keeper_mem::Keeper;
 use office_base::{Sink, Source, Words};
-use season_commands::{check_answer, resume_season, run_season};
+use season_commands::{check_answer, resume_season, run_generated, run_season};
 use std::alloc::Global;
 use step_command::step_answer;
 
@@ -25,7 +25,9 @@ use step_command::step_answer;
 ///
 /// The command `step` reads a step sheet and writes whom the step admits; `check` reads a season bundle and writes how much it has; `run` reads a season
 /// bundle with its requests, begins an office over the keeper and answers them, each reply written before the next request is handled; `resume` goes on
-/// with the office that the keeper holds, reads requests and answers them in the same way; `generate` makes up a season from a seed and writes its bundle.
+/// with the office that the keeper holds, reads requests and answers them in the same way; `generate` makes up a season from a seed and writes its bundle, or
+/// begins an office over the keeper, answers the requests of that season, and then writes what it came to. Where the words name a store, the keeper that is
+/// handed in stands for it, whatever it is.
 pub fn allocate<S: Source, K: Sink, P: Keeper>(
     alloc: Global,
     words: &Words,
@@ -124,12 +126,41 @@ fn run<S: Source, K: Sink, P: Keeper>(
     match command {
         Command::Step => (finish(sink, step_answer(alloc, source)), keeper),
         Command::Check => (finish(sink, check_answer(alloc, source)), keeper),
-        Command::Run(Store::Memory) => run_season(alloc, source, sink, keeper),
-        Command::Resume(Store::Memory) => resume_season(alloc, source, sink, keeper),
-        Command::Generate {
-            n,
-            seed,
-            out: OutKind::Text,
-        } => (finish(sink, generate_answer(alloc, n, seed)), keeper),
+        Command::Run(_) => run_season(alloc, source, sink, keeper),
+        Command::Resume(_) => resume_season(alloc, source, sink, keeper),
+        Command::Generate { n, seed, out } => generated(alloc, n, seed, out, sink, keeper),
+    }
+}
+
+/// Makes up a season, and writes its bundle, or what it came to over the keeper.
+fn generated<K: Sink, P: Keeper>(
+    alloc: Global,
+    n: u32,
+    seed: u32,
+    out: OutKind,
+    sink: &mut K,
+    keeper: P,
+) -> (Status, P)
+    requires low { 1 ≤ n }
+    requires high { n ≤ 100000 }
+    ensures written { (left : Option (List ℕ)) → (output : List ℕ) × Appends output (K.written sink.old) (K.written sink.new)
+        × Ends (Generate n seed out) left (P.tables keeper) (P.tables result.1) result.0 output }
+    ensures untouched { BeginsNone (Generate n seed out) → result.1 ≡ keeper }
+    ensures no_read_fault { result.0 ≢ Status.ReadFault }
+    ensures write_fault { result.0 ≡ Status.WriteFault → Rose (K.faults sink.old) (K.faults sink.new) }
+    ensures keeper_fault { result.0 ≡ Status.KeeperFault → Rose (P.faults keeper) (P.faults result.1) }
+    ensures sink_steady { result.0 ≢ Status.WriteFault → K.faults sink.new ≡ K.faults sink.old }
+    ensures keeper_count { P.faults keeper ≤ P.faults result.1 }
+    ensures keeper_steady { result.0 ≢ Status.KeeperFault → result.0 ≢ Status.WriteFault → result.0 ≢ Status.OutOfMemory → P.faults result.1 ≡ P.faults keeper }
+    ensures complete { IsReady (Generate n seed out) (P.tables keeper) → ¬ Rose (K.faults sink.old) (K.faults sink.new) → ¬ Rose (P.faults keeper) (P.faults result.1)
+        → (result.0 ≡ Status.Ok) ⊎ (result.0 ≡ Status.OutOfMemory) }
+    ensures refused { (left : Option (List ℕ)) → TellsFault (Generate n seed out) left → ¬ Rose (K.faults sink.old) (K.faults sink.new)
+        → (result.0 ≡ Status.BadInput) ⊎ (result.0 ≡ Status.OutOfMemory) }
+    ensures not_empty { BeginsOffice (Generate n seed out) → TellsSeason (P.tables keeper) → ¬ Rose (K.faults sink.old) (K.faults sink.new) → ¬ Rose (P.faults keeper) (P.faults result.1)
+        → (result.0 ≡ Status.BadInput) ⊎ (result.0 ≡ Status.OutOfMemory) }
+{
+    match out {
+        OutKind::Text => (finish(sink, generate_answer(alloc, n, seed)), keeper),
+        OutKind::Run => run_generated(alloc, n, seed, sink, keeper),
     }
 }

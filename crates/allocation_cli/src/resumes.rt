@@ -30,7 +30,7 @@ fn goes_on(
     output: &str,
     status: Status,
 ) -> Result<bool, Fail> {
-    let words = words_of(alloc, &["resume", "memory"])?;
+    let words = words_of(alloc, &["resume", "season.db"])?;
     let mut source = SureSource::new(alloc, script.as_bytes(), 7)?;
     let mut sink = MemSink::new(alloc, 1000, &[])?;
     let (ended, _) = allocate(alloc, &words, &mut source, &mut sink, keeper);

@@ -261,7 +261,8 @@ fn wrong_words_are_refused(rt: HostRuntime) -> Result<(), Fail> {
         words_of(alloc, &["step", "now"])?,
         words_of(alloc, &["check", "step"])?,
         words_of(alloc, &["run"])?,
-        words_of(alloc, &["run", "season.db"])?,
+        words_of(alloc, &["run", "-season.db"])?,
+        words_of(alloc, &["step", "season.db"])?,
         words_of(alloc, &["run", "memory", "memory"])?,
         words_of(alloc, &["--help"])?,
         words_of(alloc, &["run", ""])?,
@@ -272,6 +273,7 @@ fn wrong_words_are_refused(rt: HostRuntime) -> Result<(), Fail> {
         words_of(alloc, &["generate", "1", "4294967296", "text"])?,
         words_of(alloc, &["generate", "1", "+1", "text"])?,
         words_of(alloc, &["generate", "1", "1", "text", "text"])?,
+        words_of(alloc, &["generate", "1", "1", "runs"])?,
     ] {
         let mut source = SureSource::new(alloc, b"", 1)?;
         let mut sink = MemSink::new(alloc, 100, &[])?;

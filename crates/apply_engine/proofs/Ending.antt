@@ -12,12 +12,14 @@ use Rattle.allocations.proofs.Course.{begins, left_at_first, tried_may}
 use Rattle.allocations.proofs.Those.{of_those}
 use Rattle.allocations.specs.Market.{Seeker, place_of}
 use Rattle.open_then_category.specs.State.{ProgrammeKept, nobody}
+use Rattle.open_then_category.specs.declared.kept_lists.Tried.{Tried}
 use Rattle.programme_lists.specs.Chosen.{ChoosesFrom, everybody}
 use Rattle.programme_lists.specs.Programme.{Admissions}
 use Rattle.rounds.specs.Rule.{MayApplyIn, rule_of}
 use Rattle.seat_matrix.specs.Matrix.{SeatTable, seats_in}
-use Rattle.apply_engine.specs.Engine.{AreBegun, Begins, Enters, HasApplied, HasEnded, IsSet, IsSettledTo, Setting, seekers_in}
+use Rattle.apply_engine.specs.Engine.{AreBegun, AreTallied, AreUntried, Begins, Enters, HasApplied, HasRun, IsSet, IsSettledTo, Setting, seekers_in}
 use Rattle.apply_engine.proofs.Setting.{chooses_well, length_with}
+use Rattle.apply_engine.proofs.Tallies.{untried}
 
 zeros_at : (n i m : ℕ) → slice_get (replicate n 0) i ≡ Some m → m ≡ 0
 zeros_at zero i m at = absurd (cc)
@@ -112,13 +114,33 @@ enters over version table people lists next states e begun zeros =
       not_begun = λ j m far at. none j m at;
     }
 
+-- and nobody came to any programme
+pub enters_untried : (over : Setting) (version : ℕ) (table : SeatTable) (people : List Person) (lists : List (List ProgId)) (next : List ℕ) (tallies : List Tried)
+    → Enters over version table people lists → AreUntried table tallies → next ≡ replicate (length lists) 0 → AreTallied over next tallies
+enters_untried over version table people lists next tallies e begun zeros =
+    let table_is : over.table ≡ table = ap (λ (o : Setting). o.table) e.over_is in
+    let none : (i n : ℕ) → slice_get next i ≡ Some n → n ≡ 0 = λ i n at. zeros_at (length lists) i n (subst (λ l. slice_get l i ≡ Some n) zeros at) in
+    untried over next tallies (subst (λ (t : SeatTable). AreUntried t tallies) (sym table_is) begun) (λ p. none_tried p (seekers_in over) next none)
+
 -- And end.
-pub ended : (over : Setting) (version : ℕ) (table : SeatTable) (people : List Person) (lists : List (List ProgId)) (before next : List ℕ) (states : List ProgrammeKept) (steps_before steps : ℕ)
-    → Enters over version table people lists → HasApplied over before next states (length people) steps_before steps → HasEnded over next
-ended over version table people lists before next states steps_before steps e h = record {
-  underway = h.going.underway;
-  settled = subst (λ k. IsSettledTo over next k) (ap length (ap (λ (o : Setting). o.people) (sym e.over_is))) h.settled;
+pub ended : (over : Setting) (version : ℕ) (table : SeatTable) (people : List Person) (lists : List (List ProgId)) (before next : List ℕ) (states : List ProgrammeKept) (tallies : List Tried) (steps_before steps : ℕ)
+    → Enters over version table people lists → HasApplied over before next states (length people) steps_before steps → AreTallied over next tallies → HasRun over next states tallies
+ended over version table people lists before next states tallies steps_before steps e h tallied = record {
+  set_is = e.set_is;
+  ended = record {
+    underway = h.going.underway;
+    settled = subst (λ k. IsSettledTo over next k) (ap length (ap (λ (o : Setting). o.people) (sym e.over_is))) h.settled;
+  };
+  shows = h.going.shows;
+  tallied = tallied;
 }
+
+-- the same run, told by lists that are the same
+pub run_again : (over : Setting) (next next2 : List ℕ) (states states2 : List ProgrammeKept) (tallies tallies2 : List Tried) → next2 ≡ next → states2 ≡ states → tallies2 ≡ tallies
+    → HasRun over next states tallies → HasRun over next2 states2 tallies2
+run_again over next next2 states states2 tallies tallies2 a b d run =
+    subst (λ (l : List ℕ). HasRun over l states2 tallies2) (sym a)
+    (subst (λ (l : List ProgrammeKept). HasRun over next l tallies2) (sym b) (subst (λ (l : List Tried). HasRun over next states l) (sym d) run))
 
 pub at_most : (over : Setting) (version : ℕ) (table : SeatTable) (people : List Person) (lists : List (List ProgId)) (before next : List ℕ) (states : List ProgrammeKept) (last steps_before steps : ℕ)
     → Enters over version table people lists → before ≡ replicate (length lists) 0 → HasApplied over before next states last steps_before steps → steps ≤ steps_before + places (seekers_in over)

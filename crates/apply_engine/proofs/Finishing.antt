@@ -1,13 +1,11 @@
 -- The end of a round: what the lists of the programmes show, and that the seats are the best allocation.
-use Rattle.std.proofs.Common.{◌≡◌, ◌<◌, ◌≤◌, ◌+◌, ℕ, List, [], ◌∷◌, Option, Some, length, arith, refl, sym, ap, ◌∙◌, subst, nat_lt}
+use Rattle.std.proofs.Common.{◌≡◌, ◌<◌, ◌+◌, ℕ, List, Option, Some, length, arith, refl, sym, ap, ◌∙◌, subst, nat_lt}
 use Rattle.std.specs.Prelude.{slice_get}
-use Rattle.std.specs.List.{AllByRecursion}
 use Rattle.std.proofs.lemmas.Option.{slice_get_within}
 use Rattle.office_base.specs.Merit.{in_merit}
 use Rattle.office_base.specs.Lists.{IsAmong}
 use Rattle.office_base.specs.declared.asks.Seat.{Seat}
 use Rattle.office_base.specs.declared.person.Person.{Person}
-use Rattle.office_base.specs.declared.person.ProgId.{ProgId}
 use Rattle.office_base.specs.declared.step.StepKind.{StepKind}
 use Rattle.placements.proofs.Zips.{zip_at, zip_back, zip_length}
 use Rattle.allocations.specs.Course.{AreSeatsOf, IsSettled, tried}
@@ -15,7 +13,10 @@ use Rattle.allocations.specs.Market.{Seeker, applicants, place_of, seat_at}
 use Rattle.allocations.proofs.Course.{ends_best, tried_may, settled_applicants}
 use Rattle.allocations.proofs.Places.{one_place}
 use Rattle.allocations.proofs.Those.{of_those, same_place}
-use Rattle.programme_lists.specs.Chosen.{ChoosesFrom, ShowsFrom}
+use Rattle.open_then_category.specs.State.{ProgrammeKept}
+use Rattle.open_then_category.specs.Tried.{HaveCome, counted}
+use Rattle.open_then_category.specs.declared.kept_lists.Tried.{Tried}
+use Rattle.programme_lists.specs.Chosen.{AreApplicants, ChoosesFrom, ShowsFrom}
 use Rattle.programme_lists.specs.Listing.{ShowsStep}
 use Rattle.programme_lists.specs.Programme.{Admissions, admitted_by}
 use Rattle.programme_lists.specs.declared.programme.Programme.{Programme}
@@ -23,13 +24,13 @@ use Rattle.programme_lists.specs.declared.programme.StepList.{StepList}
 use Rattle.rounds.specs.Rule.{MayApplyIn, rule_of}
 use Rattle.seat_matrix.specs.Fields.{step_number}
 use Rattle.seat_matrix.specs.Matrix.{seats_in}
+use Rattle.seat_matrix.specs.declared.seats.ProgrammeSeats.{ProgrammeSeats}
 use Rattle.seat_matrix.proofs.StepNumbers.{kinds, kind_at, number_at}
 use Rattle.seeks.specs.declared.seek.Seek.{Seek}
-use Rattle.apply_engine.specs.Engine.{HasEnded, IsMade, IsSet, Setting, seekers_in}
-use Rattle.apply_engine.specs.Made.{AreGiven, AreInOrder, AreListed, AreRows, AreShown, admitted_of, persons_at, rows_from, shown}
+use Rattle.apply_engine.specs.Engine.{HasEnded, HasRun, IsMade, IsSet, Setting, seekers_in}
+use Rattle.apply_engine.specs.Made.{AreGiven, AreInOrder, AreListed, AreShown, admitted_of, shown}
 use Rattle.apply_engine.proofs.Offers.{admitted_is_there, held_tried, rule_shows}
-use Rattle.apply_engine.proofs.RowLemmas.{rows_below, rows_tried}
-use Rattle.apply_engine.proofs.Setting.{chooses_well, length_with, made_at, seeker_at}
+use Rattle.apply_engine.proofs.Setting.{chooses_well, length_with, seeker_at}
 use Rattle.round_laws.proofs.People.{there_is}
 
 -- what the lists of a programme show
@@ -57,30 +58,20 @@ shown_at over next p programme (admissions, choice, steps) =
     }
 
 -- a run, with the lists of its programmes
-pub record Run (over : Setting) (next : List ℕ) (rows : List (List ℕ)) (programmes : List Programme) : Type 0 where
+pub record Run (over : Setting) (next : List ℕ) (programmes : List Programme) : Type 0 where
   pub set_is : IsSet over
   pub ended : HasEnded over next
-  pub rows_are : AreRows (length over.table.programmes) over.lists next rows
-  pub listed : AreListed over.version over.table over.people rows programmes
-
--- the persons of a row are those who tried
-pub row_tried : (over : Setting) (next : List ℕ) (rows : List (List ℕ)) (p : ℕ) (row : List ℕ) → IsSet over → AreRows (length over.table.programmes) over.lists next rows → slice_get rows p ≡ Some row
-    → persons_at over.people row ≡ tried p (seekers_in over) next
-row_tried over next rows p row set rows_are at = ap (λ r. persons_at over.people r) (rows_are.each p row at) ∙ rows_tried p over.people over.lists next set.full
+  pub listed : AreListed over next programmes
 
 pub may_of : (over : Setting) (next : List ℕ) (p : ℕ) → IsSet over → HasEnded over next → p < length over.table.programmes → MayApplyIn over.table p (tried p (seekers_in over) next)
 may_of over next p set ended below =
     tried_may (rule_of over.version over.table) (MayApplyIn over.table) (length over.table.programmes) p (seekers_in over) next set.market
     (chooses_well over.version over.table set.laws set.seats) below ended.underway.full ended.underway.within
 
-at_programme : (over : Setting) (next : List ℕ) (rows : List (List ℕ)) (programmes : List Programme) (p : ℕ) (programme : Programme) → Run over next rows programmes → slice_get programmes p ≡ Some programme
+at_programme : (over : Setting) (next : List ℕ) (programmes : List Programme) (p : ℕ) (programme : Programme) → Run over next programmes → slice_get programmes p ≡ Some programme
     → (p < length over.table.programmes) × ShownAt over next p programme
-at_programme over next rows programmes p programme r at =
-    let less : p < length rows = (let short = slice_get_within programmes p programme at in let f = r.listed.full in omega (arith, short, f)) in
-    let row = there_is rows p less in
-    let shows = r.listed.each p row.0 programme row.1 at in
-    let same = row_tried over next rows p row.0 r.set_is r.rows_are row.1 in
-    ((let f = r.rows_are.full in omega (arith, less, f)), shown_at over next p programme (subst (λ people. ShowsFrom over.version (seats_in over.table p) people programme) same shows))
+at_programme over next programmes p programme r at =
+    ((let short = slice_get_within programmes p programme at in let f = r.listed.full in omega (arith, short, f)), shown_at over next p programme (r.listed.each p programme at))
 
 -- whoever is shown tried the programme last
 pub record Seated (over : Setting) (next : List ℕ) (p : ℕ) (person : Person) (kind : StepKind) : Type 0 where
@@ -93,10 +84,10 @@ pub record Seated (over : Setting) (next : List ℕ) (p : ℕ) (person : Person)
   pub last : n ≡ place_of s.list p + 1
   pub rule_is : rule_of over.version over.table p (tried p (seekers_in over) next) person kind
 
-seated : (over : Setting) (next : List ℕ) (rows : List (List ℕ)) (programmes : List Programme) (p : ℕ) (programme : Programme) (person : Person) (kind : StepKind) → Run over next rows programmes
+seated : (over : Setting) (next : List ℕ) (programmes : List Programme) (p : ℕ) (programme : Programme) (person : Person) (kind : StepKind) → Run over next programmes
     → slice_get programmes p ≡ Some programme → IsAmong person (shown programme kind) → Seated over next p person kind
-seated over next rows programmes p programme person kind r at among =
-    let here = at_programme over next rows programmes p programme r at in
+seated over next programmes p programme person kind r at among =
+    let here = at_programme over next programmes p programme r at in
     let is = here.1 in
     let may = may_of over next p r.set_is r.ended here.0 in
     let among' : IsAmong person (admitted_by is.admissions kind) = subst (λ l. IsAmong person l) (is.shown_is kind) among in
@@ -117,17 +108,17 @@ seated over next rows programmes p programme person kind r at among =
     }
 
 -- What the programmes of a run show.
-pub all_shown : (over : Setting) (next : List ℕ) (rows : List (List ℕ)) (programmes : List Programme) → Run over next rows programmes → AreShown over.people programmes
-all_shown over next rows programmes r = record {
-  few = (let a = r.listed.full in let b = r.rows_are.full in let d = r.set_is.seats.few in omega (arith, a, b, d));
-  in_order = λ p programme at. (at_programme over next rows programmes p programme r at).1.order;
+pub all_shown : (over : Setting) (next : List ℕ) (programmes : List Programme) → Run over next programmes → AreShown over.people programmes
+all_shown over next programmes r = record {
+  few = (let a = r.listed.full in let d = r.set_is.seats.few in omega (arith, a, d));
+  in_order = λ p programme at. (at_programme over next programmes p programme r at).1.order;
   of_people = λ p programme kind at person among.
-      let x = seated over next rows programmes p programme person kind r at among in
+      let x = seated over next programmes p programme person kind r at among in
       let place = seeker_at over.people over.lists x.place x.s x.there in
       (x.place, subst (λ z. slice_get over.people x.place ≡ Some z) (sym x.person_is) place.person_at);
   once = λ p q programme other person kind next_kind at at' among among'.
-      let x = seated over next rows programmes p programme person kind r at among in
-      let y = seated over next rows programmes q other person next_kind r at' among' in
+      let x = seated over next programmes p programme person kind r at among in
+      let y = seated over next programmes q other person next_kind r at' among' in
       let place : x.place ≡ y.place = same_place (seekers_in over) x.place y.place x.s y.s r.set_is.market.ids x.there y.there (ap (λ (z : Person). z.id) (sym x.person_is ∙ y.person_is)) in
       let there : slice_get (seekers_in over) x.place ≡ Some y.s = subst (λ k. slice_get (seekers_in over) k ≡ Some y.s) (sym place) y.there in
       let at_n : slice_get next x.place ≡ Some y.n = subst (λ k. slice_get next k ≡ Some y.n) (sym place) y.at in
@@ -136,7 +127,7 @@ all_shown over next rows programmes r = record {
       let places : place_of x.s.list p ≡ place_of x.s.list q = (let a = x.last in let b = y.last in let d = ap (λ (z : Seeker). place_of z.list q) seeker in omega (arith, a, b, d, value)) in
       let less : place_of x.s.list p < length x.s.list = (let a = x.last in let short = r.ended.underway.within x.place x.n x.s x.there x.at in omega (arith, a, short)) in
       let prog : p ≡ q = one_place x.s.list p q less places in
-      let below = (at_programme over next rows programmes p programme r at).0 in
+      let below = (at_programme over next programmes p programme r at).0 in
       let second : rule_of over.version over.table p (tried p (seekers_in over) next) person next_kind =
       subst (λ k. rule_of over.version over.table k (tried k (seekers_in over) next) person next_kind) (sym prog) y.rule_is in
       let well = chooses_well over.version over.table r.set_is.laws r.set_is.seats in
@@ -144,12 +135,12 @@ all_shown over next rows programmes r = record {
 }
 
 -- The seats that they show are those that the programmes give.
-pub are_seats : (over : Setting) (next : List ℕ) (rows : List (List ℕ)) (programmes : List Programme) (seats : List (Option Seat)) → Run over next rows programmes
+pub are_seats : (over : Setting) (next : List ℕ) (programmes : List Programme) (seats : List (Option Seat)) → Run over next programmes
     → AreGiven over.people programmes (length programmes) seats
     → AreSeatsOf (rule_of over.version over.table) (length over.table.programmes) (seekers_in over) next seats
-are_seats over next rows programmes seats r given =
+are_seats over next programmes seats r given =
     let size = length_with over.people over.lists r.set_is.full in
-    let count : length programmes ≡ length over.table.programmes = r.listed.full ∙ r.rows_are.full in
+    let count : length programmes ≡ length over.table.programmes = r.listed.full in
     record {
       full = (let g = given.full in omega (arith, g, size));
       below = λ i seat has.
@@ -159,7 +150,7 @@ are_seats over next rows programmes seats r given =
       each = λ p i s kind below there.
           let less : p < length programmes = omega (arith, below, count) in
           let programme = there_is programmes p less in
-          let is = (at_programme over next rows programmes p programme.0 r programme.1).1 in
+          let is = (at_programme over next programmes p programme.0 r programme.1).1 in
           let person = (seeker_at over.people over.lists i s there).person_at in
           let may = may_of over next p r.set_is r.ended below in (
             λ rule_is.
@@ -180,42 +171,43 @@ all_settled over next set ended i n s there at =
     ended.settled i n s (slice_get_within over.people i s.person (seeker_at over.people over.lists i s there).person_at) there at
 
 -- The round of a run.
-pub made : (over : Setting) (next : List ℕ) (rows : List (List ℕ)) (programmes : List Programme) (seats : List (Option Seat)) (n : ℕ) (seeks : List Seek) → Run over next rows programmes
+pub made : (over : Setting) (next : List ℕ) (programmes : List Programme) (seats : List (Option Seat)) (n : ℕ) (seeks : List Seek) → Run over next programmes
     → AreGiven over.people programmes (length programmes) seats → IsMade over n seeks (record { number = n; seeks = seeks; seats = seats; programmes = programmes })
-made over next rows programmes seats n seeks r given =
-    let are = are_seats over next rows programmes seats r given in
+made over next programmes seats n seeks r given =
+    let are = are_seats over next programmes seats r given in
     let settled = all_settled over next r.set_is r.ended in
     record {
       number = refl;
       sought = refl;
       best = ends_best (rule_of over.version over.table) (MayApplyIn over.table) (length over.table.programmes) (seekers_in over) next seats r.set_is.market
           (chooses_well over.version over.table r.set_is.laws r.set_is.seats) r.ended.underway are settled;
-      count = r.listed.full ∙ r.rows_are.full;
+      count = r.listed.full;
       shown = λ p programme at.
-          let less : p < length rows = (let short = slice_get_within programmes p programme at in let f = r.listed.full in omega (arith, short, f)) in
-          let row = there_is rows p less in
-          let same : persons_at over.people row.0 ≡ applicants p (seekers_in over) seats =
-          row_tried over next rows p row.0 r.set_is r.rows_are row.1
-          ∙ sym (settled_applicants (rule_of over.version over.table) (MayApplyIn over.table) (length over.table.programmes) p (seekers_in over) next seats r.ended.underway are settled) in
-          subst (λ people. ShowsFrom over.version (seats_in over.table p) people programme) same (r.listed.each p row.0 programme row.1 at);
+          let same : tried p (seekers_in over) next ≡ applicants p (seekers_in over) seats =
+          sym (settled_applicants (rule_of over.version over.table) (MayApplyIn over.table) (length over.table.programmes) p (seekers_in over) next seats r.ended.underway are settled) in
+          subst (λ people. ShowsFrom over.version (seats_in over.table p) people programme) same (r.listed.each p programme at);
     }
 
--- the places of a row are places of the register
-pub row_below : (over : Setting) (next : List ℕ) (rows : List (List ℕ)) (p : ℕ) (row : List ℕ) → IsSet over → AreRows (length over.table.programmes) over.lists next rows → slice_get rows p ≡ Some row
-    → AllByRecursion (λ place. place < length over.people) row
-row_below over next rows p row set are at =
-    subst (λ r. AllByRecursion (λ place. place < length over.people) r) (sym (are.each p row at))
-    (subst (λ size. AllByRecursion (λ place. place < size) (rows_from p over.lists next 0)) (let f = set.full in omega (arith, f)) (rows_below p over.lists next 0))
+-- What came to a programme of a run: those who tried it.
+pub have_come : (over : Setting) (next : List ℕ) (states : List ProgrammeKept) (tallies : List Tried) (p : ℕ) (state : ProgrammeKept) (tally : Tried) → HasRun over next states tallies
+    → slice_get states p ≡ Some state → slice_get tallies p ≡ Some tally → HaveCome state tally (tried p (seekers_in over) next)
+have_come over next states tallies p state tally run at at' =
+    let below : p < length over.table.programmes = (let less = slice_get_within states p state at in let f = run.shows.full in omega (arith, less, f)) in
+    let shows = run.shows.each p state at in
+    let may = may_of over next p run.set_is run.ended below in
+    let people = tried p (seekers_in over) next in
+    let seats = sym shows.seats_are in
+    record {
+      may = subst (λ (s : ProgrammeSeats). AreApplicants s.list people) seats may;
+      choice = subst (λ (s : ProgrammeSeats). ChoosesFrom state.version s people state.admissions) seats (subst (λ v. ChoosesFrom v (seats_in over.table p) people state.admissions) (sym shows.version_is) shows.choice);
+      counts = run.tallied.each p tally at' ∙ ap (λ (s : ProgrammeSeats). counted s.list people) seats;
+    }
 
--- those at the places of a row may apply
-pub row_may : (over : Setting) (next : List ℕ) (rows : List (List ℕ)) (p : ℕ) (row : List ℕ) → IsSet over → HasEnded over next → AreRows (length over.table.programmes) over.lists next rows
-    → slice_get rows p ≡ Some row → MayApplyIn over.table p (persons_at over.people row)
-row_may over next rows p row set ended are at =
-    subst (λ people. MayApplyIn over.table p people) (sym (row_tried over next rows p row set are at))
-    (may_of over next p set ended (let less = slice_get_within rows p row at in let f = are.full in omega (arith, less, f)))
-
--- how many programmes of the list are tried is within it
-pub tried_within : (over : Setting) (next : List ℕ) → IsSet over → HasEnded over next → (i n : ℕ) (list : List ProgId) → slice_get over.lists i ≡ Some list → slice_get next i ≡ Some n → n ≤ length list
-tried_within over next set ended i n list at at' =
-    let person = there_is over.people i (let less = slice_get_within over.lists i list at in let f = set.full in omega (arith, less, f)) in
-    ended.underway.within i n (record { person = person.0; list = list }) (made_at over.people over.lists i person.0 list person.1 at) at'
+-- what is shown from those who came is shown from those who tried
+pub shows_tried : (over : Setting) (next : List ℕ) (states : List ProgrammeKept) (tallies : List Tried) (p : ℕ) (state : ProgrammeKept) (programme : Programme) → HasRun over next states tallies
+    → slice_get states p ≡ Some state → ShowsFrom state.version state.seats (tried p (seekers_in over) next) programme
+    → ShowsFrom over.version (seats_in over.table p) (tried p (seekers_in over) next) programme
+shows_tried over next states tallies p state programme run at shown =
+    let is = run.shows.each p state at in
+    let people = tried p (seekers_in over) next in
+    subst (λ v. ShowsFrom v (seats_in over.table p) people programme) is.version_is (subst (λ (s : ProgrammeSeats). ShowsFrom state.version s people programme) is.seats_are shown)

@@ -6,7 +6,7 @@ pub mod MadeLemmas
 pub mod Making
 pub mod Offers
 pub mod Pushing
-pub mod RowLemmas
 pub mod SeatLemmas
 pub mod Setting
+pub mod Tallies
 mod Whole

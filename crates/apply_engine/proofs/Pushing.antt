@@ -1,13 +1,15 @@
--- States and lists of programmes, one after another.
+-- States, counts and lists of programmes, one after another.
 use Rattle.std.proofs.Common.{◌≡◌, ◌+◌, ◌⊎◌, inl, inr, ℕ, zero, suc, List, [], ◌∷◌, ◌++◌, Some, length, arith, refl, sym, ap, ◌∙◌, subst}
 use Rattle.std.specs.Prelude.{slice_get}
-use Rattle.office_base.specs.declared.person.Person.{Person}
+use Rattle.allocations.specs.Course.{tried}
 use Rattle.open_then_category.specs.State.{ProgrammeKept, nobody}
+use Rattle.open_then_category.specs.Tried.{counted}
+use Rattle.open_then_category.specs.declared.kept_lists.Tried.{Tried}
 use Rattle.programme_lists.specs.Chosen.{ShowsFrom}
 use Rattle.programme_lists.specs.declared.programme.Programme.{Programme}
-use Rattle.seat_matrix.specs.Matrix.{SeatTable, seats_in}
-use Rattle.apply_engine.specs.Engine.{AreBegun}
-use Rattle.apply_engine.specs.Made.{persons_at}
+use Rattle.seat_matrix.specs.Matrix.{SeatTable, list_in, seats_in}
+use Rattle.apply_engine.specs.Engine.{AreBegun, AreUntried, Setting, seekers_in}
+use Rattle.apply_engine.specs.Made.{AreListed}
 
 -- what stands at a place of a list with one more
 at_end : {X : Type 0} (xs : List X) (x y : X) (p : ℕ) → slice_get (xs ++ x ∷ []) p ≡ Some y → (slice_get xs p ≡ Some y) ⊎ ((p ≡ length xs) × (x ≡ y))
@@ -43,30 +45,51 @@ begun_more version table n states new state h made is = record {
 pub begun_all : (version : ℕ) (table : SeatTable) (n : ℕ) (states : List ProgrammeKept) → BegunTo version table n states → n ≡ length table.programmes → AreBegun version table states
 begun_all version table n states h all = record { full = h.full ∙ all; each = h.each }
 
-pub record ListedTo (version : ℕ) (table : SeatTable) (people : List Person) (rows : List (List ℕ)) (n : ℕ) (programmes : List Programme) : Type 0 where
-  pub full : length programmes ≡ n
-  pub each : (p : ℕ) (row : List ℕ) (programme : Programme) → slice_get rows p ≡ Some row → slice_get programmes p ≡ Some programme
-      → ShowsFrom version (seats_in table p) (persons_at people row) programme
+pub record UntriedTo (table : SeatTable) (n : ℕ) (tallies : List Tried) : Type 0 where
+  pub full : length tallies ≡ n
+  pub each : (p : ℕ) (tally : Tried) → slice_get tallies p ≡ Some tally → tally ≡ counted (list_in table p) []
 
-pub listed_none : (version : ℕ) (table : SeatTable) (people : List Person) (rows : List (List ℕ)) (programmes : List Programme) → programmes ≡ [] → ListedTo version table people rows 0 programmes
-listed_none version table people rows programmes none = record {
+pub untried_none : (table : SeatTable) (tallies : List Tried) → tallies ≡ [] → UntriedTo table 0 tallies
+untried_none table tallies none = record {
   full = ap length none;
-  each = λ p row programme at at'. absurd (let at'' : slice_get [] p ≡ Some programme = subst (λ l. slice_get l p ≡ Some programme) none at' in cc);
+  each = λ p tally at. absurd (let at' : slice_get [] p ≡ Some tally = subst (λ l. slice_get l p ≡ Some tally) none at in cc);
 }
 
-pub listed_more : (version : ℕ) (table : SeatTable) (people : List Person) (rows : List (List ℕ)) (n : ℕ) (programmes new : List Programme) (programme : Programme) (row : List ℕ)
-    → ListedTo version table people rows n programmes → new ≡ programmes ++ programme ∷ [] → slice_get rows n ≡ Some row
-    → ShowsFrom version (seats_in table n) (persons_at people row) programme → ListedTo version table people rows (n + 1) new
-listed_more version table people rows n programmes new programme row h made there shows = record {
-  full = ap length made ∙ (longer programmes programme ∙ ap (λ k. k + 1) h.full);
-  each = λ p other next at at'. elim (at_end programmes programme next p (subst (λ l. slice_get l p ≡ Some next) made at')) [
-    | inl before ↦ h.each p other next at before
-    | inr now ↦
-        let here : p ≡ n = now.0 ∙ h.full in
-        let at_n : slice_get rows n ≡ Some other = subst (λ k. slice_get rows k ≡ Some other) here at in
-        let same : row ≡ other = cc in
-        let first = subst (λ r. ShowsFrom version (seats_in table n) (persons_at people r) programme) same shows in
-        let second = subst (λ x. ShowsFrom version (seats_in table n) (persons_at people other) x) now.1 first in
-        subst (λ k. ShowsFrom version (seats_in table k) (persons_at people other) next) (sym here) second
+pub untried_more : (table : SeatTable) (n : ℕ) (tallies new : List Tried) (tally : Tried) → UntriedTo table n tallies → new ≡ tallies ++ tally ∷ [] → tally ≡ counted (list_in table n) []
+    → UntriedTo table (n + 1) new
+untried_more table n tallies new tally h made is = record {
+  full = ap length made ∙ (longer tallies tally ∙ ap (λ k. k + 1) h.full);
+  each = λ p other at. elim (at_end tallies tally other p (subst (λ l. slice_get l p ≡ Some other) made at)) [
+    | inl before ↦ h.each p other before
+    | inr now ↦ sym now.1 ∙ (is ∙ ap (λ k. counted (list_in table k) []) (sym (now.0 ∙ h.full)))
   ];
 }
+
+pub untried_all : (table : SeatTable) (n : ℕ) (tallies : List Tried) → UntriedTo table n tallies → n ≡ length table.programmes → AreUntried table tallies
+untried_all table n tallies h all = record { full = h.full ∙ all; each = h.each }
+
+pub record ListedTo (over : Setting) (next : List ℕ) (n : ℕ) (programmes : List Programme) : Type 0 where
+  pub full : length programmes ≡ n
+  pub each : (p : ℕ) (programme : Programme) → slice_get programmes p ≡ Some programme → ShowsFrom over.version (seats_in over.table p) (tried p (seekers_in over) next) programme
+
+pub listed_none : (over : Setting) (next : List ℕ) (programmes : List Programme) → programmes ≡ [] → ListedTo over next 0 programmes
+listed_none over next programmes none = record {
+  full = ap length none;
+  each = λ p programme at. absurd (let at' : slice_get [] p ≡ Some programme = subst (λ l. slice_get l p ≡ Some programme) none at in cc);
+}
+
+pub listed_more : (over : Setting) (next : List ℕ) (n : ℕ) (programmes new : List Programme) (programme : Programme) → ListedTo over next n programmes → new ≡ programmes ++ programme ∷ []
+    → ShowsFrom over.version (seats_in over.table n) (tried n (seekers_in over) next) programme → ListedTo over next (n + 1) new
+listed_more over next n programmes new programme h made shows = record {
+  full = ap length made ∙ (longer programmes programme ∙ ap (λ k. k + 1) h.full);
+  each = λ p other at. elim (at_end programmes programme other p (subst (λ l. slice_get l p ≡ Some other) made at)) [
+    | inl before ↦ h.each p other before
+    | inr now ↦
+        let here : p ≡ n = now.0 ∙ h.full in
+        let same = subst (λ x. ShowsFrom over.version (seats_in over.table n) (tried n (seekers_in over) next) x) now.1 shows in
+        subst (λ k. ShowsFrom over.version (seats_in over.table k) (tried k (seekers_in over) next) other) (sym here) same
+  ];
+}
+
+pub listed_all : (over : Setting) (next : List ℕ) (n : ℕ) (programmes : List Programme) → ListedTo over next n programmes → n ≡ length over.table.programmes → AreListed over next programmes
+listed_all over next n programmes h all = record { full = h.full ∙ all; each = h.each }

@@ -17,9 +17,11 @@ use Rattle.rounds.specs.declared.round.Round.{Round}
 use Rattle.seeks.specs.declared.seek.Seek.{Seek}
 use Rattle.open_then_category.specs.Laws.{AdmittedOnce, OneProgrammeChoice, ProgrammeChoiceExists, Resumes}
 use Rattle.open_then_category.specs.State.{ProgrammeKept, nobody}
+use Rattle.open_then_category.specs.Tried.{counted}
+use Rattle.open_then_category.specs.declared.kept_lists.Tried.{Tried}
 use Rattle.programme_lists.specs.Chosen.{ChoosesFrom, ShowsFrom}
 use Rattle.rounds.specs.Rule.{AreSeeks, MayApplyIn, ProgrammesChooseWell, rule_of}
-use Rattle.seat_matrix.specs.Matrix.{AreSeats, SeatTable, seats_in}
+use Rattle.seat_matrix.specs.Matrix.{AreSeats, SeatTable, list_in, seats_in}
 pub use Rattle.round_laws.specs.Laws.{lists_in}
 
 -- what the laws of the choice of a programme and of rounds say
@@ -74,6 +76,11 @@ pub record IsGoing (set : Setting) (next : List ℕ) (states : List ProgrammeKep
   pub underway : IsUnderway (rule_of set.version set.table) (length set.table.programmes) (seekers_in set) next
   pub shows : AllShow set.version set.table (seekers_in set) next states
 
+-- each count of a programme is that of those who tried it
+pub record AreTallied (set : Setting) (next : List ℕ) (tallies : List Tried) : Type 0 where
+  pub full : length tallies ≡ length set.table.programmes
+  pub each : (p : ℕ) (tally : Tried) → slice_get tallies p ≡ Some tally → tally ≡ counted (list_in set.table p) (tried p (seekers_in set) next)
+
 -- the seeker at this place is not held
 pub record IsFree (set : Setting) (next : List ℕ) (i : ℕ) : Type 0 where
   pub s : Seeker
@@ -103,6 +110,11 @@ Leaves set before after cur (Some out) = IsLeftFree set before after cur out
 pub record AreBegun (version : ℕ) (table : SeatTable) (states : List ProgrammeKept) : Type 0 where
   pub full : length states ≡ length table.programmes
   pub each : (p : ℕ) (state : ProgrammeKept) → slice_get states p ≡ Some state → state ≡ record { version = version; seats = seats_in table p; admissions = nobody }
+
+-- nobody came to a programme yet
+pub record AreUntried (table : SeatTable) (tallies : List Tried) : Type 0 where
+  pub full : length tallies ≡ length table.programmes
+  pub each : (p : ℕ) (tally : Tried) → slice_get tallies p ≡ Some tally → tally ≡ counted (list_in table p) []
 
 -- what the engine reads: the list at the place, the programme there, and the person
 pub record Reads (over : Setting) (people : List Person) (lists : List (List ProgId)) (next : List ℕ) (states : List ProgrammeKept) (cur : ℕ) : Type 0 where
@@ -160,8 +172,9 @@ pub record IsMade (over : Setting) (n : ℕ) (seeks : List Seek) (round : Round)
   pub count : length round.programmes ≡ length over.table.programmes
   pub shown : (p : ℕ) (programme : Programme) → slice_get round.programmes p ≡ Some programme → ShowsFrom over.version (seats_in over.table p) (applicants p (seekers_in over) round.seats) programme
 
--- The applications over a setting have ended.
-pub record HasRun (version : ℕ) (table : SeatTable) (people : List Person) (lists : List (List ProgId)) (next : List ℕ) : Type 0 where
-  pub version_is : IsVersion version
-  pub set_is : IsSet (record { version = version; table = table; people = people; lists = lists })
-  pub ended : HasEnded (record { version = version; table = table; people = people; lists = lists }) next
+-- The applications over a setting have ended: each programme shows the choice from those who tried it, and the counts are theirs.
+pub record HasRun (over : Setting) (next : List ℕ) (states : List ProgrammeKept) (tallies : List Tried) : Type 0 where
+  pub set_is : IsSet over
+  pub ended : HasEnded over next
+  pub shows : AllShow over.version over.table (seekers_in over) next states
+  pub tallied : AreTallied over next tallies

@@ -1,12 +1,13 @@
--- What is made before and after the applications: the effective lists, who tried which programme, and the seats from the lists of the programmes.
-use Rattle.std.specs.Prelude.{◌≡◌, ◌<◌, ◌≤◌, ◌+◌, ℕ, List, [], ◌∷◌, ◌++◌, Option, Some, None, length, slice_get, nat_lt, if◌then◌else◌}
+-- What is made before and after the applications: the effective lists, the lists of the programmes, and the seats from them.
+use Rattle.std.specs.Prelude.{◌≡◌, ◌<◌, ◌≤◌, ℕ, List, [], ◌∷◌, Option, Some, None, length, slice_get}
 use Rattle.office_base.specs.Limits.{most_programmes}
 use Rattle.office_base.specs.Lists.{IsAmong}
 use Rattle.office_base.specs.declared.asks.Seat.{Seat}
 use Rattle.office_base.specs.declared.person.Person.{Person}
 use Rattle.office_base.specs.declared.person.ProgId.{ProgId}
 use Rattle.office_base.specs.declared.step.StepKind.{StepKind}
-use Rattle.allocations.specs.Market.{place_of, seat_at}
+use Rattle.allocations.specs.Course.{tried}
+use Rattle.allocations.specs.Market.{seat_at}
 use Rattle.programme_lists.specs.Chosen.{ShowsFrom}
 use Rattle.programme_lists.specs.declared.programme.Programme.{Programme}
 use Rattle.programme_lists.specs.declared.programme.StepList.{StepList}
@@ -14,41 +15,13 @@ use Rattle.seat_matrix.specs.Fields.{step_number}
 use Rattle.seat_matrix.specs.Matrix.{SeatTable, seats_in}
 use Rattle.seeks.specs.Seek.{seek_leaves}
 use Rattle.seeks.specs.declared.seek.Seek.{Seek}
+use Rattle.apply_engine.specs.Engine.{Setting, seekers_in}
 
 -- what the seeks leave of the lists
 abbrev pub leaves_along : SeatTable → List (List ProgId) → List Seek → List (List ProgId)
 leaves_along table [] seeks = []
 leaves_along table (list ∷ lists) [] = []
 leaves_along table (list ∷ lists) (seek ∷ seeks) = seek_leaves table seek list ∷ leaves_along table lists seeks
-
--- the places of those who tried a programme: it stands on their list before the place that they try next; the first list is of this place
-abbrev pub rows_from : ℕ → List (List ProgId) → List ℕ → ℕ → List ℕ
-rows_from p [] next from = []
-rows_from p (list ∷ lists) [] from = []
-rows_from p (list ∷ lists) (n ∷ next) from = if nat_lt (place_of list p) n then from ∷ rows_from p lists next (from + 1) else rows_from p lists next (from + 1)
-
--- for each programme the places of those who tried it
-pub record AreRows (count : ℕ) (lists : List (List ProgId)) (next : List ℕ) (rows : List (List ℕ)) : Type 0 where
-  pub full : length rows ≡ count
-  pub each : (p : ℕ) (row : List ℕ) → slice_get rows p ≡ Some row → row ≡ rows_from p lists next 0
-
--- a place more where the programme is one of the first n of the list
-abbrev pub when_tried : ℕ → List ProgId → ℕ → ℕ → List ℕ
-when_tried p list n place = if nat_lt (place_of list p) n then place ∷ [] else []
-
--- Each programme has the place more, if it is one of the first n of the list.
-pub record HaveMore (list : List ProgId) (n place : ℕ) (old new : List (List ℕ)) : Type 0 where
-  pub full : length new ≡ length old
-  pub each : (p : ℕ) (before after : List ℕ) → slice_get old p ≡ Some before → slice_get new p ≡ Some after → after ≡ before ++ when_tried p list n place
-
--- the persons at some places
-abbrev pub with_some : Option Person → List Person → List Person
-with_some None people = people
-with_some (Some person) people = person ∷ people
-
-abbrev pub persons_at : List Person → List ℕ → List Person
-persons_at people [] = []
-persons_at people (place ∷ places) = with_some (slice_get people place) (persons_at people places)
 
 -- Those admitted have this seat, and all others have what they had.
 pub record IsPut (people : List Person) (seat : Seat) (admitted : List Person) (old new : List (Option Seat)) : Type 0 where
@@ -60,11 +33,10 @@ pub record IsPut (people : List Person) (seat : Seat) (admitted : List Person) (
 abbrev pub AreOf : List Person → List Person → Type 0
 AreOf people some = (person : Person) → IsAmong person some → (i : ℕ) × (slice_get people i ≡ Some person)
 
--- Each programme shows its choice from the persons at its places.
-pub record AreListed (version : ℕ) (table : SeatTable) (people : List Person) (rows : List (List ℕ)) (programmes : List Programme) : Type 0 where
-  pub full : length programmes ≡ length rows
-  pub each : (p : ℕ) (row : List ℕ) (programme : Programme) → slice_get rows p ≡ Some row → slice_get programmes p ≡ Some programme
-      → ShowsFrom version (seats_in table p) (persons_at people row) programme
+-- Each programme shows its choice from those who tried it.
+pub record AreListed (over : Setting) (next : List ℕ) (programmes : List Programme) : Type 0 where
+  pub full : length programmes ≡ length over.table.programmes
+  pub each : (p : ℕ) (programme : Programme) → slice_get programmes p ≡ Some programme → ShowsFrom over.version (seats_in over.table p) (tried p (seekers_in over) next) programme
 
 -- those whom a programme's lists show as admitted by a step
 abbrev pub admitted_of : Option StepList → List Person

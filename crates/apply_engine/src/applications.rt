@@ -2,17 +2,26 @@
 ghost use Rattle.std.specs.Prelude.{◌≡◌, ◌<◌, ◌≤◌, ◌+◌, ℕ, List, Some, None, IfOk, length, replicate, slice_get, slice_set, slice_index};
 ghost use Rattle.allocations.specs.Course.{places, places_left};
 ghost use Rattle.office_base.specs.Version.{IsVersion};
-ghost use Rattle.apply_engine.specs.Engine.{Setting, IsSet, IsGoing, IsFree, IsSettledTo, Begins, BeginsAt, Enters, HasApplied, HasEnded, Leaves, Reads, seekers_in};
+ghost use Rattle.apply_engine.specs.Engine.{Setting, AreTallied, IsGoing, Begins, BeginsAt, Enters, HasApplied, HasRun, Leaves, Reads, seekers_in};
 
-use crate::one_round::begin_states;
+use crate::programmes::{begin_states, begin_tallies};
 use choice_lists::FlatLists;
 use merit_choice::Offered;
 use office_base::{OutOfMemory, ProgId, Steps};
-use open_then_category::ProgrammeState;
+use open_then_category::{ProgrammeState, Tried};
 use rank_lists::Register;
 use seat_matrix::Matrix;
 use std::alloc::Global;
 use std::sync::ledger::Ledger;
+
+/// All applications: the programmes, each with the choice from all who tried it, how many tried it, and how many programmes
+/// of the own list each candidate tried.
+#[derive(Drop)]
+pub(crate) struct Applied {
+    pub states: Vec<ProgrammeState>,
+    pub tallies: Vec<Tried>,
+    pub next: Vec<u16>,
+}
 
 /// The candidate at `cur`, who is free, tries the next programme of the own list. Who is free then: nobody, or the one
 /// at this place.
@@ -20,13 +29,16 @@ fn offer_next<L: Ledger>(
     register: &Register,
     lists: &FlatLists<ProgId>,
     states: &mut [ProgrammeState],
+    tallies: &mut [Tried],
     next: &mut [u16],
     cur: usize,
     steps: &mut Steps<L>,
 ) -> Option<usize>
     ghost over: { Setting }
-    requires { Reads over register.now.people lists.now next.old states.old cur }
+    requires reads { Reads over register.now.people lists.now next.old states.old cur }
+    requires tallied { AreTallied over next.old tallies.old }
     ensures going { IsGoing over next.new states.new }
+    ensures tallied { AreTallied over next.new tallies.new }
     ensures next { next.new ≡ slice_set next.old cur (slice_index next.old cur + 1) }
     ensures free { Leaves over next.old next.new cur result }
     ensures left { places_left (seekers_in over) next.old ≡ places_left (seekers_in over) next.new + 1 }
@@ -35,7 +47,9 @@ fn offer_next<L: Ledger>(
     let prog = lists.at(cur)[usize::from(next[cur])];
     next[cur] += 1;
     let person = &register.people()[cur];
-    match states[usize::from(prog.0)].offer(person, steps) {
+    let at = usize::from(prog.0);
+    tallies[at].add(person);
+    match states[at].offer(person, steps) {
         Offered::Taken => None,
         Offered::Refused => Some(cur),
         Offered::Displaced(cand) => {
@@ -52,17 +66,20 @@ fn apply_from<L: Ledger>(
     register: &Register,
     lists: &FlatLists<ProgId>,
     states: &mut [ProgrammeState],
+    tallies: &mut [Tried],
     next: &mut [u16],
     first: usize,
     steps: &mut Steps<L>,
 )
     ghost over: { Setting }
-    requires { BeginsAt over register.now.people lists.now next.old states.old first }
-    ensures { HasApplied over next.old next.new states.new (first + 1) steps.old steps.new }
+    requires begins { BeginsAt over register.now.people lists.now next.old states.old first }
+    requires tallied { AreTallied over next.old tallies.old }
+    ensures applied { HasApplied over next.old next.new states.new (first + 1) steps.old steps.new }
+    ensures tallied { AreTallied over next.new tallies.new }
 {
     let mut cur = first;
     while usize::from(next[cur]) < lists.at(cur).len() {
-        match offer_next(register, lists, states, next, cur, steps) {
+        match offer_next(register, lists, states, tallies, next, cur, steps) {
             None => return,
             Some(free) => cur = free,
         }
@@ -74,15 +91,18 @@ fn apply_in_order<L: Ledger>(
     register: &Register,
     lists: &FlatLists<ProgId>,
     states: &mut [ProgrammeState],
+    tallies: &mut [Tried],
     next: &mut [u16],
     steps: &mut Steps<L>,
 )
     ghost over: { Setting }
-    requires { Begins over register.now.people lists.now next.old states.old 0 }
-    ensures { HasApplied over next.old next.new states.new (length register.now.people) steps.old steps.new }
+    requires begins { Begins over register.now.people lists.now next.old states.old 0 }
+    requires tallied { AreTallied over next.old tallies.old }
+    ensures applied { HasApplied over next.old next.new states.new (length register.now.people) steps.old steps.new }
+    ensures tallied { AreTallied over next.new tallies.new }
 {
     for first in 0..next.len() {
-        apply_from(register, lists, states, next, first, steps);
+        apply_from(register, lists, states, tallies, next, first, steps);
     }
 }
 
@@ -93,7 +113,7 @@ fn zeros(alloc: Global, count: usize) -> Result<Vec<u16>, OutOfMemory>
     Ok(vec![in alloc; 0u16; count]?)
 }
 
-/// All applications, from the first one on: how many programmes of the own list each candidate tried.
+/// All applications, from the first one on.
 pub(crate) fn apply_all<L: Ledger>(
     alloc: Global,
     version: u8,
@@ -101,14 +121,19 @@ pub(crate) fn apply_all<L: Ledger>(
     register: &Register,
     lists: &FlatLists<ProgId>,
     steps: &mut Steps<L>,
-) -> Result<Vec<u16>, OutOfMemory>
+) -> Result<Applied, OutOfMemory>
     ghost over: { Setting }
     requires { Enters over version matrix.now register.now.people lists.now }
-    ensures ended { IfOk result (λ next. HasEnded over next.items) }
+    ensures run { IfOk result (λ applied. HasRun over applied.next.items applied.states.items applied.tallies.items) }
     ensures cost { steps.new ≤ steps.old + places (seekers_in over) }
 {
     let mut states = begin_states(alloc, matrix, version)?;
+    let mut tallies = begin_tallies(alloc, matrix)?;
     let mut next = zeros(alloc, lists.len())?;
-    apply_in_order(register, lists, &mut states, &mut next, steps);
-    Ok(next)
+    apply_in_order(register, lists, &mut states, &mut tallies, &mut next, steps);
+    Ok(Applied {
+        states,
+        tallies,
+        next,
+    })
 }

@@ -9,7 +9,7 @@ mod applications;
 mod effective;
 mod engine;
 mod one_round;
-mod rows;
+mod programmes;
 mod seating;
 
 pub use engine::{plain_round, round};

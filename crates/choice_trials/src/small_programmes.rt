@@ -5,20 +5,10 @@ use office_base::{
     Category, ListId, OutOfMemory, Pairs, People, Person, Place, ProgId, Step, StepKind,
 };
 use open_then_category::{StepList, programme_choice};
-use plain_choice::{canonical, choice, is_step};
+use plain_choice::{PlainList, list_of};
 use seat_matrix::Matrix;
 use std::alloc::Global;
 use std::test::Fail;
-
-/// What the list of a step is to tell.
-#[derive(Drop)]
-struct Told {
-    kind: StepKind,
-    seats: u32,
-    candidates: usize,
-    admitted: People,
-    pairs: Pairs,
-}
 
 fn is_common(person: &Person) -> bool {
     matches!(person.places[0], Place::Common(_))
@@ -70,40 +60,13 @@ fn first(alloc: Global, people: &[Person], seats: u32) -> Result<People, OutOfMe
     Ok(kept)
 }
 
-// What the step tells of these people, found by trying all sets, and all placements of those whom it admits.
-fn told_of(alloc: Global, kind: StepKind, step: &Step) -> Result<Option<Told>, OutOfMemory> {
-    if !is_step(step) {
-        return Ok(None);
-    }
-    let Some(people) = choice(alloc, step)? else {
-        return Ok(None);
-    };
-    let admitted = Step {
-        list: step.list,
-        seats: step.seats,
-        protections: step.protections,
-        people,
-    };
-    if !is_step(&admitted) {
-        return Ok(None);
-    }
-    let pairs = canonical(alloc, admitted.people.as_slice(), &admitted.protections)?;
-    Ok(Some(Told {
-        kind,
-        seats: u32::from(step.seats),
-        candidates: step.people.len(),
-        admitted: admitted.people,
-        pairs,
-    }))
-}
-
 // What a step of the matrix's one programme tells of these people.
 fn step_told(
     alloc: Global,
     matrix: &Matrix,
     kind: StepKind,
     people: People,
-) -> Result<Option<Told>, OutOfMemory> {
+) -> Result<Option<PlainList>, OutOfMemory> {
     if matrix.count() == 0 {
         return Ok(None);
     }
@@ -113,19 +76,19 @@ fn step_told(
         protections: matrix.protections(ProgId(0), kind),
         people,
     };
-    told_of(alloc, kind, &step)
+    list_of(alloc, kind, &step)
 }
 
 // How many seats of a step stay empty.
-fn empty_seats(told: &Told) -> u32 {
+fn empty_seats(told: &PlainList) -> u32 {
     let admitted = u32::try_from(told.admitted.len()).unwrap_or(u32::MAX);
     told.seats.saturating_sub(admitted)
 }
 
 // What the step of the seats left unfilled tells of those whom no other step took.
-fn dereserved_told(alloc: Global, people: &[Person], seats: u32) -> Result<Told, OutOfMemory> {
+fn dereserved_told(alloc: Global, people: &[Person], seats: u32) -> Result<PlainList, OutOfMemory> {
     let common = commons(alloc, people)?;
-    Ok(Told {
+    Ok(PlainList {
         kind: StepKind::Dereserved,
         seats,
         candidates: common.len(),
@@ -140,7 +103,7 @@ fn plain_choice_of(
     matrix: &Matrix,
     version: u8,
     applicants: &[Person],
-) -> Result<Option<Vec<Told>>, OutOfMemory> {
+) -> Result<Option<Vec<PlainList>>, OutOfMemory> {
     let common = commons(alloc, applicants)?;
     let Some(open) = step_told(alloc, matrix, StepKind::Open, common)? else {
         return Ok(None);
@@ -170,7 +133,7 @@ fn plain_choice_of(
 }
 
 // Whether a list is as told: its step, its numbers, whom it admits, and the numbers and slots of its certificate.
-fn is_as_told(list: &StepList, told: &Told) -> bool {
+fn is_as_told(list: &StepList, told: &PlainList) -> bool {
     list.kind == told.kind
         && list.seats == told.seats
         && list.candidates as usize == told.candidates

@@ -1,18 +1,23 @@
 -- How commands are spelled.
-use Rattle.std.proofs.Common.{◌≡◌, ◌≤◌, ◌<◌, ◌^◌, ◌⊎◌, inl, inr, true≢false, ℕ, Bool, true, false, List, [], ◌∷◌, Option, Some, None, length, refl, sym, ap, subst, arith, ◌∙◌}
-use Rattle.std.specs.Prelude.{IfNone, IfSome, option_map}
+use Rattle.std.proofs.Common.{◌≡◌, ◌≤◌, ◌<◌, ◌^◌, ◌⊎◌, ◌&&◌, inl, inr, true≢false, ℕ, Bool, true, false, List, [], ◌∷◌, Option, Some, None, Result, Ok, Err, length, refl, sym, ap, subst, arith, ◌∙◌}
+use Rattle.std.specs.Prelude.{IfOk, IfSome, option_map, slice_get}
+use Rattle.std.specs.List.{list_all}
+use Rattle.std.specs.Option.{ok_or}
 use Rattle.std.specs.Borrow.{Bor}
 use Rattle.std.specs.Fmt.{decimal}
 use Rattle.std.proofs.lemmas.Bool.Decides.{eqb_tells}
 use Rattle.office_text.specs.Number.{AreInverse, is_number, number_of}
 use Rattle.command_words.specs.Parts.{ArePlain, AreParts, is_plain}
-use Rattle.command_words.specs.Words.{IsInRange, Spell, SpellNothing, word_out, words_of}
+use Rattle.command_words.specs.Words.{IsInRange, IsNamed, Spell, SpellNothing, word_of, word_out, words_of}
 use Rattle.command_words.specs.declared.parts.Parts.{Parts}
 use Rattle.command_words.specs.declared.words.Command.{Command}
 use Rattle.command_words.specs.declared.words.Command.TheVariants.{Step, Check, Run, Resume, Generate}
 use Rattle.command_words.specs.declared.words.OutKind.{OutKind}
 use Rattle.command_words.specs.declared.words.OutKind.TheVariants as out_kind
-use Rattle.command_words.specs.declared.words.Store.TheVariants.{Memory}
+use Rattle.command_words.specs.declared.words.WordsFault.{WordsFault}
+use Rattle.command_words.specs.declared.words.WordsFault.TheVariants.{Usage}
+use Rattle.command_words.specs.declared.words.Store.{Store}
+use Rattle.command_words.specs.declared.words.Store.TheVariants.{Memory, File}
 
 -- ---- numbers
 
@@ -50,33 +55,45 @@ plain_digits own n small = plain_number (decimal n) (is_read (decimal n) n (digi
 
 one_out : (out other : OutKind) → word_out out ≡ word_out other → out ≡ other
 one_out out_kind.Text out_kind.Text same = refl
+one_out out_kind.Text out_kind.Run same = absurd cc
+one_out out_kind.Run out_kind.Text same = absurd cc
+one_out out_kind.Run out_kind.Run same = refl
+
+-- no two stores have one word
+one_store : (store other : Store) → IsNamed store → IsNamed other → word_of store ≡ word_of other → store ≡ other
+one_store Memory Memory first second same = refl
+one_store Memory (File name) first second same = absurd (second.1 (sym same))
+one_store (File name) Memory first second same = absurd (first.1 same)
+one_store (File name) (File other) first second same = ap File same
 
 -- no two commands are spelled alike
 one_command : AreInverse → (command other : Command) → IsInRange command → IsInRange other → words_of command ≡ words_of other → command ≡ other
 one_command own Step Step first second same = refl
 one_command own Step Check first second same = absurd cc
-one_command own Step (Run Memory) first second same = absurd cc
-one_command own Step (Resume Memory) first second same = absurd cc
+one_command own Step (Run store) first second same = absurd cc
+one_command own Step (Resume store) first second same = absurd cc
 one_command own Step (Generate n seed out) first second same = absurd cc
 one_command own Check Step first second same = absurd cc
 one_command own Check Check first second same = refl
-one_command own Check (Run Memory) first second same = absurd cc
-one_command own Check (Resume Memory) first second same = absurd cc
+one_command own Check (Run store) first second same = absurd cc
+one_command own Check (Resume store) first second same = absurd cc
 one_command own Check (Generate n seed out) first second same = absurd cc
-one_command own (Run Memory) Step first second same = absurd cc
-one_command own (Run Memory) Check first second same = absurd cc
-one_command own (Run Memory) (Run Memory) first second same = refl
-one_command own (Run Memory) (Resume Memory) first second same = absurd cc
-one_command own (Run Memory) (Generate n seed out) first second same = absurd cc
-one_command own (Resume Memory) Step first second same = absurd cc
-one_command own (Resume Memory) Check first second same = absurd cc
-one_command own (Resume Memory) (Run Memory) first second same = absurd cc
-one_command own (Resume Memory) (Resume Memory) first second same = refl
-one_command own (Resume Memory) (Generate n seed out) first second same = absurd cc
+one_command own (Run store) Step first second same = absurd cc
+one_command own (Run store) Check first second same = absurd cc
+one_command own (Run store) (Run other) first second same =
+    let words : word_of store ≡ word_of other = cc in ap Run (one_store store other first second words)
+one_command own (Run store) (Resume other) first second same = absurd cc
+one_command own (Run store) (Generate n seed out) first second same = absurd cc
+one_command own (Resume store) Step first second same = absurd cc
+one_command own (Resume store) Check first second same = absurd cc
+one_command own (Resume store) (Run other) first second same = absurd cc
+one_command own (Resume store) (Resume other) first second same =
+    let words : word_of store ≡ word_of other = cc in ap Resume (one_store store other first second words)
+one_command own (Resume store) (Generate n seed out) first second same = absurd cc
 one_command own (Generate n seed out) Step first second same = absurd cc
 one_command own (Generate n seed out) Check first second same = absurd cc
-one_command own (Generate n seed out) (Run Memory) first second same = absurd cc
-one_command own (Generate n seed out) (Resume Memory) first second same = absurd cc
+one_command own (Generate n seed out) (Run store) first second same = absurd cc
+one_command own (Generate n seed out) (Resume store) first second same = absurd cc
 one_command own (Generate m seed out) (Generate n other last) first second same =
     let numbers : decimal m ≡ decimal n = cc in
     let seeds : decimal seed ≡ decimal other = cc in
@@ -90,21 +107,28 @@ one_command own (Generate m seed out) (Generate n other last) first second same 
 pub one_spelled : AreInverse → (words : List (List ℕ)) (command other : Command) → Spell words command → Spell words other → command ≡ other
 one_spelled own words command other spelled also = one_command own command other spelled.1 also.1 (sym spelled.0 ∙ also.0)
 
+-- the word of a store is plain
+plain_store : (store : Store) → IsNamed store → is_plain (word_of store) ≡ true
+plain_store Memory named = refl
+plain_store (File name) named = named.0
+
 -- the words of a command are plain
 plain_command : AreInverse → (command : Command) → IsInRange command → ArePlain (words_of command)
 plain_command own Step range = refl
 plain_command own Check range = refl
-plain_command own (Run Memory) range = refl
-plain_command own (Resume Memory) range = refl
+plain_command own (Run store) range = rw (plain_store store range) refl
+plain_command own (Resume store) range = rw (plain_store store range) refl
 plain_command own (Generate n seed out_kind.Text) range =
+    rw (plain_digits own n (omega (arith, range.1)), plain_digits own seed range.2) refl
+plain_command own (Generate n seed out_kind.Run) range =
     rw (plain_digits own n (omega (arith, range.1)), plain_digits own seed range.2) refl
 
 -- a command has one word, two or four
 some_words : (command : Command) → (0 < length (words_of command)) × (length (words_of command) ≤ 4) × (length (words_of command) ≡ 3 → ⊥)
 some_words Step = (omega arith, omega arith, λ h. omega (arith, h))
 some_words Check = (omega arith, omega arith, λ h. omega (arith, h))
-some_words (Run Memory) = (omega arith, omega arith, λ h. omega (arith, h))
-some_words (Resume Memory) = (omega arith, omega arith, λ h. omega (arith, h))
+some_words (Run store) = (omega arith, omega arith, λ h. omega (arith, h))
+some_words (Resume store) = (omega arith, omega arith, λ h. omega (arith, h))
 some_words (Generate n seed out) = (omega arith, omega arith, λ h. omega (arith, h))
 
 -- Words that are not all plain spell no command.
@@ -162,37 +186,50 @@ four_words (w ∷ x ∷ y ∷ z ∷ []) parts name first second out are named on
 four_words (w ∷ x ∷ y ∷ z ∷ u ∷ words) parts name first second out are named one two three = let bad = are.few in absurd (omega arith)
 
 -- what holds of the spelled words holds of the words that are they
-some_spelled : (parts : Parts) (spelled : List (List ℕ)) (found : Option Command) → ((words : List (List ℕ)) → AreParts words parts → words ≡ spelled) → IfSome found (Spell spelled)
-    → IfSome found (λ command. (words : List (List ℕ)) → AreParts words parts → Spell words command)
-some_spelled parts spelled None same is = tt
-some_spelled parts spelled (Some command) same is = λ words are. subst (λ (ws : List (List ℕ)). Spell ws command) (sym (same words are)) is
+some_spelled : (parts : Parts) (spelled : List (List ℕ)) (found : Result Command WordsFault) → ((words : List (List ℕ)) → AreParts words parts → words ≡ spelled) → IfOk found (Spell spelled)
+    → IfOk found (λ command. (words : List (List ℕ)) → AreParts words parts → Spell words command)
+some_spelled parts spelled (Err fault) same is = tt
+some_spelled parts spelled (Ok command) same is = λ words are. subst (λ (ws : List (List ℕ)). Spell ws command) (sym (same words are)) is
 
-none_spelled : (parts : Parts) (spelled : List (List ℕ)) (found : Option Command) → ((words : List (List ℕ)) → AreParts words parts → words ≡ spelled) → IfNone found (SpellNothing spelled)
-    → IfNone found ((words : List (List ℕ)) → AreParts words parts → SpellNothing words)
-none_spelled parts spelled None same is = λ words are. subst SpellNothing (sym (same words are)) is
-none_spelled parts spelled (Some command) same is = tt
+-- a command that was found
+ok_spelled : (spelled : List (List ℕ)) (found : Option Command) (told : Result Command WordsFault) → told ≡ ok_or found Usage → IfSome found (Spell spelled) → IfOk told (Spell spelled)
+ok_spelled spelled None told is made = subst (λ (t : Result Command WordsFault). IfOk t (Spell spelled)) (sym is) tt
+ok_spelled spelled (Some command) told is made = subst (λ (t : Result Command WordsFault). IfOk t (Spell spelled)) (sym is) made
 
 -- A name alone.
-pub some_named : (parts : Parts) (name : Bor (List ℕ)) (found : Option Command) → parts.command ≡ Some name → parts.first ≡ None → IfSome found (Spell (name.now ∷ []))
-    → IfSome found (λ command. (words : List (List ℕ)) → AreParts words parts → Spell words command)
-some_named parts name found named none is = some_spelled parts (name.now ∷ []) found (λ words are. one_word words parts name are named none) is
-
-pub none_named : (parts : Parts) (name : Bor (List ℕ)) (found : Option Command) → parts.command ≡ Some name → parts.first ≡ None → IfNone found (SpellNothing (name.now ∷ []))
-    → IfNone found ((words : List (List ℕ)) → AreParts words parts → SpellNothing words)
-none_named parts name found named none is = none_spelled parts (name.now ∷ []) found (λ words are. one_word words parts name are named none) is
+pub some_named : (parts : Parts) (name : Bor (List ℕ)) (found : Option Command) (told : Result Command WordsFault) → parts.command ≡ Some name → parts.first ≡ None → told ≡ ok_or found Usage
+    → IfSome found (Spell (name.now ∷ [])) → IfOk told (λ command. (words : List (List ℕ)) → AreParts words parts → Spell words command)
+some_named parts name found told named none is made =
+    some_spelled parts (name.now ∷ []) told (λ words are. one_word words parts name are named none) (ok_spelled (name.now ∷ []) found told is made)
 
 -- A name with a store.
-pub some_stored : (parts : Parts) (name store : Bor (List ℕ)) (found : Option Command) → parts.command ≡ Some name → parts.first ≡ Some store → parts.second ≡ None
-    → IfSome found (Spell (name.now ∷ store.now ∷ [])) → IfSome found (λ command. (words : List (List ℕ)) → AreParts words parts → Spell words command)
-some_stored parts name store found named stored none is = some_spelled parts (name.now ∷ store.now ∷ []) found (λ words are. two_words words parts name store are named stored none) is
-
-pub none_stored : (parts : Parts) (name store : Bor (List ℕ)) (found : Option Command) → parts.command ≡ Some name → parts.first ≡ Some store → parts.second ≡ None
-    → IfNone found (SpellNothing (name.now ∷ store.now ∷ [])) → IfNone found ((words : List (List ℕ)) → AreParts words parts → SpellNothing words)
-none_stored parts name store found named stored none is = none_spelled parts (name.now ∷ store.now ∷ []) found (λ words are. two_words words parts name store are named stored none) is
+pub some_stored : (parts : Parts) (name store : Bor (List ℕ)) (told : Result Command WordsFault) → parts.command ≡ Some name → parts.first ≡ Some store → parts.second ≡ None
+    → IfOk told (Spell (name.now ∷ store.now ∷ [])) → IfOk told (λ command. (words : List (List ℕ)) → AreParts words parts → Spell words command)
+some_stored parts name store told named stored none is = some_spelled parts (name.now ∷ store.now ∷ []) told (λ words are. two_words words parts name store are named stored none) is
 
 -- A name with two numbers and a last word.
-pub some_numbered : (parts : Parts) (name first second out : Bor (List ℕ)) (found : Option Command) → parts.command ≡ Some name → parts.first ≡ Some first → parts.second ≡ Some second
-    → parts.third ≡ Some out → IfSome found (Spell (name.now ∷ first.now ∷ second.now ∷ out.now ∷ []))
-    → IfSome found (λ command. (words : List (List ℕ)) → AreParts words parts → Spell words command)
-some_numbered parts name first second out found named one two three is =
-    some_spelled parts (name.now ∷ first.now ∷ second.now ∷ out.now ∷ []) found (λ words are. four_words words parts name first second out are named one two three) is
+pub some_numbered : (parts : Parts) (name first second out : Bor (List ℕ)) (found : Option Command) (told : Result Command WordsFault) → parts.command ≡ Some name → parts.first ≡ Some first
+    → parts.second ≡ Some second → parts.third ≡ Some out → told ≡ ok_or found Usage → IfSome found (Spell (name.now ∷ first.now ∷ second.now ∷ out.now ∷ []))
+    → IfOk told (λ command. (words : List (List ℕ)) → AreParts words parts → Spell words command)
+some_numbered parts name first second out found told named one two three is made =
+    let spelled : List (List ℕ) = name.now ∷ first.now ∷ second.now ∷ out.now ∷ [] in
+    some_spelled parts spelled told (λ words are. four_words words parts name first second out are named one two three) (ok_spelled spelled found told is made)
+
+-- The second of plain words is plain, where there is one.
+pub first_is_plain : (words : List (List ℕ)) (parts : Parts) → ArePlain words → AreParts words parts → IfSome parts.first (λ word. is_plain word.now ≡ true)
+first_is_plain words parts plain are = go words parts.first plain are.first
+  where
+    both : (a b : Bool) → (a && b) ≡ true → (a ≡ true) × (b ≡ true)
+    both true true h = (refl, refl)
+    both true false h = absurd (true≢false (sym h))
+    both false b h = absurd (true≢false (sym h))
+
+    go : (words : List (List ℕ)) (first : Option (Bor (List ℕ))) → ArePlain words → option_map (λ s. s.now) first ≡ slice_get words 1 → IfSome first (λ word. is_plain word.now ≡ true)
+    go words None plain same = tt
+    go [] (Some word) plain same = let bad : Some word.now ≡ None = same in absurd cc
+    go (w ∷ []) (Some word) plain same = let bad : Some word.now ≡ None = same in absurd cc
+    go (w ∷ x ∷ rest) (Some word) plain same =
+        let next : Some word.now ≡ Some x = same in
+        let here : word.now ≡ x = cc in
+        let more : list_all is_plain (x ∷ rest) ≡ true = (both (is_plain w) (list_all is_plain (x ∷ rest)) plain).1 in
+        subst (λ (t : List ℕ). is_plain t ≡ true) (sym here) (both (is_plain x) (list_all is_plain rest) more).0

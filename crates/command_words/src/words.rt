@@ -1,12 +1,12 @@
 // What the words of a command line ask for.
-ghost use Rattle.std.specs.Prelude.{◌≡◌, [], ◌∷◌, ℕ, List, IsErrOf, IfNone, IfOk, IfSome, OnOk, map};
+ghost use Rattle.std.specs.Prelude.{◌≡◌, [], ◌∷◌, ℕ, List, true, IsErrOf, IfNone, IfOk, IfSome, OnOk, map};
 ghost use Rattle.command_words.specs.Parts.{ArePlain, AreParts, is_plain};
-ghost use Rattle.command_words.specs.Words.{Spell, SpellNothing, word_out};
+ghost use Rattle.command_words.specs.Words.{IsNamed, Spell, SpellNothing, word_of, word_out};
 ghost use Rattle.command_words.specs.declared.words.OutKind.{OutKind as AnyOutKind};
 ghost use Rattle.command_words.specs.declared.words.WordsFault.TheVariants.{OutOfMemory as NoMemory};
 
 use crate::parts::{Parts, parts_of};
-use office_base::Words;
+use office_base::{OutOfMemory, Text, Words};
 use office_text::laws::numbers_are_inverse;
 use office_text::read_number;
 use std::alloc::{AllocError, AllocFailed, Global};
@@ -15,7 +15,7 @@ use std::alloc::{AllocError, AllocFailed, Global};
 const MOST_CANDIDATES: u32 = 100_000;
 
 /// A command of the office.
-#[derive(Clone, Copy, Debug, PartialEq, Eq)]
+#[derive(Debug, Drop)]
 pub enum Command {
     /// Reads a step sheet and writes whom the step admits.
     Step,
@@ -25,15 +25,17 @@ pub enum Command {
     Run(Store),
     /// Goes on with the office that a keeper holds, and answers the requests that are read.
     Resume(Store),
-    /// Generates a season bundle of 1 to 100,000 candidates from a seed.
+    /// Generates a season bundle of 1 to 100,000 candidates from a seed, and writes it or runs it.
     Generate { n: u32, seed: u32, out: OutKind },
 }
 
 /// Where a keeper keeps its records.
-#[derive(Clone, Copy, Debug, PartialEq, Eq)]
+#[derive(Debug, Drop)]
 pub enum Store {
     /// In memory, as long as the program runs.
     Memory,
+    /// In the file of this name, which is not empty, does not begin with `-`, and is not `memory`.
+    File(Text),
 }
 
 /// What is written of a generated season.
@@ -41,6 +43,8 @@ pub enum Store {
 pub enum OutKind {
     /// Its bundle.
     Text,
+    /// What it comes to: it is run over a keeper, and a summary is written.
+    Run,
 }
 
 /// Why no command was read.
@@ -48,8 +52,16 @@ pub enum OutKind {
 pub enum WordsFault {
     /// The words spell no command.
     Usage,
-    /// There was no memory to divide the words.
+    /// There was no memory to divide the words, or for the name of a file.
     OutOfMemory,
+}
+
+impl From<OutOfMemory> for WordsFault {
+    ghost from_gives = { λ _ fault. fault ≡ NoMemory };
+
+    fn from(_: OutOfMemory) -> Self {
+        WordsFault::OutOfMemory
+    }
 }
 
 impl From<AllocError> for WordsFault {
@@ -68,8 +80,8 @@ impl<T: Drop> From<AllocFailed<T>> for WordsFault {
     }
 }
 
-/// The command that the words spell: its name alone; `run` or `resume` with `memory`; or `generate` with how many candidates, a seed, and `text`. `Usage` comes
-/// exactly where they spell none, but for want of memory.
+/// The command that the words spell: its name alone; `run` or `resume` with `memory` or the name of a file; or `generate` with how many candidates, a seed, and
+/// `text` or `run`. `Usage` comes exactly where they spell none, but for want of memory.
 pub fn read_words(alloc: Global, words: &Words) -> Result<Command, WordsFault>
     ensures command { IfOk result (Spell words.now) }
     ensures usage { IsErrOf result WordsFault.Usage → SpellNothing words.now }
@@ -88,10 +100,7 @@ fn read_line(alloc: Global, line: &[&str]) -> Result<Command, WordsFault>
     ensures usage { IsErrOf result WordsFault.Usage → SpellNothing (map (λ word. word.now) line.now) }
 {
     match parts_of(alloc, line) {
-        Ok(parts) => match command_of(parts) {
-            Some(command) => Ok(command),
-            None => Err(WordsFault::Usage),
-        },
+        Ok(parts) => command_of(alloc, parts),
         Err(fault) => Err(fault),
     }
 }
@@ -125,25 +134,19 @@ fn is_plain(word: &str) -> bool
     }
 }
 
-/// The command of these words.
-fn command_of(parts: Parts<'_>) -> Option<Command>
-    ensures some { IfSome result (λ command. (words : List (List ℕ)) → AreParts words parts.entry → Spell words command) }
-    ensures none { IfNone result ((words : List (List ℕ)) → AreParts words parts.entry → SpellNothing words) }
+/// The command of these words, of which the second is not empty and does not begin with `-`.
+fn command_of(alloc: Global, parts: Parts<'_>) -> Result<Command, WordsFault>
+    requires { IfSome parts.first (λ word. is_plain word.now ≡ true) }
+    ensures some { IfOk result (λ command. (words : List (List ℕ)) → AreParts words parts.entry → Spell words command) }
+    ensures none { IsErrOf result WordsFault.Usage → (words : List (List ℕ)) → AreParts words parts.entry → SpellNothing words }
 {
-    let name = parts.command?;
-    match parts.third {
-        Some(out) => {
-            let first = parts.first?;
-            let second = parts.second?;
-            read_season(name, first, second, out)
+    match (parts.command, parts.first, parts.second, parts.third) {
+        (Some(name), None, None, None) => read_name(name).ok_or(WordsFault::Usage),
+        (Some(name), Some(store), None, None) => read_store(alloc, name, store),
+        (Some(name), Some(first), Some(second), Some(out)) => {
+            read_season(name, first, second, out).ok_or(WordsFault::Usage)
         }
-        None => match parts.second {
-            Some(_) => None,
-            None => match parts.first {
-                Some(store) => read_store(name, store),
-                None => read_name(name),
-            },
-        },
+        _ => Err(WordsFault::Usage),
     }
 }
 
@@ -159,15 +162,31 @@ fn read_name(name: &str) -> Option<Command>
     }
 }
 
-/// The command of this name over a keeper of this name.
-fn read_store(name: &str, store: &str) -> Option<Command>
-    ensures command { IfSome result (Spell (name.now ∷ store.now ∷ [])) }
-    ensures none { IfNone result (SpellNothing (name.now ∷ store.now ∷ [])) }
+/// The command of this name over the store of this word.
+fn read_store(alloc: Global, name: &str, word: &str) -> Result<Command, WordsFault>
+    requires { is_plain word.now ≡ true }
+    ensures command { IfOk result (Spell (name.now ∷ word.now ∷ [])) }
+    ensures none { IsErrOf result WordsFault.Usage → SpellNothing (name.now ∷ word.now ∷ []) }
 {
-    match (name, store) {
-        ("run", "memory") => Some(Command::Run(Store::Memory)),
-        ("resume", "memory") => Some(Command::Resume(Store::Memory)),
-        _ => None,
+    match name {
+        "run" => Ok(Command::Run(store_of(alloc, word)?)),
+        "resume" => Ok(Command::Resume(store_of(alloc, word)?)),
+        _ => Err(WordsFault::Usage),
+    }
+}
+
+/// The store of a word that is not empty and does not begin with `-`.
+fn store_of(alloc: Global, word: &str) -> Result<Store, OutOfMemory>
+    requires { is_plain word.now ≡ true }
+    ensures { IfOk result (λ store. (word.now ≡ word_of store) × IsNamed store) }
+{
+    match word {
+        "memory" => Ok(Store::Memory),
+        _ => {
+            let mut name = Text::new(alloc);
+            name.extend_from_slice(word.as_bytes())?;
+            Ok(Store::File(name))
+        }
     }
 }
 
@@ -193,6 +212,7 @@ fn read_out(word: &str) -> Option<OutKind>
 {
     match word {
         "text" => Some(OutKind::Text),
+        "run" => Some(OutKind::Run),
         _ => None,
     }
 }

@@ -150,7 +150,7 @@ fn begins_again(alloc: Global, call: u32, whole: &Left) -> Result<bool, OutOfMem
 }
 
 /// The tables that the whole run leaves.
-fn whole_tables(alloc: Global) -> Result<Option<Kept>, OutOfMemory> {
+pub(crate) fn whole_tables(alloc: Global) -> Result<Option<Kept>, OutOfMemory> {
     let count = CALLS.len();
     match left(alloc, &[], count, count)? {
         Some(left) => Ok(left.kept),

@@ -1,22 +1,11 @@
 // The six lists of a programme by the rule, found by trying all sets of people at each step.
 use keeper_mem::RaiseRow;
 use office_base::{
-    Category, ListId, OutOfMemory, Pairs, People, Person, Place, ProgId, Protections, Step,
-    StepKind,
+    Category, ListId, OutOfMemory, People, Person, Place, ProgId, Protections, Step, StepKind,
 };
-use plain_choice::{canonical, choice, is_step};
+use plain_choice::{PlainList, list_of};
 use season_file::Season;
 use std::alloc::Global;
-
-/// The list of a step.
-#[derive(Drop)]
-pub(crate) struct PlainList {
-    pub(crate) kind: StepKind,
-    pub(crate) seats: u32,
-    pub(crate) candidates: usize,
-    pub(crate) admitted: People,
-    pub(crate) pairs: Pairs,
-}
 
 /// The six lists of a programme.
 pub(crate) type PlainLists = Vec<PlainList>;
@@ -84,33 +73,6 @@ fn standing_for(
         }
     }
     Ok(kept)
-}
-
-/// The list of a step: whom it admits of all sets of these people, and the first of the longest placements of those.
-fn list_of(alloc: Global, kind: StepKind, step: &Step) -> Result<Option<PlainList>, OutOfMemory> {
-    if !is_step(step) {
-        return Ok(None);
-    }
-    let Some(people) = choice(alloc, step)? else {
-        return Ok(None);
-    };
-    let admitted = Step {
-        list: step.list,
-        seats: step.seats,
-        protections: step.protections,
-        people,
-    };
-    if !is_step(&admitted) {
-        return Ok(None);
-    }
-    let pairs = canonical(alloc, admitted.people.as_slice(), &admitted.protections)?;
-    Ok(Some(PlainList {
-        kind,
-        seats: u32::from(step.seats),
-        candidates: step.people.len(),
-        admitted: admitted.people,
-        pairs,
-    }))
 }
 
 /// How many seats of a list stay empty, where they go on to all: those of OBC, and in version 2 those of EWS.

@@ -1,5 +1,5 @@
 // A plain slow office: each request is answered by going through all that was accepted.
-use crate::plain_lists::{PlainList, PlainLists, is_common, merit_list, place_of, seats_now};
+use crate::plain_lists::{PlainLists, is_common, merit_list, place_of, seats_now};
 use crate::plain_rounds::{PlainRound, round_of};
 use crate::words::{choice_word, code_word, standing_word, step_word, trait_word};
 use keeper_mem::{AnswerRow, RaiseRow};
@@ -7,6 +7,7 @@ use office_base::{
     Ask, By, CandId, Category, Choice, Code, OutOfMemory, Person, ProgId, Request, Seat, StepKind,
 };
 use office_moves::{Act, Entry};
+use plain_choice::PlainList;
 use round_options::Standing;
 use season_file::Season;
 use std::alloc::Global;

@@ -130,7 +130,7 @@ fn a_season_has_at_most_a_hundred_thousand(rt: HostRuntime) {
 #[test]
 fn a_summary_is_written(rt: HostRuntime) -> Result<(), Fail> {
     let mut seated = Listed::new(rt.alloc());
-    for number in [700u32, 690, 0, 5, 12, 4_294_967_295] {
+    for number in [700usize, 690, 0, 5, 12, 4_294_967_295] {
         seated.push(number)?;
     }
     let summary = Summary {

@@ -1,1 +1,3 @@
 mod PagesLemmas
+mod RoadsLemmas
+mod WalkLemmas

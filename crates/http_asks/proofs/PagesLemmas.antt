@@ -19,7 +19,7 @@ use Rattle.http_asks.specs.declared.pages.Page.{Page}
 use Rattle.http_asks.specs.declared.pages.Page.TheVariants.{Answers, Cuts, Raises, Reads}
 
 -- the pieces with a slash before each
-abbrev slashed : List (List ℕ) → List ℕ
+abbrev pub slashed : List (List ℕ) → List ℕ
 slashed [] = []
 slashed (piece ∷ pieces) = 47 ∷ (piece ++ slashed pieces)
 
@@ -33,21 +33,21 @@ slashed-step byte bytes pieces true is same = ap (λ (text : List ℕ). 47 ∷ t
 slashed-step byte bytes pieces false is same = slashed-onto byte pieces bytes same
 
 -- the pieces of bytes are the bytes
-slashed-cut : (bytes : List ℕ) → slashed (cut_at 47 bytes) ≡ 47 ∷ bytes
+pub slashed-cut : (bytes : List ℕ) → slashed (cut_at 47 bytes) ≡ 47 ∷ bytes
 slashed-cut [] = refl
 slashed-cut (byte ∷ bytes) = slashed-step byte bytes (cut_at 47 bytes) (byte == 47) refl (slashed-cut bytes)
 
 -- nothing is not something
-nothing : {X : Type 0} (x : X) → None ≡ Some x → ⊥
+pub nothing : {X : Type 0} (x : X) → None ≡ Some x → ⊥
 nothing x e = cc
 
 -- what is there under a test
-cond-some : {X : Type 0} (is : Bool) (o : Option X) (x : X) → cond is o None ≡ Some x → (is ≡ true) × (o ≡ Some x)
+pub cond-some : {X : Type 0} (is : Bool) (o : Option X) (x : X) → cond is o None ≡ Some x → (is ≡ true) × (o ≡ Some x)
 cond-some true o x e = (refl, e)
 cond-some false o x e = absurd (nothing x e)
 
 -- what is there under a test is one of two
-choose : {X : Type 0} (is : Bool) (here other : Option X) (x : X) (G : Type 0) → cond is here other ≡ Some x → (is ≡ true → here ≡ Some x → G) → (other ≡ Some x → G) → G
+pub choose : {X : Type 0} (is : Bool) (here other : Option X) (x : X) (G : Type 0) → cond is here other ≡ Some x → (is ≡ true → here ≡ Some x → G) → (other ≡ Some x → G) → G
 choose true here other x G e there elsewhere = there refl e
 choose false here other x G e there elsewhere = elsewhere e
 
@@ -96,7 +96,7 @@ list-text inverse first second page (Some round) (Some code) is there e =
     ∙ ap page_text (same-page (Reads (ListOf round code)) page e)
 
 -- a name that is this word
-same-word : (name known : List ℕ) (after : List (List ℕ)) → bytes_eq name known ≡ true → codes "/v1" ++ slashed (name ∷ after) ≡ codes "/v1" ++ slashed (known ∷ after)
+pub same-word : (name known : List ℕ) (after : List (List ℕ)) → bytes_eq name known ≡ true → codes "/v1" ++ slashed (name ∷ after) ≡ codes "/v1" ++ slashed (known ∷ after)
 same-word name known after is = ap (λ (text : List ℕ). codes "/v1" ++ slashed (text ∷ after)) ((bytes_eq-Decides name known).0 is)
 
 alone-text : (name : List ℕ) (page : Page) → page_alone name ≡ Some page → codes "/v1" ++ slashed (name ∷ []) ≡ page_text page

@@ -1,5 +1,5 @@
 -- What the bodies of requests ask.
-use Rattle.std.specs.Prelude.{ℕ, ◌&&◌, List, Option, Some, None, nat_le, bytes_eq, codes, if◌then◌else◌}
+use Rattle.std.specs.Prelude.{ℕ, ◌&&◌, List, Option, Some, None, nat_le, codes, if◌then◌else◌}
 use Rattle.std.specs.Option.{option_and_then, option_map}
 use Rattle.std.specs.Str.{is_utf8}
 use Rattle.serde_json.specs.Data.{Data}
@@ -9,10 +9,9 @@ use Rattle.office_base.specs.Limits.{last_id, last_turn, last_window, most_step_
 use Rattle.office_base.specs.declared.asks.Ask.{Ask}
 use Rattle.office_base.specs.declared.asks.Ask.TheVariants.{Answer, Cut, Raise}
 use Rattle.office_base.specs.declared.asks.Choice.{Choice}
-use Rattle.office_base.specs.declared.asks.Choice.TheVariants.{Freeze, Float, Slide, Withdraw}
 use Rattle.office_base.specs.declared.person.CandId.{CandId}
 use Rattle.office_base.specs.declared.step.StepKind.{StepKind}
-use Rattle.office_text.specs.Names.{code_of, step_of}
+use Rattle.office_text.specs.Names.{choice_of, code_of, step_of}
 use Rattle.http_asks.specs.declared.pages.Page.{Page}
 use Rattle.http_asks.specs.declared.pages.Page.TheVariants.{Answers, Cuts, Raises, Reads}
 
@@ -31,15 +30,6 @@ number_in key low high value = option_and_then (λ n. within low high n) (option
 -- the text of that key
 abbrev pub text_in : List ℕ → Data → Option (List ℕ)
 text_in key value = option_and_then as_str (get key value)
-
--- the choice that a text spells
-abbrev pub choice_of : List ℕ → Option Choice
-choice_of text =
-    if bytes_eq text (codes "freeze") then Some Freeze
-    else if bytes_eq text (codes "float") then Some Float
-    else if bytes_eq text (codes "slide") then Some Slide
-    else if bytes_eq text (codes "withdraw") then Some Withdraw
-    else None
 
 -- the candidate, the window, the turn, the choice, the programme, the step and its seats that a value has
 abbrev pub candidate_in : Data → Option CandId

@@ -8,8 +8,8 @@ use Rattle.office_base.specs.declared.person.CandId.{CandId}
 use Rattle.office_text.specs.Lines.{cut_at}
 use Rattle.office_text.specs.Names.{code_of}
 use Rattle.office_text.specs.Number.{number_within}
-use Rattle.http_asks.specs.declared.pages.Method.{Method}
-use Rattle.http_asks.specs.declared.pages.Method.TheVariants.{Get, Post}
+use Rattle.http_heads.specs.declared.methods.Method.{Method}
+use Rattle.http_heads.specs.declared.methods.Method.TheVariants.{Get, Post}
 use Rattle.http_asks.specs.declared.pages.Page.{Page}
 use Rattle.http_asks.specs.declared.pages.Page.TheVariants.{Answers, Cuts, Raises, Reads}
 
@@ -92,8 +92,3 @@ takes_body (Reads ask) = false
 -- the one method that a page has
 abbrev pub method_of : Page → Method
 method_of page = if takes_body page then Post else Get
-
--- the name of a method
-abbrev pub method_name : Method → List ℕ
-method_name Get = codes "GET"
-method_name Post = codes "POST"

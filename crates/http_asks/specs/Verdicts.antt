@@ -3,8 +3,9 @@ use Rattle.std.specs.Prelude.{ℕ, ◌&&◌, Bool, false, List, Option, Some, No
 use Rattle.office_base.specs.declared.asks.Ask.{Ask}
 use Rattle.http_heads.specs.Fields.{Pair, first_value}
 use Rattle.http_heads.specs.Messages.{Message}
+use Rattle.http_heads.specs.Methods.{method_name}
 use Rattle.http_asks.specs.Bodies.{ask_of}
-use Rattle.http_asks.specs.Pages.{method_name, method_of, page_of, takes_body}
+use Rattle.http_asks.specs.Pages.{method_of, page_of, takes_body}
 use Rattle.http_asks.specs.declared.pages.Page.{Page}
 
 -- What a message comes to: a status, with the method that its path has where this is another, or what it asks and with which token.

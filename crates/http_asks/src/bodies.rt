@@ -1,12 +1,12 @@
 // What the bodies of requests ask.
 ghost use Rattle.std.specs.Prelude.{◌≡◌, ◌<◌, IfOk, OnErr, length, option_copied, option_map};
 ghost use Rattle.serde_json.specs.View.{view};
-ghost use Rattle.http_asks.specs.Bodies.{answer_in, ask_in, choice_in, choice_of, code_in, cut_in, data_of, number_in, raise_in, step_in, text_in};
+ghost use Rattle.http_asks.specs.Bodies.{answer_in, ask_in, choice_in, code_in, cut_in, data_of, number_in, raise_in, step_in, text_in};
 
 use crate::pages::Page;
 use office_base::limits::{LAST_ID, LAST_TURN, LAST_WINDOW, MOST_STEP_SEATS};
 use office_base::{Ask, CandId, Choice, Code, OutOfMemory, StepKind};
-use office_text::read_step;
+use office_text::{read_choice, read_step};
 use serde_json::Value;
 use std::alloc::Global;
 
@@ -101,7 +101,7 @@ fn text_in<'a>(value: &'a Value, key: &str) -> Option<&'a [u8]>
 fn choice_in(value: &Value) -> Option<Choice>
     ensures { result ≡ choice_in (view value.now) }
 {
-    choice_of(text_in(value, "choice")?)
+    read_choice(text_in(value, "choice")?)
 }
 
 /// The code of a programme that the value has.
@@ -116,21 +116,4 @@ fn step_in(value: &Value) -> Option<StepKind>
     ensures { result ≡ step_in (view value.now) }
 {
     read_step(text_in(value, "step")?)
-}
-
-/// The choice that a text spells.
-fn choice_of(text: &[u8]) -> Option<Choice>
-    ensures { result ≡ choice_of text.now }
-{
-    if text == b"freeze".as_slice() {
-        Some(Choice::Freeze)
-    } else if text == b"float".as_slice() {
-        Some(Choice::Float)
-    } else if text == b"slide".as_slice() {
-        Some(Choice::Slide)
-    } else if text == b"withdraw".as_slice() {
-        Some(Choice::Withdraw)
-    } else {
-        None
-    }
 }

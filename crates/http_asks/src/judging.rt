@@ -7,8 +7,9 @@ ghost use Rattle.http_asks.specs.Verdicts.{needs_memory, reads_body, token_in, v
 ghost use Rattle.http_asks.specs.declared.judging.Judged.TheVariants.{Refused};
 
 use crate::bodies::{ask_in, read_body};
-use crate::pages::{Method, Page, page_of};
-use http_heads::{Fields, HeldMessage};
+use crate::pages::{Page, page_of};
+use crate::roads::Routes;
+use http_heads::{Fields, HeldMessage, Method};
 use office_base::{Ask, OutOfMemory};
 use std::alloc::Global;
 
@@ -31,11 +32,15 @@ pub fn token<'a>(fields: &Fields<'a>) -> Option<&'a [u8]>
 
 /// What a message comes to; what it asks, it asks with its `token`. Memory may be wanted for a body that is read, and for nothing
 /// else.
-pub fn judge(alloc: Global, message: &HeldMessage<'_>) -> Result<Judged, OutOfMemory>
+pub fn judge(
+    alloc: Global,
+    routes: &Routes,
+    message: &HeldMessage<'_>,
+) -> Result<Judged, OutOfMemory>
     ensures exact { IfOk result (λ judged. told (told_message message.now) judged ≡ verdict_of (told_message message.now)) }
     ensures memory { OnErr result (reads_body (told_message message.now) ≡ true) }
 {
-    let Some(page) = page_of(message.target) else {
+    let Some(page) = page_of(routes, target_of(message)) else {
         return Ok(refused(404, None));
     };
     let method = page.method();
@@ -46,6 +51,16 @@ pub fn judge(alloc: Global, message: &HeldMessage<'_>) -> Result<Judged, OutOfMe
         None => Ok(refused(400, None)),
         Some(ask) => Ok(Judged::Asked(ask)),
     }
+}
+
+/// The target of a message as text.
+fn target_of<'a>(message: &HeldMessage<'a>) -> &'a str
+    ensures { result.now ≡ message.now.target.now }
+{
+    let Ok(target) = str::from_utf8(message.target) else {
+        unreachable!("the target of a message is text")
+    };
+    target
 }
 
 /// A refusal with this status.

@@ -1,15 +1,18 @@
 // What a message asks of the office, or with which status it is refused: its path, its method, its body, its token.
 //
 // It stands on the messages of a connection, below the session. `specs/` says which page a target names, by the pieces of its path
-// between slashes, what the body of each page asks, and what a message comes to; the one call gives exactly that. It takes no
-// memory but for a body of JSON, which the kit's `serde_json` reads. Links, replies and what the office answers are the matter of
-// other layers: it must never know of them, nor whether a candidate or a programme is there.
+// between slashes, what the body of each page asks, and what a message comes to; the one call gives exactly that. The kit's
+// `matchit` finds the road of a path over routes that are made once, and its `serde_json` reads bodies: for these alone memory is
+// taken. Links, replies and what the office answers are the matter of other layers: it must never know of them, nor whether a
+// candidate or a programme is there.
 #![tactic(auto)]
 
 pub mod bodies;
 pub mod judging;
 pub mod laws;
 pub mod pages;
+pub mod roads;
 
 pub use judging::{Judged, judge, token};
-pub use pages::{Method, Page};
+pub use pages::Page;
+pub use roads::Routes;

@@ -1,31 +1,15 @@
 // The pages of the office, and which of them a target names.
-ghost use Rattle.std.specs.Prelude.{◌≡◌, ◌∷◌, [], IfNone, IfSome};
+ghost use Rattle.std.specs.Prelude.{◌≡◌, ◌∷◌, ◌++◌, [], IfNone, IfSome, codes};
 ghost use Rattle.office_text.specs.Lines.{cut_at};
-ghost use Rattle.http_asks.specs.Pages.{candidate_of, method_name, method_of, page_alone, page_named, page_of, page_over_one, page_over_two, path_of, round_of, takes_body};
+ghost use Rattle.http_asks.specs.Pages.{candidate_of, method_of, page_at, page_named, page_of, path_of, round_of, takes_body};
+ghost use Rattle.http_asks.specs.Roads.{road_parameters, road_start, two_of};
 
+use crate::roads::{Road, Routes};
+use http_heads::Method;
 use memchr::memchr;
 use office_base::limits::{LAST_ID, LAST_WINDOW};
 use office_base::{Ask, CandId, Code};
 use office_text::read_number;
-
-/// The method that a page has.
-#[derive(Clone, Copy, Debug, PartialEq, Eq)]
-pub enum Method {
-    Get,
-    Post,
-}
-
-impl Method {
-    /// Its name in a request.
-    pub fn name(self) -> &'static [u8]
-        ensures { result.now ≡ method_name self }
-    {
-        match self {
-            Method::Get => b"GET",
-            Method::Post => b"POST",
-        }
-    }
-}
 
 /// A page of the office.
 #[derive(Clone, Copy, Debug, PartialEq, Eq)]
@@ -64,23 +48,82 @@ impl Page {
 }
 
 /// The page that a target names, by its path up to the first `?`, which is not decoded. None where it names none.
-pub fn page_of(target: &[u8]) -> Option<Page>
+pub fn page_of(routes: &Routes, target: &str) -> Option<Page>
     ensures { result ≡ page_of target.now }
 {
-    let (root, after) = first_piece(path_of(target), b'/');
-    let (version, after) = first_piece(after?, b'/');
-    if root.is_empty() && version == b"v1".as_slice() {
-        page_named(after?)
-    } else {
-        None
-    }
+    let (road, rest) = routes.road_of(path_of(target))?;
+    page_on(road, rest)
 }
 
 /// The path of a target: what comes before its first `?`.
-fn path_of(target: &[u8]) -> &[u8]
+fn path_of(target: &str) -> &str
     ensures { result.now ≡ path_of target.now }
 {
-    first_piece(target, b'?').0
+    match target.split_once('?') {
+        Some((path, _)) => path,
+        None => target,
+    }
+}
+
+/// The page on a road, by what comes after the start of its paths.
+fn page_on(road: Road, rest: &[u8]) -> Option<Page>
+    requires { road_parameters road ≡ [] → rest.now ≡ [] }
+    ensures { result ≡ page_at (cut_at 47 (road_start road ++ rest.now)) }
+{
+    match road {
+        Road::Answer => Some(Page::Answers),
+        Road::Cut => Some(Page::Cuts),
+        Road::Raise => Some(Page::Raises),
+        Road::State => Some(Page::Reads(Ask::State)),
+        Road::Seat => seat_page(rest),
+        Road::Why => why_page(rest),
+        Road::RoundList => list_page(rest),
+    }
+}
+
+/// The page of a candidate's seat.
+fn seat_page(rest: &[u8]) -> Option<Page>
+    ensures { result ≡ page_named (codes "seat" ∷ cut_at 47 rest.now) }
+{
+    match first_piece(rest, b'/') {
+        (cand, None) => {
+            let cand = read_candidate(cand)?;
+            Some(Page::Reads(Ask::Seat { cand }))
+        }
+        (_, Some(_)) => None,
+    }
+}
+
+/// The page of why a candidate has a seat of a programme or none.
+fn why_page(rest: &[u8]) -> Option<Page>
+    ensures { result ≡ page_named (codes "why" ∷ cut_at 47 rest.now) }
+{
+    let (cand, prog) = two_pieces(rest)?;
+    let cand = read_candidate(cand)?;
+    let prog = Code::read(prog)?;
+    Some(Page::Reads(Ask::Why { cand, prog }))
+}
+
+/// The page of a programme's list of a round.
+fn list_page(rest: &[u8]) -> Option<Page>
+    ensures { result ≡ page_named (codes "list" ∷ cut_at 47 rest.now) }
+{
+    let (round, prog) = two_pieces(rest)?;
+    let round = read_round(round)?;
+    let prog = Code::read(prog)?;
+    Some(Page::Reads(Ask::List { round, prog }))
+}
+
+/// The two pieces round the one slash. None where there is none, or more than one.
+fn two_pieces(rest: &[u8]) -> Option<(&[u8], &[u8])>
+    ensures some { IfSome result (λ pieces. cut_at 47 rest.now ≡ pieces.0.now ∷ pieces.1.now ∷ []) }
+    ensures none { IfNone result (two_of (cut_at 47 rest.now) ≡ []) }
+{
+    let (one, after) = first_piece(rest, b'/');
+    match first_piece(after?, b'/') {
+        (other, None) => Some((one, other)),
+        (_, Some(_)) => None,
+    }
 }
 
 /// The bytes before the first separator, and those after it where there is one.
@@ -91,82 +134,6 @@ fn first_piece(bytes: &[u8], separator: u8) -> (&[u8], Option<&[u8]>)
     match memchr(separator, bytes) {
         Some(end) => (&bytes[..end], Some(&bytes[end + 1..])),
         None => (bytes, None),
-    }
-}
-
-/// The page that the rest of a path names, after the version.
-fn page_named(rest: &[u8]) -> Option<Page>
-    ensures { result ≡ page_named (cut_at 47 rest.now) }
-{
-    match first_piece(rest, b'/') {
-        (name, None) => page_alone(name),
-        (name, Some(after)) => page_over(name, after),
-    }
-}
-
-/// The page of a name and of what comes after it.
-fn page_over(name: &[u8], rest: &[u8]) -> Option<Page>
-    ensures { result ≡ page_named (name.now ∷ cut_at 47 rest.now) }
-{
-    match first_piece(rest, b'/') {
-        (first, None) => page_over_one(name, first),
-        (first, Some(after)) => page_over_more(name, first, after),
-    }
-}
-
-/// The page of a name, of one piece after it and of what comes after that.
-fn page_over_more(name: &[u8], first: &[u8], rest: &[u8]) -> Option<Page>
-    ensures { result ≡ page_named (name.now ∷ first.now ∷ cut_at 47 rest.now) }
-{
-    match first_piece(rest, b'/') {
-        (second, None) => page_over_two(name, first, second),
-        (_, Some(_)) => None,
-    }
-}
-
-/// The page of a name alone.
-fn page_alone(name: &[u8]) -> Option<Page>
-    ensures { result ≡ page_alone name.now }
-{
-    if name == b"answer".as_slice() {
-        Some(Page::Answers)
-    } else if name == b"cut".as_slice() {
-        Some(Page::Cuts)
-    } else if name == b"raise".as_slice() {
-        Some(Page::Raises)
-    } else if name == b"state".as_slice() {
-        Some(Page::Reads(Ask::State))
-    } else {
-        None
-    }
-}
-
-/// The page of a name and one piece after it.
-fn page_over_one(name: &[u8], first: &[u8]) -> Option<Page>
-    ensures { result ≡ page_over_one name.now first.now }
-{
-    if name == b"seat".as_slice() {
-        let cand = read_candidate(first)?;
-        Some(Page::Reads(Ask::Seat { cand }))
-    } else {
-        None
-    }
-}
-
-/// The page of a name and two pieces after it.
-fn page_over_two(name: &[u8], first: &[u8], second: &[u8]) -> Option<Page>
-    ensures { result ≡ page_over_two name.now first.now second.now }
-{
-    if name == b"why".as_slice() {
-        let cand = read_candidate(first)?;
-        let prog = Code::read(second)?;
-        Some(Page::Reads(Ask::Why { cand, prog }))
-    } else if name == b"list".as_slice() {
-        let round = read_round(first)?;
-        let prog = Code::read(second)?;
-        Some(Page::Reads(Ask::List { round, prog }))
-    } else {
-        None
     }
 }
 

@@ -5,6 +5,8 @@ use Rattle.std.specs.Str.{str_eq_ignore_ascii_case}
 use Rattle.httparse.specs.Grammar.{trim_ows}
 use Rattle.office_text.specs.Lines.{cut_at}
 use Rattle.office_text.specs.Number.{are_digits, value_of}
+use Rattle.http_heads.specs.Methods.{method_name}
+use Rattle.http_heads.specs.declared.methods.Method.TheVariants.{Post}
 
 -- a field: its name, and its value without the blanks around it
 abbrev pub Pair : Type 0
@@ -55,7 +57,7 @@ one_length texts = shared_length (first_of texts) texts
 -- How long a body is, by the method and the length that is told: 411 where a POST tells none, 413 where it is above 4,096.
 abbrev pub length_for : List ℕ → Result (Option ℕ) ℕ → Result ℕ ℕ
 length_for method (Err status) = Err status
-length_for method (Ok None) = if bytes_eq method (codes "POST") then Err 411 else Ok 0
+length_for method (Ok None) = if bytes_eq method (method_name Post) then Err 411 else Ok 0
 length_for method (Ok (Some n)) = if nat_lt 4096 n then Err 413 else Ok n
 
 -- How long the body after a head is, or the status that refuses it: first 501 for a transfer coding, then 400, 411 and 413 for the length.

@@ -2,4 +2,5 @@ pub mod Fields
 pub mod HeadEnds
 pub mod Laws
 pub mod Messages
+pub mod Methods
 pub mod Told

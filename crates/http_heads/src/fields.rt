@@ -4,6 +4,7 @@ ghost use Rattle.std.specs.List.{list_all, list_any};
 ghost use Rattle.httparse.specs.Spans.{IsHeaderWithin, header_bytes};
 ghost use Rattle.http_heads.specs.Fields.{body_len, closes, first_value, has_field, is_length_of, length_for, lists_close, one_length, values};
 
+use crate::methods::Method;
 use crate::values::{is_same_name, length_of, lists_close};
 use httparse::spans::HeaderSpan;
 
@@ -55,7 +56,7 @@ impl<'a> Fields<'a> {
             return Err(501);
         }
         match self.content_length()? {
-            None if method == b"POST".as_slice() => Err(411),
+            None if method == Method::Post.name() => Err(411),
             None => Ok(0),
             Some(len) if len > 4096 => Err(413),
             Some(len) => Ok(len as usize),

@@ -1,6 +1,7 @@
 // What messages ask: tables of targets, methods, bodies and tokens with their answers from outside.
-use http_asks::{Judged, Method, judge, token};
-use http_heads::{Held, held_message};
+use crate::messages::{bare, with_body};
+use http_asks::{Judged, Routes, judge, token};
+use http_heads::{Held, Method, held_message};
 use httparse::spans::EMPTY_HEADER_SPAN;
 use office_base::{Ask, CandId, Choice, Code, OutOfMemory, StepKind};
 use std::alloc::Global;
@@ -15,20 +16,10 @@ fn comes_to(
     let Held::Whole(message) = held_message(bytes, &mut room) else {
         return Ok((0, None, None));
     };
-    match judge(alloc, &message)? {
+    match judge(alloc, &Routes::new(alloc)?, &message)? {
         Judged::Refused { status, allow } => Ok((status, allow, None)),
         Judged::Asked(ask) => Ok((200, None, Some(ask))),
     }
-}
-
-/// A message without a body.
-fn bare(alloc: Global, method: &str, target: &str) -> Result<Vec<u8>, OutOfMemory> {
-    let mut bytes = Vec::new(alloc);
-    bytes.extend_from_slice(method.as_bytes())?;
-    bytes.push(b' ')?;
-    bytes.extend_from_slice(target.as_bytes())?;
-    bytes.extend_from_slice(b" HTTP/1.1\r\nContent-Length: 0\r\n\r\n")?;
-    Ok(bytes)
 }
 
 /// Targets that name no page, whatever the method.
@@ -150,20 +141,6 @@ fn pages_are_read(rt: HostRuntime) -> Result<(), Fail> {
         );
     }
     Ok(())
-}
-
-/// A POST with a body of at most 9,999 bytes.
-fn with_body(alloc: Global, target: &str, body: &[u8]) -> Result<Vec<u8>, OutOfMemory> {
-    let mut bytes = Vec::new(alloc);
-    bytes.extend_from_slice(b"POST ")?;
-    bytes.extend_from_slice(target.as_bytes())?;
-    bytes.extend_from_slice(b" HTTP/1.1\r\nContent-Length: ")?;
-    for unit in [1000usize, 100, 10, 1] {
-        bytes.push(b'0' + (body.len() / unit % 10) as u8)?;
-    }
-    bytes.extend_from_slice(b"\r\n\r\n")?;
-    bytes.extend_from_slice(body)?;
-    Ok(bytes)
 }
 
 /// What a POST with this body comes to.

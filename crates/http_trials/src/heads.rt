@@ -1,8 +1,7 @@
 // What held bytes come to: tables of messages with their answers from outside, and each cut at every byte.
+use crate::messages::{long_head, many_fields, with_body};
 use http_heads::{Held, held_message};
 use httparse::spans::EMPTY_HEADER_SPAN;
-use office_base::OutOfMemory;
-use std::alloc::Global;
 use std::test::Fail;
 
 /// What held bytes come to: a status, or 200 with how many bytes the message takes, or 100 where more is wanted.
@@ -15,7 +14,7 @@ fn comes_to(held: &[u8]) -> (u16, usize) {
     }
 }
 
-/// Bytes, and what they come to.
+/// Bytes, what they come to, and from how many of them on: so many a message takes, and so many the head that is refused.
 const ANSWERS: [(&str, u16, usize); 43] = [
     ("", 100, 0),
     ("\r\n", 100, 0),
@@ -40,7 +39,7 @@ const ANSWERS: [(&str, u16, usize); 43] = [
     (
         "POST / HTTP/1.1\r\nContent-Length: 0000000000000000002\r\n\r\n{}",
         400,
-        0,
+        56,
     ),
     (
         "POST / HTTP/1.1\r\nContent-Length: 2\r\nContent-Length: 02\r\n\r\n{}",
@@ -55,128 +54,113 @@ const ANSWERS: [(&str, u16, usize); 43] = [
     (
         "POST / HTTP/1.1\r\nContent-Length: 50\r\nContent-Length: 51\r\n\r\n",
         400,
-        0,
+        59,
     ),
     (
         "POST / HTTP/1.1\r\nContent-Length: 2\r\nContent-Length: a\r\n\r\n",
         400,
-        0,
+        57,
     ),
     (
         "POST / HTTP/1.1\r\nContent-Length: a\r\nContent-Length: 2\r\n\r\n",
         400,
-        0,
+        57,
     ),
-    ("POST / HTTP/1.1\r\nContent-Length:\r\n\r\n", 400, 0),
-    ("POST / HTTP/1.1\r\nContent-Length: +2\r\n\r\n", 400, 0),
-    ("POST / HTTP/1.1\r\nContent-Length: 2, 2\r\n\r\n", 400, 0),
-    ("GET / HTTP/1.1\r\nContent-Length: -1\r\n\r\n", 400, 0),
+    ("POST / HTTP/1.1\r\nContent-Length:\r\n\r\n", 400, 36),
+    ("POST / HTTP/1.1\r\nContent-Length: +2\r\n\r\n", 400, 39),
+    ("POST / HTTP/1.1\r\nContent-Length: 2, 2\r\n\r\n", 400, 41),
+    ("GET / HTTP/1.1\r\nContent-Length: -1\r\n\r\n", 400, 38),
     ("POST / HTTP/1.1\r\nContent-Length: 4096\r\n\r\n", 100, 0),
-    ("POST / HTTP/1.1\r\nContent-Length: 4097\r\n\r\n", 413, 0),
+    ("POST / HTTP/1.1\r\nContent-Length: 4097\r\n\r\n", 413, 41),
     (
         "POST / HTTP/1.1\r\nContent-Length: 999999999999999999\r\n\r\n",
         413,
-        0,
+        55,
     ),
-    ("GET / HTTP/1.1\r\nContent-Length: 4097\r\n\r\n", 413, 0),
-    ("POST / HTTP/1.1\r\n\r\n", 411, 0),
+    ("GET / HTTP/1.1\r\nContent-Length: 4097\r\n\r\n", 413, 40),
+    ("POST / HTTP/1.1\r\n\r\n", 411, 19),
     ("post / HTTP/1.1\r\n\r\n", 200, 19),
     ("PUT / HTTP/1.1\r\n\r\n", 200, 18),
     (
         "POST / HTTP/1.1\r\nTransfer-Encoding: chunked\r\n\r\n",
         501,
-        0,
+        47,
     ),
     (
         "GET / HTTP/1.1\r\ntransfer-encoding: identity\r\n\r\n",
         501,
-        0,
+        47,
     ),
     (
         "POST / HTTP/1.1\r\nTransfer-Encoding: chunked\r\nContent-Length: a\r\n\r\n",
         501,
-        0,
+        66,
     ),
-    ("GET / HTTP/1.2\r\n\r\n", 400, 0),
-    ("GET / HTTP/2.0\r\n\r\n", 400, 0),
-    ("GET  / HTTP/1.1\r\n\r\n", 400, 0),
-    ("GET / HTTP/1.1\r\nno colon\r\n\r\n", 400, 0),
-    ("GET / HTTP/1.1\r\nName : a\r\n\r\n", 400, 0),
+    ("GET / HTTP/1.2\r\n\r\n", 400, 18),
+    ("GET / HTTP/2.0\r\n\r\n", 400, 18),
+    ("GET  / HTTP/1.1\r\n\r\n", 400, 19),
+    ("GET / HTTP/1.1\r\nno colon\r\n\r\n", 400, 28),
+    ("GET / HTTP/1.1\r\nName : a\r\n\r\n", 400, 28),
     ("no request\n", 100, 0),
-    ("no request\n\n", 400, 0),
+    ("no request\n\n", 400, 12),
 ];
 
-#[test]
-fn messages_are_told(rt: HostRuntime) {
-    for (bytes, status, len) in ANSWERS {
-        assert!(rt; comes_to(bytes.as_bytes()) == (status, len), "{bytes:?}");
+/// What bytes come to from so many of them on.
+fn settled(status: u16, point: usize) -> (u16, usize) {
+    if status == 200 {
+        (200, point)
+    } else {
+        (status, 0)
     }
 }
 
-#[test]
-fn the_cut_does_not_matter(rt: HostRuntime) {
-    for (bytes, status, len) in ANSWERS {
-        let bytes = bytes.as_bytes();
-        for end in 0..bytes.len() {
-            let (held, _) = bytes.split_at(end);
-            let answer = comes_to(held);
-            assert!(rt; answer == (100, 0) || answer == (status, len), "{end}");
+/// Whether each cut of the bytes comes to what it should: before so many of them more is wanted, and from there on the answer stays
+/// the same.
+fn settles_at(bytes: &[u8], status: u16, point: usize) -> bool {
+    for end in 0..bytes.len() {
+        let (held, _) = bytes.split_at(end);
+        let expected = if end < point {
+            (100, 0)
+        } else {
+            settled(status, point)
+        };
+        if comes_to(held) != expected {
+            return false;
         }
     }
+    comes_to(bytes) == settled(status, point)
 }
 
-/// A head of so many bytes, at least 22.
-fn long_head(alloc: Global, len: usize) -> Result<Vec<u8>, OutOfMemory> {
-    let mut head = Vec::new(alloc);
-    head.extend_from_slice(b"GET / HTTP/1.1\r\nA:")?;
-    for _ in 22..len {
-        head.push(b'a')?;
+#[test]
+fn messages_are_told_wherever_they_are_cut(rt: HostRuntime) {
+    for (bytes, status, point) in ANSWERS {
+        assert!(rt; settles_at(bytes.as_bytes(), status, point), "{bytes:?}");
     }
-    head.extend_from_slice(b"\r\n\r\n")?;
-    Ok(head)
 }
 
 #[test]
 fn heads_have_8192_bytes_at_most(rt: HostRuntime) -> Result<(), Fail> {
     let longest = long_head(rt.alloc(), 8192)?;
-    assert_eq!(rt; comes_to(longest.as_slice()), (200, 8192));
-    let (held, _) = longest.as_slice().split_at(longest.len().saturating_sub(1));
-    assert_eq!(rt; comes_to(held), (100, 0));
+    assert!(rt; settles_at(longest.as_slice(), 200, 8192));
     let longer = long_head(rt.alloc(), 8193)?;
-    assert_eq!(rt; comes_to(longer.as_slice()), (431, 0));
-    let (held, _) = longer.as_slice().split_at(longer.len().saturating_sub(1));
-    assert_eq!(rt; comes_to(held), (431, 0));
-    let (held, _) = longer.as_slice().split_at(longer.len().saturating_sub(2));
-    assert_eq!(rt; comes_to(held), (100, 0));
+    assert!(rt; settles_at(longer.as_slice(), 431, 8192));
     let mut later = Vec::new(rt.alloc());
     later.extend_from_slice(b"\r\n")?;
     later.extend_from_slice(long_head(rt.alloc(), 8190)?.as_slice())?;
-    assert_eq!(rt; comes_to(later.as_slice()), (200, 8192));
+    assert!(rt; settles_at(later.as_slice(), 200, 8192));
     later.clear();
     later.extend_from_slice(b"\r\n")?;
     later.extend_from_slice(long_head(rt.alloc(), 8191)?.as_slice())?;
-    assert_eq!(rt; comes_to(later.as_slice()), (431, 0));
+    assert!(rt; settles_at(later.as_slice(), 431, 8192));
     Ok(())
-}
-
-/// A head with so many fields.
-fn many_fields(alloc: Global, count: u8) -> Result<Vec<u8>, OutOfMemory> {
-    let mut head = Vec::new(alloc);
-    head.extend_from_slice(b"GET / HTTP/1.1\r\n")?;
-    for _ in 0..count {
-        head.extend_from_slice(b"A: b\r\n")?;
-    }
-    head.extend_from_slice(b"\r\n")?;
-    Ok(head)
 }
 
 #[test]
 fn heads_have_64_fields_at_most(rt: HostRuntime) -> Result<(), Fail> {
-    assert_eq!(rt;
-        comes_to(many_fields(rt.alloc(), 64)?.as_slice()),
-        (200, 402)
-    );
-    assert_eq!(rt; comes_to(many_fields(rt.alloc(), 65)?.as_slice()), (400, 0));
+    let most = many_fields(rt.alloc(), 64)?;
+    assert!(rt; settles_at(most.as_slice(), 200, 410));
+    let more = many_fields(rt.alloc(), 65)?;
+    assert!(rt; settles_at(more.as_slice(), 400, 416));
     Ok(())
 }
 
@@ -185,12 +169,22 @@ fn heads_have_64_fields_at_most(rt: HostRuntime) -> Result<(), Fail> {
 fn the_longest_body_is_read(rt: HostRuntime) -> Result<(), Fail> {
     let mut bytes = Vec::new(rt.alloc());
     bytes.extend_from_slice(b"POST / HTTP/1.1\r\nContent-Length: 4096\r\n\r\n")?;
-    for _ in 0..4095u32 {
+    for _ in 0..4100u32 {
         bytes.push(b'x')?;
     }
-    assert_eq!(rt; comes_to(bytes.as_slice()), (100, 0));
-    bytes.push(b'x')?;
-    assert_eq!(rt; comes_to(bytes.as_slice()), (200, 4137));
+    assert!(rt; settles_at(bytes.as_slice(), 200, 4137));
+    Ok(())
+}
+
+/// A message that follows a head of 8,192 bytes or a body is not looked at.
+#[test]
+fn a_message_behind_another_waits(rt: HostRuntime) -> Result<(), Fail> {
+    let mut bytes = long_head(rt.alloc(), 8192)?;
+    bytes.extend_from_slice(b"POST / HTTP/1.1\r\n\r\n")?;
+    assert!(rt; settles_at(bytes.as_slice(), 200, 8192));
+    let mut bytes = with_body(rt.alloc(), "/v1/cut", b"{}")?;
+    bytes.extend_from_slice(long_head(rt.alloc(), 8193)?.as_slice())?;
+    assert!(rt; settles_at(bytes.as_slice(), 200, 49));
     Ok(())
 }
 

@@ -6,8 +6,12 @@
 #[cfg(test)]
 mod asks;
 #[cfg(test)]
+mod exchanges;
+#[cfg(test)]
 mod heads;
 #[cfg(test)]
 mod links;
+#[cfg(test)]
+mod messages;
 #[cfg(test)]
 mod replies;

@@ -1,9 +1,10 @@
 // Replies with their exact bytes: each refusal of a message, each status of an answer, the two faults, and bodies of the greatest length.
-use http_wire::{Allow, BODY_ROOM, Fault, Outbox};
+use http_heads::Method;
+use http_wire::{BODY_ROOM, Fault, Outbox};
 use std::test::Fail;
 
 /// The refusals of messages: the status, what the path has, whether the connection closes, and the bytes.
-const REFUSALS: [(u16, Option<Allow>, bool, &str); 11] = [
+const REFUSALS: [(u16, Option<Method>, bool, &str); 11] = [
     (
         400,
         None,
@@ -48,19 +49,19 @@ const REFUSALS: [(u16, Option<Allow>, bool, &str); 11] = [
     ),
     (
         405,
-        Some(Allow::Get),
+        Some(Method::Get),
         false,
         "HTTP/1.1 405 Method Not Allowed\r\nContent-Length: 0\r\nAllow: GET\r\n\r\n",
     ),
     (
         405,
-        Some(Allow::Post),
+        Some(Method::Post),
         false,
         "HTTP/1.1 405 Method Not Allowed\r\nContent-Length: 0\r\nAllow: POST\r\n\r\n",
     ),
     (
         405,
-        Some(Allow::Get),
+        Some(Method::Get),
         true,
         "HTTP/1.1 405 Method Not Allowed\r\nContent-Length: 0\r\nAllow: GET\r\nConnection: close\r\n\r\n",
     ),
@@ -72,19 +73,13 @@ const REFUSALS: [(u16, Option<Allow>, bool, &str); 11] = [
     ),
 ];
 
-/// Whether a message is refused so.
-fn is_refused_by(
-    outbox: &mut Outbox,
-    status: u16,
-    allow: Option<Allow>,
-    close: bool,
-    text: &str,
-) -> bool {
+/// Puts a refusal where its status is one.
+pub fn refuse(outbox: &mut Outbox, status: u16, allow: Option<Method>, close: bool) -> bool {
     if status < 100 || status > 999 {
         return false;
     }
     outbox.refuse(status, allow, close);
-    outbox.bytes() == text.as_bytes()
+    true
 }
 
 #[test]
@@ -92,10 +87,8 @@ fn messages_are_refused(rt: HostRuntime) -> Result<(), Fail> {
     let mut outbox = Outbox::new(rt.alloc())?;
     assert!(rt; outbox.bytes().is_empty());
     for (status, allow, close, text) in REFUSALS {
-        assert!(rt;
-            is_refused_by(&mut outbox, status, allow, close, text),
-            "{text}"
-        );
+        assert!(rt; refuse(&mut outbox, status, allow, close), "{text}");
+        assert!(rt; outbox.bytes() == text.as_bytes(), "{text}");
     }
     Ok(())
 }

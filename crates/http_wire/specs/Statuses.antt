@@ -3,8 +3,6 @@ use Rattle.std.specs.Prelude.{ℕ, List, [], ◌∷◌, codes, unwrap_or}
 use Rattle.http.specs.StatusCode.{reason_phrase}
 use Rattle.http_wire.specs.declared.faults.Fault.{Fault}
 use Rattle.http_wire.specs.declared.faults.Fault.TheVariants.{Keeper, Memory}
-use Rattle.http_wire.specs.declared.allow.Allow.{Allow}
-use Rattle.http_wire.specs.declared.allow.Allow.TheVariants.{Get, Post}
 
 -- the phrase of a status, as the crate `http` gives it; nothing where it has none
 unfoldable pub phrase : ℕ → List ℕ
@@ -21,8 +19,3 @@ phrases =
 abbrev pub fault_status : Fault → ℕ
 fault_status Keeper = 503
 fault_status Memory = 507
-
--- the name of a method
-abbrev pub method_name : Allow → List ℕ
-method_name Get = codes "GET"
-method_name Post = codes "POST"

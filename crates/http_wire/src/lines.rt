@@ -1,11 +1,12 @@
 // The lines of a head, each put after what is there. The room for them is there.
 ghost use Rattle.std.specs.Prelude.{◌≡◌, ◌≤◌, ◌+◌, ◌++◌, Option, Bool, length, option_map, vec_len, vec_capacity};
 ghost use Rattle.http.specs.StatusCode.{IsStatusCode};
-ghost use Rattle.http_wire.specs.Statuses.{phrase, method_name};
+ghost use Rattle.http_heads.specs.Methods.{method_name};
+ghost use Rattle.http_wire.specs.Statuses.{phrase};
 ghost use Rattle.http_wire.specs.Replies.{line, status_line, type_line, length_line, allow_line, close_line, reply_head};
 
-use crate::Allow;
 use http::StatusCode;
+use http_heads::Method;
 use itoa::Buffer;
 
 /// Puts bytes.
@@ -74,7 +75,7 @@ fn put_length_line(out: &mut Vec<u8>, len: usize)
 }
 
 #[tactic(auto, unfolding(crate::specs::Replies::allow_line))]
-fn put_allow_line(out: &mut Vec<u8>, allow: Option<Allow>)
+fn put_allow_line(out: &mut Vec<u8>, allow: Option<Method>)
     requires room { vec_len out.old + 13 ≤ vec_capacity out.old }
     ensures items { out.new.items ≡ out.old.items ++ allow_line (option_map method_name allow) }
     ensures len { vec_len out.new ≤ vec_len out.old + 13 }
@@ -84,7 +85,7 @@ fn put_allow_line(out: &mut Vec<u8>, allow: Option<Allow>)
         return;
     };
     put(out, b"Allow: ");
-    put(out, method.name().as_bytes());
+    put(out, method.name());
     put(out, b"\r\n");
 }
 
@@ -107,7 +108,7 @@ pub fn put_head(
     out: &mut Vec<u8>,
     status: u16,
     len: Option<usize>,
-    allow: Option<Allow>,
+    allow: Option<Method>,
     close: bool,
 )
     requires status { IsStatusCode status }

@@ -2,11 +2,13 @@
 ghost use Rattle.std.specs.Prelude.{◌≡◌, ◌≤◌, ◌↔◌, [], Some, None, length, option_map, IfOk, IsTrue};
 ghost use Rattle.std.specs.Bool.{OnTrue, OnFalse};
 ghost use Rattle.http.specs.StatusCode.{IsStatusCode};
-ghost use Rattle.http_wire.specs.Statuses.{method_name, fault_status};
+ghost use Rattle.http_heads.specs.Methods.{method_name};
+ghost use Rattle.http_wire.specs.Statuses.{fault_status};
 ghost use Rattle.http_wire.specs.Replies.{reply_head, reply_text, fault_body};
 
+use crate::Fault;
 use crate::lines::{put, put_head};
-use crate::{Allow, Fault};
+use http_heads::Method;
 use office_base::OutOfMemory;
 use std::alloc::Global;
 use std::marker::Model;
@@ -17,7 +19,7 @@ pub const BODY_ROOM: usize = 8_192;
 // Room for a head and for such a body.
 const ROOM: usize = 8_448;
 
-/// The bytes of one reply. Its room is taken when it is made: nothing that is put into it takes memory.
+/// The bytes of one reply. Its room is taken when it is made: what is put into it is never refused for want of memory.
 #[derive(Debug, Drop)]
 pub struct Outbox {
     bytes: Vec<u8>,
@@ -68,7 +70,7 @@ impl Outbox {
     }
 
     /// Puts a reply without a body, in place of what was there: a request that does not reach the office is refused so.
-    pub fn refuse(&mut self, status: u16, allow: Option<Allow>, close: bool)
+    pub fn refuse(&mut self, status: u16, allow: Option<Method>, close: bool)
         requires { IsStatusCode status }
         ensures { self.new ≡ reply_text status None (option_map method_name allow) close }
     {

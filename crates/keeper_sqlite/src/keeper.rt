@@ -11,7 +11,8 @@ use std::alloc::Global;
 use std::marker::Model;
 
 /// A keeper over a database. It tells no tables and holds no room in advance. Each method is one transaction; where one answers `Failed`, the
-/// database refused or failed, or a row stands that is no record, and the count of faults rose by one, up to 2^64 - 1.
+/// database refused or failed, somebody else is in a transaction, or a row stands that is no record or may not stand beside the new ones, and the
+/// count of faults rose by one, up to 2^64 - 1.
 #[derive(Drop)]
 pub struct SqliteKeeper<S: Alter> {
     connection: Connection<S>,

@@ -21,7 +21,7 @@ pub(crate) fn create<S: Alter>(tx: &mut Transaction<'_, S>) -> Result<(), Halt>
     Ok(())
 }
 
-/// Puts the row of a season without cuts. The database refuses it where the row is there.
+/// Puts the row of a season without cuts.
 pub(crate) fn insert<S: Alter>(tx: &mut Transaction<'_, S>) -> Result<(), Halt>
     ensures { tx.new.conn.ghost_name ≡ tx.old.conn.ghost_name }
 {

@@ -1,5 +1,5 @@
 // The transactions of a keeper: what each method does to the tables, all of it or nothing.
-ghost use Rattle.std.specs.Prelude.{◌≡◌};
+ghost use Rattle.std.specs.Prelude.{◌≡◌, IfOk};
 
 use crate::halt::Halt;
 use crate::rising::are_rising;
@@ -8,12 +8,19 @@ use keeper_mem::{AllotRow, AnswerRow, Kept, RaiseRow};
 use sqlite::{Alter, Connection, Transaction};
 use std::alloc::Global;
 
-/// Makes the tables that are not there.
-pub(crate) fn make_tables<S: Alter>(connection: &mut Connection<S>) -> Result<(), Halt> {
+/// Begins a transaction, where nobody else began one.
+fn begin<S: Alter>(connection: &mut Connection<S>) -> Result<Transaction<'_, S>, Halt>
+    ensures { IfOk result (λ tx. tx.conn.ghost_name ≡ connection.entry.ghost_name) }
+{
     if !connection.is_autocommit() {
         return Err(Halt::InTransaction);
     }
-    let mut tx = connection.transaction();
+    Ok(connection.transaction())
+}
+
+/// Makes the tables that are not there.
+pub(crate) fn make_tables<S: Alter>(connection: &mut Connection<S>) -> Result<(), Halt> {
+    let mut tx = begin(connection)?;
     make_season_tables(&mut tx)?;
     make_row_tables(&mut tx)?;
     tx.commit()?;
@@ -37,33 +44,29 @@ fn make_row_tables<S: Alter>(tx: &mut Transaction<'_, S>) -> Result<(), Halt>
 
 /// Whether a season is kept.
 pub(crate) fn has_season<S: Alter>(connection: &mut Connection<S>) -> Result<bool, Halt> {
-    if !connection.is_autocommit() {
-        return Err(Halt::InTransaction);
-    }
-    let mut tx = connection.transaction();
+    let mut tx = begin(connection)?;
     let cuts = phase::read(&mut tx)?;
     Ok(cuts.is_some())
 }
 
-/// Keeps the text of a season, where no row stands.
+/// Keeps the text of a season, where no row stands in any table.
 pub(crate) fn put_season<S: Alter>(
     connection: &mut Connection<S>,
     text: &[u8],
 ) -> Result<(), Halt> {
-    if !connection.is_autocommit() {
-        return Err(Halt::InTransaction);
-    }
-    let mut tx = connection.transaction();
+    let mut tx = begin(connection)?;
     expect_empty(&mut tx)?;
     write_season(&mut tx, text)?;
     tx.commit()?;
     Ok(())
 }
 
-// That the phase is empty is tested by its key.
 fn expect_empty<S: Alter>(tx: &mut Transaction<'_, S>) -> Result<(), Halt>
     ensures { tx.new.conn.ghost_name ≡ tx.old.conn.ghost_name }
 {
+    if phase::read(tx)?.is_some() {
+        return Err(Halt::Unfit);
+    }
     season::expect_empty(tx)?;
     answer::expect_empty(tx)?;
     lift::expect_empty(tx)?;
@@ -82,10 +85,7 @@ pub(crate) fn put_answer<S: Alter>(
     connection: &mut Connection<S>,
     row: AnswerRow,
 ) -> Result<(), Halt> {
-    if !connection.is_autocommit() {
-        return Err(Halt::InTransaction);
-    }
-    let mut tx = connection.transaction();
+    let mut tx = begin(connection)?;
     answer::insert(&mut tx, row)?;
     tx.commit()?;
     Ok(())
@@ -96,10 +96,7 @@ pub(crate) fn put_raise<S: Alter>(
     connection: &mut Connection<S>,
     row: RaiseRow,
 ) -> Result<(), Halt> {
-    if !connection.is_autocommit() {
-        return Err(Halt::InTransaction);
-    }
-    let mut tx = connection.transaction();
+    let mut tx = begin(connection)?;
     lift::insert(&mut tx, row)?;
     tx.commit()?;
     Ok(())
@@ -110,10 +107,7 @@ pub(crate) fn put_cut<S: Alter>(
     connection: &mut Connection<S>,
     rows: &[AllotRow],
 ) -> Result<(), Halt> {
-    if !connection.is_autocommit() {
-        return Err(Halt::InTransaction);
-    }
-    let mut tx = connection.transaction();
+    let mut tx = begin(connection)?;
     write_cut(&mut tx, rows)?;
     tx.commit()?;
     Ok(())
@@ -137,10 +131,7 @@ pub(crate) fn load<S: Alter>(
     connection: &mut Connection<S>,
     alloc: Global,
 ) -> Result<Option<Kept>, Halt> {
-    if !connection.is_autocommit() {
-        return Err(Halt::InTransaction);
-    }
-    let mut tx = connection.transaction();
+    let mut tx = begin(connection)?;
     let Some(cuts) = phase::read(&mut tx)? else {
         return Ok(None);
     };

@@ -25,12 +25,13 @@ const DAMAGES: [&str; 16] = [
 ];
 
 /// Each leaves a row where no season is.
-const STRAYS: [&str; 5] = [
+const STRAYS: [&str; 6] = [
     "INSERT INTO season VALUES (5, x'61')",
     "INSERT INTO answer VALUES (1, 1, 1, 1, 1)",
     "INSERT INTO lift VALUES (1, 1, 0, 0, 2)",
     "INSERT INTO allot VALUES (1, 1, 0, 0)",
     "INSERT INTO phase VALUES (1, 0)",
+    "INSERT INTO phase VALUES (2, 0)",
 ];
 
 #[test]

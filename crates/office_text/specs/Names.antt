@@ -1,6 +1,8 @@
--- How the steps, and the codes of programmes and institutes, are spelled.
+-- How the steps, the choices, and the codes of programmes and institutes, are spelled.
 use Rattle.std.specs.Prelude.{ℕ, ◌||◌, List, Option, Some, None, bytes_eq, codes, if◌then◌else◌}
 use Rattle.office_base.specs.Codes.{is_code}
+use Rattle.office_base.specs.declared.asks.Choice.{Choice}
+use Rattle.office_base.specs.declared.asks.Choice.TheVariants.{Freeze, Float, Slide, Withdraw}
 use Rattle.office_base.specs.declared.step.StepKind.{StepKind}
 use Rattle.office_base.specs.declared.step.StepKind.TheVariants.{Open, Ews, Obc, Sc, St}
 
@@ -12,6 +14,15 @@ step_of text =
     else if bytes_eq text (codes "OBC") || bytes_eq text (codes "OBC-NCL") then Some Obc
     else if bytes_eq text (codes "SC") then Some Sc
     else if bytes_eq text (codes "ST") then Some St
+    else None
+
+-- the choice that a text spells
+abbrev pub choice_of : List ℕ → Option Choice
+choice_of text =
+    if bytes_eq text (codes "freeze") then Some Freeze
+    else if bytes_eq text (codes "float") then Some Float
+    else if bytes_eq text (codes "slide") then Some Slide
+    else if bytes_eq text (codes "withdraw") then Some Withdraw
     else None
 
 -- the code that a text spells

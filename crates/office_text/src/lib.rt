@@ -1,4 +1,4 @@
-// How the texts of the office are spelled: numbers, sets of traits, steps, lines of fields, and which fault is the first.
+// How the texts of the office are spelled: numbers, sets of traits, steps, choices, lines of fields, and which fault is the first.
 //
 // Every reader and writer of a sheet or a request stands on it. Reading takes no memory and gives back parts of the
 // bytes that it was given. `specs/` says each spelling as a function of the bytes, by cases on them, so that a
@@ -13,6 +13,6 @@ pub mod number;
 pub mod traits;
 
 pub use lines::{drop_cr, next_field, next_text_line, skip_mark, trim_commas};
-pub use names::read_step;
+pub use names::{read_choice, read_step};
 pub use number::{push_number, read_number};
 pub use traits::{letter_of, read_traits, trait_number};

@@ -1,8 +1,8 @@
-// The names of steps.
+// The names of steps and of choices.
 ghost use Rattle.std.specs.Prelude.{◌≡◌};
-ghost use Rattle.office_text.specs.Names.{step_of};
+ghost use Rattle.office_text.specs.Names.{choice_of, step_of};
 
-use office_base::StepKind;
+use office_base::{Choice, StepKind};
 
 /// The step that a text spells: `OPEN`, `EWS` or `GEN-EWS`, `OBC` or `OBC-NCL`, `SC`, `ST`.
 pub fn read_step(text: &[u8]) -> Option<StepKind>
@@ -18,6 +18,23 @@ pub fn read_step(text: &[u8]) -> Option<StepKind>
         Some(StepKind::Sc)
     } else if text == b"ST".as_slice() {
         Some(StepKind::St)
+    } else {
+        None
+    }
+}
+
+/// The choice that a text spells: `freeze`, `float`, `slide`, `withdraw`.
+pub fn read_choice(text: &[u8]) -> Option<Choice>
+    ensures { result ≡ choice_of text.now }
+{
+    if text == b"freeze".as_slice() {
+        Some(Choice::Freeze)
+    } else if text == b"float".as_slice() {
+        Some(Choice::Float)
+    } else if text == b"slide".as_slice() {
+        Some(Choice::Slide)
+    } else if text == b"withdraw".as_slice() {
+        Some(Choice::Withdraw)
     } else {
         None
     }

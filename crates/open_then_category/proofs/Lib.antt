@@ -1,4 +1,5 @@
 mod Assemble
+mod Counting
 mod Decide
 mod Grows
 mod Keeping

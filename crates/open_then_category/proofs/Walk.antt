@@ -38,7 +38,7 @@ later_number person other people apart here =
     ne_eqb person.id.0 other.id.0 (λ e. found.2 (same_cand person.id other.id e ∙ ap (λ (p : Person). p.id) found.1))
 
 -- who is apart from all people is none of some of them
-not_taken : (person : Person) (people taken : List Person) → AllByRecursion (λ one. person.id ≢ one.id) people → IsSublist taken people → is_taken taken person ≡ false
+pub not_taken : (person : Person) (people taken : List Person) → AllByRecursion (λ one. person.id ≢ one.id) people → IsSublist taken people → is_taken taken person ≡ false
 not_taken person people taken apart sub = false_from_ne_true (is_taken taken person) (λ holds.
     let one = any_among (λ other. person.id ≡ other.id) taken people (among_sublist taken people sub) (taken_number person taken holds) in
     let found = any_all (λ other. person.id ≡ other.id) (λ other. person.id ≢ other.id) people one apart in

@@ -2,3 +2,4 @@ pub mod Laws
 pub mod Order
 pub mod State
 pub mod StepLaws
+pub mod Tried

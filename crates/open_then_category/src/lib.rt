@@ -1,6 +1,6 @@
 // The choice of a programme: open seats first, then those of each category, then those that a category left empty.
 //
-// Rounds and audits stand on it; `ProgrammeState` makes the same choice from applicants who come one at a time. `specs/` says the six steps by the choice of a step alone, and `laws` what follows from
+// Rounds and audits stand on it; `ProgrammeState` makes the same choice from applicants who come one at a time, and `lists_of` gives its lists by how many came. `specs/` says the six steps by the choice of a step alone, and `laws` what follows from
 // it when applicants are added or left out. It sorts the applicants once, honours no protection itself, which
 // `merit_choice` does, and leaves to `dereserve` how many seats a category left empty and who fills them. It must never
 // know of choice lists, of rounds, or of what a candidate holds elsewhere.
@@ -8,11 +8,13 @@
 
 pub mod choice;
 mod filters;
+pub mod kept_lists;
 pub mod laws;
 mod order;
 pub mod state;
 
 pub use choice::programme_choice;
+pub use kept_lists::{Tried, lists_of};
 pub use merit_choice::Offered;
 pub use programme_lists::{Programme, ProgrammeSeats, Seating, Seatings, StepList};
 pub use state::ProgrammeState;

@@ -12,7 +12,7 @@ ghost use Rattle.seat_matrix.specs.Matrix.{seats_in};
 ghost use Rattle.seat_matrix.specs.Seats.{IsSeated};
 ghost use Rattle.programme_lists.specs.Chosen.{AreApplicants, ChoosesFrom, IsWith, everybody};
 ghost use Rattle.programme_lists.specs.Programme.{admitted_by, is_of};
-ghost use Rattle.open_then_category.specs.State.{IsAnswered, IsPassed, count, entered, left_last, nobody, passing};
+ghost use Rattle.open_then_category.specs.State.{IsAnswered, IsPassed, IsProgrammeKept, count, entered, left_last, nobody, passing};
 
 use crate::filters::is_of;
 use crate::laws::{offers_keep_choices, offers_leave_one, resumes, step_laws};
@@ -130,6 +130,21 @@ impl ProgrammeState {
             StepKind::St => self.st.admitted(),
             StepKind::Dereserved => self.dereserved.as_slice(),
         }
+    }
+
+    /// The seats of the programme.
+    pub(crate) fn programme_seats(&self) -> &ProgrammeSeats
+        ensures seats { result.now ≡ self.now.seats }
+        ensures kept { IsProgrammeKept self.now }
+    {
+        &self.seats
+    }
+
+    /// The version of the bundle.
+    pub(crate) fn bundle_version(&self) -> u8
+        ensures { result ≡ self.now.version }
+    {
+        self.version
     }
 }
 

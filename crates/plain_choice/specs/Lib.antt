@@ -1,3 +1,4 @@
 pub mod First
+pub mod ListOf
 pub mod StepChoice
 pub mod Sublists

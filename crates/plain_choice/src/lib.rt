@@ -7,11 +7,13 @@
 
 pub mod certifying;
 pub mod choosing;
+pub mod listing;
 pub mod placing;
 pub mod ranking;
 pub mod sublists;
 
 pub use certifying::canonical;
 pub use choosing::{choice, is_choice};
+pub use listing::{PlainList, list_of};
 pub use placing::honoured;
 pub use ranking::is_step;

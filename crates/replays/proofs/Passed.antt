@@ -18,6 +18,7 @@ use Rattle.office_moves.specs.declared.decide.Decision.TheVariants.{Finish, Publ
 use Rattle.office_moves.specs.declared.moves.Act.TheVariants.{Cut}
 use Rattle.office_moves.proofs.Chains.{cut_new}
 use Rattle.replays.specs.Replay.{AllPass, AreAllotsOf, Closes, CutPasses, IsReplayed, Pass, RowsPass}
+use Rattle.replays.proofs.Appended.{in_append, raises_append}
 use Rattle.replays.proofs.RowLemmas.{answers_ahead, answers_lead, raises_ahead, raises_lead}
 
 eq_fails : (m n : ℕ) → m ≢ n → (m == n) ≡ false
@@ -132,22 +133,6 @@ has_cut facts old new order passes = elim (cut_leads facts old new passes) [
 ]
 
 -- ---- windows that passed
-
-in_append : (window : ℕ) (rows more : List AnswerRow) → in_window window (rows ++ more) ≡ in_window window rows ++ in_window window more
-in_append window [] more = refl
-in_append window (row ∷ rows) more = step (row.window == window) (in_window window (rows ++ more)) (in_window window rows) (in_append window rows more)
-  where
-    step : (b : Bool) (whole rest : List AnswerRow) → whole ≡ rest ++ in_window window more → (if b then row ∷ whole else whole) ≡ (if b then row ∷ rest else rest) ++ in_window window more
-    step true whole rest e = ap (λ z. row ∷ z) e
-    step false whole rest e = e
-
-raises_append : (window : ℕ) (rows more : List RaiseRow) → raises_in window (rows ++ more) ≡ raises_in window rows ++ raises_in window more
-raises_append window [] more = refl
-raises_append window (row ∷ rows) more = step (row.window == window) (raises_in window (rows ++ more)) (raises_in window rows) (raises_append window rows more)
-  where
-    step : (b : Bool) (whole rest : List RaiseRow) → whole ≡ rest ++ raises_in window more → (if b then row ∷ whole else whole) ≡ (if b then row ∷ rest else rest) ++ raises_in window more
-    step true whole rest e = ap (λ z. row ∷ z) e
-    step false whole rest e = e
 
 -- the rows of a window have that window alone
 in_again : (window : ℕ) (rows : List AnswerRow) → in_window window (in_window window rows) ≡ in_window window rows

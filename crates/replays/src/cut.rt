@@ -14,8 +14,8 @@ use proceedings::Proceedings;
 use rounds::Round;
 use std::alloc::Global;
 
-/// The next round.
-fn next_round(alloc: Global, book: &Proceedings) -> Result<Round, OutOfMemory>
+/// The round that the next cut publishes, made from what the candidates seek after the cuts so far. The only error is want of memory.
+pub fn next_round(alloc: Global, book: &Proceedings) -> Result<Round, OutOfMemory>
     requires { book.now.state.now < book.now.season.rounds }
     ensures { IfOk result (λ round. IsNextRound book.now.season book.now.state round) }
 {

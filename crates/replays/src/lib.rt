@@ -13,4 +13,5 @@ mod later;
 mod rows;
 
 pub use course::replay;
+pub use cut::next_round;
 pub use fault::ReplayFault;

@@ -6,11 +6,9 @@ use Rattle.office_base.specs.declared.asks.Ask.{Ask}
 use Rattle.office_base.specs.declared.asks.Ask.TheVariants.{Answer, Cut, Seat, Why, List as ListOf, State, Raise}
 use Rattle.office_base.specs.declared.asks.By.{By}
 use Rattle.office_base.specs.declared.asks.By.TheVariants.{Clerk, Candidate, Nobody}
-use Rattle.office_base.specs.declared.asks.Choice.{Choice}
-use Rattle.office_base.specs.declared.asks.Choice.TheVariants.{Freeze, Float, Slide, Withdraw}
 use Rattle.office_base.specs.declared.asks.Request.{Request}
 use Rattle.office_base.specs.declared.person.CandId.{CandId}
-use Rattle.office_text.specs.Names.{code_of, step_of}
+use Rattle.office_text.specs.Names.{choice_of, code_of, step_of}
 use Rattle.office_text.specs.Number.{number_within}
 use Rattle.section_rows.specs.Rows.{Row, field}
 use Rattle.section_rows.specs.Steps.{after, needs}
@@ -39,15 +37,6 @@ turn_of text = number_within 1 last_turn text
 -- the new number of seats of a step
 abbrev pub seats_of : List ℕ → Option ℕ
 seats_of text = number_within 1 most_step_seats text
-
--- what a candidate chooses
-abbrev pub choice_of : List ℕ → Option Choice
-choice_of text =
-    if bytes_eq text (codes "freeze") then Some Freeze
-    else if bytes_eq text (codes "float") then Some Float
-    else if bytes_eq text (codes "slide") then Some Slide
-    else if bytes_eq text (codes "withdraw") then Some Withdraw
-    else None
 
 -- what the fields after the first two ask, by the kind of the request
 abbrev pub answer_of : Row → Option Ask

@@ -1,10 +1,10 @@
 // The fields of a request's row.
 ghost use Rattle.std.specs.Prelude.{◌≡◌};
-ghost use Rattle.request_rows.specs.Requests.{answer_of, ask_of, by_of, candidate_of, choice_of, cut_of, is_kind, list_of, raise_of, request_of, seat_of, seats_of, turn_of, why_of, window_of};
+ghost use Rattle.request_rows.specs.Requests.{answer_of, ask_of, by_of, candidate_of, cut_of, is_kind, list_of, raise_of, request_of, seat_of, seats_of, turn_of, why_of, window_of};
 
 use office_base::limits::{LAST_ID, LAST_TURN, LAST_WINDOW, MOST_STEP_SEATS};
-use office_base::{Ask, By, CandId, Choice, Code, Request};
-use office_text::{read_number, read_step};
+use office_base::{Ask, By, CandId, Code, Request};
+use office_text::{read_choice, read_number, read_step};
 use section_rows::Rows;
 
 /// The candidate's number that a text spells.
@@ -51,23 +51,6 @@ fn read_seats(text: &[u8]) -> Option<u16>
 {
     let seats = read_number(text, 1, MOST_STEP_SEATS)?;
     Some(seats as u16)
-}
-
-/// What a candidate chooses.
-fn read_choice(text: &[u8]) -> Option<Choice>
-    ensures { result ≡ choice_of text.now }
-{
-    if text == b"freeze".as_slice() {
-        Some(Choice::Freeze)
-    } else if text == b"float".as_slice() {
-        Some(Choice::Float)
-    } else if text == b"slide".as_slice() {
-        Some(Choice::Slide)
-    } else if text == b"withdraw".as_slice() {
-        Some(Choice::Withdraw)
-    } else {
-        None
-    }
 }
 
 /// What a row of the kind `answer` asks.

@@ -4,11 +4,11 @@ ghost use Rattle.office_moves.specs.Moves.{IsNextRound, allot_rows, final_rows};
 ghost use Rattle.office_turns.specs.Turns.{no_turns};
 ghost use Rattle.rounds.specs.Round.{seated};
 
-use apply_engine::plain_round;
 use keeper_mem::AllotRows;
 use office_base::OutOfMemory;
 use office_turns::TurnTable;
 use proceedings::Proceedings;
+use replays::next_round;
 use rounds::Round;
 use std::alloc::Global;
 
@@ -20,20 +20,6 @@ pub(crate) struct MadeCut {
     pub(crate) table: TurnTable,
     /// How many have a seat in the round.
     pub(crate) seated: u32,
-}
-
-/// The next round.
-fn next_round(alloc: Global, book: &Proceedings) -> Result<Round, OutOfMemory>
-    requires { book.now.state.now < book.now.season.rounds }
-    ensures { IfOk result (λ round. IsNextRound book.now.season book.now.state round) }
-{
-    let seeks = book.seeks(alloc)?;
-    let season = book.season();
-    let number = book.now();
-    if number >= season.rounds {
-        unreachable!("there is a round left")
-    }
-    plain_round(alloc, season, book.matrix(), number + 1, seeks)
 }
 
 /// How many have a seat.

@@ -1,6 +1,9 @@
+mod Counted
 mod Named
 mod OneRun
+mod OneTally
 mod RunLemmas
 mod Running
 mod Seats
 mod Shown
+mod Tallying

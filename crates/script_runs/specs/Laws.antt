@@ -1,5 +1,5 @@
 -- What holds of runs, over the definitions alone.
-use Rattle.std.specs.Prelude.{◌≡◌, ℕ, List, [], ◌∷◌, ◌++◌}
+use Rattle.std.specs.Prelude.{◌≡◌, ◌+◌, ℕ, List, [], ◌∷◌, ◌++◌}
 use Rattle.office_base.specs.declared.asks.Request.{Request}
 use Rattle.office_moves.specs.Facts.{IsSound, SeasonFacts}
 use Rattle.office_moves.specs.State.{State}
@@ -9,6 +9,7 @@ use Rattle.office_moves.specs.declared.moves.Entry.{Entry}
 use Rattle.office_moves.specs.declared.moves.Reply.{Reply}
 use Rattle.histories.specs.Orderly.{IsOrderly}
 use Rattle.script_runs.specs.Runs.{Answers, CameOf, CanBeShown, reply_bytes}
+use Rattle.script_runs.specs.Tally.{AreHandled, Handled, answers_in, noted_in, refused_in, requests_of}
 
 -- A run goes on by one request at its end, whose reply comes after the others.
 abbrev pub GoesOn : SeasonFacts → Type 0
@@ -36,3 +37,12 @@ OneRun facts = IsSound facts → (entries : List Entry) (old new then : State) (
 -- In a state in which all is in order the reply that led to it can be shown.
 abbrev pub RepliesCanBeShown : SeasonFacts → Type 0
 RepliesCanBeShown facts = IsSound facts → (state : State) (reply : Reply) → IsOrderly facts state → CameOf facts state reply → CanBeShown facts state reply
+
+-- Each answer among the requests is noted or refused, and no other request is counted.
+abbrev pub EachAnswerIsCounted : SeasonFacts → Type 0
+EachAnswerIsCounted facts = (old new : State) (handled : List Handled) → AreHandled facts old handled new → noted_in handled + refused_in handled ≡ answers_in (requests_of handled)
+
+-- Requests that are answered after a history have the same replies, and leave one state.
+abbrev pub OneTally : SeasonFacts → Type 0
+OneTally facts = IsSound facts → (entries : List Entry) (old new then : State) (handled other : List Handled) → IsHistory facts entries old → AreHandled facts old handled new
+    → AreHandled facts old other then → requests_of handled ≡ requests_of other → (handled ≡ other) × (new ≡ then)

@@ -1,6 +1,6 @@
 // The laws of runs. Each is the contract of a function that does nothing.
 ghost use Rattle.office_moves.specs.Facts.{SeasonFacts};
-ghost use Rattle.script_runs.specs.Laws.{GoesOn, OneRun, PrefixIsARun, RepliesCanBeShown};
+ghost use Rattle.script_runs.specs.Laws.{EachAnswerIsCounted, GoesOn, OneRun, OneTally, PrefixIsARun, RepliesCanBeShown};
 
 /// A run goes on by one request at its end.
 pub fn goes_on()
@@ -21,6 +21,21 @@ pub fn one_run()
     histories::laws::one_next_round();
     office_moves::laws::one_reply();
 }
+
+/// Requests that are answered after a history have the same replies, so one tally, and leave one state.
+pub fn one_tally()
+    ensures { (facts : SeasonFacts) → OneTally facts }
+{
+    histories::laws::history_grows();
+    histories::laws::orderly();
+    histories::laws::one_next_round();
+    office_moves::laws::one_reply();
+}
+
+/// Each answer among the requests is noted or refused, and no other request is counted.
+pub fn each_answer_is_counted()
+    ensures { (facts : SeasonFacts) → EachAnswerIsCounted facts }
+{}
 
 /// The reply that led to a state in which all is in order can be shown.
 pub fn replies_can_be_shown()

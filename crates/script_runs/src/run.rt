@@ -70,7 +70,7 @@ pub fn answer_all<P: Keeper, K: Sink>(
 }
 
 /// All is in order in the state of the office, to which its entries lead. It takes no memory.
-fn check_order<P: Keeper>(office: &Office<P>)
+pub(crate) fn check_order<P: Keeper>(office: &Office<P>)
     requires { IsHistory office.now.season office.now.entries office.now.state }
     ensures { IsOrderly office.now.season office.now.state }
 {
@@ -118,7 +118,7 @@ fn answer_one<P: Keeper, K: Sink>(
 }
 
 /// The reply to a request under the number after the last one. Where that number would not fit, it is told as want of memory.
-fn next_reply<P: Keeper>(
+pub(crate) fn next_reply<P: Keeper>(
     alloc: Global,
     office: &mut Office<P>,
     request: &Request,

@@ -1,4 +1,5 @@
 mod CheckFaults
+mod GeneratedEnds
 mod OfficeEnds
 mod OneAnswer
 mod Requests

@@ -1,11 +1,11 @@
 -- How the command `resume` ends.
-use Rattle.std.proofs.Common.{◌≡◌, ◌≢◌, ◌⊎◌, ◌∙◌, ap, inl, inr, ℕ, List, Option, Some, None, Result, Ok, Err, refl, sym, subst}
+use Rattle.std.proofs.Common.{◌≡◌, ◌≢◌, ◌⊎◌, ◌∙◌, ap, inl, inr, ℕ, false, List, Option, Some, None, Result, Ok, Err, refl, sym, subst}
 use Rattle.std.specs.Prelude.{IfOk}
 use Rattle.office_base.specs.declared.asks.Seat.{Seat}
 use Rattle.office_base.specs.declared.person.CandId.{CandId}
 use Rattle.office_base.specs.Outside.{Appends}
 use Rattle.office_base.specs.declared.asks.Request.{Request}
-use Rattle.keeper_mem.specs.Tables.{Tables, Untold, NoSeason, Records, AreTold, IsLoaded}
+use Rattle.keeper_mem.specs.Tables.{Tables, Untold, NoSeason, Records, AreTold, IsFound, IsLoaded}
 use Rattle.keeper_mem.specs.declared.rows.Kept.{Kept}
 use Rattle.office_moves.specs.Facts.{SeasonFacts}
 use Rattle.office_moves.specs.State.{State}
@@ -24,8 +24,8 @@ use Rattle.command_answers.specs.declared.failure.Failure.TheVariants.{Read, Bad
 use Rattle.command_answers.specs.declared.status.Status.{Status}
 use Rattle.command_answers.specs.declared.status.Status.TheVariants.{Ok as Done, BadInput, ReadFault, WriteFault, KeeperFault as KeeperFailed, OutOfMemory, Differs as StatusDiffers}
 use Rattle.command_answers.proofs.Ended.{told_is_written}
-use Rattle.season_commands.specs.Office.{EndsOffice}
-use Rattle.season_commands.specs.Resume.{AreLeftRequests, EndsAsked, EndsResume, HaveNoFault, IsScript, IsFaultyScript, IsUnaskedText, IsUnresumedLine, IsUnresumedText, TellsSound, script_answers, unresumed_status}
+use Rattle.season_commands.specs.Office.{EndsOffice, keeper_line}
+use Rattle.season_commands.specs.Resume.{AreLeftRequests, EndsAsked, EndsResume, HaveNoFault, IsScript, IsFaultyScript, IsUnaskedText, IsUnresumedLine, IsUnresumedText, TellsSound, no_season_line, script_answers, unresumed_status}
 use Rattle.season_commands.specs.Run.{TellsNoSeason}
 use Rattle.season_commands.specs.Stray.{differs_line, raise_line_of, replay_line, stray_line}
 use Rattle.season_commands.proofs.Requests.{not_faulty}
@@ -107,6 +107,21 @@ unresumed_is_written records fault line shown status result before after broke t
 pub unlined_is_written : (result : Status) (before after : Option (List ℕ)) (broke : Type 0) (tables : Tables) → IsTold OutOfMemory memory_line before after broke result
     → (output : List ℕ) × Appends output before after × Writes (IsUnresumedText tables) result output
 unlined_is_written result before after broke tables told = told_is_written (IsUnresumedText tables) OutOfMemory result memory_line before after broke refl told
+
+-- No season was found, in a line of its own.
+pub none_is_written : (records : Option Kept) (fault : ResumeFault) (result : Status) (before after : Option (List ℕ)) (broke : Type 0) (tables : Tables) → fault ≡ NoneKept
+    → IsTold BadInput no_season_line before after broke result → IsJudged tables records fault → (output : List ℕ) × Appends output before after × Writes (IsUnresumedText tables) result output
+none_is_written records fault result before after broke tables same told judged =
+    told_is_written (IsUnresumedText tables) BadInput result no_season_line before after broke (inl (none_found records (subst (λ (f : ResumeFault). IsJudged tables records f) same judged), refl)) told
+  where
+    none_found : (records : Option Kept) → IsJudged tables records NoneKept → IsFound false tables
+    none_found None judged = judged
+    none_found (Some kept) judged = absurd judged.1
+
+-- The keeper failed, in a line of its own.
+pub failed_is_written : (result : Status) (before after : Option (List ℕ)) (broke : Type 0) (tables : Tables) → IsTold KeeperFailed keeper_line before after broke result
+    → (output : List ℕ) × Appends output before after × Writes (IsUnresumedText tables) result output
+failed_is_written result before after broke tables told = told_is_written (IsUnresumedText tables) KeeperFailed result keeper_line before after broke refl told
 
 -- ---- no requests are read
 

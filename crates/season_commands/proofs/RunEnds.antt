@@ -18,7 +18,7 @@ use Rattle.command_answers.specs.declared.status.Status.{Status}
 use Rattle.command_answers.proofs.Ended.{told_is_written}
 
 -- the text of why no office began goes with its status
-text_of_begin : (before : Tables) (fault : BeginFault) → (fault ≡ NotEmpty → IsFound true before) → IsUnbegunText before (begin_status fault) (begin_text fault)
+pub text_of_begin : (before : Tables) (fault : BeginFault) → (fault ≡ NotEmpty → IsFound true before) → IsUnbegunText before (begin_status fault) (begin_text fault)
 text_of_begin before NotEmpty held = (held refl, refl)
 text_of_begin before NoKeeper held = refl
 text_of_begin before NoMemory held = refl

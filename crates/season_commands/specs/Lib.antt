@@ -1,4 +1,5 @@
 pub mod Check
+pub mod Generated
 pub mod Office
 pub mod Resume
 pub mod Run

@@ -1,5 +1,5 @@
 -- The command `resume`: an office goes on from what the keeper holds; its input are requests alone, and its output are the replies to them.
-use Rattle.std.specs.Prelude.{◌≡◌, ◌≢◌, ◌<◌, ◌⊎◌, ℕ, false, List, Option, Ok, Err, codes, length}
+use Rattle.std.specs.Prelude.{◌≡◌, ◌≢◌, ◌<◌, ◌≤◌, ◌⊎◌, ℕ, false, List, Option, Ok, Err, codes, length}
 use Rattle.std.specs.Str.{IsUtf8}
 use Rattle.office_base.specs.Limits.{most_bundle_bytes}
 use Rattle.office_base.specs.Outside.{AreLeft}
@@ -46,7 +46,7 @@ AreLeftRequests left script = (bytes : List ℕ) × AreLeft bytes left × AreReq
 -- the bytes have this fault as requests
 abbrev pub HaveRequestFault : List ℕ → SeasonFault → Type 0
 HaveRequestFault bytes TooLong = most_bundle_bytes < length bytes
-HaveRequestFault bytes NotUtf8 = IsUtf8 bytes → ⊥
+HaveRequestFault bytes NotUtf8 = (length bytes ≤ most_bundle_bytes) × (IsUtf8 bytes → ⊥)
 HaveRequestFault bytes (BadRequest row) = IsText bytes × (script_of (rows_of bytes) ≡ Err row)
 HaveRequestFault bytes fault = ⊥
 

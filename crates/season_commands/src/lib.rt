@@ -1,18 +1,21 @@
-// The commands on a season: `check`, which reads a bundle and counts it, `run`, which answers its requests over a keeper, and `resume`, which goes on with
-// the office that a keeper holds.
+// The commands on a season: `check`, which reads a bundle and counts it, `run`, which answers its requests over a keeper, `resume`, which goes on with the
+// office that a keeper holds, and the one that runs a generated season and writes what it came to.
 //
-// The program stands on it. `specs/Check`, `specs/Run` and `specs/Resume` say what the commands answer to the bytes that a source had left, how they end with each status,
+// The program stands on it. `specs/Check`, `specs/Run`, `specs/Resume` and `specs/Generated` say what the commands answer to the bytes that a source had left, how they end with each status,
 // and what the tables of the keeper stand for then. It must never know of the words of a command line, nor of other commands.
 #![tactic(auto)]
 
 mod bundle;
 mod check;
+mod generated;
 pub mod laws;
 mod office;
 mod resume;
 mod run;
 mod stray;
+mod summed;
 
 pub use check::check_answer;
+pub use generated::run_generated;
 pub use resume::resume_season;
 pub use run::run_season;

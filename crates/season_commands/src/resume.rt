@@ -16,7 +16,7 @@ ghost use Rattle.season_file.specs.declared.season.Season.{Season as AnySeason};
 use crate::bundle::bundle_failure;
 use crate::office::run_office;
 use crate::stray::{differs_text, stray_text};
-use command_answers::{Failure, Status, tell_failure, write_answer};
+use command_answers::{Failure, Status, tell_failure, tell_no_memory, write_answer};
 use keeper_mem::{Keeper, Kept};
 use office_base::{CandId, OutOfMemory, Seat, Sink, Source, Text};
 use request_rows::Script;
@@ -112,9 +112,27 @@ fn tell_unresumed<K: Sink>(alloc: Global, sink: &mut K, stopped: &Unresumed) -> 
     ensures write_fault { result ≡ Status.WriteFault → Rose (K.faults sink.old) (K.faults sink.new) }
     ensures steady { result ≢ Status.WriteFault → K.faults sink.new ≡ K.faults sink.old }
 {
-    match unresumed_text(alloc, stopped) {
+    match stopped.fault {
+        ResumeFault::NoSeason => {
+            write_answer(sink, b"fault: keeper holds no season\n", Status::BadInput)
+        }
+        ResumeFault::KeeperFault => write_answer(sink, b"fault: keeper\n", Status::KeeperFault),
+        ResumeFault::OutOfMemory => tell_no_memory(sink),
+        _ => tell_judged(alloc, sink, stopped),
+    }
+}
+
+/// Writes what is wrong with the records, in a line made for it.
+fn tell_judged<K: Sink>(alloc: Global, sink: &mut K, stopped: &Unresumed) -> Status
+    ensures written { (tables : Tables) → IsJudged tables stopped.now.records stopped.now.fault
+        → (output : List ℕ) × Appends output (K.written sink.old) (K.written sink.new) × Writes (IsUnresumedText tables) result output }
+    ensures status { (result ≡ unresumed_status stopped.now.fault) ⊎ ((result ≡ Status.OutOfMemory) ⊎ (result ≡ Status.WriteFault)) }
+    ensures write_fault { result ≡ Status.WriteFault → Rose (K.faults sink.old) (K.faults sink.new) }
+    ensures steady { result ≢ Status.WriteFault → K.faults sink.new ≡ K.faults sink.old }
+{
+    match judged_text(alloc, stopped) {
         Ok(line) => write_answer(sink, line.as_slice(), unresumed_status(stopped.fault)),
-        Err(OutOfMemory) => write_answer(sink, b"fault: memory\n", Status::OutOfMemory),
+        Err(OutOfMemory) => tell_no_memory(sink),
     }
 }
 
@@ -131,12 +149,11 @@ fn unresumed_status(fault: ResumeFault) -> Status
     }
 }
 
-/// The line that tells why no office goes on.
-fn unresumed_text(alloc: Global, stopped: &Unresumed) -> Result<Text, OutOfMemory>
+/// The line that tells what is wrong with the records.
+fn judged_text(alloc: Global, stopped: &Unresumed) -> Result<Text, OutOfMemory>
     ensures { IfOk result (IsUnresumedLine stopped.now.records stopped.now.fault) }
 {
     match stopped.fault {
-        ResumeFault::NoSeason => line_of(alloc, b"fault: keeper holds no season\n"),
         ResumeFault::BadSeason(fault) => fault_text(alloc, fault),
         ResumeFault::Stray { row } => stray_text(alloc, b"fault: stray answer ", row),
         ResumeFault::StrayRaise { row } => stray_text(alloc, b"fault: stray raise ", row),
@@ -147,20 +164,12 @@ fn unresumed_text(alloc: Global, stopped: &Unresumed) -> Result<Text, OutOfMemor
             computed,
         } => match &stopped.records {
             Some(records) => difference_text(alloc, records, round, cand, kept, computed),
-            None => Ok(Text::new(alloc)),
+            None => Err(OutOfMemory),
         },
-        ResumeFault::KeeperFault => line_of(alloc, b"fault: keeper\n"),
-        ResumeFault::OutOfMemory => line_of(alloc, b"fault: memory\n"),
+        ResumeFault::NoSeason | ResumeFault::KeeperFault | ResumeFault::OutOfMemory => {
+            Err(OutOfMemory)
+        }
     }
-}
-
-/// A line as it stands.
-fn line_of(alloc: Global, line: &[u8]) -> Result<Text, OutOfMemory>
-    ensures { IfOk result (λ text. text ≡ line.now) }
-{
-    let mut out = Text::new(alloc);
-    out.extend_from_slice(line)?;
-    Ok(out)
 }
 
 /// The line of a difference, with the codes of the season whose text is kept.

@@ -84,7 +84,7 @@ fn run_script<K: Sink, P: Keeper>(
 }
 
 /// Writes why no office began.
-fn tell_unbegun<K: Sink>(sink: &mut K, fault: BeginFault) -> Status
+pub(crate) fn tell_unbegun<K: Sink>(sink: &mut K, fault: BeginFault) -> Status
     ensures told { IsTold (begin_status fault) (begin_text fault) (K.written sink.old) (K.written sink.new) (Rose (K.faults sink.old) (K.faults sink.new)) result }
     ensures steady { result ≢ Status.WriteFault → K.faults sink.new ≡ K.faults sink.old }
 {

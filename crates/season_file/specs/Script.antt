@@ -1,5 +1,5 @@
 -- Which requests a body alone spells, and which fault is its first.
-use Rattle.std.specs.Prelude.{◌≡◌, ℕ, List, Option, Ok, Err}
+use Rattle.std.specs.Prelude.{◌≡◌, ◌≤◌, ℕ, List, Option, Ok, Err, length}
 use Rattle.std.specs.Str.{IsUtf8}
 use Rattle.office_base.specs.Limits.{most_bundle_bytes}
 use Rattle.office_base.specs.Outside.{IsAtEnd, Took, TookMore}
@@ -19,7 +19,7 @@ GaveScript before after script = (bytes : List ℕ) × Took bytes before after �
 abbrev pub IsScriptFault : Option (List ℕ) → Option (List ℕ) → SeasonFault → Type 0
 IsScriptFault before after ReadFault = Unit {0}
 IsScriptFault before after TooLong = TookMore most_bundle_bytes before after
-IsScriptFault before after NotUtf8 = (bytes : List ℕ) × Took bytes before after × IsAtEnd after × (IsUtf8 bytes → ⊥)
+IsScriptFault before after NotUtf8 = (bytes : List ℕ) × Took bytes before after × IsAtEnd after × (length bytes ≤ most_bundle_bytes) × (IsUtf8 bytes → ⊥)
 IsScriptFault before after (BadRequest row) = (bytes : List ℕ) × Took bytes before after × IsAtEnd after × IsText bytes × (script_of (rows_of bytes) ≡ Err row)
 IsScriptFault before after OutOfMemory = Unit {0}
 IsScriptFault before after fault = ⊥

@@ -15,13 +15,13 @@ pub struct Summary {
     /// The seed that they were generated from.
     pub seed: u32,
     /// How many have a seat in each round, from round 1 on.
-    pub seated: Listed<u32>,
+    pub seated: Listed<usize>,
     /// How many answers were noted.
     pub noted: usize,
     /// How many were refused.
     pub refused: usize,
     /// How many final admissions there are.
-    pub admitted: u32,
+    pub admitted: usize,
 }
 
 /// The text of a summary.
@@ -48,7 +48,7 @@ fn push_generated(out: &mut Text, candidates: u32, seed: u32) -> Result<(), OutO
 }
 
 /// Puts the lines of all rounds.
-fn push_rounds(out: &mut Text, rounds: &[u32]) -> Result<(), OutOfMemory>
+fn push_rounds(out: &mut Text, rounds: &[usize]) -> Result<(), OutOfMemory>
     ensures { OnOk result (out.new ≡ out.old ++ round_lines 1 rounds.now) }
 {
     for (before, seated) in rounds.iter().enumerate() {
@@ -58,13 +58,13 @@ fn push_rounds(out: &mut Text, rounds: &[u32]) -> Result<(), OutOfMemory>
 }
 
 /// Puts the line of a round.
-fn push_round(out: &mut Text, number: usize, seated: u32) -> Result<(), OutOfMemory>
+fn push_round(out: &mut Text, number: usize, seated: usize) -> Result<(), OutOfMemory>
     ensures { OnOk result (out.new ≡ out.old ++ round_line number seated) }
 {
     out.extend_from_slice(b"round ")?;
     push_count(out, number)?;
     out.extend_from_slice(b" seated ")?;
-    push_number(out, seated)?;
+    push_count(out, seated)?;
     out.extend_from_slice(b"\n")
 }
 
@@ -80,10 +80,10 @@ fn push_answers(out: &mut Text, noted: usize, refused: usize) -> Result<(), OutO
 }
 
 /// Puts the line of the final admissions.
-fn push_admitted(out: &mut Text, admitted: u32) -> Result<(), OutOfMemory>
+fn push_admitted(out: &mut Text, admitted: usize) -> Result<(), OutOfMemory>
     ensures { OnOk result (out.new ≡ out.old ++ admitted_line admitted) }
 {
     out.extend_from_slice(b"final admitted ")?;
-    push_number(out, admitted)?;
+    push_count(out, admitted)?;
     out.extend_from_slice(b"\n")
 }

@@ -1,7 +1,8 @@
-use Rattle.std.proofs.Common.{◌≡◌, Err, ap, inl, inr, refl}
+use Rattle.std.proofs.Common.{◌≡◌, Err, ap, inl, inr, refl, subst}
+use Rattle.command_words.specs.declared.words.Command.{Command}
 use Rattle.command_words.specs.declared.words.Command.TheVariants.{Resume}
 use Rattle.command_words.specs.declared.words.WordsFault.TheVariants as words_fault
-use Rattle.allocation_cli.specs.Program.{IsUsageText, IsWantText, usage_line}
+use Rattle.allocation_cli.specs.Program.{IsReady, IsUsageText, IsWantText, TellsFault, TellsInput, usage_line}
 use Rattle.command_answers.specs.Writes.{memory_line}
 use Rattle.command_answers.specs.declared.status.Status.TheVariants.{OutOfMemory, Usage}
 use Rattle.command_answers.proofs.Ended.{told_is_written}
@@ -32,3 +33,13 @@ pub returns-in-Err-OutOfMemory-clause-written : goal.returns-in-Err-OutOfMemory-
 returns-in-Err-OutOfMemory-clause-written g c =
     let (output, appends, writes) = told_is_written IsWantText OutOfMemory c.tell_no_memory.result memory_line _ _ _ refl c.tell_no_memory.ensures.told in
     (output, appends, inl (writes, refl))
+
+pub returns-in-Ok-clause-complete : goal.returns-in-Ok-clause-complete
+returns-in-Ok-clause-complete g c command spelled tells ready read wrote kept =
+    let same : command ≡ c.in-Ok.command = c.one_spelling.ensures c.args.words.now command c.in-Ok.command spelled c.in-Ok.ensures.command in
+    c.run.ensures.complete (subst (λ (k : Command). TellsInput k (g.S.Source.left c.args.source.now)) same tells) (subst (λ (k : Command). IsReady k (g.P.Keeper.tables c.args.keeper)) same ready) read wrote kept
+
+pub returns-in-Ok-clause-refused : goal.returns-in-Ok-clause-refused
+returns-in-Ok-clause-refused g c command spelled tells read wrote =
+    let same : command ≡ c.in-Ok.command = c.one_spelling.ensures c.args.words.now command c.in-Ok.command spelled c.in-Ok.ensures.command in
+    c.run.ensures.refused (subst (λ (k : Command). TellsFault k (g.S.Source.left c.args.source.now)) same tells) read wrote

@@ -2,7 +2,6 @@ use Rattle.season_commands.specs.Check.{check_answers}
 use Rattle.step_command.specs.Step.{step_answers}
 use Rattle.command_answers.proofs.Ended.{fault_is_refused, input_is_answered, source_held}
 use Rattle.allocation_cli.proofs.Ended.{text_is_written}
-use Rattle.allocation_cli.proofs.GeneratedEnds.{generated_ends}
 use Rattle.allocation_cli.proofs.program.run.Goals as goal
 
 pub returns-in-Step-clause-written : goal.returns-in-Step-clause-written
@@ -37,6 +36,11 @@ pub returns-in-Check-clause-source_steady : goal.returns-in-Check-clause-source_
 returns-in-Check-clause-source_steady g c =
     source_held c.check_answer.result _ _ _ _ _ c.check_answer.ensures.steady c.finish-in-Check.ensures.told
 
-pub returns-in-Generate-default-default-Text-clause-written : goal.returns-in-Generate-default-default-Text-clause-written
-returns-in-Generate-default-default-Text-clause-written g c =
-    rw c.in-Generate-default-default-Text.is (generated_ends c.in-Generate-default-default-Text.n c.in-Generate-default-default-Text.seed c.generate_answer.result _ _ _ _ _ c.generate_answer.ensures.output c.generate_answer.ensures.failure c.finish-in-Generate-default-default-Text.ensures.told)
+pub returns-clause-written : goal.returns-clause-written
+returns-clause-written g c = rw c.in-Generate.is (c.generated.ensures.written _)
+
+pub returns-clause-complete : goal.returns-clause-complete
+returns-clause-complete g c = rw c.in-Generate.is (λ tells ready read wrote kept. c.generated.ensures.complete ready wrote kept)
+
+pub returns-clause-refused : goal.returns-clause-refused
+returns-clause-refused g c = rw c.in-Generate.is (λ tells read wrote. c.generated.ensures.refused _ tells wrote)

@@ -1,11 +1,12 @@
-use Rattle.season_commands.proofs.ResumeEnds.{unlined_is_written, unresumed_is_written}
+use Rattle.season_commands.proofs.ResumeEnds.{failed_is_written, none_is_written, unlined_is_written}
 use Rattle.season_commands.proofs.resume.tell_unresumed.Goals as goal
 
-pub returns-in-Ok-clause-written : goal.returns-in-Ok-clause-written
-returns-in-Ok-clause-written g c tables judged =
-    unresumed_is_written c.args.stopped.now.records c.args.stopped.now.fault c.in-Ok.line c.as_slice.result.now c.unresumed_status.result c.write_answer.result _ _ _ tables c.in-Ok.ensures c.as_slice.ensures
-    c.unresumed_status.ensures c.write_answer.ensures.told judged
+pub returns-in-NoSeason-clause-written : goal.returns-in-NoSeason-clause-written
+returns-in-NoSeason-clause-written g c tables judged =
+    none_is_written c.args.stopped.now.records c.args.stopped.now.fault c.write_answer.result _ _ _ tables c.in-NoSeason.is c.write_answer.ensures.told judged
 
-pub returns-in-Err-clause-written : goal.returns-in-Err-clause-written
-returns-in-Err-clause-written g c tables judged =
-    unlined_is_written c.write_answer-in-Err.result _ _ _ tables c.write_answer-in-Err.ensures.told
+pub returns-in-KeeperFault-clause-written : goal.returns-in-KeeperFault-clause-written
+returns-in-KeeperFault-clause-written g c tables judged = failed_is_written c.write_answer-in-KeeperFault.result _ _ _ tables c.write_answer-in-KeeperFault.ensures.told
+
+pub returns-in-OutOfMemory-clause-written : goal.returns-in-OutOfMemory-clause-written
+returns-in-OutOfMemory-clause-written g c tables judged = unlined_is_written c.tell_no_memory.result _ _ _ tables c.tell_no_memory.ensures.told

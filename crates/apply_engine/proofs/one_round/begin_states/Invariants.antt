@@ -1,5 +1,0 @@
-use Rattle.apply_engine.proofs.Pushing.{BegunTo}
-use Rattle.apply_engine.proofs.one_round.begin_states.Given as goal
-
-abbrev pub invariant-loop-prog : goal.invariant-loop-prog
-invariant-loop-prog l = BegunTo l.version l.matrix l.prog l.states.items

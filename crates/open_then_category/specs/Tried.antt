@@ -1,0 +1,51 @@
+-- How many applicants came to a programme.
+use Rattle.std.specs.Prelude.{◌≡◌, ◌+◌, ℕ, List, Bool, length, if◌then◌else◌}
+use Rattle.std.specs.List.{filter}
+use Rattle.office_base.specs.Person.{is_common}
+use Rattle.office_base.specs.declared.person.Category.TheVariants.{Ews, Obc, Sc, St}
+use Rattle.office_base.specs.declared.person.ListId.{ListId}
+use Rattle.office_base.specs.declared.person.Person.{Person}
+use Rattle.programme_lists.specs.Chosen.{AreApplicants, ChoosesFrom}
+use Rattle.programme_lists.specs.Programme.{Admissions, is_of}
+use Rattle.open_then_category.specs.State.{ProgrammeKept}
+use Rattle.open_then_category.specs.declared.kept_lists.Tried.{Tried}
+
+-- of these people, those with a common place in the list, and the members of each category that has seats of its own
+abbrev pub counted : ListId → List Person → Tried
+counted list people = record {
+  list = list;
+  common = length (filter (is_common list) people);
+  ews = length (filter (is_of Ews) people);
+  obc = length (filter (is_of Obc) people);
+  sc = length (filter (is_of Sc) people);
+  st = length (filter (is_of St) people);
+}
+
+-- one where the test is passed
+abbrev pub one_if : Bool → ℕ
+one_if passed = if passed then 1 else 0
+
+-- the counts with one person more
+abbrev pub with_one : Person → Tried → Tried
+with_one person tried = record {
+  list = tried.list;
+  common = tried.common + one_if (is_common tried.list person);
+  ews = tried.ews + one_if (is_of Ews person);
+  obc = tried.obc + one_if (is_of Obc person);
+  sc = tried.sc + one_if (is_of Sc person);
+  st = tried.st + one_if (is_of St person);
+}
+
+-- The programme keeps the choice from these people, and so many of them there are.
+pub record HaveCome (state : ProgrammeKept) (tried : Tried) (people : List Person) : Type 0 where
+  pub may : AreApplicants state.seats.list people
+  pub choice : ChoosesFrom state.version state.seats people state.admissions
+  pub counts : tried ≡ counted state.seats.list people
+
+-- ---- within
+
+-- how many of those whom the five steps before the de-reserved one admit have a common place
+abbrev pub common_taken : ListId → Admissions → ℕ
+common_taken list admissions =
+    length (filter (is_common list) admissions.open_step) + length (filter (is_common list) admissions.ews) + length (filter (is_common list) admissions.obc)
+    + length (filter (is_common list) admissions.sc) + length (filter (is_common list) admissions.st)

@@ -1,0 +1,10 @@
+use Rattle.script_runs.proofs.OneTally.{one_tally}
+use Rattle.script_runs.proofs.laws.one_tally.Goals as goal
+
+pub returns : goal.returns
+returns c = λ facts. one_tally facts (record {
+  grows = c.history_grows.ensures facts;
+  orderly = c.orderly.ensures facts;
+  one_round = c.one_next_round.ensures facts;
+  one_reply = c.one_reply.ensures facts;
+})

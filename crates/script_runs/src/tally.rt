@@ -1,0 +1,154 @@
+// A script, answered request after request: no reply is written, and answers are counted.
+ghost use Rattle.std.specs.Prelude.{◌≡◌, ◌<◌, ◌≤◌, ◌+◌, ◌^◌, cond, IfOk, OnOk, OnErr, IsErrOf};
+ghost use Rattle.office_base.specs.Outside.{Rose};
+ghost use Rattle.histories.specs.Orderly.{IsOrderly};
+ghost use Rattle.office_moves.specs.History.{IsHistory};
+ghost use Rattle.office_moves.specs.Stands.{Stand};
+ghost use Rattle.script_runs.specs.Tally.{CountsAll, IsCounted, StopsWithin, is_answer, is_receipt, is_refusal, is_refused_answer};
+
+use crate::run::{check_order, next_reply};
+use keeper_mem::Keeper;
+use office_base::{Ask, Request};
+use office_moves::Reply;
+use round_cut::{Office, OfficeFault};
+use std::alloc::Global;
+
+/// How many answers were noted, and how many were refused.
+#[derive(Clone, Copy, Debug, PartialEq, Eq)]
+pub struct Tally {
+    pub noted: usize,
+    pub refused: usize,
+}
+
+/// Answers the requests one after another, each under the number after the last one, and counts the answers that are noted and those that are refused. No
+/// reply is written. The office has to be in the state to which its entries lead, and so it is at the end. `KeeperFault` comes where the keeper failed at a
+/// request, and `OutOfMemory` where there was no memory for one: the requests before it are answered, and it is not.
+pub fn count_all<P: Keeper>(
+    alloc: Global,
+    office: &mut Office<P>,
+    script: &[Request],
+) -> Result<Tally, OfficeFault>
+    requires history { IsHistory office.old.season office.old.entries office.old.state }
+    requires stands { Stand office.old.season office.old.state (P.tables office.old.keeper) }
+    ensures counted { IfOk result (CountsAll office.old.season office.old.state script.now office.new.state (P.tables office.new.keeper)) }
+    ensures stopped { OnErr result (StopsWithin office.old.season office.old.state script.now office.new.state (P.tables office.new.keeper)) }
+    ensures season { office.new.season ≡ office.old.season }
+    ensures history { IsHistory office.new.season office.new.entries office.new.state }
+    ensures stands { Stand office.new.season office.new.state (P.tables office.new.keeper) }
+    ensures cause { IsErrOf result OfficeFault.KeeperFault → Rose (P.faults office.old.keeper) (P.faults office.new.keeper) }
+    ensures count { P.faults office.old.keeper ≤ P.faults office.new.keeper }
+    ensures steady { OnOk result (P.faults office.new.keeper ≡ P.faults office.old.keeper) }
+{
+    check_order(office);
+    let mut tally = Tally {
+        noted: 0,
+        refused: 0,
+    };
+    'requests: for request in script {
+        match count_one(alloc, office, request, tally) {
+            Ok(next) => tally = next,
+            Err(fault) => return Err(fault),
+        }
+    }
+    Ok(tally)
+}
+
+/// Answers one request, and counts it where it is an answer.
+fn count_one<P: Keeper>(
+    alloc: Global,
+    office: &mut Office<P>,
+    request: &Request,
+    tally: Tally,
+) -> Result<Tally, OfficeFault>
+    requires history { IsHistory office.old.season office.old.entries office.old.state }
+    requires stands { Stand office.old.season office.old.state (P.tables office.old.keeper) }
+    requires noted { tally.noted + 1 < 2 ^ 64 }
+    requires refused { tally.refused + 1 < 2 ^ 64 }
+    ensures counted { IfOk result (IsCounted office.old.season office.old.state request.now office.new.state tally) }
+    ensures err { OnErr result (office.new.state ≡ office.old.state) }
+    ensures season { office.new.season ≡ office.old.season }
+    ensures history { IsHistory office.new.season office.new.entries office.new.state }
+    ensures orderly { IsOrderly office.new.season office.new.state }
+    ensures stands { Stand office.new.season office.new.state (P.tables office.new.keeper) }
+    ensures cause { IsErrOf result OfficeFault.KeeperFault → Rose (P.faults office.old.keeper) (P.faults office.new.keeper) }
+    ensures count { P.faults office.old.keeper ≤ P.faults office.new.keeper }
+    ensures steady { OnOk result (P.faults office.new.keeper ≡ P.faults office.old.keeper) }
+{
+    match next_reply(alloc, office, request) {
+        Ok(reply) => Ok(tally.with(request, &reply)),
+        Err(fault) => Err(fault),
+    }
+}
+
+impl Tally {
+    /// The tally with one request more, and its reply.
+    fn with(self, request: &Request, reply: &Reply) -> Tally
+        requires noted { self.noted + 1 < 2 ^ 64 }
+        requires refused { self.refused + 1 < 2 ^ 64 }
+        ensures noted { result.noted ≡ self.noted + cond (is_receipt reply.now) 1 0 }
+        ensures refused { result.refused ≡ self.refused + cond (is_refused_answer request.now reply.now) 1 0 }
+    {
+        if is_receipt(reply) {
+            return Tally {
+                noted: self.noted + 1,
+                refused: self.refused,
+            };
+        }
+        if is_answer(request) && is_refusal(reply) {
+            return Tally {
+                noted: self.noted,
+                refused: self.refused + 1,
+            };
+        }
+        self
+    }
+}
+
+/// Whether a request is an answer.
+fn is_answer(request: &Request) -> bool
+    ensures { result ≡ is_answer request.now.ask }
+{
+    match request.ask {
+        Ask::Answer { .. } => true,
+        Ask::Cut { .. }
+        | Ask::Seat { .. }
+        | Ask::Why { .. }
+        | Ask::List { .. }
+        | Ask::State
+        | Ask::Raise { .. } => false,
+    }
+}
+
+/// Whether a reply is the receipt of an answer.
+fn is_receipt(reply: &Reply) -> bool
+    ensures { result ≡ is_receipt reply.now }
+{
+    match reply {
+        Reply::Noted { .. } => true,
+        Reply::Raised { .. }
+        | Reply::Published { .. }
+        | Reply::Final { .. }
+        | Reply::SeatIs { .. }
+        | Reply::WhyIs { .. }
+        | Reply::ListIs { .. }
+        | Reply::StateIs { .. }
+        | Reply::Refused(_) => false,
+    }
+}
+
+/// Whether a reply is a refusal.
+fn is_refusal(reply: &Reply) -> bool
+    ensures { result ≡ is_refusal reply.now }
+{
+    match reply {
+        Reply::Refused(_) => true,
+        Reply::Noted { .. }
+        | Reply::Raised { .. }
+        | Reply::Published { .. }
+        | Reply::Final { .. }
+        | Reply::SeatIs { .. }
+        | Reply::WhyIs { .. }
+        | Reply::ListIs { .. }
+        | Reply::StateIs { .. } => false,
+    }
+}

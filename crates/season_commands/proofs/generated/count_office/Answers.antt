@@ -1,0 +1,8 @@
+use Rattle.std.proofs.Common.{ap}
+use Rattle.season_commands.proofs.GeneratedEnds.{counted_handed}
+use Rattle.season_commands.proofs.generated.count_office.Goals as goal
+
+pub returns-clause-written : goal.returns-clause-written
+returns-clause-written g c =
+    counted_handed c.args.n c.args.seed c.args.office.season c.args.script.now _ (g.P.Keeper.tables c.into_keeper.result) _ _ c.count_script-status.result (ap (λ k. g.P.Keeper.tables k) c.into_keeper.ensures.same)
+    c.count_script-status.ensures.written
