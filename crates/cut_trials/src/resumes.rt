@@ -19,6 +19,17 @@ fn whole(alloc: Global) -> Result<Kept, Fail> {
     }
 }
 
+/// Why no office goes on over this keeper, or None where one does.
+fn fault_over(alloc: Global, keeper: MemKeeper) -> Option<ResumeFault> {
+    match Office::resume(alloc, keeper) {
+        Ok(office) => {
+            let _ = office.into_keeper();
+            None
+        }
+        Err((_, fault)) => Some(fault),
+    }
+}
+
 /// Why no office goes on from these records, or None where one does.
 fn fault_of(
     alloc: Global,
@@ -26,13 +37,7 @@ fn fault_of(
     fail_at: &[u32],
 ) -> Result<Option<ResumeFault>, OutOfMemory> {
     let keeper = MemKeeper::from_tables(alloc, kept, fail_at)?;
-    match Office::resume(alloc, keeper) {
-        Ok(office) => {
-            let _ = office.into_keeper();
-            Ok(None)
-        }
-        Err((_, fault)) => Ok(Some(fault)),
-    }
+    Ok(fault_over(alloc, keeper))
 }
 
 fn answer(window: u16, cand: u32, turn: u16, choice: Choice) -> AnswerRow {
@@ -212,13 +217,7 @@ fn a_kept_text_that_is_no_season_is_told(rt: HostRuntime) -> Result<(), Fail> {
         fault_of(alloc, kept, &[])?,
         Some(ResumeFault::BadSeason(SeasonFault::BadFirstLine))
     );
-    let keeper = MemKeeper::new(alloc, &[])?;
-    match Office::resume(alloc, keeper) {
-        Ok(office) => {
-            let _ = office.into_keeper();
-            assert!(rt; false);
-        }
-        Err((_, fault)) => assert_eq!(rt; fault, ResumeFault::NoSeason),
-    }
+    let nothing = MemKeeper::new(alloc, &[])?;
+    assert_eq!(rt; fault_over(alloc, nothing), Some(ResumeFault::NoSeason));
     Ok(())
 }
