@@ -1,6 +1,6 @@
 // What can be wrong with the choices.
 ghost use Rattle.std.specs.Prelude.{◌≡◌};
-ghost use Rattle.choice_lists.specs.Kinds.{kind_name};
+ghost use Rattle.choice_lists.specs.Kinds.{kind_name, kind_number};
 
 use section_rows::TableFault;
 
@@ -27,6 +27,22 @@ pub enum ChoiceKind {
 }
 
 impl ChoiceKind {
+    /// The number, from 0 to 7.
+    pub fn number(self) -> u8
+        ensures { result ≡ kind_number self }
+    {
+        match self {
+            ChoiceKind::BadHeader => 0,
+            ChoiceKind::UnknownCandidate => 1,
+            ChoiceKind::RepeatedCandidate => 2,
+            ChoiceKind::UnknownProgramme => 3,
+            ChoiceKind::RepeatedProgramme => 4,
+            ChoiceKind::NotRankedThere => 5,
+            ChoiceKind::TooLong => 6,
+            ChoiceKind::TooMany => 7,
+        }
+    }
+
     /// The name, as the line of a fault spells it.
     pub fn name(self) -> &'static str
         ensures { result.now ≡ kind_name self }

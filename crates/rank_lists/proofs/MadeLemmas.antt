@@ -1,6 +1,6 @@
 -- The register that is made of a builder, and what is found in it.
 use Rattle.std.proofs.Common.{◌≡◌, ◌<◌, ◌≤◌, ℕ, zero, suc, Bool, true, false, cond, List, [], ◌∷◌, Option, Some, None, Result, Ok, Err, length, get_or, refl, sym, ap, inl, inr, ◌∙◌, add-one, arith}
-use Rattle.std.specs.Prelude.{◌==◌, ◌+◌, is_some, IsSome, MatchResult, option_map, slice_get}
+use Rattle.std.specs.Prelude.{◌==◌, ◌+◌, is_some, IsSome, MatchResult, map, option_map, slice_get}
 use Rattle.std.specs.Option.{option_and_then}
 use Rattle.std.specs.Bool.{one_answer}
 use Rattle.std.specs.BTreeMap as tree
@@ -13,13 +13,14 @@ use Rattle.std.specs.declared.cmp.Ordering.TheVariants.{Less}
 use Rattle.std.proofs.lemmas.Bool.{cases_order, cond-true, cond-false, eq-eqb, ne_eqb}
 use Rattle.std.proofs.lemmas.Bool.Decides.{nat_tests}
 use Rattle.std.proofs.lemmas.Cmp.{ranked}
+use Rattle.std.proofs.lemmas.List.{get_or-map, length-map}
 use Rattle.std.proofs.lemmas.Map.Entries.{length-values_of}
 use Rattle.std.proofs.lemmas.Map.Text.{is_eq-slice_cmp}
 use Rattle.office_base.specs.Lists.{Pairwise}
 use Rattle.office_base.specs.declared.person.CandId.{CandId}
 use Rattle.office_base.specs.declared.person.Person.{Person}
 use Rattle.rank_lists.specs.Builder.{Keeps}
-use Rattle.rank_lists.specs.Register.{AreRanks, IsRegister, find_holder, find_person, row_of}
+use Rattle.rank_lists.specs.Register.{AreRanks, IsKeptRegister, IsRegister, find_holder, find_person, row_of}
 use Rattle.rank_lists.specs.declared.entry.Entry.{Entry}
 use Rattle.rank_lists.specs.declared.builder.RegisterBuilder.{RegisterBuilder}
 use Rattle.section_rows.proofs.StepsLemmas.{nat_at, number_decides}
@@ -74,9 +75,9 @@ made entries builder people keeps e ordered = record {
 }
 
 -- What is the register of sound entries is sound.
-pub made_sound : (entries : List Entry) (builder : RegisterBuilder) (people : List Person) → Keeps entries builder → people ≡ tree.values builder.people → tree.IsOrdered nat_cmp builder.people
+made_ranks : (entries : List Entry) (builder : RegisterBuilder) (people : List Person) → Keeps entries builder → people ≡ tree.values builder.people → tree.IsOrdered nat_cmp builder.people
     → AreRanks (record { people = people; holders = builder.holders.entries })
-made_sound entries builder people keeps e ordered =
+made_ranks entries builder people keeps e ordered =
     let register = made entries builder people keeps e ordered in
     record {
       few = omega (arith, ap (λ (l : List Person). length l) e, length-values_of builder.people.entries, keeps.count, keeps.sound.few);
@@ -85,6 +86,11 @@ made_sound entries builder people keeps e ordered =
       registered = λ id person h. keeps.sound.registered id person (sym (register.people id) ∙ h);
       tokens = λ token h. keeps.sound.tokens token (ap is_some (sym (register.holders token)) ∙ h);
     }
+
+-- The register of sound entries, with the ids of its people, is one.
+pub made_sound : (entries : List Entry) (builder : RegisterBuilder) (people : List Person) (ids : List ℕ) → Keeps entries builder → people ≡ tree.values builder.people → tree.IsOrdered nat_cmp builder.people
+    → ids ≡ map (λ p. p.id.0) people → IsKeptRegister ids (record { people = people; holders = builder.holders.entries })
+made_sound entries builder people ids keeps e ordered same = record { sound = made_ranks entries builder people keeps e ordered; same = same }
 
 all_at : (P : Person → Type 0) (people : List Person) (i : ℕ) (d : Person) → AllByRecursion P people → i < length people → P (get_or people i d)
 all_at P [] i d all within = absurd (omega arith)
@@ -147,7 +153,7 @@ some_person [] at within = absurd (omega arith)
 some_person (p ∷ people) at within = p
 
 -- A binary search by id finds the position of the person, or nobody has the id.
-pub searched : (people : List Person) (q : ℕ) (r : Result ℕ ℕ) → Rising people → IsSearchInRange r (length people) → IsBinarySearchResult (λ p. nat_cmp p.id.0 q) people r
+searched : (people : List Person) (q : ℕ) (r : Result ℕ ℕ) → Rising people → IsSearchInRange r (length people) → IsBinarySearchResult (λ p. nat_cmp p.id.0 q) people r
     → MatchResult r (λ at. Some at ≡ row_of q people) (λ at. None ≡ row_of q people)
 searched people q (Ok at) rising within equal =
     let d = some_person people at within in
@@ -160,6 +166,32 @@ searched people q (Err at) rising within parted =
         | inr more ↦ (let above : q < (get_or people j d).id.0 = ranked _ q _ (sym ((parted (comparisons_rise people q rising)).1 j d (omega arith) inside)) in omega arith)
       ]
     ]))
+
+-- the id of a person
+abbrev id_of : Person → ℕ
+id_of person = person.id.0
+
+-- what is found among ids is found among their people
+over_ids : (people : List Person) (q : ℕ) (r : Result ℕ ℕ) → IsSearchInRange r (length people) → Rising people → IsBinarySearchResult (λ k. nat_cmp k q) (map id_of people) r
+    → IsBinarySearchResult (λ p. nat_cmp p.id.0 q) people r
+over_ids people q (Ok at) within rising equal = λ d. ap (λ (k : ℕ). nat_cmp k q) (sym (get_or-map id_of people at d (id_of d) within)) ∙ equal (id_of d)
+over_ids people q (Err at) within rising parted =
+    let size : length (map id_of people) ≡ length people = length-map people id_of in
+    let ids = parted (λ i j d le inside.
+    let room : j < length people = omega (arith, inside, size) in
+    let p = some_person people j room in
+    rw (get_or-map id_of people i p d (omega (arith, le, room))) (rw (get_or-map id_of people j p d room) (comparisons_rise people q rising i j p le room))) in
+    λ rise. (
+      (λ j d low inside. ap (λ (k : ℕ). nat_cmp k q) (sym (get_or-map id_of people j d (id_of d) (omega (arith, inside, within)))) ∙ ids.0 j (id_of d) low inside),
+      (λ j d low inside. ap (λ (k : ℕ). nat_cmp k q) (sym (get_or-map id_of people j d (id_of d) inside)) ∙ ids.1 j (id_of d) low (omega (arith, inside, size))),
+    )
+
+-- A binary search among the ids finds the position of the person, or nobody has the id.
+pub searched_ids : (people : List Person) (ids : List ℕ) (q : ℕ) (r : Result ℕ ℕ) → Rising people → ids ≡ map (λ p. p.id.0) people → IsSearchInRange r (length ids) → IsBinarySearchResult (λ k. nat_cmp k q) ids r
+    → MatchResult r (λ at. Some at ≡ row_of q people) (λ at. None ≡ row_of q people)
+searched_ids people ids q r rising same within found =
+    let here : IsSearchInRange r (length people) = rw (sym (ap length same ∙ length-map people id_of)) within in
+    searched people q r rising here (over_ids people q r here rising (rw (sym same) found))
 
 -- where a text is no token, nobody holds it
 pub not_held : (o : Option CandId) (b : Bool) → (IsSome o → b ≡ true) → b ≡ false → None ≡ o

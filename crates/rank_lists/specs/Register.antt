@@ -1,5 +1,5 @@
 -- The grammar of the register: what a row gives behind the entries of the rows before it, or what is wrong with it.
-use Rattle.std.specs.Prelude.{◌≡◌, ◌<◌, ◌≤◌, ◌+◌, ℕ, Bool, true, false, ◌==◌, ◌&&◌, ◌||◌, nat_le, List, [], ◌∷◌, is_some, IsSome, IsTrue, Option, Some, None, Result, Ok, length, slice_index_or, bytes_eq, codes, option_map, if◌then◌else◌}
+use Rattle.std.specs.Prelude.{◌≡◌, ◌<◌, ◌≤◌, ◌+◌, ℕ, Bool, true, false, ◌==◌, ◌&&◌, ◌||◌, nat_le, List, [], ◌∷◌, is_some, IsSome, IsTrue, Option, Some, None, Result, Ok, length, map, slice_index_or, bytes_eq, codes, option_map, if◌then◌else◌}
 use Rattle.office_base.specs.Codes.{is_token}
 use Rattle.office_base.specs.Limits.{last_id, most_candidates}
 use Rattle.office_base.specs.Lists.{Pairwise}
@@ -160,6 +160,11 @@ pub record AreRanks (ranks : Ranks) : Type 0 where
   pub apart : AreApart (λ id. find_person id ranks.people)
   pub registered : (id : ℕ) (person : Person) → find_person id ranks.people ≡ Some person → IsRegistered person
   pub tokens : (token : List ℕ) → IsSome (find_holder token ranks.holders) → IsTrue (is_token token)
+
+-- what a register keeps: its ranks, and the ids of its people in their order
+pub record IsKeptRegister (ids : List ℕ) (ranks : Ranks) : Type 0 where
+  pub sound : AreRanks ranks
+  pub same : ids ≡ map (λ person. person.id.0) ranks.people
 
 -- a body's rows have no fault, and these are the ranks of their entries
 abbrev pub IsRead : List Row → Ranks → Type 0

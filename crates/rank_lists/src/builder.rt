@@ -1,5 +1,5 @@
 // A register in the making: what each further row is held against.
-ghost use Rattle.std.specs.Prelude.{◌≡◌, ◌<◌, ◌∷◌, ◌++◌, [], List, Ok, OnOk, OnErr, IfOk, ◌||◌, ℕ};
+ghost use Rattle.std.specs.Prelude.{◌≡◌, ◌<◌, ◌∷◌, ◌++◌, [], List, Ok, OnOk, OnErr, IfOk, ◌||◌, ℕ, map};
 ghost use Rattle.office_base.specs.Person.{number_of};
 ghost use Rattle.section_rows.specs.Rows.{Row, field};
 ghost use Rattle.std.specs.BTreeMap as tree;
@@ -145,8 +145,10 @@ impl RegisterBuilder {
             holders,
             ..
         } = self;
+        let people = in_order(alloc, &people)?;
         Ok(Register {
-            people: in_order(alloc, &people)?,
+            ids: ids_of(alloc, &people)?,
+            people,
             holders,
         })
     }
@@ -208,6 +210,13 @@ fn in_order(alloc: Global, people: &BTreeMap<u32, Person>) -> Result<Vec<Person>
     ensures ordered { tree.IsOrdered nat_cmp people.now }
 {
     people.values().copied().collect(alloc)
+}
+
+/// The ids of the people, in their order.
+fn ids_of(alloc: Global, people: &[Person]) -> Result<Vec<u32>, AllocError>
+    ensures { IfOk result (λ ids. ids.items ≡ map (λ person. person.id.0) people.now) }
+{
+    people.iter().map(|person| person.id.0).collect(alloc)
 }
 
 /// Whether the number of a place is among those taken in its list.

@@ -1,6 +1,6 @@
 // What can be wrong with a register.
 ghost use Rattle.std.specs.Prelude.{◌≡◌};
-ghost use Rattle.rank_lists.specs.Kinds.{kind_name};
+ghost use Rattle.rank_lists.specs.Kinds.{kind_name, kind_number};
 
 use section_rows::TableFault;
 
@@ -30,6 +30,24 @@ pub enum RankKind {
 }
 
 impl RankKind {
+    /// The number, from 1 to 10.
+    pub fn number(self) -> u8
+        ensures { result ≡ kind_number self }
+    {
+        match self {
+            RankKind::BadHeader => 1,
+            RankKind::BadId => 2,
+            RankKind::RepeatedId => 3,
+            RankKind::BadCategory => 4,
+            RankKind::BadTrait => 5,
+            RankKind::BadPlace => 6,
+            RankKind::RepeatedPlace => 7,
+            RankKind::RelaxedGeneral => 8,
+            RankKind::BadToken => 9,
+            RankKind::TooMany => 10,
+        }
+    }
+
     /// The name, as the line of a fault spells it.
     pub fn name(self) -> &'static str
         ensures { result.now ≡ kind_name self }

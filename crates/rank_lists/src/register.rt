@@ -13,21 +13,23 @@ use std::alloc::Global;
 use std::collections::BTreeMap;
 use std::marker::Model;
 
-/// The candidates with their places on the merit lists, and who holds which token.
+/// The candidates with their places on the merit lists, and who holds which token. The ids stand once more by themselves: a search among them reads few
+/// bytes.
 #[derive(Drop)]
 pub struct Register {
+    pub(crate) ids: Vec<u32>,
     pub(crate) people: Vec<Person>,
     pub(crate) holders: BTreeMap<Token, CandId>,
 }
 
 impl Model for Register {
-    ghost use Rattle.rank_lists.specs.Register.{Ranks, AreRanks};
+    ghost use Rattle.rank_lists.specs.Register.{Ranks, IsKeptRegister};
 
     ghost Value = { Ranks };
 
     ghost view = { λ a. record { people = a.people.items; holders = a.holders.entries } };
 
-    ghost invariant = { λ a. AreRanks (record { people = a.people.items; holders = a.holders.entries }) };
+    ghost invariant = { λ a. IsKeptRegister a.ids.items (record { people = a.people.items; holders = a.holders.entries }) };
 }
 
 impl Register {
@@ -50,10 +52,7 @@ impl Register {
         ensures within { IfSome result (λ at. at < length self.now.people) }
         ensures person { option_and_then (λ at. slice_get self.now.people at) result ≡ find_person id.0 self.now.people }
     {
-        match self
-            .people
-            .binary_search_by_key(&id.0, |person| person.id.0)
-        {
+        match self.ids.binary_search(&id.0) {
             Ok(at) => Some(at as u32),
             Err(_) => None,
         }

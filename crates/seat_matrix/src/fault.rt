@@ -1,6 +1,6 @@
 // What can be wrong with a matrix.
 ghost use Rattle.std.specs.Prelude.{◌≡◌};
-ghost use Rattle.seat_matrix.specs.Kinds.{kind_name};
+ghost use Rattle.seat_matrix.specs.Kinds.{kind_name, kind_number};
 
 use section_rows::TableFault;
 
@@ -28,6 +28,23 @@ pub enum MatrixKind {
 }
 
 impl MatrixKind {
+    /// The number, from 1 to 9.
+    pub fn number(self) -> u8
+        ensures { result ≡ kind_number self }
+    {
+        match self {
+            MatrixKind::BadHeader => 1,
+            MatrixKind::BadCode => 2,
+            MatrixKind::RepeatedRow => 3,
+            MatrixKind::BadNumber => 4,
+            MatrixKind::ProtectionsExceedSeats => 5,
+            MatrixKind::UnknownList => 6,
+            MatrixKind::TwoInstitutes => 7,
+            MatrixKind::TwoLists => 8,
+            MatrixKind::TooMany => 9,
+        }
+    }
+
     /// The name, as the line of a fault spells it.
     pub fn name(self) -> &'static str
         ensures { result.now ≡ kind_name self }

@@ -1,23 +1,22 @@
-use Rattle.std.proofs.Common.{ℕ, Ok, Err, Option, ap, ◌∙◌, rules}
-use Rattle.std.proofs.lemmas.List.Sorted.{answers_always}
+use Rattle.std.proofs.Common.{ℕ, Ok, Err, Option, ap, ◌∙◌}
 use Rattle.std.specs.Prelude.{slice_get}
 use Rattle.std.specs.Option.{option_and_then}
 use Rattle.rank_lists.specs.Register.{Ranks, row_of}
-use Rattle.rank_lists.proofs.MadeLemmas.{person_there, searched}
+use Rattle.rank_lists.proofs.MadeLemmas.{person_there, searched_ids}
 use Rattle.rank_lists.proofs.register.Register.position.Goals as goal
 
 pub returns-in-Ok-clause-row : goal.returns-in-Ok-clause-row
 returns-in-Ok-clause-row c =
     let facts = c.in-Ok.ensures in
-    let by_key = facts.position (λ person. person.id.0) (answers_always _ _ _ (λ f a r g called. search rules)) in
-    let found = searched c.self.inside.people.items c.args.id.0 (Ok c.in-Ok.at) c.self.invariant.rising (rw c.deref.ensures.value at facts.bound) (rw c.deref.ensures.value at by_key) in
+    let kept = c.self.invariant in
+    let found = searched_ids c.self.inside.people.items c.self.inside.ids.items c.args.id.0 (Ok c.in-Ok.at) kept.sound.rising kept.same (rw c.deref.ensures.value at facts.bound) (rw c.deref.ensures.value at facts.position) in
     found ∙ ap (λ (r : Ranks). row_of c.args.id.0 r.people) c.self.view_is
 
 pub returns-in-Err-clause-row : goal.returns-in-Err-clause-row
 returns-in-Err-clause-row c =
     let facts = c.in-Err.ensures in
-    let by_key = facts.position (λ person. person.id.0) (answers_always _ _ _ (λ f a r g called. search rules)) in
-    let found = searched c.self.inside.people.items c.args.id.0 (Err c.in-Err.field-0) c.self.invariant.rising (rw c.deref.ensures.value at facts.bound) (rw c.deref.ensures.value at by_key) in
+    let kept = c.self.invariant in
+    let found = searched_ids c.self.inside.people.items c.self.inside.ids.items c.args.id.0 (Err c.in-Err.field-0) kept.sound.rising kept.same (rw c.deref.ensures.value at facts.bound) (rw c.deref.ensures.value at facts.position) in
     found ∙ ap (λ (r : Ranks). row_of c.args.id.0 r.people) c.self.view_is
 
 pub returns-in-Ok-clause-person : goal.returns-in-Ok-clause-person

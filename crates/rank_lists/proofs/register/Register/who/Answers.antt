@@ -11,7 +11,7 @@ pub returns-in_err-token : goal.returns-in_err-token
 returns-in_err-token c =
     let token = c.args.token.now in
     c.from_residual.ensures
-    ∙ not_held (find_holder token c.self.inside.holders.entries) (is_token token) (c.self.invariant.tokens token) (no_token (is_token token) token c.in_err-token.ensures)
+    ∙ not_held (find_holder token c.self.inside.holders.entries) (is_token token) (c.self.invariant.sound.tokens token) (no_token (is_token token) token c.in_err-token.ensures)
     ∙ ap (λ (r : Ranks). find_holder token r.holders) c.self.view_is
 
 pub returns : goal.returns
