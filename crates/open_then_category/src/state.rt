@@ -214,7 +214,8 @@ fn keep_best(
     let Some(person) = coming else {
         return drop_last(people, seats);
     };
-    if !is_common(&person, list) {
+    // nobody is kept on no seats
+    if seats == 0 || !is_common(&person, list) {
         return Some(person);
     }
     put_in_order(people, &person, list);
