@@ -20,11 +20,13 @@ def register(candidates):
         yield f"{number_of(k)},{category},{'-WDXSFL'[k % 7]},g{k:08d},{place}{relaxed},{1 + k},,{9_999_999 - k}{relaxed}"
 
 
-def matrix(programmes):
+def matrix(programmes, times):
+    """Each step of a programme has so many times the seats of `STEPS`."""
     yield "[matrix]"
     yield "programme,institute,list,step,seats,W,D,X,S,F,L"
     for k in range(programmes):
-        for step, seats in STEPS:
+        for step, once in STEPS:
+            seats = times * once
             yield f"P{k:04d},I{k // 10},{(1, 2, 4)[k % 3]},{step},{seats},{seats // 4},{seats // 8},,1"
 
 
@@ -38,11 +40,11 @@ def choices(candidates, programmes, each):
         yield f"{number_of(k)},{named}"
 
 
-def bundle(candidates, programmes, each, rounds=6):
+def bundle(candidates, programmes, each, rounds=6, times=1):
     yield "office bundle 1"
     yield "[season]"
     yield f"rounds,{rounds}"
     yield "clerk,clerkoffice"
     yield from register(candidates)
-    yield from matrix(programmes)
+    yield from matrix(programmes, times)
     yield from choices(candidates, programmes, each)

@@ -3,7 +3,7 @@
 //! `write!`, with `append` its pieces are appended one after another. It ends with status 1 where the bytes are not those read.
 use std::io::{Read, Write};
 
-const STEPS: [&str; 6] = ["OPEN", "EWS", "OBC", "SC", "ST", "DERESERVED"];
+const STEPS: [&str; 6] = ["OPEN", "EWS", "OBC", "SC", "ST", "D"];
 
 struct Row {
     id: u32,

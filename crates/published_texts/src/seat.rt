@@ -34,9 +34,9 @@ pub(crate) fn push_seat(
     ensures { OnOk result (out.new ≡ out.old ++ seat_line matrix.now cand.0 prog.0 step) }
 {
     push_number(out, cand.0)?;
-    out.extend_from_slice(b" ")?;
+    out.push(b' ')?;
     push_code(out, matrix, prog)?;
-    out.extend_from_slice(b" ")?;
+    out.push(b' ')?;
     out.extend_from_slice(step_name(step).as_bytes())?;
-    out.extend_from_slice(b"\n")
+    out.push(b'\n')
 }

@@ -2,10 +2,11 @@ use Rattle.std.proofs.Common.{◌≡◌, ◌-◌, List, Some, length, option_cop
 use Rattle.std.specs.Prelude.{slice_get}
 use Rattle.rounds.specs.declared.round.Round.{Round}
 use Rattle.office_moves.specs.Season.{facts_of}
+use Rattle.histories.proofs.Entering.{lists_full}
 use Rattle.proceedings.specs.Kept.{state_of}
 use Rattle.proceedings.specs.LastRound.{IsLastRound}
 use Rattle.proceedings.specs.Proceeding.{Proceeding}
-use Rattle.proceedings.proofs.Published.{length_lists, programmes_of, seeks_of}
+use Rattle.proceedings.proofs.Published.{programmes_of, seeks_of}
 use Rattle.proceedings.proofs.Seated.{round_last}
 use Rattle.proceedings.proofs.book.Proceedings.last_round.Goals as goal
 
@@ -20,7 +21,7 @@ returns c =
     let P : Proceeding → Type 0 = λ p. IsLastRound p.season p.state round in
     subst P c.self.view_is (record {
       there = there;
-      full = seeks.full ∙ length_lists (facts_of a.season) c.self.invariant.sound;
+      full = seeks.full ∙ lists_full (facts_of a.season) c.self.invariant.sound;
       seeks = seeks;
       programmes = programmes_of (facts_of a.season) (state_of a) (length a.rounds.items) round c.self.invariant.orderly.course there;
     })

@@ -28,5 +28,5 @@ returns-clause-within c =
     let Q : List Seek → Type 0 = λ xs. IsWithinList (list_of value.season.lists c.args.cand.0) (get_or xs c.args.at Whole) in
     subst Q (sym c.as_slice.ensures) (
     c.requires.last.seeks.within c.args.at (list_of value.season.lists c.args.cand.0) (get_or seeks c.args.at Whole)
-    (list_at_position c.args.cand.0 value.season.people value.season.lists c.args.at sound.aligned c.requires.place) (slice_get-get_or seeks c.args.at Whole less)
+    (list_at_position value.season c.args.cand.0 c.args.at sound c.requires.place) (slice_get-get_or seeks c.args.at Whole less)
     )
