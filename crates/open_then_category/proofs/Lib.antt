@@ -4,6 +4,7 @@ mod Decide
 mod Grows
 mod Keeping
 mod Leaving
+mod Offering
 mod Once
 mod Passing
 mod RankedWords
