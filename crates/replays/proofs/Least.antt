@@ -2,19 +2,13 @@
 use Rattle.std.proofs.Common.{◌≡◌, ◌<◌, ◌≤◌, ◌⊎◌, inl, inr, ℕ, Bool, true, false, List, [], ◌∷◌, Option, Some, None, arith, refl, sym, ap, ◌∙◌, subst, ◌==◌, nat_lt, if◌then◌else◌}
 use Rattle.std.proofs.lemmas.Bool.{cases_Bool, cases_lt, eq-eqb, eqb-true, lt-ltb, ltb-true, or_cases, or_left, or_right}
 use Rattle.keeper_mem.specs.declared.rows.AllotRow.{AllotRow}
-use Rattle.keeper_mem.specs.declared.rows.AnswerRow.{AnswerRow}
 use Rattle.keeper_mem.specs.declared.rows.Kept.{Kept}
-use Rattle.keeper_mem.specs.declared.rows.RaiseRow.{RaiseRow}
 use Rattle.office_moves.specs.Stands.{first_allot, raises_in}
 use Rattle.office_moves.specs.State.{in_window}
 use Rattle.replays.specs.Later.{IsEmptyRound, IsLaterRound, IsLaterWindow, is_later, is_uncounted, least_by, lesser}
 use Rattle.replays.specs.Replay.{IsUncounted}
 use Rattle.replays.proofs.Seats.{row_hits, row_skips}
-
--- the rows of a number
-abbrev with_number : {X : Type 0} → (X → ℕ) → ℕ → List X → List X
-with_number number n [] = []
-with_number number n (row ∷ rows) = if number row == n then row ∷ with_number number n rows else with_number number n rows
+use Rattle.replays.proofs.Tables.{answer_of, answers_as, raise_of, raises_as, with_number}
 
 lesser_low : (b n : ℕ) → lesser (Some b) n ≤ b
 lesser_low b n = elim (cases_Bool (nat_lt n b)) [
@@ -140,24 +134,6 @@ next_of {X} number after rows (Some first) e = elim (least_there (λ row. nat_lt
   )
 ]
 
-raises_as : (window : ℕ) (rows : List RaiseRow) → with_number (λ (row : RaiseRow). row.window) window rows ≡ raises_in window rows
-raises_as window [] = refl
-raises_as window (row ∷ rows) = step (row.window == window) (raises_as window rows)
-  where
-    step : (b : Bool) → with_number (λ (r : RaiseRow). r.window) window rows ≡ raises_in window rows
-        → (if b then row ∷ with_number (λ (r : RaiseRow). r.window) window rows else with_number (λ (r : RaiseRow). r.window) window rows) ≡ (if b then row ∷ raises_in window rows else raises_in window rows)
-    step true rest = ap (λ z. row ∷ z) rest
-    step false rest = rest
-
-answers_as : (window : ℕ) (rows : List AnswerRow) → with_number (λ (row : AnswerRow). row.window) window rows ≡ in_window window rows
-answers_as window [] = refl
-answers_as window (row ∷ rows) = step (row.window == window) (answers_as window rows)
-  where
-    step : (b : Bool) → with_number (λ (r : AnswerRow). r.window) window rows ≡ in_window window rows
-        → (if b then row ∷ with_number (λ (r : AnswerRow). r.window) window rows else with_number (λ (r : AnswerRow). r.window) window rows) ≡ (if b then row ∷ in_window window rows else in_window window rows)
-    step true rest = ap (λ z. row ∷ z) rest
-    step false rest = rest
-
 -- the first window of which a raise is kept, and that of an answer
 abbrev pub IsNextRaise : Kept → Option ℕ → Type 0
 IsNextRaise kept found = IsNext (λ n. raises_in n kept.raises ≡ []) kept.cuts found
@@ -171,13 +147,13 @@ next_as one other after (Some first) f g next = (next.0, λ h. next.1 (g first h
 
 pub next_raise : (kept : Kept) (found : Option ℕ) → found ≡ least_by (λ row. is_later kept.cuts row.window) (λ row. row.window) None kept.raises → IsNextRaise kept found
 next_raise kept found e =
-    next_as (λ n. with_number (λ (row : RaiseRow). row.window) n kept.raises ≡ []) (λ n. raises_in n kept.raises ≡ []) kept.cuts found
-    (λ n h. sym (raises_as n kept.raises) ∙ h) (λ n h. raises_as n kept.raises ∙ h) (next_of (λ (row : RaiseRow). row.window) kept.cuts kept.raises found (sym e))
+    next_as (λ n. with_number raise_of n kept.raises ≡ []) (λ n. raises_in n kept.raises ≡ []) kept.cuts found
+    (λ n h. sym (raises_as n kept.raises) ∙ h) (λ n h. raises_as n kept.raises ∙ h) (next_of raise_of kept.cuts kept.raises found (sym e))
 
 pub next_answer : (kept : Kept) (found : Option ℕ) → found ≡ least_by (λ row. is_later kept.cuts row.window) (λ row. row.window) None kept.answers → IsNextAnswer kept found
 next_answer kept found e =
-    next_as (λ n. with_number (λ (row : AnswerRow). row.window) n kept.answers ≡ []) (λ n. in_window n kept.answers ≡ []) kept.cuts found
-    (λ n h. sym (answers_as n kept.answers) ∙ h) (λ n h. answers_as n kept.answers ∙ h) (next_of (λ (row : AnswerRow). row.window) kept.cuts kept.answers found (sym e))
+    next_as (λ n. with_number answer_of n kept.answers ≡ []) (λ n. in_window n kept.answers ≡ []) kept.cuts found
+    (λ n h. sym (answers_as n kept.answers) ∙ h) (λ n h. answers_as n kept.answers ∙ h) (next_of answer_of kept.cuts kept.answers found (sym e))
 
 pub no_answer_later : (kept : Kept) (raise : Option ℕ) → IsNextRaise kept raise → IsNextAnswer kept None → IsLaterWindow kept raise
 no_answer_later kept None raises answers = λ n less. (raises n less, answers n less)

@@ -1,8 +1,11 @@
 pub mod Appended
 pub mod Cuts
+pub mod Follows
 pub mod Least
 pub mod Numbers
+pub mod OneEnd
 pub mod Passed
 pub mod RowLemmas
 pub mod Seats
+pub mod Tables
 pub mod Windows

@@ -18,11 +18,8 @@ use Rattle.office_moves.specs.declared.decide.Decision.TheVariants.{Finish, Publ
 use Rattle.office_moves.specs.declared.moves.Act.TheVariants.{Cut}
 use Rattle.office_moves.proofs.Chains.{cut_new}
 use Rattle.replays.specs.Replay.{AllPass, AreAllotsOf, Closes, CutPasses, IsReplayed, Pass, RowsPass}
-use Rattle.replays.proofs.Appended.{in_append, raises_append}
 use Rattle.replays.proofs.RowLemmas.{answers_ahead, answers_lead, raises_ahead, raises_lead}
-
-eq_fails : (m n : ℕ) → m ≢ n → (m == n) ≡ false
-eq_fails m n apart = elim (cases_Bool (m == n)) [ inl same ↦ absurd (apart (eqb-true m n same)) | inr other ↦ other ]
+use Rattle.replays.proofs.Tables.{Holds, answer_of, answers_as, below_next, eq_fails, held_whole, holds_more, holds_nothing, raise_of, raises_as}
 
 pub lt_false : (m n : ℕ) → n ≤ m → nat_lt m n ≡ false
 lt_false m n few = elim (cases_Bool (nat_lt m n)) [ inl less ↦ absurd (let f = ltb-true m n less in omega (arith, f, few)) | inr other ↦ other ]
@@ -39,8 +36,8 @@ pub record HasRows (kept : Kept) (window : ℕ) (old new : State) : Type 0 where
 
 pub rows_lead : (facts : SeasonFacts) (kept : Kept) (window : ℕ) (old new : State) → RowsPass facts kept window old new → HasRows kept window old new
 rows_lead facts kept window old new rows =
-    let one = raises_lead facts window 1 kept.raises old rows.raised rows.raises in
-    let two = answers_lead facts window 1 kept.answers rows.raised new rows.answers in
+    let one = raises_lead facts window kept.raises old rows.raised rows.raises in
+    let two = answers_lead facts window kept.answers rows.raised new rows.answers in
     let same : new ≡ record old { raises = old.raises ++ raises_in window kept.raises; answers = old.answers ++ in_window window kept.answers } =
     two ∙ ap (λ (s : State). record s { answers = s.answers ++ in_window window kept.answers }) one in
     record {
@@ -134,93 +131,16 @@ has_cut facts old new order passes = elim (cut_leads facts old new passes) [
 
 -- ---- windows that passed
 
--- the rows of a window have that window alone
-in_again : (window : ℕ) (rows : List AnswerRow) → in_window window (in_window window rows) ≡ in_window window rows
-in_again window [] = refl
-in_again window (row ∷ rows) = step (row.window == window) refl (in_again window rows)
-  where
-    keep : (b : Bool) → b ≡ true → in_window window (in_window window rows) ≡ in_window window rows → (if b then row ∷ in_window window (in_window window rows) else in_window window (in_window window rows)) ≡ row ∷ in_window window rows
-    keep true e rest = ap (λ z. row ∷ z) rest
-    keep false e rest = absurd (cc)
-
-    step : (b : Bool) → (row.window == window) ≡ b → in_window window (in_window window rows) ≡ in_window window rows → in_window window (if b then row ∷ in_window window rows else in_window window rows) ≡ (if b then row ∷ in_window window rows else in_window window rows)
-    step true e rest = keep (row.window == window) e rest
-    step false e rest = rest
-
-in_other : (window other : ℕ) (rows : List AnswerRow) → other ≢ window → in_window other (in_window window rows) ≡ []
-in_other window other [] apart = refl
-in_other window other (row ∷ rows) apart = step (row.window == window) refl (in_other window other rows apart)
-  where
-    skip : (b : Bool) → b ≡ false → in_window other (in_window window rows) ≡ [] → (if b then row ∷ in_window other (in_window window rows) else in_window other (in_window window rows)) ≡ []
-    skip true e rest = absurd (cc)
-    skip false e rest = rest
-
-    step : (b : Bool) → (row.window == window) ≡ b → in_window other (in_window window rows) ≡ [] → in_window other (if b then row ∷ in_window window rows else in_window window rows) ≡ []
-    step true e rest = skip (row.window == other) (eq_fails row.window other (λ same. apart (sym same ∙ eqb-true row.window window e))) rest
-    step false e rest = rest
-
-raises_again : (window : ℕ) (rows : List RaiseRow) → raises_in window (raises_in window rows) ≡ raises_in window rows
-raises_again window [] = refl
-raises_again window (row ∷ rows) = step (row.window == window) refl (raises_again window rows)
-  where
-    keep : (b : Bool) → b ≡ true → raises_in window (raises_in window rows) ≡ raises_in window rows → (if b then row ∷ raises_in window (raises_in window rows) else raises_in window (raises_in window rows)) ≡ row ∷ raises_in window rows
-    keep true e rest = ap (λ z. row ∷ z) rest
-    keep false e rest = absurd (cc)
-
-    step : (b : Bool) → (row.window == window) ≡ b → raises_in window (raises_in window rows) ≡ raises_in window rows → raises_in window (if b then row ∷ raises_in window rows else raises_in window rows) ≡ (if b then row ∷ raises_in window rows else raises_in window rows)
-    step true e rest = keep (row.window == window) e rest
-    step false e rest = rest
-
-raises_other : (window other : ℕ) (rows : List RaiseRow) → other ≢ window → raises_in other (raises_in window rows) ≡ []
-raises_other window other [] apart = refl
-raises_other window other (row ∷ rows) apart = step (row.window == window) refl (raises_other window other rows apart)
-  where
-    skip : (b : Bool) → b ≡ false → raises_in other (raises_in window rows) ≡ [] → (if b then row ∷ raises_in other (raises_in window rows) else raises_in other (raises_in window rows)) ≡ []
-    skip true e rest = absurd (cc)
-    skip false e rest = rest
-
-    step : (b : Bool) → (row.window == window) ≡ b → raises_in other (raises_in window rows) ≡ [] → raises_in other (if b then row ∷ raises_in window rows else raises_in window rows) ≡ []
-    step true e rest = skip (row.window == other) (eq_fails row.window other (λ same. apart (sym same ∙ eqb-true row.window window e))) rest
-    step false e rest = rest
-
 -- A state holds the rows of the first windows, so many, and no others.
 pub record HoldsRows (kept : Kept) (windows : ℕ) (state : State) : Type 0 where
-  pub raises : (window : ℕ) → window < windows → raises_in window kept.raises ≡ raises_in window state.raises
-  pub answers : (window : ℕ) → window < windows → in_window window kept.answers ≡ in_window window state.answers
-  pub no_raises : (window : ℕ) → windows ≤ window → raises_in window state.raises ≡ []
-  pub no_answers : (window : ℕ) → windows ≤ window → in_window window state.answers ≡ []
+  pub raises : Holds raise_of windows kept.raises state.raises
+  pub answers : Holds answer_of windows kept.answers state.answers
 
--- the cases of a window below the next number
-below_next : (window windows : ℕ) → window < windows + 1 → (window < windows) ⊎ (window ≡ windows)
-below_next window windows less = elim (cases_lt window windows) [ inl before ↦ inl before | inr past ↦ inr (omega (arith, past, less)) ]
-
-pub holds_more : (kept : Kept) (windows : ℕ) (old new : State) → new.raises ≡ old.raises ++ raises_in windows kept.raises → new.answers ≡ old.answers ++ in_window windows kept.answers
+one_window : (kept : Kept) (windows : ℕ) (old new : State) → new.raises ≡ old.raises ++ raises_in windows kept.raises → new.answers ≡ old.answers ++ in_window windows kept.answers
     → HoldsRows kept windows old → HoldsRows kept (windows + 1) new
-holds_more kept windows old new raises answers holds = record {
-  raises = λ window less. elim (below_next window windows less) [
-    | inl before ↦
-        holds.raises window before ∙ sym (ap (λ (z : List RaiseRow). raises_in window z) raises ∙ (raises_append window old.raises (raises_in windows kept.raises)
-        ∙ (ap (λ (z : List RaiseRow). raises_in window old.raises ++ z) (raises_other windows window kept.raises (λ e. absurd (omega (arith, e, before)))) ∙ append-nil (raises_in window old.raises))))
-    | inr own ↦ subst (λ n. raises_in n kept.raises ≡ raises_in n new.raises) (sym own)
-        (sym (ap (λ (z : List RaiseRow). raises_in windows z) raises ∙ (raises_append windows old.raises (raises_in windows kept.raises)
-        ∙ (ap (λ (z : List RaiseRow). z ++ raises_in windows (raises_in windows kept.raises)) (holds.no_raises windows (omega arith)) ∙ raises_again windows kept.raises))))
-  ];
-  answers = λ window less. elim (below_next window windows less) [
-    | inl before ↦
-        holds.answers window before ∙ sym (ap (λ (z : List AnswerRow). in_window window z) answers ∙ (in_append window old.answers (in_window windows kept.answers)
-        ∙ (ap (λ (z : List AnswerRow). in_window window old.answers ++ z) (in_other windows window kept.answers (λ e. absurd (omega (arith, e, before)))) ∙ append-nil (in_window window old.answers))))
-    | inr own ↦ subst (λ n. in_window n kept.answers ≡ in_window n new.answers) (sym own)
-        (sym (ap (λ (z : List AnswerRow). in_window windows z) answers ∙ (in_append windows old.answers (in_window windows kept.answers)
-        ∙ (ap (λ (z : List AnswerRow). z ++ in_window windows (in_window windows kept.answers)) (holds.no_answers windows (omega arith)) ∙ in_again windows kept.answers))))
-  ];
-  no_raises = λ window past.
-      ap (λ (z : List RaiseRow). raises_in window z) raises ∙ (raises_append window old.raises (raises_in windows kept.raises)
-      ∙ (ap (λ (z : List RaiseRow). z ++ raises_in window (raises_in windows kept.raises)) (holds.no_raises window (omega (arith, past)))
-      ∙ raises_other windows window kept.raises (λ e. absurd (omega (arith, e, past)))));
-  no_answers = λ window past.
-      ap (λ (z : List AnswerRow). in_window window z) answers ∙ (in_append window old.answers (in_window windows kept.answers)
-      ∙ (ap (λ (z : List AnswerRow). z ++ in_window window (in_window windows kept.answers)) (holds.no_answers window (omega (arith, past)))
-      ∙ in_other windows window kept.answers (λ e. absurd (omega (arith, e, past)))));
+one_window kept windows old new raises answers holds = record {
+  raises = holds_more raise_of windows kept.raises old.raises new.raises (raises ∙ ap (λ (z : List RaiseRow). old.raises ++ z) (sym (raises_as windows kept.raises))) holds.raises;
+  answers = holds_more answer_of windows kept.answers old.answers new.answers (answers ∙ ap (λ (z : List AnswerRow). old.answers ++ z) (sym (answers_as windows kept.answers))) holds.answers;
 }
 
 -- What is so after the first windows, each of which has a cut.
@@ -234,12 +154,7 @@ pub passed_none : (facts : SeasonFacts) (kept : Kept) (state : State) → state 
 passed_none facts kept state is = subst (λ (s : State). HasPassed facts kept 0 s) (sym is) (record {
   now = refl;
   order = λ few. refl;
-  rows = record {
-    raises = λ window less. absurd (omega (arith, less));
-    answers = λ window less. absurd (omega (arith, less));
-    no_raises = λ window past. refl;
-    no_answers = λ window past. refl;
-  };
+  rows = record { raises = holds_nothing raise_of kept.raises; answers = holds_nothing answer_of kept.answers };
   allots = λ number some few. absurd (omega (arith, some, few));
 })
 
@@ -253,7 +168,7 @@ passed_cut facts kept window old last new passed rows cut allots =
     record {
       now = made.now ∙ ap (λ n. n + 1) now;
       order = made.order;
-      rows = holds_more kept window old new (made.raises ∙ has.raises) (made.answers ∙ has.answers) passed.rows;
+      rows = one_window kept window old new (made.raises ∙ has.raises) (made.answers ∙ has.answers) passed.rows;
       allots = λ number some few. elim (below_next number (window + 1) (omega (arith, few))) [
         | inl before ↦ λ id.
             passed.allots number some (omega (arith, before)) id ∙ sym (made.seats number id (omega (arith, before, now)) ∙ seats_stay facts kept window old last number id has)
@@ -261,11 +176,11 @@ passed_cut facts kept window old last new passed rows cut allots =
       ];
     }
 
-closes_by : (facts : SeasonFacts) (kept : Kept) (window : ℕ) (last new : State) → window < kept.cuts → Closes facts kept window (nat_lt window kept.cuts) last new
+pub closes_by : (facts : SeasonFacts) (kept : Kept) (window : ℕ) (last new : State) → window < kept.cuts → Closes facts kept window (nat_lt window kept.cuts) last new
     → CutPasses facts last new × AreAllotsOf facts new kept (window + 1)
 closes_by facts kept window last new less close = subst (λ (b : Bool). Closes facts kept window b last new) (lt-ltb window kept.cuts less) close
 
-stays_by : (facts : SeasonFacts) (kept : Kept) (window : ℕ) (last new : State) → kept.cuts ≤ window → Closes facts kept window (nat_lt window kept.cuts) last new → new ≡ last
+pub stays_by : (facts : SeasonFacts) (kept : Kept) (window : ℕ) (last new : State) → kept.cuts ≤ window → Closes facts kept window (nat_lt window kept.cuts) last new → new ≡ last
 stays_by facts kept window last new past close = subst (λ (b : Bool). Closes facts kept window b last new) (lt_false window kept.cuts past) close
 
 pub has_passed : (facts : SeasonFacts) (kept : Kept) (windows : ℕ) (state : State) → windows ≤ kept.cuts → Pass facts kept windows state → HasPassed facts kept windows state
@@ -294,10 +209,10 @@ later_none facts kept state window seats all past =
     let pass : Pass facts kept (suc window) state = all (suc window) (omega (arith, past)) in
     let now = now_after facts kept window pass.0 (omega (arith, past)) pass.1 in
     let rows = pass.2.rows in
-    let lead = raises_lead facts window 1 kept.raises pass.0 rows.raised rows.raises in
+    let lead = raises_lead facts window kept.raises pass.0 rows.raised rows.raises in
     let raised : rows.raised.now ≡ kept.cuts = ap (λ (s : State). s.now) lead ∙ now in (
-      raises_ahead facts window 1 kept.raises pass.0 rows.raised seats (omega (arith, past, now)) rows.raises,
-      answers_ahead facts window 1 kept.answers rows.raised pass.2.last (omega (arith, past, raised)) rows.answers,
+      raises_ahead facts window kept.raises pass.0 rows.raised seats (omega (arith, past, now)) rows.raises,
+      answers_ahead facts window kept.answers rows.raised pass.2.last seats (omega (arith, past, raised)) rows.answers,
     )
 
 -- the state after all windows
@@ -320,17 +235,11 @@ ended facts kept state all =
 pub stand_for : (facts : SeasonFacts) (kept : Kept) (state : State) → AreSeats facts.matrix → kept.season ≡ facts.text → IsReplayed facts kept state → AreRecordsOf facts state kept
 stand_for facts kept state seats text replayed =
     let end = ended facts kept state replayed.passed in
-    let rows = holds_more kept kept.cuts end.old state end.has.raises end.has.answers end.passed.rows in
+    let rows = one_window kept kept.cuts end.old state end.has.raises end.has.answers end.passed.rows in
     record {
       season = text;
-      raises = λ window. elim (cases_lt window (kept.cuts + 1)) [
-        | inl less ↦ rows.raises window less
-        | inr past ↦ (later_none facts kept state window seats replayed.passed (omega (arith, past))).0 ∙ sym (rows.no_raises window past)
-      ];
-      answers = λ window. elim (cases_lt window (kept.cuts + 1)) [
-        | inl less ↦ rows.answers window less
-        | inr past ↦ (later_none facts kept state window seats replayed.passed (omega (arith, past))).1 ∙ sym (rows.no_answers window past)
-      ];
+      raises = held_whole raise_of raises_in (kept.cuts + 1) kept.raises state.raises raises_as rows.raises (λ window past. (later_none facts kept state window seats replayed.passed (omega (arith, past))).0);
+      answers = held_whole answer_of in_window (kept.cuts + 1) kept.answers state.answers answers_as rows.answers (λ window past. (later_none facts kept state window seats replayed.passed (omega (arith, past))).1);
       cuts = sym (end.has.now ∙ end.passed.now);
       allots = λ number id. elim (cases_lt kept.cuts number) [
         | inl past ↦ replayed.uncounted number (inr past) id

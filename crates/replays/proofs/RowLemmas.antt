@@ -1,6 +1,6 @@
 -- Kept rows, each accepted where it stands, or not.
 use Rattle.std.proofs.Common.{◌≡◌, ◌≢◌, ◌<◌, ◌≤◌, ◌+◌, inl, inr, ℕ, zero, suc, Bool, true, false, List, [], ◌∷◌, ◌++◌, Option, Some, None, Result, Ok, Err, length, arith, refl, sym, ap, ◌∙◌, subst, append-nil, append_assoc, ◌==◌, nat_lt, if◌then◌else◌, cond, drop, get_or}
-use Rattle.std.specs.Prelude.{not, is_some, option_map, slice_get, bytes_eq, ◌&&◌, ◌||◌}
+use Rattle.std.specs.Prelude.{map, not, is_some, option_map, slice_get, bytes_eq, ◌&&◌, ◌||◌}
 use Rattle.std.specs.List.{AllByRecursion, position_or_len}
 use Rattle.std.specs.Option.{unwrap_or}
 use Rattle.std.proofs.lemmas.Bool.{cases_Bool, eq-eqb, eqb-true, lt-ltb, ltb-false, ltb-true}
@@ -11,6 +11,7 @@ use Rattle.office_base.specs.declared.asks.Ask.TheVariants.{Raise as AskRaise}
 use Rattle.office_base.specs.declared.asks.By.TheVariants.{Candidate, Clerk}
 use Rattle.office_base.specs.declared.person.ProgId.{ProgId}
 use Rattle.keeper_mem.specs.declared.rows.AnswerRow.{AnswerRow}
+use Rattle.keeper_mem.specs.declared.rows.Kept.{Kept}
 use Rattle.keeper_mem.specs.declared.rows.RaiseRow.{RaiseRow}
 use Rattle.seat_matrix.specs.Matrix.{AreSeats, SeatTable, codes_in}
 use Rattle.seat_matrix.specs.declared.entry.Home.{Home}
@@ -18,18 +19,23 @@ use Rattle.office_moves.specs.Decided.{answer_looks, decide_raise_of, decided, r
 use Rattle.office_moves.specs.Facts.{SeasonFacts, code_in, find_programme}
 use Rattle.office_moves.specs.History.{asked, newly}
 use Rattle.office_moves.specs.Judge.{with_programme}
+use Rattle.office_moves.specs.Moves.{Does, IsMove, noted, raised_reply}
 use Rattle.office_moves.specs.Stands.{raises_in}
 use Rattle.office_moves.specs.State.{State, in_window, view_of, with_raise, with_row}
 use Rattle.office_moves.specs.declared.decide.Decision.{Decision}
 use Rattle.office_moves.specs.declared.decide.Decision.TheVariants.{Lift, Note}
 use Rattle.office_moves.specs.declared.moves.Act.{Act}
-use Rattle.office_moves.specs.declared.moves.Act.TheVariants.{Answer, Raise}
+use Rattle.office_moves.specs.declared.moves.Act.TheVariants.{Answer, Raise, Cut}
+use Rattle.office_moves.specs.declared.moves.Reply.{Reply}
 use Rattle.office_moves.specs.declared.refusal.Refusal.{Refusal}
 use Rattle.office_moves.specs.declared.refusal.Refusal.TheVariants.{Late, Ahead}
 use Rattle.office_moves.proofs.Chains.{IsNewAnswer, IsNewRaise, answer_new, raise_new}
-use Rattle.replays.specs.Faults.{IsStrayAnswer, IsStrayRaise}
+use Rattle.replays.specs.Acts.{acts_in}
+use Rattle.replays.specs.Faults.{IsStrayRow, StopsAt}
 use Rattle.replays.specs.declared.fault.ReplayFault.{ReplayFault}
-use Rattle.replays.specs.Replay.{answers_replayed, raises_replayed, takes_answer, takes_raise}
+use Rattle.replays.specs.declared.fault.ReplayFault.TheVariants.{Stray, StrayRaise}
+use Rattle.replays.specs.Replay.{answers_replayed, raises_replayed, rows_replayed, takes, takes_answer, takes_raise, window_of, with_act}
+use Rattle.replays.proofs.Tables.{answers_as, raises_as, with_map, with_number}
 
 -- ---- an answer
 
@@ -172,13 +178,32 @@ raise_window facts state row seats e =
     let high = ltb-false state.now row.window opened.1 in
     omega (arith, low, high)
 
--- ---- the same in a state that is another's equal
+-- ---- either
 
-pub moved_answer : (facts after : SeasonFacts) (old next : State) (row : AnswerRow) (b : Bool) → after ≡ facts → next ≡ old → takes_answer after next row ≡ b → takes_answer facts old row ≡ b
-moved_answer facts after old next row b same is e = subst (λ f. takes_answer f old row ≡ b) same (subst (λ s. takes_answer after s row ≡ b) is e)
+-- the window of what is accepted is the open one
+pub row_window : (facts : SeasonFacts) (state : State) (row : Act) → AreSeats facts.matrix → takes facts state row ≡ true → window_of row ≡ state.now
+row_window facts state (Answer row) seats e = answer_window facts state row e
+row_window facts state (Raise row) seats e = raise_window facts state row seats e
+row_window facts state (Cut window) seats e = absurd (cc)
 
-pub moved_raise : (facts after : SeasonFacts) (old next : State) (row : RaiseRow) (b : Bool) → after ≡ facts → next ≡ old → takes_raise after next row ≡ b → takes_raise facts old row ≡ b
-moved_raise facts after old next row b same is e = subst (λ f. takes_raise f old row ≡ b) same (subst (λ s. takes_raise after s row ≡ b) is e)
+-- what is accepted is a move
+pub row_moves : (facts : SeasonFacts) (state : State) (row : Act) → AreSeats facts.matrix → takes facts state row ≡ true
+    → (reply : Reply) × (newly state.now (decided facts state (asked facts row)) ≡ Some row) × IsMove facts state (asked facts row) reply (with_act state row)
+row_moves facts state (Answer row) seats e =
+    let act = some_act (newly state.now (decided facts state (asked facts (Answer row)))) e in
+    let note = (new_answer facts state row act.0 act.1).noted in
+    (noted row, ap (newly state.now) note, subst (λ (d : Decision). Does facts state d (noted row) (with_row state row)) (sym note) (refl, refl))
+row_moves facts state (Raise row) seats e =
+    let parts = both_mean (nat_lt row.prog.0 (length facts.matrix.programmes)) (is_some (newly state.now (decided facts state (asked facts (Raise row))))) e in
+    let less = ltb-true _ _ parts.0 in
+    let act = some_act (newly state.now (decided facts state (asked facts (Raise row)))) parts.1 in
+    let lift = asks_own facts state row seats less ∙ (new_raise facts state row act.0 seats less act.1).lifted in
+    (raised_reply row, ap (newly state.now) lift, subst (λ (d : Decision). Does facts state d (raised_reply row) (with_raise state row)) (sym lift) (refl, refl))
+row_moves facts state (Cut window) seats e = absurd (cc)
+
+-- the same in a state that is another's equal
+pub moved_row : (facts after : SeasonFacts) (old next : State) (row : Act) (b : Bool) → after ≡ facts → next ≡ old → takes after next row ≡ b → takes facts old row ≡ b
+moved_row facts after old next row b same is e = subst (λ f. takes f old row ≡ b) same (subst (λ s. takes after s row ≡ b) is e)
 
 -- a raise is asked with the code of its programme
 pub own_code : (table : SeatTable) (facts : SeasonFacts) (prog : ℕ) (code : List ℕ) → table ≡ facts.matrix → option_map (λ held. held.0) (slice_get table.programmes prog) ≡ Some code → code ≡ code_in facts prog
@@ -191,101 +216,41 @@ asks_as facts state row code decision same e = sym (e ∙ ap (λ (c : List ℕ).
 
 -- ---- rows, one after another
 
-if_yes : {X : Type 0} (b : Bool) (x y : X) → b ≡ true → (if b then x else y) ≡ x
-if_yes true x y e = refl
-if_yes false x y e = absurd (cc)
-
-if_no : {X : Type 0} (b : Bool) (x y : X) → b ≡ false → (if b then x else y) ≡ y
-if_no true x y e = absurd (cc)
-if_no false x y e = refl
-
-eq_fails : (m n : ℕ) → m ≢ n → (m == n) ≡ false
-eq_fails m n apart = elim (cases_Bool (m == n)) [ inl same ↦ absurd (apart (eqb-true m n same)) | inr other ↦ other ]
-
-pub answers_on : (facts : SeasonFacts) (window place : ℕ) (row : AnswerRow) (rest : List AnswerRow) (state : State) → row.window ≡ window → takes_answer facts state row ≡ true
-    → answers_replayed facts window place (row ∷ rest) state ≡ answers_replayed facts window (place + 1) rest (with_row state row)
-answers_on facts window place row rest state here takes =
-    if_yes (row.window == window) (if takes_answer facts state row then answers_replayed facts window (place + 1) rest (with_row state row) else Err place)
-    (answers_replayed facts window (place + 1) rest state) (eq-eqb row.window window here)
-    ∙ if_yes (takes_answer facts state row) (answers_replayed facts window (place + 1) rest (with_row state row)) (Err place) takes
-
-pub answers_stop : (facts : SeasonFacts) (window place : ℕ) (row : AnswerRow) (rest : List AnswerRow) (state : State) → row.window ≡ window → takes_answer facts state row ≡ false
-    → answers_replayed facts window place (row ∷ rest) state ≡ Err place
-answers_stop facts window place row rest state here refused =
-    if_yes (row.window == window) (if takes_answer facts state row then answers_replayed facts window (place + 1) rest (with_row state row) else Err place)
-    (answers_replayed facts window (place + 1) rest state) (eq-eqb row.window window here)
-    ∙ if_no (takes_answer facts state row) (answers_replayed facts window (place + 1) rest (with_row state row)) (Err place) refused
-
-pub answers_past : (facts : SeasonFacts) (window place : ℕ) (row : AnswerRow) (rest : List AnswerRow) (state : State) → row.window ≢ window
-    → answers_replayed facts window place (row ∷ rest) state ≡ answers_replayed facts window (place + 1) rest state
-answers_past facts window place row rest state apart =
-    if_no (row.window == window) (if takes_answer facts state row then answers_replayed facts window (place + 1) rest (with_row state row) else Err place)
-    (answers_replayed facts window (place + 1) rest state) (eq_fails row.window window apart)
-
-pub raises_on : (facts : SeasonFacts) (window place : ℕ) (row : RaiseRow) (rest : List RaiseRow) (state : State) → row.window ≡ window → takes_raise facts state row ≡ true
-    → raises_replayed facts window place (row ∷ rest) state ≡ raises_replayed facts window (place + 1) rest (with_raise state row)
-raises_on facts window place row rest state here takes =
-    if_yes (row.window == window) (if takes_raise facts state row then raises_replayed facts window (place + 1) rest (with_raise state row) else Err place)
-    (raises_replayed facts window (place + 1) rest state) (eq-eqb row.window window here)
-    ∙ if_yes (takes_raise facts state row) (raises_replayed facts window (place + 1) rest (with_raise state row)) (Err place) takes
-
-pub raises_stop : (facts : SeasonFacts) (window place : ℕ) (row : RaiseRow) (rest : List RaiseRow) (state : State) → row.window ≡ window → takes_raise facts state row ≡ false
-    → raises_replayed facts window place (row ∷ rest) state ≡ Err place
-raises_stop facts window place row rest state here refused =
-    if_yes (row.window == window) (if takes_raise facts state row then raises_replayed facts window (place + 1) rest (with_raise state row) else Err place)
-    (raises_replayed facts window (place + 1) rest state) (eq-eqb row.window window here)
-    ∙ if_no (takes_raise facts state row) (raises_replayed facts window (place + 1) rest (with_raise state row)) (Err place) refused
-
-pub raises_past : (facts : SeasonFacts) (window place : ℕ) (row : RaiseRow) (rest : List RaiseRow) (state : State) → row.window ≢ window
-    → raises_replayed facts window place (row ∷ rest) state ≡ raises_replayed facts window (place + 1) rest state
-raises_past facts window place row rest state apart =
-    if_no (row.window == window) (if takes_raise facts state row then raises_replayed facts window (place + 1) rest (with_raise state row) else Err place)
-    (raises_replayed facts window (place + 1) rest state) (eq_fails row.window window apart)
-
 -- the rest of the rows, one row on
-pub answers_carry : (facts other : SeasonFacts) (window at : ℕ) (rows : List AnswerRow) (row : AnswerRow) (first : Result State ℕ) (state next : State) → other ≡ facts
-    → first ≡ answers_replayed facts window (at + 1) (drop at rows) state → at < length rows → row ≡ get_or rows at row
-    → ((rest : List AnswerRow) → answers_replayed other window (at + 1) (row ∷ rest) state ≡ answers_replayed other window (at + 1 + 1) rest next)
-    → first ≡ answers_replayed facts window (at + 1 + 1) (drop (at + 1) rows) next
-answers_carry facts other window at rows row first state next same before less is on =
-    before ∙ (at_drop_more (λ rest. answers_replayed facts window (at + 1) rest state) rows at row less
-    ∙ (ap (λ r. answers_replayed facts window (at + 1) (r ∷ drop (at + 1) rows) state) (sym is)
-    ∙ subst (λ f. answers_replayed f window (at + 1) (row ∷ drop (at + 1) rows) state ≡ answers_replayed f window (at + 1 + 1) (drop (at + 1) rows) next) same (on (drop (at + 1) rows))))
+pub rows_carry : {R : Type 0} (act : R → Act) (facts other : SeasonFacts) (window at : ℕ) (rows : List R) (row : R) (first : Result State ℕ) (state next : State) → other ≡ facts
+    → first ≡ rows_replayed facts window (at + 1) (map act (drop at rows)) state → at < length rows → row ≡ get_or rows at row
+    → ((rest : List Act) → rows_replayed other window (at + 1) (act row ∷ rest) state ≡ rows_replayed other window (at + 1 + 1) rest next)
+    → first ≡ rows_replayed facts window (at + 1 + 1) (map act (drop (at + 1) rows)) next
+rows_carry {R} act facts other window at rows row first state next same before less is on =
+    let rest : List Act = map act (drop (at + 1) rows) in
+    before ∙ (at_drop_more (λ (some : List R). rows_replayed facts window (at + 1) (map act some) state) rows at row less
+    ∙ (ap (λ (r : R). rows_replayed facts window (at + 1) (act r ∷ rest) state) (sym is)
+    ∙ subst (λ (f : SeasonFacts). rows_replayed f window (at + 1) (act row ∷ rest) state ≡ rows_replayed f window (at + 1 + 1) rest next) same (on rest)))
 
-pub answers_end : (facts other : SeasonFacts) (window at : ℕ) (rows : List AnswerRow) (row : AnswerRow) (first : Result State ℕ) (state : State) (fault : ReplayFault) → other ≡ facts
-    → first ≡ answers_replayed facts window (at + 1) (drop at rows) state → at < length rows → row ≡ get_or rows at row
-    → ((rest : List AnswerRow) → IsStrayAnswer (answers_replayed other window (at + 1) (row ∷ rest) state) fault) → IsStrayAnswer first fault
-answers_end facts other window at rows row first state fault same before less is stray =
-    let here : first ≡ answers_replayed facts window (at + 1) (row ∷ drop (at + 1) rows) state =
-    before ∙ (at_drop_more (λ rest. answers_replayed facts window (at + 1) rest state) rows at row less
-    ∙ ap (λ r. answers_replayed facts window (at + 1) (r ∷ drop (at + 1) rows) state) (sym is)) in
-    subst (λ r. IsStrayAnswer r fault) (sym here) (subst (λ f. IsStrayAnswer (answers_replayed f window (at + 1) (row ∷ drop (at + 1) rows) state) fault) same (stray (drop (at + 1) rows)))
+pub rows_end : {R : Type 0} (act : R → Act) (stray : ℕ → ReplayFault) (facts other : SeasonFacts) (window at : ℕ) (rows : List R) (row : R) (first : Result State ℕ) (state : State) (fault : ReplayFault)
+    → other ≡ facts → first ≡ rows_replayed facts window (at + 1) (map act (drop at rows)) state → at < length rows → row ≡ get_or rows at row
+    → ((rest : List Act) → StopsAt stray (rows_replayed other window (at + 1) (act row ∷ rest) state) fault) → StopsAt stray first fault
+rows_end {R} act stray facts other window at rows row first state fault same before less is stops =
+    let rest : List Act = map act (drop (at + 1) rows) in
+    let here : first ≡ rows_replayed facts window (at + 1) (act row ∷ rest) state =
+    before ∙ (at_drop_more (λ (some : List R). rows_replayed facts window (at + 1) (map act some) state) rows at row less
+    ∙ ap (λ (r : R). rows_replayed facts window (at + 1) (act r ∷ rest) state) (sym is)) in
+    subst (λ (r : Result State ℕ). StopsAt stray r fault) (sym here) (subst (λ (f : SeasonFacts). StopsAt stray (rows_replayed f window (at + 1) (act row ∷ rest) state) fault) same (stops rest))
 
-pub answers_over : (facts : SeasonFacts) (window at : ℕ) (rows : List AnswerRow) (first : Result State ℕ) (state : State)
-    → first ≡ answers_replayed facts window (at + 1) (drop at rows) state → length rows ≤ at → first ≡ Ok state
-answers_over facts window at rows first state before end = before ∙ at_drop_all (λ rest. answers_replayed facts window (at + 1) rest state) rows at end
+pub rows_over : {R : Type 0} (act : R → Act) (facts : SeasonFacts) (window at : ℕ) (rows : List R) (first : Result State ℕ) (state : State)
+    → first ≡ rows_replayed facts window (at + 1) (map act (drop at rows)) state → length rows ≤ at → first ≡ Ok state
+rows_over {R} act facts window at rows first state before end = before ∙ at_drop_all (λ (some : List R). rows_replayed facts window (at + 1) (map act some) state) rows at end
 
-pub raises_carry : (facts other : SeasonFacts) (window at : ℕ) (rows : List RaiseRow) (row : RaiseRow) (first : Result State ℕ) (state next : State) → other ≡ facts
-    → first ≡ raises_replayed facts window (at + 1) (drop at rows) state → at < length rows → row ≡ get_or rows at row
-    → ((rest : List RaiseRow) → raises_replayed other window (at + 1) (row ∷ rest) state ≡ raises_replayed other window (at + 1 + 1) rest next)
-    → first ≡ raises_replayed facts window (at + 1 + 1) (drop (at + 1) rows) next
-raises_carry facts other window at rows row first state next same before less is on =
-    before ∙ (at_drop_more (λ rest. raises_replayed facts window (at + 1) rest state) rows at row less
-    ∙ (ap (λ r. raises_replayed facts window (at + 1) (r ∷ drop (at + 1) rows) state) (sym is)
-    ∙ subst (λ f. raises_replayed f window (at + 1) (row ∷ drop (at + 1) rows) state ≡ raises_replayed f window (at + 1 + 1) (drop (at + 1) rows) next) same (on (drop (at + 1) rows))))
+-- the fault of a table is one of the rows of the window
+pub raise_stops : (facts : SeasonFacts) (kept : Kept) (window : ℕ) (old : State) (fault : ReplayFault) → StopsAt (λ place. StrayRaise place) (raises_replayed facts window kept.raises old) fault
+    → IsStrayRow facts kept window old fault
+raise_stops facts kept window old fault (inl none) = subst (λ (f : ReplayFault). IsStrayRow facts kept window old f) (sym none) tt
+raise_stops facts kept window old fault (inr stop) = subst (λ (f : ReplayFault). IsStrayRow facts kept window old f) (sym stop.2) stop.1
 
-pub raises_end : (facts other : SeasonFacts) (window at : ℕ) (rows : List RaiseRow) (row : RaiseRow) (first : Result State ℕ) (state : State) (fault : ReplayFault) → other ≡ facts
-    → first ≡ raises_replayed facts window (at + 1) (drop at rows) state → at < length rows → row ≡ get_or rows at row
-    → ((rest : List RaiseRow) → IsStrayRaise (raises_replayed other window (at + 1) (row ∷ rest) state) fault) → IsStrayRaise first fault
-raises_end facts other window at rows row first state fault same before less is stray =
-    let here : first ≡ raises_replayed facts window (at + 1) (row ∷ drop (at + 1) rows) state =
-    before ∙ (at_drop_more (λ rest. raises_replayed facts window (at + 1) rest state) rows at row less
-    ∙ ap (λ r. raises_replayed facts window (at + 1) (r ∷ drop (at + 1) rows) state) (sym is)) in
-    subst (λ r. IsStrayRaise r fault) (sym here) (subst (λ f. IsStrayRaise (raises_replayed f window (at + 1) (row ∷ drop (at + 1) rows) state) fault) same (stray (drop (at + 1) rows)))
-
-pub raises_over : (facts : SeasonFacts) (window at : ℕ) (rows : List RaiseRow) (first : Result State ℕ) (state : State)
-    → first ≡ raises_replayed facts window (at + 1) (drop at rows) state → length rows ≤ at → first ≡ Ok state
-raises_over facts window at rows first state before end = before ∙ at_drop_all (λ rest. raises_replayed facts window (at + 1) rest state) rows at end
+pub answer_stops : (facts : SeasonFacts) (kept : Kept) (window : ℕ) (old raised : State) (fault : ReplayFault) → raises_replayed facts window kept.raises old ≡ Ok raised
+    → StopsAt (λ place. Stray place) (answers_replayed facts window kept.answers raised) fault → IsStrayRow facts kept window old fault
+answer_stops facts kept window old raised fault raises (inl none) = subst (λ (f : ReplayFault). IsStrayRow facts kept window old f) (sym none) tt
+answer_stops facts kept window old raised fault raises (inr stop) = subst (λ (f : ReplayFault). IsStrayRow facts kept window old f) (sym stop.2) (raised, raises, stop.1)
 
 -- ---- where they lead
 
@@ -296,81 +261,92 @@ with_rows state rows = record state { answers = state.answers ++ rows }
 abbrev pub with_raises : State → List RaiseRow → State
 with_raises state rows = record state { raises = state.raises ++ rows }
 
-nothing_more : (state new : State) → ◌≡◌ {A = Result State ℕ} (Ok state) (Ok new) → new ≡ with_rows state []
-nothing_more state new e = let same : state ≡ new = cc in sym same ∙ ap (λ (rows : List AnswerRow). record state { answers = rows }) (sym (append-nil state.answers))
+-- the state with more of either
+abbrev pub with_acts : State → List Act → State
+with_acts state [] = state
+with_acts state (row ∷ rows) = with_acts (with_act state row) rows
 
-no_raise_more : (state new : State) → ◌≡◌ {A = Result State ℕ} (Ok state) (Ok new) → new ≡ with_raises state []
-no_raise_more state new e = let same : state ≡ new = cc in sym same ∙ ap (λ (rows : List RaiseRow). record state { raises = rows }) (sym (append-nil state.raises))
+more_answers : (state : State) (rows : List AnswerRow) → with_acts state (map Answer rows) ≡ with_rows state rows
+more_answers state [] = ap (λ (z : List AnswerRow). record state { answers = z }) (sym (append-nil state.answers))
+more_answers state (row ∷ rows) = more_answers (with_row state row) rows ∙ ap (λ (z : List AnswerRow). record state { answers = z }) (append_assoc state.answers (row ∷ []) rows)
 
-pub answers_lead : (facts : SeasonFacts) (window place : ℕ) (rows : List AnswerRow) (old new : State) → answers_replayed facts window place rows old ≡ Ok new → new ≡ with_rows old (in_window window rows)
-answers_lead facts window place [] old new e = nothing_more old new e
-answers_lead facts window place (row ∷ rows) old new e =
-    step (row.window == window) (takes_answer facts old row) (answers_lead facts window (place + 1) rows old new) (answers_lead facts window (place + 1) rows (with_row old row) new) e
+more_raises : (state : State) (rows : List RaiseRow) → with_acts state (map Raise rows) ≡ with_raises state rows
+more_raises state [] = ap (λ (z : List RaiseRow). record state { raises = z }) (sym (append-nil state.raises))
+more_raises state (row ∷ rows) = more_raises (with_raise state row) rows ∙ ap (λ (z : List RaiseRow). record state { raises = z }) (append_assoc state.raises (row ∷ []) rows)
+
+acts_as : (window : ℕ) (acts : List Act) → with_number window_of window acts ≡ acts_in window acts
+acts_as window [] = refl
+acts_as window (act ∷ acts) = ap (λ (z : List Act). if window_of act == window then act ∷ z else z) (acts_as window acts)
+
+pub answers_are : (window : ℕ) (rows : List AnswerRow) → acts_in window (map Answer rows) ≡ map Answer (in_window window rows)
+answers_are window rows = sym (acts_as window (map Answer rows)) ∙ (with_map Answer window_of window rows ∙ ap (λ (z : List AnswerRow). map Answer z) (answers_as window rows))
+
+pub raises_are : (window : ℕ) (rows : List RaiseRow) → acts_in window (map Raise rows) ≡ map Raise (raises_in window rows)
+raises_are window rows = sym (acts_as window (map Raise rows)) ∙ (with_map Raise window_of window rows ∙ ap (λ (z : List RaiseRow). map Raise z) (raises_as window rows))
+
+rows_lead : (facts : SeasonFacts) (window place : ℕ) (rows : List Act) (old new : State) → rows_replayed facts window place rows old ≡ Ok new → new ≡ with_acts old (acts_in window rows)
+rows_lead facts window place [] old new e = cc e
+rows_lead facts window place (row ∷ rows) old new e =
+    step (window_of row == window) (takes facts old row) (rows_lead facts window (place + 1) rows old new) (rows_lead facts window (place + 1) rows (with_act old row) new) e
   where
-    step : (b t : Bool) → (answers_replayed facts window (place + 1) rows old ≡ Ok new → new ≡ with_rows old (in_window window rows))
-        → (answers_replayed facts window (place + 1) rows (with_row old row) ≡ Ok new → new ≡ with_rows (with_row old row) (in_window window rows))
-        → (if b then (if t then answers_replayed facts window (place + 1) rows (with_row old row) else Err place) else answers_replayed facts window (place + 1) rows old) ≡ Ok new
-        → new ≡ with_rows old (if b then row ∷ in_window window rows else in_window window rows)
-    step true true past on e = on e ∙ ap (λ (z : List AnswerRow). record old { answers = z }) (append_assoc old.answers (row ∷ []) (in_window window rows))
+    step : (b t : Bool) → (rows_replayed facts window (place + 1) rows old ≡ Ok new → new ≡ with_acts old (acts_in window rows))
+        → (rows_replayed facts window (place + 1) rows (with_act old row) ≡ Ok new → new ≡ with_acts (with_act old row) (acts_in window rows))
+        → (if b then (if t then rows_replayed facts window (place + 1) rows (with_act old row) else Err place) else rows_replayed facts window (place + 1) rows old) ≡ Ok new
+        → new ≡ with_acts old (if b then row ∷ acts_in window rows else acts_in window rows)
+    step true true past on e = on e
     step true false past on e = absurd (cc)
     step false t past on e = past e
 
-pub raises_lead : (facts : SeasonFacts) (window place : ℕ) (rows : List RaiseRow) (old new : State) → raises_replayed facts window place rows old ≡ Ok new → new ≡ with_raises old (raises_in window rows)
-raises_lead facts window place [] old new e = no_raise_more old new e
-raises_lead facts window place (row ∷ rows) old new e =
-    step (row.window == window) (takes_raise facts old row) (raises_lead facts window (place + 1) rows old new) (raises_lead facts window (place + 1) rows (with_raise old row) new) e
-  where
-    step : (b t : Bool) → (raises_replayed facts window (place + 1) rows old ≡ Ok new → new ≡ with_raises old (raises_in window rows))
-        → (raises_replayed facts window (place + 1) rows (with_raise old row) ≡ Ok new → new ≡ with_raises (with_raise old row) (raises_in window rows))
-        → (if b then (if t then raises_replayed facts window (place + 1) rows (with_raise old row) else Err place) else raises_replayed facts window (place + 1) rows old) ≡ Ok new
-        → new ≡ with_raises old (if b then row ∷ raises_in window rows else raises_in window rows)
-    step true true past on e = on e ∙ ap (λ (z : List RaiseRow). record old { raises = z }) (append_assoc old.raises (row ∷ []) (raises_in window rows))
-    step true false past on e = absurd (cc)
-    step false t past on e = past e
+pub answers_lead : (facts : SeasonFacts) (window : ℕ) (rows : List AnswerRow) (old new : State) → answers_replayed facts window rows old ≡ Ok new → new ≡ with_rows old (in_window window rows)
+answers_lead facts window rows old new e =
+    rows_lead facts window 1 (map Answer rows) old new e ∙ (ap (λ (z : List Act). with_acts old z) (answers_are window rows) ∙ more_answers old (in_window window rows))
+
+pub raises_lead : (facts : SeasonFacts) (window : ℕ) (rows : List RaiseRow) (old new : State) → raises_replayed facts window rows old ≡ Ok new → new ≡ with_raises old (raises_in window rows)
+raises_lead facts window rows old new e =
+    rows_lead facts window 1 (map Raise rows) old new e ∙ (ap (λ (z : List Act). with_acts old z) (raises_are window rows) ∙ more_raises old (raises_in window rows))
 
 -- ---- windows that are not open
 
+no_map : {X Y : Type 0} (make : X → Y) (rows : List X) → map make rows ≡ [] → rows ≡ []
+no_map make [] e = refl
+no_map make (row ∷ rows) e = absurd (cc)
+
 -- no row of a window that is not open is accepted
-pub answers_ahead : (facts : SeasonFacts) (window place : ℕ) (rows : List AnswerRow) (old new : State) → old.now < window → answers_replayed facts window place rows old ≡ Ok new → in_window window rows ≡ []
-answers_ahead facts window place [] old new ahead e = refl
-answers_ahead facts window place (row ∷ rows) old new ahead e =
-    step (row.window == window) refl (takes_answer facts old row) refl (answers_ahead facts window (place + 1) rows old new ahead) e
+rows_ahead : (facts : SeasonFacts) (window place : ℕ) (rows : List Act) (old new : State) → AreSeats facts.matrix → old.now < window → rows_replayed facts window place rows old ≡ Ok new
+    → acts_in window rows ≡ []
+rows_ahead facts window place [] old new seats ahead e = refl
+rows_ahead facts window place (row ∷ rows) old new seats ahead e =
+    step (window_of row == window) refl (takes facts old row) refl (rows_ahead facts window (place + 1) rows old new seats ahead) e
   where
-    step : (b : Bool) → (row.window == window) ≡ b → (t : Bool) → takes_answer facts old row ≡ t → (answers_replayed facts window (place + 1) rows old ≡ Ok new → in_window window rows ≡ [])
-        → (if b then (if t then answers_replayed facts window (place + 1) rows (with_row old row) else Err place) else answers_replayed facts window (place + 1) rows old) ≡ Ok new
-        → (if b then row ∷ in_window window rows else in_window window rows) ≡ []
-    step true same true takes past e = absurd (let w = answer_window facts old row takes in let s = eqb-true row.window window same in omega (arith, w, s, ahead))
+    step : (b : Bool) → (window_of row == window) ≡ b → (t : Bool) → takes facts old row ≡ t → (rows_replayed facts window (place + 1) rows old ≡ Ok new → acts_in window rows ≡ [])
+        → (if b then (if t then rows_replayed facts window (place + 1) rows (with_act old row) else Err place) else rows_replayed facts window (place + 1) rows old) ≡ Ok new
+        → (if b then row ∷ acts_in window rows else acts_in window rows) ≡ []
+    step true same true takes past e = absurd (let w = row_window facts old row seats takes in let s = eqb-true (window_of row) window same in omega (arith, w, s, ahead))
     step true same false takes past e = absurd (cc)
     step false same t takes past e = past e
 
-pub raises_ahead : (facts : SeasonFacts) (window place : ℕ) (rows : List RaiseRow) (old new : State) → AreSeats facts.matrix → old.now < window → raises_replayed facts window place rows old ≡ Ok new
+pub answers_ahead : (facts : SeasonFacts) (window : ℕ) (rows : List AnswerRow) (old new : State) → AreSeats facts.matrix → old.now < window → answers_replayed facts window rows old ≡ Ok new
+    → in_window window rows ≡ []
+answers_ahead facts window rows old new seats ahead e =
+    no_map Answer (in_window window rows) (sym (answers_are window rows) ∙ rows_ahead facts window 1 (map Answer rows) old new seats ahead e)
+
+pub raises_ahead : (facts : SeasonFacts) (window : ℕ) (rows : List RaiseRow) (old new : State) → AreSeats facts.matrix → old.now < window → raises_replayed facts window rows old ≡ Ok new
     → raises_in window rows ≡ []
-raises_ahead facts window place [] old new seats ahead e = refl
-raises_ahead facts window place (row ∷ rows) old new seats ahead e =
-    step (row.window == window) refl (takes_raise facts old row) refl (raises_ahead facts window (place + 1) rows old new seats ahead) e
-  where
-    step : (b : Bool) → (row.window == window) ≡ b → (t : Bool) → takes_raise facts old row ≡ t → (raises_replayed facts window (place + 1) rows old ≡ Ok new → raises_in window rows ≡ [])
-        → (if b then (if t then raises_replayed facts window (place + 1) rows (with_raise old row) else Err place) else raises_replayed facts window (place + 1) rows old) ≡ Ok new
-        → (if b then row ∷ raises_in window rows else raises_in window rows) ≡ []
-    step true same true takes past e = absurd (let w = raise_window facts old row seats takes in let s = eqb-true row.window window same in omega (arith, w, s, ahead))
-    step true same false takes past e = absurd (cc)
-    step false same t takes past e = past e
+raises_ahead facts window rows old new seats ahead e =
+    no_map Raise (raises_in window rows) (sym (raises_are window rows) ∙ rows_ahead facts window 1 (map Raise rows) old new seats ahead e)
 
 -- a window without rows leaves the state
-pub answers_none : (facts : SeasonFacts) (window place : ℕ) (rows : List AnswerRow) (state : State) → in_window window rows ≡ [] → answers_replayed facts window place rows state ≡ Ok state
-answers_none facts window place [] state none = refl
-answers_none facts window place (row ∷ rows) state none = step (row.window == window) (answers_none facts window (place + 1) rows state) none
+rows_none : (facts : SeasonFacts) (window place : ℕ) (rows : List Act) (state : State) → acts_in window rows ≡ [] → rows_replayed facts window place rows state ≡ Ok state
+rows_none facts window place [] state none = refl
+rows_none facts window place (row ∷ rows) state none = step (window_of row == window) (rows_none facts window (place + 1) rows state) none
   where
-    step : (b : Bool) → (in_window window rows ≡ [] → answers_replayed facts window (place + 1) rows state ≡ Ok state) → (if b then row ∷ in_window window rows else in_window window rows) ≡ []
-        → (if b then (if takes_answer facts state row then answers_replayed facts window (place + 1) rows (with_row state row) else Err place) else answers_replayed facts window (place + 1) rows state) ≡ Ok state
+    step : (b : Bool) → (acts_in window rows ≡ [] → rows_replayed facts window (place + 1) rows state ≡ Ok state) → (if b then row ∷ acts_in window rows else acts_in window rows) ≡ []
+        → (if b then (if takes facts state row then rows_replayed facts window (place + 1) rows (with_act state row) else Err place) else rows_replayed facts window (place + 1) rows state) ≡ Ok state
     step true rest none = absurd (cc)
     step false rest none = rest none
 
-pub raises_none : (facts : SeasonFacts) (window place : ℕ) (rows : List RaiseRow) (state : State) → raises_in window rows ≡ [] → raises_replayed facts window place rows state ≡ Ok state
-raises_none facts window place [] state none = refl
-raises_none facts window place (row ∷ rows) state none = step (row.window == window) (raises_none facts window (place + 1) rows state) none
-  where
-    step : (b : Bool) → (raises_in window rows ≡ [] → raises_replayed facts window (place + 1) rows state ≡ Ok state) → (if b then row ∷ raises_in window rows else raises_in window rows) ≡ []
-        → (if b then (if takes_raise facts state row then raises_replayed facts window (place + 1) rows (with_raise state row) else Err place) else raises_replayed facts window (place + 1) rows state) ≡ Ok state
-    step true rest none = absurd (cc)
-    step false rest none = rest none
+pub answers_none : (facts : SeasonFacts) (window : ℕ) (rows : List AnswerRow) (state : State) → in_window window rows ≡ [] → answers_replayed facts window rows state ≡ Ok state
+answers_none facts window rows state none = rows_none facts window 1 (map Answer rows) state (answers_are window rows ∙ ap (λ (z : List AnswerRow). map Answer z) none)
+
+pub raises_none : (facts : SeasonFacts) (window : ℕ) (rows : List RaiseRow) (state : State) → raises_in window rows ≡ [] → raises_replayed facts window rows state ≡ Ok state
+raises_none facts window rows state none = rows_none facts window 1 (map Raise rows) state (raises_are window rows ∙ ap (λ (z : List RaiseRow). map Raise z) none)

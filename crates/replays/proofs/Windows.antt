@@ -104,8 +104,8 @@ seats_fault facts mid last kept window old noted new fault one two less rows cut
 empty_rows : (facts : SeasonFacts) (kept : Kept) (window : ℕ) (state : State) → IsEmptyWindow kept window → RowsPass facts kept window state state
 empty_rows facts kept window state empty = record {
   raised = state;
-  raises = raises_none facts window 1 kept.raises state empty.0;
-  answers = answers_none facts window 1 kept.answers state empty.1;
+  raises = raises_none facts window kept.raises state empty.0;
+  answers = answers_none facts window kept.answers state empty.1;
 }
 
 -- windows of which nothing is kept pass, and leave the state
@@ -133,11 +133,11 @@ all_pass facts kept state pass later windows past = on_empty facts kept state wi
 pub not_ahead : (facts : SeasonFacts) (kept : Kept) (state new : State) (window : ℕ) → AreSeats facts.matrix → state.now ≡ kept.cuts → IsLaterWindow kept (Some window) → RowsPass facts kept window state new → ⊥
 not_ahead facts kept state new window seats now later rows =
     let past = later.0 in
-    let lead = raises_lead facts window 1 kept.raises state rows.raised rows.raises in
+    let lead = raises_lead facts window kept.raises state rows.raised rows.raises in
     let raised : rows.raised.now ≡ kept.cuts = ap (λ (s : State). s.now) lead ∙ now in
     later.1 (
-      raises_ahead facts window 1 kept.raises state rows.raised seats (omega (arith, past, now)) rows.raises,
-      answers_ahead facts window 1 kept.answers rows.raised new (omega (arith, past, raised)) rows.answers,
+      raises_ahead facts window kept.raises state rows.raised seats (omega (arith, past, now)) rows.raises,
+      answers_ahead facts window kept.answers rows.raised new seats (omega (arith, past, raised)) rows.answers,
     )
 
 -- ---- rounds that no counted cut publishes

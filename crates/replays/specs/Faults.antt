@@ -12,24 +12,14 @@ use Rattle.replays.specs.Replay.{AllPass, AreAllotsOf, CutPasses, IsUncounted, P
 use Rattle.replays.specs.declared.fault.ReplayFault.{ReplayFault}
 use Rattle.replays.specs.declared.fault.ReplayFault.TheVariants.{Stray, StrayRaise, Differs, OutOfMemory}
 
--- the first raise of a window that is not newly accepted has this place, or there was no memory
-abbrev pub IsStrayRaise : Result State ℕ → ReplayFault → Type 0
-IsStrayRaise replayed (Stray row) = ⊥
-IsStrayRaise replayed (StrayRaise row) = replayed ≡ Err row
-IsStrayRaise replayed (Differs round cand one other) = ⊥
-IsStrayRaise replayed OutOfMemory = Unit {0}
-
--- the first answer of a window that is not newly accepted has this place, or there was no memory
-abbrev pub IsStrayAnswer : Result State ℕ → ReplayFault → Type 0
-IsStrayAnswer replayed (Stray row) = replayed ≡ Err row
-IsStrayAnswer replayed (StrayRaise row) = ⊥
-IsStrayAnswer replayed (Differs round cand one other) = ⊥
-IsStrayAnswer replayed OutOfMemory = Unit {0}
+-- the rows of a table stop at a place, and this is the fault of that place; or there was no memory
+abbrev pub StopsAt : (ℕ → ReplayFault) → Result State ℕ → ReplayFault → Type 0
+StopsAt stray replayed fault = (fault ≡ OutOfMemory) ⊎ ((place : ℕ) × (replayed ≡ Err place) × (fault ≡ stray place))
 
 -- a row of the window is the first that is not newly accepted: a raise, or an answer after all raises
 abbrev pub IsStrayRow : SeasonFacts → Kept → ℕ → State → ReplayFault → Type 0
-IsStrayRow facts kept window old (Stray row) = (raised : State) × (raises_replayed facts window 1 kept.raises old ≡ Ok raised) × (answers_replayed facts window 1 kept.answers raised ≡ Err row)
-IsStrayRow facts kept window old (StrayRaise row) = raises_replayed facts window 1 kept.raises old ≡ Err row
+IsStrayRow facts kept window old (Stray row) = (raised : State) × (raises_replayed facts window kept.raises old ≡ Ok raised) × (answers_replayed facts window kept.answers raised ≡ Err row)
+IsStrayRow facts kept window old (StrayRaise row) = raises_replayed facts window kept.raises old ≡ Err row
 IsStrayRow facts kept window old (Differs round cand one other) = ⊥
 IsStrayRow facts kept window old OutOfMemory = Unit {0}
 

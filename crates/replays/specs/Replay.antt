@@ -1,6 +1,6 @@
 -- Kept records are replayed: window after window, first the raises of the window in their order, then its answers in theirs, then its cut, where there is
 -- one, and then the seats that it published are compared with the kept ones.
-use Rattle.std.specs.Prelude.{◌≡◌, ◌<◌, ◌+◌, ◌⊎◌, ℕ, zero, suc, Bool, true, false, ◌==◌, ◌&&◌, nat_lt, List, [], ◌∷◌, Some, Result, Ok, Err, is_some, length, if◌then◌else◌}
+use Rattle.std.specs.Prelude.{◌≡◌, ◌<◌, ◌+◌, ◌⊎◌, ℕ, zero, suc, Bool, true, false, ◌==◌, ◌&&◌, nat_lt, List, [], ◌∷◌, Some, Result, Ok, Err, is_some, length, map, if◌then◌else◌}
 use Rattle.keeper_mem.specs.declared.rows.AnswerRow.{AnswerRow}
 use Rattle.keeper_mem.specs.declared.rows.Kept.{Kept}
 use Rattle.keeper_mem.specs.declared.rows.RaiseRow.{RaiseRow}
@@ -10,6 +10,7 @@ use Rattle.office_moves.specs.History.{asked, newly}
 use Rattle.office_moves.specs.Moves.{IsMove}
 use Rattle.office_moves.specs.Stands.{first_allot, published_seat}
 use Rattle.office_moves.specs.State.{State, opening, with_raise, with_row}
+use Rattle.office_moves.specs.declared.moves.Act.{Act}
 use Rattle.office_moves.specs.declared.moves.Act.TheVariants.{Answer, Raise, Cut}
 use Rattle.office_moves.specs.declared.moves.Reply.{Reply}
 
@@ -23,27 +24,45 @@ takes_answer facts state row = is_some (newly state.now (decided facts state (as
 abbrev pub takes_raise : SeasonFacts → State → RaiseRow → Bool
 takes_raise facts state row = nat_lt row.prog.0 (length facts.matrix.programmes) && is_some (newly state.now (decided facts state (asked facts (Raise row))))
 
--- The rows of a window, one after another in the order of the table: the state to which they lead, or the place of the first one that is not newly accepted where it
--- stands. The first row of the list has the given place in the table.
-abbrev pub answers_replayed : SeasonFacts → ℕ → ℕ → List AnswerRow → State → Result State ℕ
-answers_replayed facts window place [] state = Ok state
-answers_replayed facts window place (row ∷ rows) state =
-    if row.window == window
-    then (if takes_answer facts state row then answers_replayed facts window (place + 1) rows (with_row state row) else Err place)
-    else answers_replayed facts window (place + 1) rows state
+-- a kept row is newly accepted; a cut is no row
+abbrev pub takes : SeasonFacts → State → Act → Bool
+takes facts state (Answer row) = takes_answer facts state row
+takes facts state (Raise row) = takes_raise facts state row
+takes facts state (Cut window) = false
 
-abbrev pub raises_replayed : SeasonFacts → ℕ → ℕ → List RaiseRow → State → Result State ℕ
-raises_replayed facts window place [] state = Ok state
-raises_replayed facts window place (row ∷ rows) state =
-    if row.window == window
-    then (if takes_raise facts state row then raises_replayed facts window (place + 1) rows (with_raise state row) else Err place)
-    else raises_replayed facts window (place + 1) rows state
+-- the state with a row more
+abbrev pub with_act : State → Act → State
+with_act state (Answer row) = with_row state row
+with_act state (Raise row) = with_raise state row
+with_act state (Cut window) = state
+
+-- the window of a row
+abbrev pub window_of : Act → ℕ
+window_of (Answer row) = row.window
+window_of (Raise row) = row.window
+window_of (Cut window) = window
+
+-- The rows of a window, one after another in the order of their table: the state to which they lead, or the place of the first one that is not newly accepted where it
+-- stands. The first row of the list has the given place in the table.
+abbrev pub rows_replayed : SeasonFacts → ℕ → ℕ → List Act → State → Result State ℕ
+rows_replayed facts window place [] state = Ok state
+rows_replayed facts window place (row ∷ rows) state =
+    if window_of row == window
+    then (if takes facts state row then rows_replayed facts window (place + 1) rows (with_act state row) else Err place)
+    else rows_replayed facts window (place + 1) rows state
+
+-- the same of the table of raises, and of the table of answers
+abbrev pub raises_replayed : SeasonFacts → ℕ → List RaiseRow → State → Result State ℕ
+raises_replayed facts window rows state = rows_replayed facts window 1 (map Raise rows) state
+
+abbrev pub answers_replayed : SeasonFacts → ℕ → List AnswerRow → State → Result State ℕ
+answers_replayed facts window rows state = rows_replayed facts window 1 (map Answer rows) state
 
 -- all kept rows of a window are newly accepted at their places: the raises first, then the answers
 pub record RowsPass (facts : SeasonFacts) (kept : Kept) (window : ℕ) (old new : State) : Type 0 where
   pub raised : State
-  pub raises : raises_replayed facts window 1 kept.raises old ≡ Ok raised
-  pub answers : answers_replayed facts window 1 kept.answers raised ≡ Ok new
+  pub raises : raises_replayed facts window kept.raises old ≡ Ok raised
+  pub answers : answers_replayed facts window kept.answers raised ≡ Ok new
 
 -- ---- the cut of a window
 

@@ -1,28 +1,17 @@
 -- What becomes of one row of the kept tables.
-use Rattle.std.specs.Prelude.{◌≡◌, ◌<◌, ℕ, false}
-use Rattle.keeper_mem.specs.declared.rows.AnswerRow.{AnswerRow}
+use Rattle.std.specs.Prelude.{◌≡◌, ◌<◌, ◌⊎◌, ℕ, false}
 use Rattle.keeper_mem.specs.declared.rows.Kept.{Kept}
-use Rattle.keeper_mem.specs.declared.rows.RaiseRow.{RaiseRow}
 use Rattle.office_moves.specs.Facts.{SeasonFacts}
 use Rattle.office_moves.specs.State.{State}
+use Rattle.office_moves.specs.declared.moves.Act.{Act}
 use Rattle.replays.specs.Faults.{IsFirstDifference}
-use Rattle.replays.specs.Replay.{takes_answer, takes_raise}
+use Rattle.replays.specs.Replay.{takes}
 use Rattle.replays.specs.declared.fault.ReplayFault.{ReplayFault}
 use Rattle.replays.specs.declared.fault.ReplayFault.TheVariants.{Stray, StrayRaise, Differs, OutOfMemory}
 
--- the answer at a place of its table is not newly accepted, or there was no memory
-abbrev pub IsRefusedAnswer : SeasonFacts → State → AnswerRow → ℕ → ReplayFault → Type 0
-IsRefusedAnswer facts state row place (Stray at) = (takes_answer facts state row ≡ false) × (at ≡ place)
-IsRefusedAnswer facts state row place (StrayRaise at) = ⊥
-IsRefusedAnswer facts state row place (Differs round cand one other) = ⊥
-IsRefusedAnswer facts state row place OutOfMemory = Unit {0}
-
--- the raise at a place of its table
-abbrev pub IsRefusedRaise : SeasonFacts → State → RaiseRow → ℕ → ReplayFault → Type 0
-IsRefusedRaise facts state row place (Stray at) = ⊥
-IsRefusedRaise facts state row place (StrayRaise at) = (takes_raise facts state row ≡ false) × (at ≡ place)
-IsRefusedRaise facts state row place (Differs round cand one other) = ⊥
-IsRefusedRaise facts state row place OutOfMemory = Unit {0}
+-- the row at a place of its table is not newly accepted, and this is the fault of that place; or there was no memory
+abbrev pub IsRefusedRow : SeasonFacts → State → Act → (ℕ → ReplayFault) → ℕ → ReplayFault → Type 0
+IsRefusedRow facts state row stray place fault = (fault ≡ OutOfMemory) ⊎ ((takes facts state row ≡ false) × (fault ≡ stray place))
 
 -- there is no cut after the last one, or there was no memory
 abbrev pub IsRefusedCut : SeasonFacts → State → ReplayFault → Type 0

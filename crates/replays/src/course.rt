@@ -3,7 +3,8 @@ ghost use Rattle.std.specs.Prelude.{◌≡◌, ◌<◌, ◌+◌, ℕ, None, IfOk
 ghost use Rattle.office_moves.specs.Season.{facts_of};
 ghost use Rattle.office_moves.specs.Stands.{AreRecordsOf, published_seat, seat_in_finals};
 ghost use Rattle.office_moves.specs.State.{opening, seat_in};
-ghost use Rattle.replays.specs.Counted.{AreCounted};
+ghost use Rattle.replays.specs.Acts.{kept_acts, window_acts};
+ghost use Rattle.replays.specs.Counted.{AreCounted, Follow, counted};
 ghost use Rattle.replays.specs.Differences.{seat_along};
 ghost use Rattle.replays.specs.Faults.{IsFaultOfWindow, IsReplayFault, StopsInWindow};
 ghost use Rattle.replays.specs.Replay.{AreAllotsOf, IsReplayed, Pass, WindowPasses};
@@ -118,7 +119,7 @@ fn replay_window(
     ensures passes { OnOk result (WindowPasses book.old.season kept.now window book.old.state book.new.state) }
     ensures now { OnOk result (book.new.state.now ≡ book.old.state.now + 1) }
     ensures season { book.new.season ≡ book.old.season }
-    ensures counted { OnOk result (AreCounted book.old.entries → AreCounted book.new.entries) }
+    ensures entries { OnOk result (Follow (window_acts kept.now window) book.old.entries book.new.entries) }
     ensures fault { IfErr result (λ fault. IsFaultOfWindow book.old.season kept.now window book.old.state fault) }
 {
     let _cuts = kept.cuts;
@@ -134,7 +135,7 @@ fn replay_windows(alloc: Global, book: &mut Proceedings, kept: &Kept) -> Result<
     ensures passes { OnOk result (Pass book.old.season kept.now (kept.now.cuts + 1) book.new.state) }
     ensures now { OnOk result (book.new.state.now ≡ kept.now.cuts) }
     ensures season { book.new.season ≡ book.old.season }
-    ensures counted { OnOk result (AreCounted book.old.entries → AreCounted book.new.entries) }
+    ensures entries { OnOk result (Follow (kept_acts kept.now) book.old.entries book.new.entries) }
     ensures fault { IfErr result (λ fault. StopsInWindow book.old.season kept.now fault) }
 {
     for window in 0..kept.cuts {
@@ -167,10 +168,12 @@ fn check_later(alloc: Global, book: &mut Proceedings, kept: &Kept) -> Result<(),
     Ok(())
 }
 
-/// The proceedings to which kept records of a season lead, or the first fault of the records. The entries are numbered 1, 2, 3 and so on.
+/// The proceedings to which kept records of a season lead, or the first fault of the records. The entries are what is kept, window after window its
+/// raises, its answers and its cut, and are numbered 1, 2, 3 and so on.
 pub fn replay(alloc: Global, season: Season, kept: &Kept) -> Result<Proceedings, ReplayFault>
     ensures season { IfOk result (λ book. book.season ≡ facts_of season) }
     ensures replayed { IfOk result (λ book. IsReplayed (facts_of season) kept.now book.state) }
+    ensures entries { IfOk result (λ book. book.entries ≡ counted (kept_acts kept.now)) }
     ensures counted { IfOk result (λ book. AreCounted book.entries) }
     ensures stands { IfOk result (λ book. kept.now.season ≡ (facts_of season).text → AreRecordsOf (facts_of season) book.state kept.now) }
     ensures fault { IfErr result (λ fault. IsReplayFault (facts_of season) kept.now fault) }

@@ -1,8 +1,9 @@
 // The cut of the open window.
-ghost use Rattle.std.specs.Prelude.{◌≡◌, ◌<◌, ◌+◌, IfOk, IfErr, OnOk};
+ghost use Rattle.std.specs.Prelude.{◌≡◌, ◌<◌, ◌+◌, ◌∷◌, [], IfOk, IfErr, OnOk};
 ghost use Rattle.office_moves.specs.Moves.{IsNextRound};
+ghost use Rattle.office_moves.specs.declared.moves.Act.TheVariants.{Cut};
 ghost use Rattle.proceedings.specs.Proceeding.{last_of};
-ghost use Rattle.replays.specs.Counted.{AreCounted};
+ghost use Rattle.replays.specs.Counted.{Follow};
 ghost use Rattle.replays.specs.Replay.{CutPasses};
 ghost use Rattle.replays.specs.Steps.{IsRefusedCut};
 
@@ -35,7 +36,7 @@ fn publish(alloc: Global, book: &mut Proceedings, number: u64) -> Result<(), Out
     requires space { book.old.still < book.old.room }
     ensures passes { OnOk result (CutPasses book.old.season book.old.state book.new.state) }
     ensures season { book.new.season ≡ book.old.season }
-    ensures counted { OnOk result (AreCounted book.old.entries → AreCounted book.new.entries) }
+    ensures entries { OnOk result (Follow (Cut book.old.state.now ∷ []) book.old.entries book.new.entries) }
 {
     let round = next_round(alloc, book)?;
     let table = book.next_table(alloc)?;
@@ -50,7 +51,7 @@ fn finish(alloc: Global, book: &mut Proceedings, number: u64) -> Result<(), OutO
     requires space { book.old.still < book.old.room }
     ensures passes { OnOk result (CutPasses book.old.season book.old.state book.new.state) }
     ensures season { book.new.season ≡ book.old.season }
-    ensures counted { OnOk result (AreCounted book.old.entries → AreCounted book.new.entries) }
+    ensures entries { OnOk result (Follow (Cut book.old.state.now ∷ []) book.old.entries book.new.entries) }
 {
     let rows = book.final_rows(alloc)?;
     book.finish(number, rows);
@@ -61,7 +62,7 @@ fn finish(alloc: Global, book: &mut Proceedings, number: u64) -> Result<(), OutO
 pub(crate) fn replay_cut(alloc: Global, book: &mut Proceedings) -> Result<(), ReplayFault>
     ensures passes { OnOk result (CutPasses book.old.season book.old.state book.new.state) }
     ensures season { book.new.season ≡ book.old.season }
-    ensures counted { OnOk result (AreCounted book.old.entries → AreCounted book.new.entries) }
+    ensures entries { OnOk result (Follow (Cut book.old.state.now ∷ []) book.old.entries book.new.entries) }
     ensures fault { IfErr result (λ fault. IsRefusedCut book.old.season book.old.state fault) }
 {
     let number = next_entry(book)?;

@@ -1,8 +1,10 @@
 // What is kept of windows and rounds that no counted cut closes.
 ghost use Rattle.std.specs.Prelude.{◌≡◌, Some, None};
 ghost use Rattle.replays.specs.Later.{IsLaterRound, IsLaterWindow, is_later, is_uncounted, least_by, lesser};
+ghost use Rattle.replays.specs.Replay.{window_of};
 
-use keeper_mem::{AllotRow, AnswerRow, Kept, RaiseRow};
+use crate::rows::KeptRow;
+use keeper_mem::{AllotRow, Kept};
 
 /// The smaller of a number, where there is one, and another.
 fn lesser(best: Option<u16>, number: u16) -> u16
@@ -14,27 +16,15 @@ fn lesser(best: Option<u16>, number: u16) -> u16
     }
 }
 
-/// The first window after the counted cuts that has a raise.
-fn later_raise(rows: &[RaiseRow], cuts: u16) -> Option<u16>
-    ensures { result ≡ least_by (λ row. is_later cuts row.window) (λ row. row.window) None rows.now }
+/// The first window after the counted cuts that has a row of a table.
+fn later_row<R: KeptRow>(rows: &[R], cuts: u16) -> Option<u16>
+    ensures { result ≡ least_by (λ row. is_later cuts (window_of (R.act row))) (λ row. window_of (R.act row)) None rows.now }
 {
     let mut best = None;
     for row in rows {
-        if row.window > cuts {
-            best = Some(lesser(best, row.window));
-        }
-    }
-    best
-}
-
-/// The first window after the counted cuts that has an answer.
-fn later_answer(rows: &[AnswerRow], cuts: u16) -> Option<u16>
-    ensures { result ≡ least_by (λ row. is_later cuts row.window) (λ row. row.window) None rows.now }
-{
-    let mut best = None;
-    for row in rows {
-        if row.window > cuts {
-            best = Some(lesser(best, row.window));
+        let window = row.window();
+        if window > cuts {
+            best = Some(lesser(best, window));
         }
     }
     best
@@ -44,8 +34,8 @@ fn later_answer(rows: &[AnswerRow], cuts: u16) -> Option<u16>
 pub(crate) fn later_window(kept: &Kept) -> Option<u16>
     ensures { IsLaterWindow kept.now result }
 {
-    let raise = later_raise(kept.raises.as_slice(), kept.cuts);
-    match later_answer(kept.answers.as_slice(), kept.cuts) {
+    let raise = later_row(kept.raises.as_slice(), kept.cuts);
+    match later_row(kept.answers.as_slice(), kept.cuts) {
         Some(answer) => Some(lesser(raise, answer)),
         None => raise,
     }

@@ -10,6 +10,7 @@ mod course;
 mod cut;
 pub mod fault;
 mod later;
+pub mod laws;
 mod rows;
 
 pub use course::replay;

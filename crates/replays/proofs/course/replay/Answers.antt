@@ -1,10 +1,12 @@
-use Rattle.std.proofs.Common.{subst, sym, ◌∙◌}
+use Rattle.std.proofs.Common.{[], subst, sym, ◌∙◌}
 use Rattle.std.proofs.lemmas.Result.{err_from_is_err_and}
 use Rattle.office_moves.specs.Facts.{SeasonFacts}
 use Rattle.office_moves.specs.Season.{facts_of}
 use Rattle.office_moves.specs.State.{State}
+use Rattle.replays.specs.Acts.{kept_acts}
 use Rattle.replays.specs.Faults.{IsReplayFault, StopsInWindow}
 use Rattle.replays.specs.Replay.{IsReplayed}
+use Rattle.replays.proofs.Numbers.{follow_counted}
 use Rattle.replays.proofs.Passed.{stand_for}
 use Rattle.replays.proofs.Windows.{stops}
 use Rattle.replays.proofs.course.replay.Goals as goal
@@ -25,3 +27,11 @@ returns-clause-stands c = λ text.
     let there = subst (λ (f : SeasonFacts). IsReplayed f c.args.kept.now c.replay_windows.new.book.state) season c.in_ok-check_later.ensures.replayed in
     stand_for (facts_of c.args.season) c.args.kept.now _ c.says_what_is_sound.ensures.seats text
     (subst (λ (s : State). IsReplayed (facts_of c.args.season) c.args.kept.now s) (sym c.in_ok-check_later.ensures.state) there)
+
+pub returns-clause-entries : goal.returns-clause-entries
+returns-clause-entries c =
+    c.in_ok-check_later.ensures.entries ∙ c.in_ok-replay_windows.ensures.entries [] c.in_ok-book.ensures.entries
+
+pub returns-clause-counted : goal.returns-clause-counted
+returns-clause-counted c =
+    follow_counted (kept_acts c.args.kept.now) _ (c.in_ok-check_later.ensures.entries ∙ c.in_ok-replay_windows.ensures.entries [] c.in_ok-book.ensures.entries)

@@ -1,5 +1,7 @@
-use Rattle.std.proofs.Common.{◌∙◌}
+use Rattle.std.proofs.Common.{◌∙◌, sym}
 use Rattle.std.proofs.lemmas.Result.{err_from_is_err_and}
+use Rattle.replays.proofs.Follows.{follow_cut}
+use Rattle.replays.proofs.Passed.{rows_lead}
 use Rattle.replays.proofs.Windows.{cut_fault, seats_fault, stray_row, window_done, window_now}
 use Rattle.replays.proofs.course.replay_window.Goals as goal
 
@@ -10,6 +12,11 @@ returns-clause-passes c =
 
 pub returns-clause-now : goal.returns-clause-now
 returns-clause-now c = window_now _ _ _ _ _ _ _ c.replay_rows.ensures.season c.in_ok-replay_rows.ensures.passed c.in_ok-replay_cut.ensures.passes
+
+pub returns-clause-entries : goal.returns-clause-entries
+returns-clause-entries c =
+    follow_cut c.args.kept.now c.args.window _ _ _ _ c.requires.cut ((rows_lead _ _ _ _ _ c.in_ok-replay_rows.ensures.passed).now ∙ sym c.requires.opened) c.in_ok-replay_rows.ensures.entries
+    c.in_ok-replay_cut.ensures.entries
 
 pub returns-in_err-replay_rows-clause-fault : goal.returns-in_err-replay_rows-clause-fault
 returns-in_err-replay_rows-clause-fault c =

@@ -7,12 +7,12 @@ use Rattle.replays.proofs.later.later_window.Goals as goal
 
 pub returns-in-Some : goal.returns-in-Some
 returns-in-Some c =
-    let raises = c.later_raise-raise.ensures ∙ ap (λ (rows : List RaiseRow). least_by (λ row. is_later c.args.kept.now.cuts row.window) (λ row. row.window) None rows) c.as_slice.ensures in
+    let raises = c.later_row-raise.ensures ∙ ap (λ (rows : List RaiseRow). least_by (λ row. is_later c.args.kept.now.cuts row.window) (λ row. row.window) None rows) c.as_slice.ensures in
     let answers = c.in-Some.ensures ∙ ap (λ (rows : List AnswerRow). least_by (λ row. is_later c.args.kept.now.cuts row.window) (λ row. row.window) None rows) c.as_slice-2.ensures in
     subst (λ n. IsLaterWindow c.args.kept.now (Some n)) (sym c.lesser.ensures) (answer_later c.args.kept.now _ _ (next_raise c.args.kept.now _ raises) (next_answer c.args.kept.now _ answers))
 
 pub returns-in-None : goal.returns-in-None
 returns-in-None c =
-    let raises = c.later_raise-raise.ensures ∙ ap (λ (rows : List RaiseRow). least_by (λ row. is_later c.args.kept.now.cuts row.window) (λ row. row.window) None rows) c.as_slice.ensures in
+    let raises = c.later_row-raise.ensures ∙ ap (λ (rows : List RaiseRow). least_by (λ row. is_later c.args.kept.now.cuts row.window) (λ row. row.window) None rows) c.as_slice.ensures in
     let answers = c.in-None.ensures ∙ ap (λ (rows : List AnswerRow). least_by (λ row. is_later c.args.kept.now.cuts row.window) (λ row. row.window) None rows) c.as_slice-2.ensures in
     no_answer_later c.args.kept.now _ (next_raise c.args.kept.now _ raises) (next_answer c.args.kept.now _ answers)
