@@ -1,4 +1,5 @@
 pub mod Columns
+pub mod Commits
 pub mod Halts
 pub mod Numbers
 pub mod Rising

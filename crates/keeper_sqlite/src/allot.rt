@@ -1,22 +1,25 @@
 // The table of published seats.
 ghost use Rattle.std.specs.Prelude.{◌≡◌, IfOk, IfErr};
-ghost use Rattle.keeper_mem.specs.declared.rows.AllotRow.{AllotRow};
 ghost use Rattle.keeper_sqlite.specs.Halts.{WantsMemory};
-ghost use Rattle.keeper_sqlite.specs.Columns.{IsAllotRow, IsKeyRow};
+ghost use Rattle.keeper_sqlite.specs.Columns.{IsKeyRow};
 ghost use Rattle.keeper_sqlite.specs.declared.rising.Key.{Key};
+ghost use Rattle.sqlite.specs.Held.{state};
+ghost use Rattle.keeper_sqlite.specs.Commits.{CommitsNothing};
 
 use crate::columns::{number_at, small_number_at, step_at};
 use crate::halt::Halt;
 use crate::numbers::number_of_step;
+use crate::records::{Record, expect_none, records_of};
 use crate::rising::Key;
 use keeper_mem::{AllotRow, AllotRows};
-use office_base::{CandId, Listed, ProgId};
+use office_base::{CandId, ProgId};
 use sqlite::{Alter, Row, Transaction, params};
 use std::alloc::Global;
 
 /// Makes the table where it is not there.
 pub(crate) fn create<S: Alter>(tx: &mut Transaction<'_, S>) -> Result<(), Halt>
-    ensures { tx.new.conn.ghost_name ≡ tx.old.conn.ghost_name }
+    ensures same_reference { tx.new.conn.ghost_name ≡ tx.old.conn.ghost_name }
+    ensures inside { CommitsNothing (state S.Store tx.old.conn.now) (state S.Store tx.new.conn.now) }
 {
     tx.execute(
         "CREATE TABLE IF NOT EXISTS allot (rnd INTEGER NOT NULL, cand INTEGER NOT NULL, prog INTEGER NOT NULL, step INTEGER NOT NULL, PRIMARY KEY (rnd, cand)) STRICT",
@@ -27,15 +30,10 @@ pub(crate) fn create<S: Alter>(tx: &mut Transaction<'_, S>) -> Result<(), Halt>
 
 /// Tests that no row is there.
 pub(crate) fn expect_empty<S: Alter>(tx: &mut Transaction<'_, S>) -> Result<(), Halt>
-    ensures { tx.new.conn.ghost_name ≡ tx.old.conn.ghost_name }
+    ensures same_reference { tx.new.conn.ghost_name ≡ tx.old.conn.ghost_name }
+    ensures inside { CommitsNothing (state S.Store tx.old.conn.now) (state S.Store tx.new.conn.now) }
 {
-    if !tx
-        .query_all("SELECT rnd FROM allot LIMIT 1", &[])?
-        .is_empty()
-    {
-        return Err(Halt::Unfit);
-    }
-    Ok(())
+    expect_none(&tx.query_all("SELECT rnd FROM allot LIMIT 1", &[])?)
 }
 
 /// Puts rows, by one statement that is prepared once.
@@ -43,7 +41,8 @@ pub(crate) fn insert_all<S: Alter>(
     tx: &mut Transaction<'_, S>,
     rows: &[AllotRow],
 ) -> Result<(), Halt>
-    ensures { tx.new.conn.ghost_name ≡ tx.old.conn.ghost_name }
+    ensures same_reference { tx.new.conn.ghost_name ≡ tx.old.conn.ghost_name }
+    ensures inside { CommitsNothing (state S.Store tx.old.conn.now) (state S.Store tx.new.conn.now) }
 {
     let insert = tx.prepare("INSERT INTO allot (rnd, cand, prog, step) VALUES (?1, ?2, ?3, ?4)")?;
     for row in rows {
@@ -62,7 +61,8 @@ pub(crate) fn insert_all<S: Alter>(
 
 /// The last key by round and candidate, where a row stands.
 pub(crate) fn last_key<S: Alter>(tx: &mut Transaction<'_, S>) -> Result<Option<Key>, Halt>
-    ensures { tx.new.conn.ghost_name ≡ tx.old.conn.ghost_name }
+    ensures same_reference { tx.new.conn.ghost_name ≡ tx.old.conn.ghost_name }
+    ensures inside { CommitsNothing (state S.Store tx.old.conn.now) (state S.Store tx.new.conn.now) }
 {
     let rows = tx.query_all(
         "SELECT rnd, cand FROM allot ORDER BY rnd DESC, cand DESC LIMIT 1",
@@ -89,27 +89,27 @@ pub(crate) fn read_all<S: Alter>(
     tx: &mut Transaction<'_, S>,
     alloc: Global,
 ) -> Result<AllotRows, Halt>
-    ensures { tx.new.conn.ghost_name ≡ tx.old.conn.ghost_name }
+    ensures same_reference { tx.new.conn.ghost_name ≡ tx.old.conn.ghost_name }
+    ensures inside { CommitsNothing (state S.Store tx.old.conn.now) (state S.Store tx.new.conn.now) }
 {
     let rows = tx.query_all(
         "SELECT rnd, cand, prog, step FROM allot ORDER BY rnd, cand",
         &[],
     )?;
-    let mut allots = Vec::with_capacity(alloc, rows.len())?;
-    for row in &rows {
-        allots.push(allot_of(row)?)?;
-    }
-    Ok(Listed::from_vec(allots))
+    records_of(alloc, &rows)
 }
 
-fn allot_of(row: &Row) -> Result<AllotRow, Halt>
-    ensures ok { IfOk result (IsAllotRow row.now) }
-    ensures err { IfErr result (λ halt. ¬ WantsMemory halt → (allot : AllotRow) → ¬ IsAllotRow row.now allot) }
-{
-    Ok(AllotRow {
-        round: small_number_at(row, 0)?,
-        cand: CandId(number_at(row, 1)?),
-        prog: ProgId(small_number_at(row, 2)?),
-        step: step_at(row, 3)?,
-    })
+impl Record for AllotRow {
+    ghost use Rattle.keeper_sqlite.specs.Columns.{IsAllotRow};
+
+    ghost stands_in = { IsAllotRow };
+
+    fn from_row(row: &Row) -> Result<AllotRow, Halt> {
+        Ok(AllotRow {
+            round: small_number_at(row, 0)?,
+            cand: CandId(number_at(row, 1)?),
+            prog: ProgId(small_number_at(row, 2)?),
+            step: step_at(row, 3)?,
+        })
+    }
 }

@@ -4,7 +4,6 @@ ghost use Rattle.keeper_sqlite.specs.declared.halt.Halt.TheVariants.{Refused, No
 
 use office_base::OutOfMemory;
 use sqlite::Error;
-use std::alloc::{AllocError, AllocFailed};
 
 /// Why a transaction came to no end. Nothing of it stays.
 #[derive(Clone, Copy, Debug, PartialEq, Eq, Drop)]
@@ -31,22 +30,6 @@ impl From<OutOfMemory> for Halt {
     ghost from_gives = { λ _ halt. halt ≡ NoMemory };
 
     fn from(_: OutOfMemory) -> Self {
-        Halt::NoMemory
-    }
-}
-
-impl From<AllocError> for Halt {
-    ghost from_gives = { λ _ halt. halt ≡ NoMemory };
-
-    fn from(_: AllocError) -> Self {
-        Halt::NoMemory
-    }
-}
-
-impl<T: Drop> From<AllocFailed<T>> for Halt {
-    ghost from_gives = { λ _ halt. halt ≡ NoMemory };
-
-    fn from(_: AllocFailed<T>) -> Self {
         Halt::NoMemory
     }
 }

@@ -1,10 +1,12 @@
 // The keeper over a connection.
 ghost use Rattle.std.specs.Prelude.{◌≡◌, ◌≤◌, IsErrOf, IfOk, IfErr};
 ghost use Rattle.office_base.specs.Memory.{counted};
+ghost use Rattle.sqlite.specs.Held.{state};
+ghost use Rattle.keeper_sqlite.specs.Commits.{CommitsOnce};
 ghost use Rattle.keeper_sqlite.specs.Halts.{keep_fault, faults_after};
 
 use crate::halt::Halt;
-use crate::transactions;
+use crate::transactions::{self, Change};
 use keeper_mem::{AllotRow, AnswerRow, KeepFault, Keeper, Kept, RaiseRow};
 use sqlite::{Alter, Connection, Error, ErrorCode};
 use std::alloc::Global;
@@ -65,7 +67,17 @@ impl<S: Alter> SqliteKeeper<S> {
         ensures steady { ¬ IsErrOf result KeepFault.Failed → self.new.faults ≡ self.old.faults }
         ensures counted { IsErrOf result KeepFault.Failed → self.new.faults ≡ counted self.old.faults }
     {
-        let done = transactions::make_tables(&mut self.connection);
+        self.commit(Change::Tables)
+    }
+
+    /// Makes a change in one transaction.
+    fn commit(&mut self, change: Change<'_>) -> Result<(), KeepFault>
+        ensures count { self.old.faults ≤ self.new.faults }
+        ensures steady { ¬ IsErrOf result KeepFault.Failed → self.new.faults ≡ self.old.faults }
+        ensures counted { IsErrOf result KeepFault.Failed → self.new.faults ≡ counted self.old.faults }
+        ensures once { CommitsOnce (state S.Store self.old.connection) (state S.Store self.new.connection) }
+    {
+        let done = transactions::commit(&mut self.connection, change);
         self.settle(done)
     }
 
@@ -119,8 +131,7 @@ impl<S: Alter> Keeper for SqliteKeeper<S> {
     }
 
     fn put_season(&mut self, text: &[u8]) -> Result<(), KeepFault> {
-        let done = transactions::put_season(&mut self.connection, text);
-        self.settle(done)
+        self.commit(Change::Season(text))
     }
 
     fn reserve_answers(&mut self, _n: u32) -> Result<(), KeepFault> {
@@ -128,18 +139,15 @@ impl<S: Alter> Keeper for SqliteKeeper<S> {
     }
 
     fn put_answer(&mut self, row: AnswerRow) -> Result<(), KeepFault> {
-        let done = transactions::put_answer(&mut self.connection, row);
-        self.settle(done)
+        self.commit(Change::Answer(row))
     }
 
     fn put_raise(&mut self, row: RaiseRow) -> Result<(), KeepFault> {
-        let done = transactions::put_raise(&mut self.connection, row);
-        self.settle(done)
+        self.commit(Change::Raise(row))
     }
 
     fn put_cut(&mut self, rows: &[AllotRow]) -> Result<(), KeepFault> {
-        let done = transactions::put_cut(&mut self.connection, rows);
-        self.settle(done)
+        self.commit(Change::Cut(rows))
     }
 
     fn load(&mut self, alloc: Global) -> Result<Option<Kept>, KeepFault> {

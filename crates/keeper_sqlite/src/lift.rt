@@ -1,20 +1,21 @@
 // The table of raises.
-ghost use Rattle.std.specs.Prelude.{◌≡◌, IfOk, IfErr};
-ghost use Rattle.keeper_mem.specs.declared.rows.RaiseRow.{RaiseRow};
-ghost use Rattle.keeper_sqlite.specs.Halts.{WantsMemory};
-ghost use Rattle.keeper_sqlite.specs.Columns.{IsRaiseRow};
+ghost use Rattle.std.specs.Prelude.{◌≡◌};
+ghost use Rattle.sqlite.specs.Held.{state};
+ghost use Rattle.keeper_sqlite.specs.Commits.{CommitsNothing};
 
 use crate::columns::{expect_number, small_number_at, step_at};
 use crate::halt::Halt;
 use crate::numbers::number_of_step;
+use crate::records::{Record, expect_none, records_of};
 use keeper_mem::{RaiseRow, RaiseRows};
-use office_base::{Listed, ProgId};
+use office_base::ProgId;
 use sqlite::{Alter, Row, Transaction, params};
 use std::alloc::Global;
 
 /// Makes the table where it is not there.
 pub(crate) fn create<S: Alter>(tx: &mut Transaction<'_, S>) -> Result<(), Halt>
-    ensures { tx.new.conn.ghost_name ≡ tx.old.conn.ghost_name }
+    ensures same_reference { tx.new.conn.ghost_name ≡ tx.old.conn.ghost_name }
+    ensures inside { CommitsNothing (state S.Store tx.old.conn.now) (state S.Store tx.new.conn.now) }
 {
     tx.execute(
         "CREATE TABLE IF NOT EXISTS lift (seq INTEGER PRIMARY KEY, win INTEGER NOT NULL, prog INTEGER NOT NULL, step INTEGER NOT NULL, seats INTEGER NOT NULL) STRICT",
@@ -25,20 +26,16 @@ pub(crate) fn create<S: Alter>(tx: &mut Transaction<'_, S>) -> Result<(), Halt>
 
 /// Tests that no row is there.
 pub(crate) fn expect_empty<S: Alter>(tx: &mut Transaction<'_, S>) -> Result<(), Halt>
-    ensures { tx.new.conn.ghost_name ≡ tx.old.conn.ghost_name }
+    ensures same_reference { tx.new.conn.ghost_name ≡ tx.old.conn.ghost_name }
+    ensures inside { CommitsNothing (state S.Store tx.old.conn.now) (state S.Store tx.new.conn.now) }
 {
-    if !tx
-        .query_all("SELECT seq FROM lift LIMIT 1", &[])?
-        .is_empty()
-    {
-        return Err(Halt::Unfit);
-    }
-    Ok(())
+    expect_none(&tx.query_all("SELECT seq FROM lift LIMIT 1", &[])?)
 }
 
 /// Puts a row after the others.
 pub(crate) fn insert<S: Alter>(tx: &mut Transaction<'_, S>, row: RaiseRow) -> Result<(), Halt>
-    ensures { tx.new.conn.ghost_name ≡ tx.old.conn.ghost_name }
+    ensures same_reference { tx.new.conn.ghost_name ≡ tx.old.conn.ghost_name }
+    ensures inside { CommitsNothing (state S.Store tx.old.conn.now) (state S.Store tx.new.conn.now) }
 {
     tx.execute(
         "INSERT INTO lift (win, prog, step, seats) VALUES (?1, ?2, ?3, ?4)",
@@ -57,28 +54,28 @@ pub(crate) fn read_all<S: Alter>(
     tx: &mut Transaction<'_, S>,
     alloc: Global,
 ) -> Result<RaiseRows, Halt>
-    ensures { tx.new.conn.ghost_name ≡ tx.old.conn.ghost_name }
+    ensures same_reference { tx.new.conn.ghost_name ≡ tx.old.conn.ghost_name }
+    ensures inside { CommitsNothing (state S.Store tx.old.conn.now) (state S.Store tx.new.conn.now) }
 {
     let rows = tx.query_all(
         "SELECT seq, win, prog, step, seats FROM lift ORDER BY seq",
         &[],
     )?;
-    let mut raises = Vec::with_capacity(alloc, rows.len())?;
-    for row in &rows {
-        raises.push(raise_of(row)?)?;
-    }
-    Ok(Listed::from_vec(raises))
+    records_of(alloc, &rows)
 }
 
-fn raise_of(row: &Row) -> Result<RaiseRow, Halt>
-    ensures ok { IfOk result (IsRaiseRow row.now) }
-    ensures err { IfErr result (λ halt. ¬ WantsMemory halt → (raise : RaiseRow) → ¬ IsRaiseRow row.now raise) }
-{
-    expect_number(row)?;
-    Ok(RaiseRow {
-        window: small_number_at(row, 1)?,
-        prog: ProgId(small_number_at(row, 2)?),
-        step: step_at(row, 3)?,
-        seats: small_number_at(row, 4)?,
-    })
+impl Record for RaiseRow {
+    ghost use Rattle.keeper_sqlite.specs.Columns.{IsRaiseRow};
+
+    ghost stands_in = { IsRaiseRow };
+
+    fn from_row(row: &Row) -> Result<RaiseRow, Halt> {
+        expect_number(row)?;
+        Ok(RaiseRow {
+            window: small_number_at(row, 1)?,
+            prog: ProgId(small_number_at(row, 2)?),
+            step: step_at(row, 3)?,
+            seats: small_number_at(row, 4)?,
+        })
+    }
 }

@@ -2,6 +2,8 @@
 ghost use Rattle.std.specs.Prelude.{◌≡◌, ℕ, IfOk, IfErr};
 ghost use Rattle.keeper_sqlite.specs.Halts.{WantsMemory};
 ghost use Rattle.keeper_sqlite.specs.Columns.{IsPhaseRow};
+ghost use Rattle.sqlite.specs.Held.{state};
+ghost use Rattle.keeper_sqlite.specs.Commits.{CommitsNothing};
 
 use crate::columns::{number_at, small_number_at};
 use crate::halt::Halt;
@@ -12,7 +14,8 @@ const ID: u32 = 1;
 
 /// Makes the table where it is not there.
 pub(crate) fn create<S: Alter>(tx: &mut Transaction<'_, S>) -> Result<(), Halt>
-    ensures { tx.new.conn.ghost_name ≡ tx.old.conn.ghost_name }
+    ensures same_reference { tx.new.conn.ghost_name ≡ tx.old.conn.ghost_name }
+    ensures inside { CommitsNothing (state S.Store tx.old.conn.now) (state S.Store tx.new.conn.now) }
 {
     tx.execute(
         "CREATE TABLE IF NOT EXISTS phase (id INTEGER PRIMARY KEY, cuts INTEGER NOT NULL) STRICT",
@@ -23,7 +26,8 @@ pub(crate) fn create<S: Alter>(tx: &mut Transaction<'_, S>) -> Result<(), Halt>
 
 /// Puts the row of a season without cuts.
 pub(crate) fn insert<S: Alter>(tx: &mut Transaction<'_, S>) -> Result<(), Halt>
-    ensures { tx.new.conn.ghost_name ≡ tx.old.conn.ghost_name }
+    ensures same_reference { tx.new.conn.ghost_name ≡ tx.old.conn.ghost_name }
+    ensures inside { CommitsNothing (state S.Store tx.old.conn.now) (state S.Store tx.new.conn.now) }
 {
     tx.execute("INSERT INTO phase (id, cuts) VALUES (?1, 0)", params![ID])?;
     Ok(())
@@ -31,7 +35,8 @@ pub(crate) fn insert<S: Alter>(tx: &mut Transaction<'_, S>) -> Result<(), Halt>
 
 /// Writes the number of cuts.
 pub(crate) fn upsert<S: Alter>(tx: &mut Transaction<'_, S>, cuts: u16) -> Result<(), Halt>
-    ensures { tx.new.conn.ghost_name ≡ tx.old.conn.ghost_name }
+    ensures same_reference { tx.new.conn.ghost_name ≡ tx.old.conn.ghost_name }
+    ensures inside { CommitsNothing (state S.Store tx.old.conn.now) (state S.Store tx.new.conn.now) }
 {
     tx.execute(
         "INSERT INTO phase (id, cuts) VALUES (?1, ?2) ON CONFLICT (id) DO UPDATE SET cuts = excluded.cuts",
@@ -42,7 +47,8 @@ pub(crate) fn upsert<S: Alter>(tx: &mut Transaction<'_, S>, cuts: u16) -> Result
 
 /// The number of cuts, or None where no season is.
 pub(crate) fn read<S: Alter>(tx: &mut Transaction<'_, S>) -> Result<Option<u16>, Halt>
-    ensures { tx.new.conn.ghost_name ≡ tx.old.conn.ghost_name }
+    ensures same_reference { tx.new.conn.ghost_name ≡ tx.old.conn.ghost_name }
+    ensures inside { CommitsNothing (state S.Store tx.old.conn.now) (state S.Store tx.new.conn.now) }
 {
     let rows = tx.query_all("SELECT id, cuts FROM phase ORDER BY id", &[])?;
     match rows.as_slice() {

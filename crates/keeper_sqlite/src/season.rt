@@ -2,8 +2,11 @@
 ghost use Rattle.std.specs.Prelude.{◌≡◌, ◌++◌, ℕ, List, OnErr, IfErr, OnOk};
 ghost use Rattle.keeper_sqlite.specs.Halts.{WantsMemory};
 ghost use Rattle.keeper_sqlite.specs.Columns.{IsPartRow};
+ghost use Rattle.sqlite.specs.Held.{state};
+ghost use Rattle.keeper_sqlite.specs.Commits.{CommitsNothing};
 
 use crate::halt::Halt;
+use crate::records::expect_none;
 use office_base::{Listed, Text};
 use sqlite::types::ValueRef;
 use sqlite::{Alter, Row, Transaction, params};
@@ -14,7 +17,8 @@ const PART: usize = 65_536;
 
 /// Makes the table where it is not there.
 pub(crate) fn create<S: Alter>(tx: &mut Transaction<'_, S>) -> Result<(), Halt>
-    ensures { tx.new.conn.ghost_name ≡ tx.old.conn.ghost_name }
+    ensures same_reference { tx.new.conn.ghost_name ≡ tx.old.conn.ghost_name }
+    ensures inside { CommitsNothing (state S.Store tx.old.conn.now) (state S.Store tx.new.conn.now) }
 {
     tx.execute(
         "CREATE TABLE IF NOT EXISTS season (part INTEGER PRIMARY KEY, bytes BLOB NOT NULL) STRICT",
@@ -25,20 +29,16 @@ pub(crate) fn create<S: Alter>(tx: &mut Transaction<'_, S>) -> Result<(), Halt>
 
 /// Tests that no row is there.
 pub(crate) fn expect_empty<S: Alter>(tx: &mut Transaction<'_, S>) -> Result<(), Halt>
-    ensures { tx.new.conn.ghost_name ≡ tx.old.conn.ghost_name }
+    ensures same_reference { tx.new.conn.ghost_name ≡ tx.old.conn.ghost_name }
+    ensures inside { CommitsNothing (state S.Store tx.old.conn.now) (state S.Store tx.new.conn.now) }
 {
-    if !tx
-        .query_all("SELECT part FROM season LIMIT 1", &[])?
-        .is_empty()
-    {
-        return Err(Halt::Unfit);
-    }
-    Ok(())
+    expect_none(&tx.query_all("SELECT part FROM season LIMIT 1", &[])?)
 }
 
 /// Puts a text in parts, from 0, by one statement that is prepared once.
 pub(crate) fn insert_text<S: Alter>(tx: &mut Transaction<'_, S>, text: &[u8]) -> Result<(), Halt>
-    ensures { tx.new.conn.ghost_name ≡ tx.old.conn.ghost_name }
+    ensures same_reference { tx.new.conn.ghost_name ≡ tx.old.conn.ghost_name }
+    ensures inside { CommitsNothing (state S.Store tx.old.conn.now) (state S.Store tx.new.conn.now) }
 {
     let insert = tx.prepare("INSERT INTO season (part, bytes) VALUES (?1, ?2)")?;
     for (part, bytes) in text.chunks(PART).enumerate() {
@@ -50,7 +50,8 @@ pub(crate) fn insert_text<S: Alter>(tx: &mut Transaction<'_, S>, text: &[u8]) ->
 
 /// The parts joined, by rising part.
 pub(crate) fn read_text<S: Alter>(tx: &mut Transaction<'_, S>, alloc: Global) -> Result<Text, Halt>
-    ensures { tx.new.conn.ghost_name ≡ tx.old.conn.ghost_name }
+    ensures same_reference { tx.new.conn.ghost_name ≡ tx.old.conn.ghost_name }
+    ensures inside { CommitsNothing (state S.Store tx.old.conn.now) (state S.Store tx.new.conn.now) }
 {
     let rows = tx.query_all("SELECT part, bytes FROM season ORDER BY part", &[])?;
     let mut text = Listed::new(alloc);

@@ -1,5 +1,7 @@
 // The transactions of a keeper: what each method does to the tables, all of it or nothing.
-ghost use Rattle.std.specs.Prelude.{◌≡◌, IfOk};
+ghost use Rattle.std.specs.Prelude.{◌≡◌, false, OnOk};
+ghost use Rattle.sqlite.specs.Held.{state};
+ghost use Rattle.keeper_sqlite.specs.Commits.{CommitsNothing, CommitsShown, CommitsOnce};
 
 use crate::halt::Halt;
 use crate::rising::are_rising;
@@ -8,34 +10,86 @@ use keeper_mem::{AllotRow, AnswerRow, Kept, RaiseRow};
 use sqlite::{Alter, Connection, Transaction};
 use std::alloc::Global;
 
-/// Begins a transaction, where nobody else began one.
-fn begin<S: Alter>(connection: &mut Connection<S>) -> Result<Transaction<'_, S>, Halt>
-    ensures { IfOk result (λ tx. tx.conn.ghost_name ≡ connection.entry.ghost_name) }
-{
-    if !connection.is_autocommit() {
-        return Err(Halt::InTransaction);
-    }
-    Ok(connection.transaction())
+/// What one transaction writes.
+#[derive(Clone, Copy)]
+pub(crate) enum Change<'a> {
+    /// The tables that are not there.
+    Tables,
+    /// The text of a season, where no row stands in any table.
+    Season(&'a [u8]),
+    /// An answer after the others.
+    Answer(AnswerRow),
+    /// A raise after the others.
+    Raise(RaiseRow),
+    /// Published seats, which rise by round and candidate above those that are kept, and one more cut.
+    Cut(&'a [AllotRow]),
 }
 
-/// Makes the tables that are not there.
-pub(crate) fn make_tables<S: Alter>(connection: &mut Connection<S>) -> Result<(), Halt> {
-    let mut tx = begin(connection)?;
-    make_season_tables(&mut tx)?;
-    make_row_tables(&mut tx)?;
+/// Tests that nobody else is in a transaction.
+fn expect_free<S: Alter>(connection: &Connection<S>) -> Result<(), Halt>
+    ensures { OnOk result (connection.now.in_transaction ≡ false) }
+{
+    if connection.is_autocommit() {
+        Ok(())
+    } else {
+        Err(Halt::InTransaction)
+    }
+}
+
+/// Commits what was done, or rolls it back.
+fn settle<S: Alter>(tx: Transaction<'_, S>, done: Result<(), Halt>) -> Result<(), Halt>
+    ensures { CommitsShown (state S.Store tx.entry.conn.now) (state S.Store tx.exit.0.now) }
+{
+    done?;
     tx.commit()?;
     Ok(())
 }
 
+/// Makes a change in one transaction.
+pub(crate) fn commit<S: Alter>(
+    connection: &mut Connection<S>,
+    change: Change<'_>,
+) -> Result<(), Halt>
+    ensures { CommitsOnce (state S.Store connection.old) (state S.Store connection.new) }
+{
+    expect_free(connection)?;
+    let mut tx = connection.transaction();
+    let done = write(&mut tx, change);
+    settle(tx, done)
+}
+
+fn write<S: Alter>(tx: &mut Transaction<'_, S>, change: Change<'_>) -> Result<(), Halt>
+    ensures same_reference { tx.new.conn.ghost_name ≡ tx.old.conn.ghost_name }
+    ensures inside { CommitsNothing (state S.Store tx.old.conn.now) (state S.Store tx.new.conn.now) }
+{
+    match change {
+        Change::Tables => write_tables(tx),
+        Change::Season(text) => write_season(tx, text),
+        Change::Answer(row) => answer::insert(tx, row),
+        Change::Raise(row) => lift::insert(tx, row),
+        Change::Cut(rows) => write_cut(tx, rows),
+    }
+}
+
+fn write_tables<S: Alter>(tx: &mut Transaction<'_, S>) -> Result<(), Halt>
+    ensures same_reference { tx.new.conn.ghost_name ≡ tx.old.conn.ghost_name }
+    ensures inside { CommitsNothing (state S.Store tx.old.conn.now) (state S.Store tx.new.conn.now) }
+{
+    make_season_tables(tx)?;
+    make_row_tables(tx)
+}
+
 fn make_season_tables<S: Alter>(tx: &mut Transaction<'_, S>) -> Result<(), Halt>
-    ensures { tx.new.conn.ghost_name ≡ tx.old.conn.ghost_name }
+    ensures same_reference { tx.new.conn.ghost_name ≡ tx.old.conn.ghost_name }
+    ensures inside { CommitsNothing (state S.Store tx.old.conn.now) (state S.Store tx.new.conn.now) }
 {
     season::create(tx)?;
     phase::create(tx)
 }
 
 fn make_row_tables<S: Alter>(tx: &mut Transaction<'_, S>) -> Result<(), Halt>
-    ensures { tx.new.conn.ghost_name ≡ tx.old.conn.ghost_name }
+    ensures same_reference { tx.new.conn.ghost_name ≡ tx.old.conn.ghost_name }
+    ensures inside { CommitsNothing (state S.Store tx.old.conn.now) (state S.Store tx.new.conn.now) }
 {
     answer::create(tx)?;
     lift::create(tx)?;
@@ -43,26 +97,17 @@ fn make_row_tables<S: Alter>(tx: &mut Transaction<'_, S>) -> Result<(), Halt>
 }
 
 /// Whether a season is kept.
-pub(crate) fn has_season<S: Alter>(connection: &mut Connection<S>) -> Result<bool, Halt> {
-    let mut tx = begin(connection)?;
-    let cuts = phase::read(&mut tx)?;
-    Ok(cuts.is_some())
-}
-
-/// Keeps the text of a season, where no row stands in any table.
-pub(crate) fn put_season<S: Alter>(
-    connection: &mut Connection<S>,
-    text: &[u8],
-) -> Result<(), Halt> {
-    let mut tx = begin(connection)?;
-    expect_empty(&mut tx)?;
-    write_season(&mut tx, text)?;
-    tx.commit()?;
-    Ok(())
+pub(crate) fn has_season<S: Alter>(connection: &mut Connection<S>) -> Result<bool, Halt>
+    ensures { CommitsNothing (state S.Store connection.old) (state S.Store connection.new) }
+{
+    expect_free(connection)?;
+    let mut tx = connection.transaction();
+    Ok(phase::read(&mut tx)?.is_some())
 }
 
 fn expect_empty<S: Alter>(tx: &mut Transaction<'_, S>) -> Result<(), Halt>
-    ensures { tx.new.conn.ghost_name ≡ tx.old.conn.ghost_name }
+    ensures same_reference { tx.new.conn.ghost_name ≡ tx.old.conn.ghost_name }
+    ensures inside { CommitsNothing (state S.Store tx.old.conn.now) (state S.Store tx.new.conn.now) }
 {
     if phase::read(tx)?.is_some() {
         return Err(Halt::Unfit);
@@ -74,47 +119,17 @@ fn expect_empty<S: Alter>(tx: &mut Transaction<'_, S>) -> Result<(), Halt>
 }
 
 fn write_season<S: Alter>(tx: &mut Transaction<'_, S>, text: &[u8]) -> Result<(), Halt>
-    ensures { tx.new.conn.ghost_name ≡ tx.old.conn.ghost_name }
+    ensures same_reference { tx.new.conn.ghost_name ≡ tx.old.conn.ghost_name }
+    ensures inside { CommitsNothing (state S.Store tx.old.conn.now) (state S.Store tx.new.conn.now) }
 {
+    expect_empty(tx)?;
     season::insert_text(tx, text)?;
     phase::insert(tx)
 }
 
-/// Puts an answer after the others.
-pub(crate) fn put_answer<S: Alter>(
-    connection: &mut Connection<S>,
-    row: AnswerRow,
-) -> Result<(), Halt> {
-    let mut tx = begin(connection)?;
-    answer::insert(&mut tx, row)?;
-    tx.commit()?;
-    Ok(())
-}
-
-/// Puts a raise after the others.
-pub(crate) fn put_raise<S: Alter>(
-    connection: &mut Connection<S>,
-    row: RaiseRow,
-) -> Result<(), Halt> {
-    let mut tx = begin(connection)?;
-    lift::insert(&mut tx, row)?;
-    tx.commit()?;
-    Ok(())
-}
-
-/// Puts published seats, which rise by round and candidate above those that are kept, and adds one to the cuts.
-pub(crate) fn put_cut<S: Alter>(
-    connection: &mut Connection<S>,
-    rows: &[AllotRow],
-) -> Result<(), Halt> {
-    let mut tx = begin(connection)?;
-    write_cut(&mut tx, rows)?;
-    tx.commit()?;
-    Ok(())
-}
-
 fn write_cut<S: Alter>(tx: &mut Transaction<'_, S>, rows: &[AllotRow]) -> Result<(), Halt>
-    ensures { tx.new.conn.ghost_name ≡ tx.old.conn.ghost_name }
+    ensures same_reference { tx.new.conn.ghost_name ≡ tx.old.conn.ghost_name }
+    ensures inside { CommitsNothing (state S.Store tx.old.conn.now) (state S.Store tx.new.conn.now) }
 {
     let cuts = phase::read(tx)?
         .and_then(|cuts| cuts.checked_add(1))
@@ -130,16 +145,27 @@ fn write_cut<S: Alter>(tx: &mut Transaction<'_, S>, rows: &[AllotRow]) -> Result
 pub(crate) fn load<S: Alter>(
     connection: &mut Connection<S>,
     alloc: Global,
-) -> Result<Option<Kept>, Halt> {
-    let mut tx = begin(connection)?;
-    let Some(cuts) = phase::read(&mut tx)? else {
-        return Ok(None);
-    };
-    Ok(Some(read_kept(&mut tx, alloc, cuts)?))
+) -> Result<Option<Kept>, Halt>
+    ensures { CommitsNothing (state S.Store connection.old) (state S.Store connection.new) }
+{
+    expect_free(connection)?;
+    let mut tx = connection.transaction();
+    read_records(&mut tx, alloc)
+}
+
+fn read_records<S: Alter>(tx: &mut Transaction<'_, S>, alloc: Global) -> Result<Option<Kept>, Halt>
+    ensures same_reference { tx.new.conn.ghost_name ≡ tx.old.conn.ghost_name }
+    ensures inside { CommitsNothing (state S.Store tx.old.conn.now) (state S.Store tx.new.conn.now) }
+{
+    match phase::read(tx)? {
+        None => Ok(None),
+        Some(cuts) => Ok(Some(read_kept(tx, alloc, cuts)?)),
+    }
 }
 
 fn read_kept<S: Alter>(tx: &mut Transaction<'_, S>, alloc: Global, cuts: u16) -> Result<Kept, Halt>
-    ensures { tx.new.conn.ghost_name ≡ tx.old.conn.ghost_name }
+    ensures same_reference { tx.new.conn.ghost_name ≡ tx.old.conn.ghost_name }
+    ensures inside { CommitsNothing (state S.Store tx.old.conn.now) (state S.Store tx.new.conn.now) }
 {
     Ok(Kept {
         season: season::read_text(tx, alloc)?,

@@ -1,5 +1,7 @@
 // What may not stand is a fault.
-use crate::stores::{RECORDS, after, are_kept, empty, over};
+use crate::stores::{
+    Put, RECORDS, Records, after, empty, holds, loads, over, puts, refuses, refuses_load,
+};
 use keeper_mem::{KeepFault, Keeper};
 use std::alloc::Global;
 use std::test::Fail;
@@ -34,19 +36,19 @@ const STRAYS: [&str; 6] = [
     "INSERT INTO phase VALUES (2, 0)",
 ];
 
+/// Whether the records can be loaded, and with this damage are a fault that is counted.
+fn is_spoilt(alloc: Global, damage: &str) -> Result<bool, Fail> {
+    let mut keeper = after(empty(alloc)?, RECORDS)?;
+    let was_sound = loads(alloc, &mut keeper);
+    let mut keeper = after(keeper, damage)?;
+    Ok(was_sound && refuses_load(alloc, &mut keeper) && keeper.faults() == 1)
+}
+
 #[test]
 fn a_row_that_is_no_record_is_a_fault(rt: HostRuntime) -> Result<(), Fail> {
     let alloc = rt.alloc();
     for damage in DAMAGES {
-        let mut keeper = after(empty(alloc)?, RECORDS)?;
-        assert!(rt; keeper.load(alloc).is_ok());
-        let mut keeper = after(keeper, damage)?;
-        assert_eq!(rt;
-            keeper.load(alloc).err(),
-            Some(KeepFault::Failed),
-            "{damage}"
-        );
-        assert_eq!(rt; keeper.faults(), 1);
+        assert!(rt; is_spoilt(alloc, damage)?, "{damage}");
     }
     Ok(())
 }
@@ -56,11 +58,7 @@ fn a_season_comes_only_into_empty_tables(rt: HostRuntime) -> Result<(), Fail> {
     let alloc = rt.alloc();
     for stray in STRAYS {
         let mut keeper = after(empty(alloc)?, stray)?;
-        assert_eq!(rt;
-            keeper.put_season(b"text"),
-            Err(KeepFault::Failed),
-            "{stray}"
-        );
+        assert!(rt; refuses(&mut keeper, &Put::Season(b"text")), "{stray}");
     }
     Ok(())
 }
@@ -69,17 +67,17 @@ fn a_season_comes_only_into_empty_tables(rt: HostRuntime) -> Result<(), Fail> {
 fn a_database_without_tables_is_a_fault(rt: HostRuntime) -> Result<(), Fail> {
     let alloc = rt.alloc();
     let mut keeper = over(alloc, "")?;
-    assert_eq!(rt; keeper.has_season(), Err(KeepFault::Failed));
-    assert_eq!(rt; keeper.put_season(b"text"), Err(KeepFault::Failed));
-    assert_eq!(rt; keeper.load(alloc).err(), Some(KeepFault::Failed));
+    assert!(rt; matches!(keeper.has_season(), Err(KeepFault::Failed)));
+    assert!(rt; refuses(&mut keeper, &Put::Season(b"text")));
+    assert!(rt; refuses_load(alloc, &mut keeper));
     Ok(())
 }
 
 #[test]
 fn a_cut_without_a_season_is_a_fault(rt: HostRuntime) -> Result<(), Fail> {
     let mut keeper = empty(rt.alloc())?;
-    assert_eq!(rt; keeper.put_cut(&[]), Err(KeepFault::Failed));
-    assert!(rt; !keeper.has_season()?);
+    assert!(rt; refuses(&mut keeper, &Put::Cut(&[])));
+    assert!(rt; matches!(keeper.has_season(), Ok(false)));
     Ok(())
 }
 
@@ -87,10 +85,17 @@ fn a_cut_without_a_season_is_a_fault(rt: HostRuntime) -> Result<(), Fail> {
 fn a_transaction_of_others_is_a_fault(rt: HostRuntime) -> Result<(), Fail> {
     let alloc = rt.alloc();
     let mut keeper = after(empty(alloc)?, "BEGIN")?;
-    assert_eq!(rt; keeper.put_season(b"text"), Err(KeepFault::Failed));
+    assert!(rt; refuses(&mut keeper, &Put::Season(b"text")));
     let mut keeper = after(keeper, "COMMIT")?;
-    keeper.put_season(b"text")?;
-    assert_eq!(rt; keeper.faults(), 0);
-    assert!(rt; are_kept(&keeper.load(alloc)?, b"text", &[], &[], &[], 0));
+    assert!(rt; puts(&mut keeper, &[Put::Season(b"text")]));
+    assert!(rt; keeper.faults() == 0);
+    let records = Records {
+        season: b"text",
+        answers: &[],
+        raises: &[],
+        allots: &[],
+        cuts: 0,
+    };
+    assert!(rt; holds(alloc, &mut keeper, &records));
     Ok(())
 }

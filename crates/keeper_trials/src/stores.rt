@@ -1,5 +1,6 @@
-// Keepers over databases in memory. These have no clause, so that the proof of a test does not carry the state of each call.
-use keeper_mem::{AllotRow, AnswerRow, Keeper, Kept, RaiseRow};
+// Keepers over databases in memory, and what is asked of them. Nothing here has a clause, and a trial makes few calls, so that its proof does not
+// carry the state of each call on a database.
+use keeper_mem::{AllotRow, AnswerRow, KeepFault, Keeper, RaiseRow};
 use keeper_sqlite::SqliteKeeper;
 use office_base::{CandId, Choice, ProgId, StepKind};
 use sqlite::{Connection, MemStore};
@@ -16,6 +17,26 @@ pub const FIRST_TABLES: &str =
 /// Records of a season by statements: its text `abc` in two parts, two answers, two seats and two cuts.
 pub const RECORDS: &str =
     "INSERT INTO season VALUES (1, x'63'), (0, x'6162'); INSERT INTO answer VALUES (7, 1, 2, 1, 1), (3, 1, 1, 1, 3); INSERT INTO allot VALUES (1, 2, 1, 5), (1, 1, 0, 0); INSERT INTO phase VALUES (1, 2)";
+
+/// What is put, or how much room for answers is taken.
+#[derive(Clone, Copy)]
+pub enum Put<'a> {
+    Season(&'a [u8]),
+    Room(u32),
+    Answer(AnswerRow),
+    Raise(RaiseRow),
+    Cut(&'a [AllotRow]),
+}
+
+/// The records of a season.
+#[derive(Clone, Copy)]
+pub struct Records<'a> {
+    pub season: &'a [u8],
+    pub answers: &'a [AnswerRow],
+    pub raises: &'a [RaiseRow],
+    pub allots: &'a [AllotRow],
+    pub cuts: u16,
+}
 
 /// A keeper over a database on which these statements were run.
 pub fn over(alloc: Global, statements: &str) -> Result<Store, Fail> {
@@ -38,24 +59,61 @@ pub fn after(keeper: Store, statements: &str) -> Result<Store, Fail> {
     Ok(SqliteKeeper::new(connection))
 }
 
-/// Whether these are the records.
-pub fn are_kept(
-    kept: &Option<Kept>,
-    season: &[u8],
-    answers: &[AnswerRow],
-    raises: &[RaiseRow],
-    allots: &[AllotRow],
-    cuts: u16,
-) -> bool {
-    match kept {
-        None => false,
-        Some(kept) => {
-            kept.season.as_slice() == season
-                && kept.answers.as_slice() == answers
-                && kept.raises.as_slice() == raises
-                && kept.allots.as_slice() == allots
-                && kept.cuts == cuts
+fn put_one(keeper: &mut Store, what: &Put<'_>) -> Result<(), KeepFault> {
+    match what {
+        Put::Season(text) => keeper.put_season(text),
+        Put::Room(n) => keeper.reserve_answers(*n),
+        Put::Answer(row) => keeper.put_answer(*row),
+        Put::Raise(row) => keeper.put_raise(*row),
+        Put::Cut(rows) => keeper.put_cut(rows),
+    }
+}
+
+/// Whether all of these are put.
+pub fn puts(keeper: &mut Store, records: &[Put<'_>]) -> bool {
+    for what in records {
+        if put_one(keeper, what).is_err() {
+            return false;
         }
+    }
+    true
+}
+
+/// Whether this is refused as a fault.
+pub fn refuses(keeper: &mut Store, what: &Put<'_>) -> bool {
+    matches!(put_one(keeper, what), Err(KeepFault::Failed))
+}
+
+/// Whether all records can be loaded.
+pub fn loads(alloc: Global, keeper: &mut Store) -> bool {
+    keeper.load(alloc).is_ok()
+}
+
+/// Whether a load is refused as a fault.
+pub fn refuses_load(alloc: Global, keeper: &mut Store) -> bool {
+    matches!(keeper.load(alloc), Err(KeepFault::Failed))
+}
+
+/// Whether no season is found and none is loaded.
+pub fn holds_nothing(alloc: Global, keeper: &mut Store) -> bool {
+    matches!(keeper.has_season(), Ok(false)) && matches!(keeper.load(alloc), Ok(None))
+}
+
+/// Whether a season is found and these are its records.
+pub fn holds(alloc: Global, keeper: &mut Store, records: &Records<'_>) -> bool {
+    matches!(keeper.has_season(), Ok(true)) && loads_as(alloc, keeper, records)
+}
+
+fn loads_as(alloc: Global, keeper: &mut Store, records: &Records<'_>) -> bool {
+    match keeper.load(alloc) {
+        Ok(Some(kept)) => {
+            kept.season.as_slice() == records.season
+                && kept.answers.as_slice() == records.answers
+                && kept.raises.as_slice() == records.raises
+                && kept.allots.as_slice() == records.allots
+                && kept.cuts == records.cuts
+        }
+        Ok(None) | Err(_) => false,
     }
 }
 
