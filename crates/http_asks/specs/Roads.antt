@@ -1,7 +1,9 @@
 -- The routes of pages as a router keeps them, and the paths that are on them.
-use Rattle.std.specs.Prelude.{◌≡◌, ℕ, List, [], ◌∷◌, ◌++◌, codes}
+use Rattle.std.specs.Prelude.{◌≡◌, ℕ, List, [], ◌∷◌, ◌++◌, None, Result, Ok, Err, codes}
+use Rattle.matchit.specs.Route.{Scan}
 use Rattle.matchit.specs.Rows.{RowsOf}
-use Rattle.matchit.specs.Router.{RouteOf, rename}
+use Rattle.matchit.specs.Router.{RouteOf, nearest, rename}
+use Rattle.matchit.specs.declared.error.InsertError.{InsertError}
 use Rattle.http_asks.specs.declared.roads.Road.{Road}
 use Rattle.http_asks.specs.declared.roads.Road.TheVariants.{Answer, Cut, Raise, Seat, Why, RoundList, State}
 
@@ -36,6 +38,11 @@ road_rows = road_row Answer ∷ road_row Cut ∷ road_row RoundList ∷ road_row
 -- the patterns of routes, each with its road
 abbrev pub roads_of : RowsOf (RouteOf Road) → RowsOf Road
 roads_of routes = rename (λ route. route.value) routes
+
+-- a route that was read may be added to those: none of them conflicts with it
+abbrev pub Fits : Result Scan InsertError → RowsOf (RouteOf Road) → Type 0
+Fits (Ok route) routes = nearest route.pattern routes ≡ None
+Fits (Err fault) routes = ⊥
 
 -- The path is on that road: it begins as its paths do, this comes after that, and nothing does where the road has no parameters.
 abbrev pub IsOn : Road → List ℕ → List ℕ → Type 0

@@ -4,9 +4,9 @@ ghost use Rattle.matchit.specs.Route.{parse_route};
 ghost use Rattle.matchit.specs.Router.{InsertsRead};
 ghost use Rattle.office_text.specs.Lines.{cut_at};
 ghost use Rattle.http_asks.specs.Pages.{page_at};
-ghost use Rattle.http_asks.specs.Roads.{IsOn, road_rows, road_start, roads_of};
+ghost use Rattle.http_asks.specs.Roads.{Fits, IsOn, road_rows, road_start, roads_of};
 
-use matchit::Router;
+use matchit::{InsertError, Router};
 use office_base::OutOfMemory;
 use std::alloc::Global;
 
@@ -84,12 +84,14 @@ fn after_start<'a>(road: Road, path: &'a str) -> &'a [u8]
     rest
 }
 
-/// Adds a route. Whatever keeps it out is told as want of memory.
+/// Adds a route that is read and that no other one conflicts with. It is kept out only where the router finds no memory for it.
 fn add(router: &mut Router<Road>, route: &str, road: Road) -> Result<(), OutOfMemory>
+    requires { Fits (parse_route route.now) router.old }
     ensures { OnOk result (InsertsRead (parse_route route.now) road router.old router.new (Ok tt)) }
 {
     match router.insert(route, road) {
         Ok(()) => Ok(()),
-        Err(_) => Err(OutOfMemory),
+        Err(InsertError::OutOfMemory) => Err(OutOfMemory),
+        Err(_) => unreachable!("the route is read, and no other one conflicts with it"),
     }
 }

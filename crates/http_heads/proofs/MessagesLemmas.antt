@@ -1,5 +1,5 @@
 -- What bytes come to is one, and stays whatever follows.
-use Rattle.std.proofs.Common.{◌≡◌, ◌<◌, ◌≤◌, ◌+◌, ℕ, zero, suc, Bool, true, false, cond, ltb, codes, List, [], ◌∷◌, ◌++◌, length, take, drop, Option, None, Some, Result, Ok, Err, unwrap_or, refl, sym, ap, ◌∙◌, subst, inl, inr, arith}
+use Rattle.std.proofs.Common.{◌≡◌, ◌<◌, ◌≤◌, ◌+◌, ◌⊎◌, ℕ, zero, suc, Bool, true, false, cond, ltb, codes, List, [], ◌∷◌, ◌++◌, length, take, drop, Option, None, Some, Result, Ok, Err, unwrap_or, refl, sym, ap, ◌∙◌, subst, inl, inr, arith}
 use Rattle.std.specs.Prelude.{bytes_eq}
 use Rattle.std.specs.Result.{result_ok}
 use Rattle.std.proofs.lemmas.Bool.{ltb-false}
@@ -8,7 +8,8 @@ use Rattle.httparse.specs.Grammar.{RequestHead}
 use Rattle.httparse.proofs.GrammarLemmas.{request_unique}
 use Rattle.http_heads.specs.Fields.{Pair, body_len, has_field, length_for, one_length, values}
 use Rattle.http_heads.specs.HeadEnds.{head_len}
-use Rattle.http_heads.specs.Messages.{Message, message_of, pairs, Reads, HeadEnds, Begins, IsWhole, IsNoHead, IsUnframed, IsRefused, HasNoHeadYet, IsUnfinished, Answer, whole, refused, unfinished, ComesTo, Stays}
+use Rattle.http_heads.specs.Messages.{Message, message_of, pairs, Reads, HeadEnds, Begins, IsWhole, IsNoHead, IsUnframed, IsRefused, HasNoHeadYet, IsUnfinished, IsTorn, Answer, whole, refused, unfinished, ComesTo, Stays}
+use Rattle.http_heads.specs.Laws.{IsNoneOrTorn}
 use Rattle.http_heads.proofs.HeadEndsLemmas.{head_len-append, head_len-fits}
 
 -- ---- whatever follows
@@ -219,6 +220,16 @@ pub unfinished_few : (bytes : List ℕ) → IsUnfinished bytes → length bytes 
 unfinished_few bytes (inl none) = omega (arith, none.0)
 unfinished_few bytes (inr lacks) =
     omega (arith, lacks.4, head_len-fits (take 8192 bytes) lacks.0 lacks.3.ends, length-take 8192 bytes, body_len-fits lacks.1.method (pairs lacks.1) lacks.2 lacks.3.framed)
+
+-- Of no byte more is wanted, and of torn ones.
+wanted : (bytes : List ℕ) → (bytes ≡ []) ⊎ IsTorn bytes → IsUnfinished bytes
+wanted bytes (inl none) = subst IsUnfinished (sym none) (inl (omega arith, refl))
+wanted bytes (inr torn) = torn.1
+
+-- Bytes to which more is wanted are none, or torn.
+pub none_or_torn : (bytes : List ℕ) → IsNoneOrTorn bytes
+none_or_torn [] = (λ more. inl refl, wanted [])
+none_or_torn (byte ∷ bytes) = (λ more. inr (omega arith, more), wanted (byte ∷ bytes))
 
 -- ---- what was held
 

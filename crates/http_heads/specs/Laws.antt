@@ -1,8 +1,8 @@
 -- What holds of heads and messages, whoever reads them.
-use Rattle.std.specs.Prelude.{◌≡◌, ◌<◌, ◌≤◌, ◌≢◌, ℕ, true, false, List, [], ◌∷◌, ◌++◌, length, take, flat_map, Some}
+use Rattle.std.specs.Prelude.{◌≡◌, ◌<◌, ◌≤◌, ◌≢◌, ◌↔◌, ◌⊎◌, ℕ, true, false, List, [], ◌∷◌, ◌++◌, length, take, flat_map, Some}
 use Rattle.std.specs.List.{AllByRecursion, list_all, list_any}
 use Rattle.http_heads.specs.HeadEnds.{head_len, is_empty_line}
-use Rattle.http_heads.specs.Messages.{Answer, unfinished, ComesTo}
+use Rattle.http_heads.specs.Messages.{Answer, unfinished, ComesTo, IsTorn, IsUnfinished}
 
 -- the line has no LF
 abbrev pub HasNoLf : List ℕ → Type 0
@@ -37,3 +37,7 @@ HasOneAnswer bytes = (answer other : Answer) → ComesTo bytes answer → ComesT
 -- What the bytes so far come to, unless more is wanted, is what they come to with those that follow.
 abbrev pub IsSettled : List ℕ → List ℕ → Type 0
 IsSettled bytes more = (answer other : Answer) → ComesTo bytes answer → answer ≢ unfinished → ComesTo (bytes ++ more) other → answer ≡ other
+
+-- More is wanted exactly where no byte has come, or a message has begun and is not whole.
+abbrev pub IsNoneOrTorn : List ℕ → Type 0
+IsNoneOrTorn bytes = IsUnfinished bytes ↔ ((bytes ≡ []) ⊎ IsTorn bytes)

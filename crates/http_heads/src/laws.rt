@@ -1,6 +1,6 @@
 // What holds of heads and messages, whoever reads them.
 ghost use Rattle.std.specs.Prelude.{ℕ, ◌<◌, List, length};
-ghost use Rattle.http_heads.specs.Laws.{AreHeads, HasOneAnswer, IsSettled};
+ghost use Rattle.http_heads.specs.Laws.{AreHeads, HasOneAnswer, IsNoneOrTorn, IsSettled};
 ghost use Rattle.http_heads.specs.Messages.{IsUnfinished};
 
 /// A head is some empty lines, then one or more lines none of which is empty, then an empty line, and no shorter prefix is.
@@ -21,4 +21,9 @@ pub fn the_cut_does_not_matter()
 /// Bytes to which more is wanted are fewer than a head and a body may have.
 pub fn unfinished_bytes_are_few()
     ensures { (bytes : List ℕ) → IsUnfinished bytes → length bytes < 12288 }
+{}
+
+/// Where input ends and more is wanted, it ends between messages, with no byte left, or inside one, which is torn.
+pub fn unfinished_bytes_are_none_or_torn()
+    ensures { (bytes : List ℕ) → IsNoneOrTorn bytes }
 {}

@@ -1,25 +1,40 @@
 // What messages ask: tables of targets, methods, bodies and tokens with their answers from outside.
-use crate::messages::{bare, with_body};
+use crate::messages::{bare, joined, repeated, with_body};
 use http_asks::{Judged, Routes, judge, token};
 use http_heads::{Held, Method, held_message};
 use httparse::spans::EMPTY_HEADER_SPAN;
-use office_base::{Ask, CandId, Choice, Code, OutOfMemory, StepKind};
+use office_base::{Ask, CandId, Choice, Code, StepKind};
 use std::alloc::Global;
-use std::test::Fail;
 
-/// What a message comes to: a status with the method that is allowed, or 200 with what it asks; 0 where it is no message.
-fn comes_to(
-    alloc: Global,
-    bytes: &[u8],
-) -> Result<(u16, Option<Method>, Option<Ask>), OutOfMemory> {
+/// A refusal that the trials expect.
+fn refused(status: u16, allow: Option<Method>) -> Judged {
+    Judged::Refused { status, allow }
+}
+
+/// What a message comes to. None where the bytes are no message, or there is no memory.
+fn comes_to(alloc: Global, bytes: &[u8]) -> Option<Judged> {
     let mut room = [EMPTY_HEADER_SPAN; 64];
     let Held::Whole(message) = held_message(bytes, &mut room) else {
-        return Ok((0, None, None));
+        return None;
     };
-    match judge(alloc, &Routes::new(alloc)?, &message)? {
-        Judged::Refused { status, allow } => Ok((status, allow, None)),
-        Judged::Asked(ask) => Ok((200, None, Some(ask))),
+    let routes = Routes::new(alloc).ok()?;
+    match judge(alloc, &routes, &message) {
+        Ok(Judged::Refused { status, allow }) => Some(refused(status, allow)),
+        Ok(Judged::Asked(ask)) => Some(Judged::Asked(ask)),
+        Err(_) => None,
     }
+}
+
+/// What a message without a body comes to.
+fn asked(alloc: Global, method: &str, target: &str) -> Option<Judged> {
+    let bytes = bare(alloc, method, target)?;
+    comes_to(alloc, bytes.as_slice())
+}
+
+/// What a POST with this body comes to.
+fn posted(alloc: Global, target: &str, body: &[u8]) -> Option<Judged> {
+    let bytes = with_body(alloc, target, body)?;
+    comes_to(alloc, bytes.as_slice())
 }
 
 /// Targets that name no page, whatever the method.
@@ -60,16 +75,19 @@ const UNKNOWN: [&str; 34] = [
     "/v1/list/1/A.B",
 ];
 
+/// Whether a target names no page, whatever the method.
+fn is_no_page(alloc: Global, target: &str) -> bool {
+    let none = Some(refused(404, None));
+    asked(alloc, "GET", target) == none
+        && asked(alloc, "POST", target) == none
+        && asked(alloc, "HEAD", target) == none
+}
+
 #[test]
-fn other_paths_are_none(rt: HostRuntime) -> Result<(), Fail> {
+fn other_paths_are_none(rt: HostRuntime) {
     for target in UNKNOWN {
-        for method in ["GET", "POST", "HEAD"] {
-            let bytes = bare(rt.alloc(), method, target)?;
-            let answer = comes_to(rt.alloc(), bytes.as_slice())?;
-            assert!(rt; answer == (404, None, None), "{method} {target}");
-        }
+        assert!(rt; is_no_page(rt.alloc(), target), "{target}");
     }
-    Ok(())
 }
 
 /// Methods and targets of which the page has another method, and that method.
@@ -89,65 +107,76 @@ const OTHERS: [(&str, &str, Method); 12] = [
 ];
 
 #[test]
-fn other_methods_are_refused(rt: HostRuntime) -> Result<(), Fail> {
+fn other_methods_are_refused(rt: HostRuntime) {
     for (method, target, allowed) in OTHERS {
-        let bytes = bare(rt.alloc(), method, target)?;
-        let answer = comes_to(rt.alloc(), bytes.as_slice())?;
-        assert!(rt; answer == (405, Some(allowed), None), "{method} {target}");
+        let came = asked(rt.alloc(), method, target);
+        assert!(rt;
+            came == Some(refused(405, Some(allowed))),
+            "{method} {target}"
+        );
     }
-    Ok(())
 }
 
-/// What the target of a GET asks.
-fn read(alloc: Global, target: &str) -> Result<Option<Ask>, OutOfMemory> {
-    let bytes = bare(alloc, "GET", target)?;
-    let (_, _, ask) = comes_to(alloc, bytes.as_slice())?;
-    Ok(ask)
+/// Targets that ask for the state.
+const STATES: [&str; 4] = ["/v1/state", "/v1/state?", "/v1/state?x=1", "/v1/state?/?"];
+
+#[test]
+fn the_state_is_asked(rt: HostRuntime) {
+    for target in STATES {
+        let came = asked(rt.alloc(), "GET", target);
+        assert!(rt; came == Some(Judged::Asked(Ask::State)), "{target}");
+    }
 }
 
-/// The code of this text.
-fn code(text: &[u8]) -> Result<Code, Fail> {
-    let Some(code) = Code::read(text) else {
-        return Err(Fail::new("no code"));
-    };
-    Ok(code)
+/// Targets that ask for a candidate's seat, and the candidate.
+const SEATS: [(&str, u32); 3] = [
+    ("/v1/seat/1", 1),
+    ("/v1/seat/999999999?2", 999_999_999),
+    ("/v1/seat/70", 70),
+];
+
+#[test]
+fn seats_are_asked(rt: HostRuntime) {
+    for (target, id) in SEATS {
+        let seat = Ask::Seat { cand: CandId(id) };
+        let came = asked(rt.alloc(), "GET", target);
+        assert!(rt; came == Some(Judged::Asked(seat)), "{target}");
+    }
+}
+
+/// What is asked of a candidate and a programme.
+fn why(id: u32, prog: &[u8]) -> Option<Judged> {
+    let prog = Code::read(prog)?;
+    let cand = CandId(id);
+    Some(Judged::Asked(Ask::Why { cand, prog }))
+}
+
+/// What is asked of a round and a programme.
+fn list(round: u16, prog: &[u8]) -> Option<Judged> {
+    let prog = Code::read(prog)?;
+    Some(Judged::Asked(Ask::List { round, prog }))
 }
 
 #[test]
-fn pages_are_read(rt: HostRuntime) -> Result<(), Fail> {
-    let alloc = rt.alloc();
-    for target in ["/v1/state", "/v1/state?", "/v1/state?x=1", "/v1/state?/?"] {
-        assert!(rt; read(alloc, target)? == Some(Ask::State), "{target}");
-    }
-    for (target, id) in [
-        ("/v1/seat/1", 1),
-        ("/v1/seat/999999999?2", 999_999_999),
-        ("/v1/seat/70", 70),
-    ] {
-        let seat = Ask::Seat { cand: CandId(id) };
-        assert!(rt; read(alloc, target)? == Some(seat), "{target}");
-    }
-    let cand = CandId(12);
-    let prog = code(b"A-1")?;
-    assert!(rt; read(alloc, "/v1/why/12/A-1")? == Some(Ask::Why { cand, prog }));
-    let prog = code(b"ABCDEFGHIJKLMNOP")?;
-    for (target, round) in [
-        ("/v1/list/0/ABCDEFGHIJKLMNOP", 0),
-        ("/v1/list/65535/ABCDEFGHIJKLMNOP", 65_535),
-    ] {
-        assert!(rt;
-            read(alloc, target)? == Some(Ask::List { round, prog }),
-            "{target}"
-        );
-    }
-    Ok(())
+fn reasons_are_asked(rt: HostRuntime) {
+    let expected = why(12, b"A-1");
+    assert!(rt; expected.is_some());
+    assert!(rt; asked(rt.alloc(), "GET", "/v1/why/12/A-1") == expected);
 }
 
-/// What a POST with this body comes to.
-fn posted(alloc: Global, target: &str, body: &[u8]) -> Result<(u16, Option<Ask>), OutOfMemory> {
-    let bytes = with_body(alloc, target, body)?;
-    let (status, _, ask) = comes_to(alloc, bytes.as_slice())?;
-    Ok((status, ask))
+/// Targets that ask for the list of a programme with the longest code, and the round.
+const LISTS: [(&str, u16); 2] = [
+    ("/v1/list/0/ABCDEFGHIJKLMNOP", 0),
+    ("/v1/list/65535/ABCDEFGHIJKLMNOP", 65_535),
+];
+
+#[test]
+fn lists_are_asked(rt: HostRuntime) {
+    for (target, round) in LISTS {
+        let expected = list(round, b"ABCDEFGHIJKLMNOP");
+        let is_right = expected.is_some() && asked(rt.alloc(), "GET", target) == expected;
+        assert!(rt; is_right, "{target}");
+    }
 }
 
 /// Bodies of answers, and whether they are read as the answer `float` of candidate 7 at turn 2 of window 1.
@@ -226,26 +255,31 @@ const ANSWERS: [(&str, bool); 30] = [
     ("", false),
 ];
 
-#[test]
-fn answers_are_read(rt: HostRuntime) -> Result<(), Fail> {
-    let answer = Ask::Answer {
+/// What the body of an answer comes to, where it is read or not.
+fn answer(is_read: bool) -> Judged {
+    if !is_read {
+        return refused(400, None);
+    }
+    Judged::Asked(Ask::Answer {
         cand: CandId(7),
         window: 1,
         turn: 2,
         choice: Choice::Float,
-    };
+    })
+}
+
+#[test]
+fn answers_are_read(rt: HostRuntime) {
     for (body, is_read) in ANSWERS {
-        let expected = if is_read {
-            (200, Some(answer))
-        } else {
-            (400, None)
-        };
-        let came = posted(rt.alloc(), "/v1/answer?x", body.as_bytes())?;
-        assert!(rt; came == expected, "{body}");
+        let came = posted(rt.alloc(), "/v1/answer?x", body.as_bytes());
+        assert!(rt; came == Some(answer(is_read)), "{body}");
     }
-    let not_text = b"{\"cand\":7,\"choice\":\"float\",\"turn\":2,\"window\":1,\"a\":\"\xff\"}";
-    assert!(rt; posted(rt.alloc(), "/v1/answer", not_text)? == (400, None));
-    Ok(())
+}
+
+#[test]
+fn a_body_that_is_no_text_is_refused(rt: HostRuntime) {
+    let body = b"{\"cand\":7,\"choice\":\"float\",\"turn\":2,\"window\":1,\"a\":\"\xff\"}";
+    assert!(rt; posted(rt.alloc(), "/v1/answer", body) == Some(refused(400, None)));
 }
 
 /// Bodies of cuts and of raises, and the window that they have, where they are read.
@@ -298,51 +332,70 @@ const OTHER_BODIES: [(&str, &str, Option<u16>); 14] = [
     ),
 ];
 
-/// What a body of a cut or of a raise is read as, where it has this window.
-fn expected(target: &str, window: u16) -> Result<Ask, Fail> {
+/// What a body of a cut or of a raise comes to, where it has this window or is not read.
+fn window_asked(target: &str, window: Option<u16>) -> Option<Judged> {
+    let Some(window) = window else {
+        return Some(refused(400, None));
+    };
     if target == "/v1/cut" {
-        return Ok(Ask::Cut { window });
+        return Some(Judged::Asked(Ask::Cut { window }));
     }
-    Ok(Ask::Raise {
+    let prog = Code::read(b"A")?;
+    Some(Judged::Asked(Ask::Raise {
         window,
-        prog: code(b"A")?,
+        prog,
         step: StepKind::Open,
         seats: 3,
-    })
+    }))
 }
 
 #[test]
-fn cuts_and_raises_are_read(rt: HostRuntime) -> Result<(), Fail> {
+fn cuts_and_raises_are_read(rt: HostRuntime) {
     for (target, body, window) in OTHER_BODIES {
-        let came = posted(rt.alloc(), target, body.as_bytes())?;
-        match window {
-            None => assert!(rt; came == (400, None), "{target} {body}"),
-            Some(window) => {
-                let ask = expected(target, window)?;
-                assert!(rt; came == (200, Some(ask)), "{target} {body}");
-            }
-        }
+        let expected = window_asked(target, window);
+        let came = posted(rt.alloc(), target, body.as_bytes());
+        assert!(rt; came.is_some() && came == expected, "{target} {body}");
     }
-    Ok(())
 }
 
-/// A body of 4,096 bytes is read, and one that a GET has is not.
-#[test]
-fn the_longest_body_is_read(rt: HostRuntime) -> Result<(), Fail> {
-    let mut body = Vec::new(rt.alloc());
-    body.extend_from_slice(b"{\"window\":3")?;
-    for _ in 0..4084u32 {
-        body.push(b' ')?;
+/// What a cut with a body of 4,096 bytes comes to.
+fn long_cut(alloc: Global) -> Option<Judged> {
+    let mut body = repeated(alloc, b"{\"window\":3", b" ", 4084)?;
+    body.push(b'}').ok()?;
+    if body.len() != 4096 {
+        return None;
     }
-    body.push(b'}')?;
-    assert_eq!(rt; body.len(), 4096);
-    let cut = (200, Some(Ask::Cut { window: 3 }));
-    assert!(rt; posted(rt.alloc(), "/v1/cut", body.as_slice())? == cut);
-    let unread = b"GET /v1/state HTTP/1.1\r\nContent-Length: 3\r\n\r\n{\"a";
-    assert!(rt; comes_to(rt.alloc(), unread)? == (200, None, Some(Ask::State)));
-    let unread = b"GET /v1/cut HTTP/1.1\r\nContent-Length: 3\r\n\r\n{\"a";
-    assert!(rt; comes_to(rt.alloc(), unread)? == (405, Some(Method::Post), None));
-    Ok(())
+    posted(alloc, "/v1/cut", body.as_slice())
+}
+
+#[test]
+fn the_longest_body_is_read(rt: HostRuntime) {
+    assert!(rt; long_cut(rt.alloc()) == Some(Judged::Asked(Ask::Cut { window: 3 })));
+}
+
+/// Messages whose body is not read, and what they come to.
+const UNREAD: [(&str, Judged); 2] = [
+    (
+        "GET /v1/state HTTP/1.1\r\nContent-Length: 3\r\n\r\n{\"a",
+        Judged::Asked(Ask::State),
+    ),
+    (
+        "GET /v1/cut HTTP/1.1\r\nContent-Length: 3\r\n\r\n{\"a",
+        Judged::Refused {
+            status: 405,
+            allow: Some(Method::Post),
+        },
+    ),
+];
+
+#[test]
+fn the_body_of_a_get_is_not_read(rt: HostRuntime) {
+    for (bytes, expected) in UNREAD {
+        assert!(rt;
+            comes_to(rt.alloc(), bytes.as_bytes()) == Some(expected),
+            "{bytes}"
+        );
+    }
 }
 
 /// The fields of a message, and the token that it has.
@@ -368,15 +421,18 @@ fn has_token(bytes: &[u8], expected: Option<&[u8]>) -> bool {
     }
 }
 
-#[test]
-fn the_first_token_counts(rt: HostRuntime) -> Result<(), Fail> {
-    for (fields, expected) in TOKENS {
-        let mut bytes = Vec::new(rt.alloc());
-        bytes.extend_from_slice(b"GET /v1/state HTTP/1.1\r\n")?;
-        bytes.extend_from_slice(fields.as_bytes())?;
-        bytes.extend_from_slice(b"\r\n")?;
-        let expected = expected.map(str::as_bytes);
-        assert!(rt; has_token(bytes.as_slice(), expected), "{fields:?}");
+/// Whether a message with these fields has this token, or none.
+fn gives_token(alloc: Global, fields: &str, expected: Option<&str>) -> bool {
+    let first = b"GET /v1/state HTTP/1.1\r\n".as_slice();
+    match joined(alloc, &[first, fields.as_bytes(), b"\r\n".as_slice()]) {
+        Some(bytes) => has_token(bytes.as_slice(), expected.map(str::as_bytes)),
+        None => false,
     }
-    Ok(())
+}
+
+#[test]
+fn the_first_token_counts(rt: HostRuntime) {
+    for (fields, expected) in TOKENS {
+        assert!(rt; gives_token(rt.alloc(), fields, expected), "{fields}");
+    }
 }

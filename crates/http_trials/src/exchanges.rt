@@ -1,15 +1,14 @@
 // Connections from the bytes of their messages to the bytes of their replies, through links, heads, asks and replies together; an
 // office stands in that knows candidate 2 alone.
-use crate::messages::{long_head, many_fields};
-use crate::replies::refuse;
+use crate::messages::{joined, long_head, many_fields};
+use crate::replies::{answer, refuse};
 use http_asks::{Judged, Routes, judge, token};
 use http_heads::{Held, HeldMessage, held_message};
 use http_wire::Outbox;
 use httparse::spans::EMPTY_HEADER_SPAN;
-use office_base::{Ask, CandId, Choice, OutOfMemory};
+use office_base::{Ask, CandId, Choice};
 use office_links::{Link, MemLink, write_link};
 use std::alloc::Global;
-use std::test::Fail;
 
 /// The withdrawal that the office takes from candidate 2.
 const WITHDRAWAL: Ask = Ask::Answer {
@@ -42,14 +41,6 @@ fn answered(token: Option<&[u8]>, ask: &Ask) -> (u16, &'static str) {
     }
 }
 
-/// Puts the answer of the office where its status is one and its body has room.
-fn answer(outbox: &mut Outbox, status: u16, body: &str, close: bool) -> bool {
-    if status < 100 || status > 999 {
-        return false;
-    }
-    outbox.reply(status, body.as_bytes(), close)
-}
-
 /// What comes after the reply to held bytes.
 enum Next {
     /// There is no reply yet.
@@ -60,82 +51,110 @@ enum Next {
     Close,
 }
 
-/// Puts the reply to a message.
+/// Puts the reply to a message. None where there is no memory for it.
 fn reply_to(
     alloc: Global,
     routes: &Routes,
     message: &HeldMessage<'_>,
     outbox: &mut Outbox,
-) -> Result<Next, OutOfMemory> {
+) -> Option<Next> {
     let close = message.closes();
-    let is_put = match judge(alloc, routes, message)? {
+    let is_put = match judge(alloc, routes, message).ok()? {
         Judged::Refused { status, allow } => refuse(outbox, status, allow, close),
         Judged::Asked(ask) => {
             let (status, body) = answered(token(&message.fields), &ask);
-            answer(outbox, status, body, close)
+            answer(outbox, status, body.as_bytes(), close)
         }
     };
     if close || !is_put {
-        Ok(Next::Close)
+        Some(Next::Close)
     } else {
-        Ok(Next::After(message.len))
+        Some(Next::After(message.len))
     }
 }
 
-/// Puts the reply to held bytes, where they come to one.
-fn reply_at(
-    alloc: Global,
-    routes: &Routes,
-    held: &[u8],
-    outbox: &mut Outbox,
-) -> Result<Next, OutOfMemory> {
+/// Puts the reply to held bytes, where they come to one. None where there is no memory for it.
+fn reply_at(alloc: Global, routes: &Routes, held: &[u8], outbox: &mut Outbox) -> Option<Next> {
     let mut room = [EMPTY_HEADER_SPAN; 64];
     match held_message(held, &mut room) {
-        Held::More => Ok(Next::More),
+        Held::More => Some(Next::More),
         Held::Refused(status) => {
             refuse(outbox, status, None, true);
-            Ok(Next::Close)
+            Some(Next::Close)
         }
         Held::Whole(message) => reply_to(alloc, routes, &message, outbox),
     }
 }
 
-/// Replies to the messages of a connection until it closes or its bytes end.
-fn converse(alloc: Global, link: &mut MemLink) -> Result<(), Fail> {
-    let routes = Routes::new(alloc)?;
-    let mut outbox = Outbox::new(alloc)?;
-    let mut held = Vec::new(alloc);
-    let mut done = 0usize;
-    let mut buffer = [0; 64];
-    for _ in 0..20_000u32 {
-        let rest = held.as_slice().get(done..).unwrap_or(&[]);
-        match reply_at(alloc, &routes, rest, &mut outbox)? {
-            Next::More => {
-                let count = link.read(&mut buffer)?;
-                if count == 0 {
-                    return Ok(());
-                }
-                let (got, _) = buffer.split_at(count);
-                held.extend_from_slice(got)?;
-            }
-            Next::After(len) => {
-                write_link(link, outbox.bytes())?;
-                done = done.saturating_add(len);
-            }
-            Next::Close => {
-                write_link(link, outbox.bytes())?;
-                return Ok(());
-            }
+/// The bytes of a link that came, and how many of them were answered.
+#[derive(Drop)]
+struct Inbox {
+    held: Vec<u8>,
+    done: usize,
+}
+
+impl Inbox {
+    /// The bytes that were not answered yet.
+    fn rest(&self) -> &[u8] {
+        self.held.as_slice().get(self.done..).unwrap_or(&[])
+    }
+
+    /// Reads once. It answers how many bytes came, None where the link failed or there is no memory.
+    fn read(&mut self, link: &mut MemLink) -> Option<usize> {
+        let mut buffer = [0; 64];
+        let Ok(count) = link.read(&mut buffer) else {
+            return None;
+        };
+        let (got, _) = buffer.split_at(count);
+        self.held.extend_from_slice(got).ok()?;
+        Some(count)
+    }
+}
+
+/// Makes the next reply or the next read. It answers whether the connection goes on; None where it failed or there is no memory.
+fn go_on(
+    alloc: Global,
+    routes: &Routes,
+    inbox: &mut Inbox,
+    outbox: &mut Outbox,
+    link: &mut MemLink,
+) -> Option<bool> {
+    match reply_at(alloc, routes, inbox.rest(), outbox)? {
+        Next::More => Some(inbox.read(link)? > 0),
+        Next::After(len) => {
+            inbox.done = inbox.done.saturating_add(len);
+            write_link(link, outbox.bytes()).ok()?;
+            Some(true)
+        }
+        Next::Close => {
+            write_link(link, outbox.bytes()).ok()?;
+            Some(false)
         }
     }
-    Ok(())
+}
+
+/// Replies to the messages of a connection until it closes or its bytes end. It answers whether that came.
+fn converse(alloc: Global, link: &mut MemLink) -> Option<bool> {
+    let routes = Routes::new(alloc).ok()?;
+    let mut outbox = Outbox::new(alloc).ok()?;
+    let mut inbox = Inbox {
+        held: Vec::new(alloc),
+        done: 0,
+    };
+    for _ in 0..20_000u32 {
+        if !go_on(alloc, &routes, &mut inbox, &mut outbox, link)? {
+            return Some(true);
+        }
+    }
+    Some(false)
 }
 
 /// Whether a connection of these bytes, read in pieces of this length, gets these replies.
-fn gets(alloc: Global, bytes: &[u8], piece: usize, replies: &str) -> Result<bool, Fail> {
-    let mut link = MemLink::new(alloc, bytes, piece.max(1), 1024, &[])?;
-    converse(alloc, &mut link)?;
-    Ok(link.bytes() == replies.as_bytes())
+fn gets(alloc: Global, bytes: &[u8], piece: usize, replies: &[u8]) -> bool {
+    let Ok(mut link) = MemLink::new(alloc, bytes, piece.max(1), 1024, &[]) else {
+        return false;
+    };
+    converse(alloc, &mut link) == Some(true) && link.bytes() == replies
 }
 
 // The replies that come more than once.
@@ -271,67 +290,86 @@ const EXCHANGES: [(&str, usize, &str); 28] = [
     ("GET /v1/st", 11, ""),
 ];
 
-/// Whether a message has no reply before so many of its bytes came, and this one from there on, in pieces of any length.
-fn is_answered(alloc: Global, bytes: &[u8], point: usize, reply: &str) -> Result<bool, Fail> {
+/// Whether a message has no reply before so many of its bytes came, and this one from there on.
+fn is_answered_from(alloc: Global, bytes: &[u8], point: usize, reply: &[u8]) -> bool {
     for end in 0..bytes.len() {
         let (cut, _) = bytes.split_at(end);
-        let expected = if end < point { "" } else { reply };
-        if !gets(alloc, cut, 7, expected)? {
-            return Ok(false);
+        let expected = if end < point { b"".as_slice() } else { reply };
+        if !gets(alloc, cut, 7, expected) {
+            return false;
         }
     }
-    for piece in [1, 2, 3, 1000] {
-        if !gets(alloc, bytes, piece, reply)? {
-            return Ok(false);
-        }
-    }
-    Ok(true)
+    true
+}
+
+/// Whether a connection of these bytes gets these replies, whatever the length of its pieces.
+fn gets_in_pieces(alloc: Global, bytes: &[u8], replies: &[u8]) -> bool {
+    [1, 2, 3, 7, 1000]
+        .iter()
+        .all(|piece| gets(alloc, bytes, *piece, replies))
 }
 
 #[test]
-fn messages_are_answered_wherever_they_are_cut(rt: HostRuntime) -> Result<(), Fail> {
+fn messages_are_answered_wherever_they_are_cut(rt: HostRuntime) {
     for (message, point, reply) in EXCHANGES {
-        let is_right = is_answered(rt.alloc(), message.as_bytes(), point, reply)?;
-        assert!(rt; is_right, "{message:?}");
+        let is_right = is_answered_from(rt.alloc(), message.as_bytes(), point, reply.as_bytes());
+        assert!(rt; is_right, "{message}");
     }
-    Ok(())
 }
 
-/// The greatest heads and lengths, in pieces of some lengths.
 #[test]
-fn long_heads_are_answered(rt: HostRuntime) -> Result<(), Fail> {
-    let too_long =
-        "HTTP/1.1 431 Request Header Fields Too Large\r\nContent-Length: 0\r\nConnection: close\r\n\r\n";
-    for piece in [1, 7, 64] {
-        for (bytes, reply) in [
-            (long_head(rt.alloc(), 8192)?, STATE),
-            (long_head(rt.alloc(), 8193)?, too_long),
-            (many_fields(rt.alloc(), 64)?, STATE),
-            (many_fields(rt.alloc(), 65)?, BAD_AND_CLOSED),
-        ] {
-            assert!(rt;
-                gets(rt.alloc(), bytes.as_slice(), piece, reply)?,
-                "{piece}"
-            );
-        }
+fn messages_are_answered_in_pieces_of_any_length(rt: HostRuntime) {
+    for (message, _, reply) in EXCHANGES {
+        let is_right = gets_in_pieces(rt.alloc(), message.as_bytes(), reply.as_bytes());
+        assert!(rt; is_right, "{message}");
     }
-    Ok(())
+}
+
+const TOO_LONG: &str =
+    "HTTP/1.1 431 Request Header Fields Too Large\r\nContent-Length: 0\r\nConnection: close\r\n\r\n";
+
+/// Whether a connection of these bytes gets these replies, in pieces of some lengths.
+fn long_gets(alloc: Global, bytes: Option<Vec<u8>>, replies: &str) -> bool {
+    let Some(bytes) = bytes else {
+        return false;
+    };
+    [1, 7, 64].iter().all(|piece| gets(alloc, bytes.as_slice(), *piece, replies.as_bytes()))
+}
+
+/// The greatest heads.
+#[test]
+fn long_heads_are_answered(rt: HostRuntime) {
+    for (len, reply) in [(8192, STATE), (8193, TOO_LONG)] {
+        let head = long_head(rt.alloc(), len);
+        assert!(rt; long_gets(rt.alloc(), head, reply), "{len}");
+    }
+}
+
+/// The most fields.
+#[test]
+fn many_fields_are_answered(rt: HostRuntime) {
+    for (count, reply) in [(64, STATE), (65, BAD_AND_CLOSED)] {
+        let head = many_fields(rt.alloc(), count);
+        assert!(rt; long_gets(rt.alloc(), head, reply), "{count}");
+    }
 }
 
 /// Two messages on one connection, of which the second closes it, and a third that is not read.
-#[test]
-fn messages_are_answered_in_their_order(rt: HostRuntime) -> Result<(), Fail> {
-    let messages =
-        b"GET /v1/state HTTP/1.1\r\n\r\n\r\nGET /v1/cut HTTP/1.1\r\nConnection: close\r\n\r\nGET /v1/state HTTP/1.1\r\n\r\n";
-    let second =
-        "HTTP/1.1 405 Method Not Allowed\r\nContent-Length: 0\r\nAllow: POST\r\nConnection: close\r\n\r\n";
-    let mut replies = Vec::new(rt.alloc());
-    replies.extend_from_slice(STATE.as_bytes())?;
-    replies.extend_from_slice(second.as_bytes())?;
-    for piece in [1, 2, 3, 7, 1000] {
-        let mut link = MemLink::new(rt.alloc(), messages, piece, 1024, &[])?;
-        converse(rt.alloc(), &mut link)?;
-        assert!(rt; link.bytes() == replies.as_slice(), "{piece}");
+const MESSAGES: &[u8] =
+    b"GET /v1/state HTTP/1.1\r\n\r\n\r\nGET /v1/cut HTTP/1.1\r\nConnection: close\r\n\r\nGET /v1/state HTTP/1.1\r\n\r\n";
+
+const POST_ONLY_AND_CLOSED: &[u8] =
+    b"HTTP/1.1 405 Method Not Allowed\r\nContent-Length: 0\r\nAllow: POST\r\nConnection: close\r\n\r\n";
+
+/// Whether both are answered in their order.
+fn are_answered(alloc: Global) -> bool {
+    match joined(alloc, &[STATE.as_bytes(), POST_ONLY_AND_CLOSED]) {
+        Some(replies) => gets_in_pieces(alloc, MESSAGES, replies.as_slice()),
+        None => false,
     }
-    Ok(())
+}
+
+#[test]
+fn messages_are_answered_in_their_order(rt: HostRuntime) {
+    assert!(rt; are_answered(rt.alloc()));
 }

@@ -1,8 +1,8 @@
 // What held bytes come to: tables of messages with their answers from outside, and each cut at every byte.
-use crate::messages::{long_head, many_fields, with_body};
-use http_heads::{Held, held_message};
+use crate::messages::{joined, long_head, many_fields, repeated, with_body};
+use http_heads::{Held, HeldMessage, held_message};
 use httparse::spans::EMPTY_HEADER_SPAN;
-use std::test::Fail;
+use std::alloc::Global;
 
 /// What held bytes come to: a status, or 200 with how many bytes the message takes, or 100 where more is wanted.
 fn comes_to(held: &[u8]) -> (u16, usize) {
@@ -134,80 +134,111 @@ fn settles_at(bytes: &[u8], status: u16, point: usize) -> bool {
 #[test]
 fn messages_are_told_wherever_they_are_cut(rt: HostRuntime) {
     for (bytes, status, point) in ANSWERS {
-        assert!(rt; settles_at(bytes.as_bytes(), status, point), "{bytes:?}");
+        assert!(rt; settles_at(bytes.as_bytes(), status, point), "{bytes}");
     }
 }
 
-#[test]
-fn heads_have_8192_bytes_at_most(rt: HostRuntime) -> Result<(), Fail> {
-    let longest = long_head(rt.alloc(), 8192)?;
-    assert!(rt; settles_at(longest.as_slice(), 200, 8192));
-    let longer = long_head(rt.alloc(), 8193)?;
-    assert!(rt; settles_at(longer.as_slice(), 431, 8192));
-    let mut later = Vec::new(rt.alloc());
-    later.extend_from_slice(b"\r\n")?;
-    later.extend_from_slice(long_head(rt.alloc(), 8190)?.as_slice())?;
-    assert!(rt; settles_at(later.as_slice(), 200, 8192));
-    later.clear();
-    later.extend_from_slice(b"\r\n")?;
-    later.extend_from_slice(long_head(rt.alloc(), 8191)?.as_slice())?;
-    assert!(rt; settles_at(later.as_slice(), 431, 8192));
-    Ok(())
-}
-
-#[test]
-fn heads_have_64_fields_at_most(rt: HostRuntime) -> Result<(), Fail> {
-    let most = many_fields(rt.alloc(), 64)?;
-    assert!(rt; settles_at(most.as_slice(), 200, 410));
-    let more = many_fields(rt.alloc(), 65)?;
-    assert!(rt; settles_at(more.as_slice(), 400, 416));
-    Ok(())
-}
-
-/// A body of 4,096 bytes is read whole.
-#[test]
-fn the_longest_body_is_read(rt: HostRuntime) -> Result<(), Fail> {
-    let mut bytes = Vec::new(rt.alloc());
-    bytes.extend_from_slice(b"POST / HTTP/1.1\r\nContent-Length: 4096\r\n\r\n")?;
-    for _ in 0..4100u32 {
-        bytes.push(b'x')?;
-    }
-    assert!(rt; settles_at(bytes.as_slice(), 200, 4137));
-    Ok(())
-}
-
-/// A message that follows a head of 8,192 bytes or a body is not looked at.
-#[test]
-fn a_message_behind_another_waits(rt: HostRuntime) -> Result<(), Fail> {
-    let mut bytes = long_head(rt.alloc(), 8192)?;
-    bytes.extend_from_slice(b"POST / HTTP/1.1\r\n\r\n")?;
-    assert!(rt; settles_at(bytes.as_slice(), 200, 8192));
-    let mut bytes = with_body(rt.alloc(), "/v1/cut", b"{}")?;
-    bytes.extend_from_slice(long_head(rt.alloc(), 8193)?.as_slice())?;
-    assert!(rt; settles_at(bytes.as_slice(), 200, 49));
-    Ok(())
-}
-
-#[test]
-fn the_parts_of_a_message_are_told(rt: HostRuntime) -> Result<(), Fail> {
-    let bytes =
-        b"\r\nPOST /v1/cut?a HTTP/1.1\r\nX-Office-Token: \t one \r\nx-office-token: two\r\nContent-Length: 2\r\n\r\n{}GET";
-    let mut room = [EMPTY_HEADER_SPAN; 64];
-    let Held::Whole(message) = held_message(bytes, &mut room) else {
-        panic!(rt; "no message");
+/// Whether each cut comes to what it should, of bytes for which there was memory, with some before them.
+fn settles(alloc: Global, first: &[u8], bytes: Option<Vec<u8>>, status: u16, point: usize) -> bool {
+    let Some(bytes) = bytes else {
+        return false;
     };
-    assert_eq!(rt; message.method, b"POST".as_slice());
-    assert_eq!(rt; message.target, b"/v1/cut?a".as_slice());
-    assert_eq!(rt; message.minor, 1);
-    assert_eq!(rt; message.body, b"{}".as_slice());
-    assert_eq!(rt;
-        message.fields.first(b"X-OFFICE-TOKEN"),
-        Some(b"one".as_slice())
-    );
-    assert_eq!(rt; message.fields.first(b"X-Office"), None);
-    assert!(rt; message.fields.has(b"content-length") && !message.fields.has(b"host"));
-    assert!(rt; !message.closes());
-    Ok(())
+    match joined(alloc, &[first, bytes.as_slice()]) {
+        Some(all) => settles_at(all.as_slice(), status, point),
+        None => false,
+    }
+}
+
+/// Empty lines, how long the head after them is, and what both come to.
+const LONG_HEADS: [(&str, usize, u16); 4] = [
+    ("", 8192, 200),
+    ("", 8193, 431),
+    ("\r\n", 8190, 200),
+    ("\r\n", 8191, 431),
+];
+
+#[test]
+fn heads_have_8192_bytes_at_most(rt: HostRuntime) {
+    for (first, len, status) in LONG_HEADS {
+        let head = long_head(rt.alloc(), len);
+        let is_right = settles(rt.alloc(), first.as_bytes(), head, status, 8192);
+        assert!(rt; is_right, "{len}");
+    }
+}
+
+#[test]
+fn heads_have_64_fields_at_most(rt: HostRuntime) {
+    for (count, status, point) in [(64, 200, 410), (65, 400, 416)] {
+        let head = many_fields(rt.alloc(), count);
+        assert!(rt; settles(rt.alloc(), b"", head, status, point), "{count}");
+    }
+}
+
+/// A body of 4,096 bytes is read whole, and what follows it waits.
+#[test]
+fn the_longest_body_is_read(rt: HostRuntime) {
+    let head = b"POST / HTTP/1.1\r\nContent-Length: 4096\r\n\r\n";
+    let bytes = repeated(rt.alloc(), head, b"x", 4100);
+    assert!(rt; settles(rt.alloc(), b"", bytes, 200, 4137));
+}
+
+/// A message that follows a head of 8,192 bytes is not looked at.
+fn waits_behind_a_head(alloc: Global) -> bool {
+    match long_head(alloc, 8192) {
+        Some(head) => {
+            let next = joined(alloc, &[b"POST / HTTP/1.1\r\n\r\n".as_slice()]);
+            settles(alloc, head.as_slice(), next, 200, 8192)
+        }
+        None => false,
+    }
+}
+
+/// A message that follows a body is not looked at.
+fn waits_behind_a_body(alloc: Global) -> bool {
+    match with_body(alloc, "/v1/cut", b"{}") {
+        Some(message) => {
+            let next = long_head(alloc, 8193);
+            settles(alloc, message.as_slice(), next, 200, 49)
+        }
+        None => false,
+    }
+}
+
+#[test]
+fn a_message_behind_another_waits(rt: HostRuntime) {
+    assert!(rt; waits_behind_a_head(rt.alloc()));
+    assert!(rt; waits_behind_a_body(rt.alloc()));
+}
+
+/// A message with empty lines before it and bytes behind it, and two fields of one name.
+const MESSAGE: &[u8] =
+    b"\r\nPOST /v1/cut?a HTTP/1.1\r\nX-Office-Token: \t one \r\nx-office-token: two\r\nContent-Length: 2\r\n\r\n{}GET";
+
+/// Whether the parts of that message are as they stand there.
+fn has_parts(message: &HeldMessage<'_>) -> bool {
+    message.method == b"POST".as_slice()
+        && message.target == b"/v1/cut?a".as_slice()
+        && message.minor == 1
+        && message.body == b"{}".as_slice()
+        && !message.closes()
+}
+
+/// Whether its fields are.
+fn has_fields(message: &HeldMessage<'_>) -> bool {
+    message.fields.first(b"X-OFFICE-TOKEN") == Some(b"one".as_slice())
+        && message.fields.first(b"X-Office").is_none()
+        && message.fields.has(b"content-length")
+        && !message.fields.has(b"host")
+}
+
+#[test]
+fn the_parts_of_a_message_are_told(rt: HostRuntime) {
+    let mut room = [EMPTY_HEADER_SPAN; 64];
+    let is_told = match held_message(MESSAGE, &mut room) {
+        Held::Whole(message) => has_parts(&message) && has_fields(&message),
+        _ => false,
+    };
+    assert!(rt; is_told);
 }
 
 /// The first line and the fields of heads, and whether the connection closes after them.
@@ -230,13 +261,18 @@ const CLOSINGS: [(&str, bool); 10] = [
     ("GET / HTTP/1.1\r\nHost: close\r\n\r\n", false),
 ];
 
+/// Whether bytes are a message after which the connection closes. None where they are none.
+fn closes(bytes: &[u8]) -> Option<bool> {
+    let mut room = [EMPTY_HEADER_SPAN; 64];
+    match held_message(bytes, &mut room) {
+        Held::Whole(message) => Some(message.closes()),
+        _ => None,
+    }
+}
+
 #[test]
 fn closings_are_told(rt: HostRuntime) {
-    for (bytes, closes) in CLOSINGS {
-        let mut room = [EMPTY_HEADER_SPAN; 64];
-        let Held::Whole(message) = held_message(bytes.as_bytes(), &mut room) else {
-            panic!(rt; "no message");
-        };
-        assert!(rt; message.closes() == closes, "{bytes:?}");
+    for (bytes, expected) in CLOSINGS {
+        assert!(rt; closes(bytes.as_bytes()) == Some(expected), "{bytes}");
     }
 }

@@ -1,8 +1,7 @@
 // Links and doors in memory: short pieces, a link that fails at each of its calls in turn, and a door that takes its links back.
-use office_base::{Failed, OutOfMemory};
+use office_base::Failed;
 use office_links::{Door, Link, MemDoor, MemLink, write_link};
 use std::alloc::Global;
-use std::test::Fail;
 
 /// What is read in the trials.
 const TEXT: &str = "abcdefghijk";
@@ -22,20 +21,28 @@ fn echo<L: Link>(link: &mut L) -> Result<bool, Failed> {
 }
 
 /// A link that gives the text.
-fn text_link(alloc: Global, piece: usize, fail_at: &[u32]) -> Result<MemLink, OutOfMemory> {
-    MemLink::new(alloc, TEXT.as_bytes(), piece.max(1), 64, fail_at)
+fn text_link(alloc: Global, piece: usize, fail_at: &[u32]) -> Option<MemLink> {
+    MemLink::new(alloc, TEXT.as_bytes(), piece.max(1), 64, fail_at).ok()
+}
+
+/// Whether a link that is echoed comes to this, and has these bytes written then.
+fn echoes(link: &mut MemLink, came: Result<bool, Failed>, written: &str) -> bool {
+    echo(link) == came && link.bytes() == written.as_bytes()
+}
+
+/// Whether a link without a failure gives the text in pieces of this length.
+fn is_read_in(alloc: Global, piece: usize) -> bool {
+    match text_link(alloc, piece, &[]) {
+        Some(mut link) => echoes(&mut link, Ok(true), TEXT),
+        None => false,
+    }
 }
 
 #[test]
-fn pieces_of_any_length_are_read(rt: HostRuntime) -> Result<(), Fail> {
+fn pieces_of_any_length_are_read(rt: HostRuntime) {
     for piece in [1, 2, 3, 7, 8, 100] {
-        let mut link = text_link(rt.alloc(), piece, &[])?;
-        assert!(rt;
-            echo(&mut link)? && link.bytes() == TEXT.as_bytes(),
-            "piece {piece}"
-        );
+        assert!(rt; is_read_in(rt.alloc(), piece), "{piece}");
     }
-    Ok(())
 }
 
 /// What a link wrote before the call that fails, and after it went on: a piece that was read and not written is lost.
@@ -51,38 +58,58 @@ const FAILURES: [(u32, &str, &str); 9] = [
     (9, TEXT, TEXT),
 ];
 
-#[test]
-fn a_link_fails_at_each_of_its_calls(rt: HostRuntime) -> Result<(), Fail> {
-    for (call, before, after) in FAILURES {
-        let mut link = text_link(rt.alloc(), 3, &[call])?;
-        assert!(rt; echo(&mut link) == Err(Failed), "call {call}");
-        assert!(rt; link.bytes() == before.as_bytes(), "before call {call}");
-        assert!(rt; echo(&mut link) == Ok(true), "after call {call}");
-        assert!(rt; link.bytes() == after.as_bytes(), "after call {call}");
+/// Whether a link that fails at this call has these bytes written then, and these after it went on.
+fn fails_once(alloc: Global, call: u32, before: &str, after: &str) -> bool {
+    match text_link(alloc, 3, &[call]) {
+        Some(mut link) => {
+            echoes(&mut link, Err(Failed), before) && echoes(&mut link, Ok(true), after)
+        }
+        None => false,
     }
-    let mut link = text_link(rt.alloc(), 3, &[10])?;
-    assert!(rt; echo(&mut link) == Ok(true));
-    Ok(())
 }
 
 #[test]
-fn a_link_without_room_fails(rt: HostRuntime) -> Result<(), Fail> {
-    let mut link = MemLink::new(rt.alloc(), TEXT.as_bytes(), 4, 4, &[])?;
-    assert!(rt; write_link(&mut link, b"abcdef") == Err(Failed));
-    assert!(rt; write_link(&mut link, b"") == Ok(()));
-    assert!(rt; link.bytes() == b"abcd".as_slice());
+fn a_link_fails_at_each_of_its_calls(rt: HostRuntime) {
+    for (call, before, after) in FAILURES {
+        assert!(rt; fails_once(rt.alloc(), call, before, after), "{call}");
+    }
+}
+
+#[test]
+fn a_link_does_not_fail_at_a_call_that_never_comes(rt: HostRuntime) {
+    let is_echoed = match text_link(rt.alloc(), 3, &[10]) {
+        Some(mut link) => echoes(&mut link, Ok(true), TEXT),
+        None => false,
+    };
+    assert!(rt; is_echoed);
+}
+
+/// Whether a link with room for four bytes takes four of six, fails there, takes nothing more and still reads.
+fn fails_without_room(link: &mut MemLink) -> bool {
     let mut buffer = [0; 8];
-    assert_eq!(rt; link.read(&mut buffer)?, 4);
-    Ok(())
+    write_link(link, b"abcdef") == Err(Failed)
+        && write_link(link, b"") == Ok(())
+        && link.bytes() == b"abcd".as_slice()
+        && link.read(&mut buffer) == Ok(4)
+}
+
+#[test]
+fn a_link_without_room_fails(rt: HostRuntime) {
+    let is_right = match MemLink::new(rt.alloc(), TEXT.as_bytes(), 4, 4, &[]) {
+        Ok(mut link) => fails_without_room(&mut link),
+        Err(_) => false,
+    };
+    assert!(rt; is_right);
 }
 
 /// A door of three links, of which the second accept fails.
-fn door_of_three(alloc: Global) -> Result<MemDoor, OutOfMemory> {
+fn door_of_three(alloc: Global) -> Option<MemDoor> {
     let mut links = Vec::new(alloc);
     for text in ["one", "two", "three"] {
-        links.push(MemLink::new(alloc, text.as_bytes(), 2, 16, &[])?)?;
+        let link = MemLink::new(alloc, text.as_bytes(), 2, 16, &[]).ok()?;
+        links.push(link).ok()?;
     }
-    MemDoor::new(alloc, links, &[2])
+    MemDoor::new(alloc, links, &[2]).ok()
 }
 
 /// It takes what may go to another thread.
@@ -105,39 +132,54 @@ fn echo_all<D: Door>(door: &mut D) -> Result<u32, Failed> {
     Ok(count)
 }
 
-#[test]
-fn a_door_gives_its_links_and_takes_them_back(rt: HostRuntime) -> Result<(), Fail> {
-    let mut door = door_of_three(rt.alloc())?;
-    assert!(rt; may_move(&door));
-    assert!(rt; echo_all(&mut door) == Err(Failed));
-    assert_eq!(rt; door.returned().len(), 1);
-    assert!(rt; echo_all(&mut door) == Ok(2));
-    assert!(rt; echo_all(&mut door) == Ok(0));
-    assert_eq!(rt; door.returned().len(), 3);
-    for (link, text) in door.returned().iter().zip(["one", "two", "three"].iter()) {
-        assert!(rt; link.bytes() == text.as_bytes());
-    }
-    Ok(())
+/// Whether the links given back have these texts written, as far as both go.
+fn have_written(door: &MemDoor, texts: &[&str]) -> bool {
+    door.returned()
+        .iter()
+        .zip(texts.iter())
+        .all(|(link, text)| link.bytes() == text.as_bytes())
+}
+
+/// Whether a door gives its first link, fails, gives the two others, and has no more; and has all three back in their order.
+fn gives_and_takes(door: &mut MemDoor) -> bool {
+    may_move(door)
+        && echo_all(door) == Err(Failed)
+        && door.returned().len() == 1
+        && echo_all(door) == Ok(2)
+        && echo_all(door) == Ok(0)
+        && door.returned().len() == 3
+        && have_written(door, &["one", "two", "three"])
 }
 
 #[test]
-fn links_come_back_in_any_order(rt: HostRuntime) -> Result<(), Fail> {
-    let mut door = door_of_three(rt.alloc())?;
+fn a_door_gives_its_links_and_takes_them_back(rt: HostRuntime) {
+    let is_right = match door_of_three(rt.alloc()) {
+        Some(mut door) => gives_and_takes(&mut door),
+        None => false,
+    };
+    assert!(rt; is_right);
+}
+
+/// Whether two links that are given, with a failure between them, come back in the other order.
+fn come_back_otherwise(door: &mut MemDoor) -> bool {
     let Ok(Some(mut first)) = door.accept() else {
-        assert!(rt; false);
-        return Ok(());
+        return false;
     };
-    assert!(rt; door.accept().is_err());
+    let is_failed = door.accept().is_err();
     let Ok(Some(mut second)) = door.accept() else {
-        assert!(rt; false);
-        return Ok(());
+        return false;
     };
-    assert!(rt; echo(&mut second) == Ok(true));
+    let is_echoed = echo(&mut second) == Ok(true) && echo(&mut first) == Ok(true);
     door.give_back(second);
-    assert!(rt; echo(&mut first) == Ok(true));
     door.give_back(first);
-    for (link, text) in door.returned().iter().zip(["two", "one"].iter()) {
-        assert!(rt; link.bytes() == text.as_bytes());
-    }
-    Ok(())
+    is_failed && is_echoed && have_written(door, &["two", "one"])
+}
+
+#[test]
+fn links_come_back_in_any_order(rt: HostRuntime) {
+    let is_right = match door_of_three(rt.alloc()) {
+        Some(mut door) => come_back_otherwise(&mut door),
+        None => false,
+    };
+    assert!(rt; is_right);
 }

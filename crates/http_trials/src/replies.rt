@@ -1,7 +1,8 @@
 // Replies with their exact bytes: each refusal of a message, each status of an answer, the two faults, and bodies of the greatest length.
+use crate::messages::repeated;
 use http_heads::Method;
 use http_wire::{BODY_ROOM, Fault, Outbox};
-use std::test::Fail;
+use std::alloc::Global;
 
 /// The refusals of messages: the status, what the path has, whether the connection closes, and the bytes.
 const REFUSALS: [(u16, Option<Method>, bool, &str); 11] = [
@@ -82,73 +83,129 @@ pub fn refuse(outbox: &mut Outbox, status: u16, allow: Option<Method>, close: bo
     true
 }
 
+/// Whether a refusal has these bytes.
+fn is_refused(
+    outbox: &mut Outbox,
+    status: u16,
+    allow: Option<Method>,
+    close: bool,
+    text: &str,
+) -> bool {
+    refuse(outbox, status, allow, close) && outbox.bytes() == text.as_bytes()
+}
+
 #[test]
-fn messages_are_refused(rt: HostRuntime) -> Result<(), Fail> {
-    let mut outbox = Outbox::new(rt.alloc())?;
+fn messages_are_refused(rt: HostRuntime) {
+    let Ok(mut outbox) = Outbox::new(rt.alloc()) else {
+        panic!(rt; "no memory");
+    };
     assert!(rt; outbox.bytes().is_empty());
     for (status, allow, close, text) in REFUSALS {
-        assert!(rt; refuse(&mut outbox, status, allow, close), "{text}");
+        assert!(rt;
+            is_refused(&mut outbox, status, allow, close, text),
+            "{text}"
+        );
+    }
+}
+
+/// Answers: the status, the body, whether the connection closes, and the bytes.
+const REPLIES: [(u16, &str, bool, &str); 4] = [
+    (
+        200,
+        r#"{"now":0,"published":0,"reply":"state","rounds":2}"#,
+        false,
+        "HTTP/1.1 200 OK\r\nContent-Type: application/json\r\nContent-Length: 50\r\n\r\n{\"now\":0,\"published\":0,\"reply\":\"state\",\"rounds\":2}",
+    ),
+    (
+        403,
+        "{}",
+        true,
+        "HTTP/1.1 403 Forbidden\r\nContent-Type: application/json\r\nContent-Length: 2\r\nConnection: close\r\n\r\n{}",
+    ),
+    (
+        404,
+        "{}",
+        false,
+        "HTTP/1.1 404 Not Found\r\nContent-Type: application/json\r\nContent-Length: 2\r\n\r\n{}",
+    ),
+    (
+        409,
+        "{}",
+        false,
+        "HTTP/1.1 409 Conflict\r\nContent-Type: application/json\r\nContent-Length: 2\r\n\r\n{}",
+    ),
+];
+
+/// Puts an answer where its status is one. It answers whether its body is inside.
+pub fn answer(outbox: &mut Outbox, status: u16, body: &[u8], close: bool) -> bool {
+    if status < 100 || status > 999 {
+        return false;
+    }
+    outbox.reply(status, body, close)
+}
+
+/// Whether an answer has these bytes.
+fn is_replied(outbox: &mut Outbox, status: u16, body: &str, close: bool, text: &str) -> bool {
+    answer(outbox, status, body.as_bytes(), close) && outbox.bytes() == text.as_bytes()
+}
+
+#[test]
+fn answers_have_a_body(rt: HostRuntime) {
+    let Ok(mut outbox) = Outbox::new(rt.alloc()) else {
+        panic!(rt; "no memory");
+    };
+    for (status, body, close, text) in REPLIES {
+        assert!(rt;
+            is_replied(&mut outbox, status, body, close, text),
+            "{text}"
+        );
+    }
+}
+
+/// The faults, whether the connection closes, and the bytes.
+const FAULTS: [(Fault, bool, &str); 2] = [
+    (
+        Fault::Keeper,
+        false,
+        "HTTP/1.1 503 Service Unavailable\r\nContent-Type: application/json\r\nContent-Length: 18\r\n\r\n{\"fault\":\"keeper\"}",
+    ),
+    (
+        Fault::Memory,
+        true,
+        "HTTP/1.1 507 Insufficient Storage\r\nContent-Type: application/json\r\nContent-Length: 18\r\nConnection: close\r\n\r\n{\"fault\":\"memory\"}",
+    ),
+];
+
+#[test]
+fn faults_are_told(rt: HostRuntime) {
+    let Ok(mut outbox) = Outbox::new(rt.alloc()) else {
+        panic!(rt; "no memory");
+    };
+    for (fault, close, text) in FAULTS {
+        outbox.fail(fault, close);
         assert!(rt; outbox.bytes() == text.as_bytes(), "{text}");
     }
-    Ok(())
+}
+
+/// The heads of replies with a body of 8,192 bytes and one more.
+const LONGEST: &[u8] =
+    b"HTTP/1.1 200 OK\r\nContent-Type: application/json\r\nContent-Length: 8192\r\n\r\n";
+
+const LONGER: &[u8] =
+    b"HTTP/1.1 200 OK\r\nContent-Type: application/json\r\nContent-Length: 8193\r\n\r\n";
+
+/// Whether a body of so many bytes is inside, and the reply has so many bytes and begins so. None where there is no memory.
+fn stands(alloc: Global, len: usize, is_inside: bool, head: &[u8], total: usize) -> Option<bool> {
+    let mut outbox = Outbox::new(alloc).ok()?;
+    let body = repeated(alloc, b"", b"x", len)?;
+    let is_put = outbox.reply(200, body.as_slice(), false);
+    let bytes = outbox.bytes();
+    let is_whole = bytes.len() == total && bytes.starts_with(head);
+    Some(is_put == is_inside && is_whole && bytes.ends_with(body.as_slice()) == is_inside)
 }
 
 #[test]
-fn answers_have_a_body(rt: HostRuntime) -> Result<(), Fail> {
-    let mut outbox = Outbox::new(rt.alloc())?;
-    let state = br#"{"now":0,"published":0,"reply":"state","rounds":2}"#;
-    assert!(rt; outbox.reply(200, state, false));
-    assert!(rt;
-        outbox.bytes()
-            == b"HTTP/1.1 200 OK\r\nContent-Type: application/json\r\nContent-Length: 50\r\n\r\n{\"now\":0,\"published\":0,\"reply\":\"state\",\"rounds\":2}".as_slice()
-    );
-    assert!(rt; outbox.reply(403, b"{}", true));
-    assert!(rt;
-        outbox.bytes()
-            == b"HTTP/1.1 403 Forbidden\r\nContent-Type: application/json\r\nContent-Length: 2\r\nConnection: close\r\n\r\n{}".as_slice()
-    );
-    assert!(rt; outbox.reply(404, b"{}", false));
-    assert!(rt;
-        outbox.bytes()
-            == b"HTTP/1.1 404 Not Found\r\nContent-Type: application/json\r\nContent-Length: 2\r\n\r\n{}".as_slice()
-    );
-    assert!(rt; outbox.reply(409, b"{}", false));
-    assert!(rt;
-        outbox.bytes()
-            == b"HTTP/1.1 409 Conflict\r\nContent-Type: application/json\r\nContent-Length: 2\r\n\r\n{}".as_slice()
-    );
-    Ok(())
-}
-
-#[test]
-fn faults_are_told(rt: HostRuntime) -> Result<(), Fail> {
-    let mut outbox = Outbox::new(rt.alloc())?;
-    outbox.fail(Fault::Keeper, false);
-    assert!(rt;
-        outbox.bytes()
-            == b"HTTP/1.1 503 Service Unavailable\r\nContent-Type: application/json\r\nContent-Length: 18\r\n\r\n{\"fault\":\"keeper\"}".as_slice()
-    );
-    outbox.fail(Fault::Memory, true);
-    assert!(rt;
-        outbox.bytes()
-            == b"HTTP/1.1 507 Insufficient Storage\r\nContent-Type: application/json\r\nContent-Length: 18\r\nConnection: close\r\n\r\n{\"fault\":\"memory\"}".as_slice()
-    );
-    Ok(())
-}
-
-#[test]
-fn a_long_body_stays_outside(rt: HostRuntime) -> Result<(), Fail> {
-    let mut outbox = Outbox::new(rt.alloc())?;
-    let body = vec![in rt.alloc(); b'x'; BODY_ROOM]?;
-    assert!(rt; outbox.reply(200, &body, false));
-    let head = b"HTTP/1.1 200 OK\r\nContent-Type: application/json\r\nContent-Length: 8192\r\n\r\n";
-    assert!(rt; outbox.bytes().starts_with(head) && outbox.bytes().ends_with(&body));
-    assert_eq!(rt; outbox.bytes().len(), 8_265);
-    let longer = vec![in rt.alloc(); b'x'; 8_193]?;
-    assert!(rt; !outbox.reply(200, &longer, false));
-    assert!(rt;
-        outbox.bytes()
-            == b"HTTP/1.1 200 OK\r\nContent-Type: application/json\r\nContent-Length: 8193\r\n\r\n".as_slice()
-    );
-    Ok(())
+fn a_long_body_stays_outside(rt: HostRuntime) {
+    assert!(rt; stands(rt.alloc(), BODY_ROOM, true, LONGEST, 8_265) == Some(true));
+    assert!(rt; stands(rt.alloc(), 8_193, false, LONGER, 73) == Some(true));
 }

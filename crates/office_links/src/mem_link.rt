@@ -4,33 +4,30 @@ ghost use Rattle.office_base.specs.Outside.{Rose, TakesPrefix, ComesAtTheEnd, Ap
 ghost use Rattle.office_base.specs.Memory.{counted};
 
 use crate::Link;
-use office_base::{Failed, OutOfMemory, fails_at};
+use office_base::{Failed, MemSink, MemSource, OutOfMemory, Sink, Source, fails_at};
 use std::alloc::Global;
 use std::marker::Model;
 
-/// Bytes to read, in pieces of at most `piece` bytes, and room for those that are written. All room is taken when it is made, so
-/// reads and writes take no memory.
+/// Bytes to read, in pieces of at most `piece` bytes, and room for those that are written: a source and a sink in memory, which are told
+/// of no call to fail, with one number over the calls of both. All room is taken when it is made, so reads and writes take no memory.
 #[derive(Debug, Drop)]
 pub struct MemLink {
-    input: Vec<u8>,
-    read: usize,
-    piece: usize,
-    output: Vec<u8>,
-    room: usize,
+    source: MemSource,
+    sink: MemSink,
     calls: u64,
     fail_at: Vec<u32>,
     faults: u64,
 }
 
 impl Model for MemLink {
-    ghost use Rattle.std.specs.Prelude.{◌<◌, ◌≤◌, drop, length, vec_len, vec_capacity};
+    ghost use Rattle.std.specs.Prelude.{◌≡◌, []};
     ghost use Rattle.office_links.specs.Memory.{LinkMemory};
 
     ghost Value = { LinkMemory };
 
-    ghost view = { λ a. record { left = drop a.read a.input.items; piece = a.piece; written = a.output.items; room = a.room; calls = a.calls; fail_at = a.fail_at.items; faults = a.faults } };
+    ghost view = { λ a. record { left = a.source.left; piece = a.source.piece; written = a.sink.written; room = a.sink.room; calls = a.calls; fail_at = a.fail_at.items; faults = a.faults } };
 
-    ghost invariant = { λ a. (a.read ≤ length a.input.items) × (0 < a.piece) × (vec_len a.output ≤ a.room) × (a.room ≤ vec_capacity a.output) };
+    ghost invariant = { λ a. (a.source.fail_at ≡ []) × (a.sink.fail_at ≡ []) };
 }
 
 impl MemLink {
@@ -47,11 +44,8 @@ impl MemLink {
         ensures { IfOk result (λ link. link ≡ record { left = bytes.now; piece = piece; written = []; room = room; calls = 0; fail_at = fail_at.now; faults = 0 }) }
     {
         Ok(MemLink {
-            input: Vec::from_slice(alloc, bytes)?,
-            read: 0,
-            piece,
-            output: Vec::with_capacity(alloc, room)?,
-            room,
+            source: MemSource::new(alloc, bytes, piece, &[])?,
+            sink: MemSink::new(alloc, room, &[])?,
             calls: 0,
             fail_at: Vec::from_slice(alloc, fail_at)?,
             faults: 0,
@@ -62,7 +56,15 @@ impl MemLink {
     pub fn bytes(&self) -> &[u8]
         ensures { result.now ≡ self.now.written }
     {
-        self.output.as_slice()
+        self.sink.bytes()
+    }
+
+    /// The failure of a call, which is one fault more.
+    fn failed(&mut self) -> Failed
+        ensures { self.new ≡ record self.old { faults = counted self.old.faults } }
+    {
+        self.faults = self.faults.saturating_add(1);
+        Failed
     }
 }
 
@@ -90,14 +92,12 @@ impl Link for MemLink {
     {
         self.calls = self.calls.saturating_add(1);
         if fails_at(&self.fail_at, self.calls) {
-            self.faults = self.faults.saturating_add(1);
-            return Err(Failed);
+            return Err(self.failed());
         }
-        let left = self.input.len() - self.read;
-        let count = self.piece.min(buf.len().min(left));
-        buf[..count].copy_from_slice(&self.input[self.read..self.read + count]);
-        self.read += count;
-        Ok(count)
+        match self.source.read(buf) {
+            Ok(count) => Ok(count),
+            Err(_) => unreachable!("the source is told of no call to fail"),
+        }
     }
 
     fn write(&mut self, piece: &[u8]) -> Result<usize, Failed>
@@ -117,15 +117,12 @@ impl Link for MemLink {
         ensures rest { self.new ≡ record { left = self.old.left; piece = self.old.piece; written = self.new.written; room = self.old.room; calls = counted self.old.calls; fail_at = self.old.fail_at; faults = self.new.faults } }
     {
         self.calls = self.calls.saturating_add(1);
-        let room = self.room - self.output.len();
-        if fails_at(&self.fail_at, self.calls) || (room == 0 && !piece.is_empty()) {
-            self.faults = self.faults.saturating_add(1);
-            return Err(Failed);
+        if fails_at(&self.fail_at, self.calls) {
+            return Err(self.failed());
         }
-        let count = piece.len().min(room);
-        if self.output.extend_from_slice(&piece[..count]).is_err() {
-            unreachable!("the room was taken when the link was made")
+        match self.sink.write(piece) {
+            Ok(count) => Ok(count),
+            Err(_) => Err(self.failed()),
         }
-        Ok(count)
     }
 }
