@@ -1,3 +1,3 @@
 pub mod Lists
 pub mod People
-mod Streams
+pub mod Streams

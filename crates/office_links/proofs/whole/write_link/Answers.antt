@@ -3,7 +3,8 @@ use Rattle.std.proofs.lemmas.List.{take-append-drop}
 use Rattle.std.proofs.lemmas.Bool.Decides.{nat_tests}
 use Rattle.std.proofs.lemmas.Result.{err_from_is_err_and}
 use Rattle.office_base.specs.Outside.{Appends}
-use Rattle.office_links.proofs.Writing.{Appends-more, written_prefix}
+use Rattle.office_base.proofs.Streams.{Appends-more}
+use Rattle.office_links.proofs.Writing.{written_prefix}
 use Rattle.office_links.proofs.whole.write_link.Goals as goal
 
 pub returns-in_err-count-clause-err : goal.returns-in_err-count-clause-err
