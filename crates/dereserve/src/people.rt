@@ -2,6 +2,7 @@
 ghost use Rattle.std.specs.Prelude.{◌≡◌, IfOk, take};
 ghost use Rattle.std.specs.List.{filter};
 ghost use Rattle.office_base.specs.Person.{IsList, is_common};
+ghost use Rattle.office_base.specs.StepChoice.{AreRanked};
 
 use office_base::{ListId, OutOfMemory, People, Person, Place};
 use std::alloc::Global;
@@ -41,7 +42,8 @@ fn best(alloc: Global, people: &[Person], seats: u32) -> Result<People, OutOfMem
 /// Who fills de-reserved seats: the best of those with a common place in the list, as many as there are seats or
 /// candidates. The rest, whom no earlier step took, stand in merit order, and so do those who fill the seats.
 pub fn fill(alloc: Global, rest: &[Person], list: ListId, seats: u32) -> Result<People, OutOfMemory>
-    requires { IsList list }
+    requires list { IsList list }
+    requires ranked { AreRanked list rest.now }
     ensures { IfOk result (λ filled. filled ≡ take seats (filter (is_common list) rest.now)) }
 {
     let candidates = commons(alloc, rest, list)?;
