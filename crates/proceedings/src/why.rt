@@ -14,6 +14,7 @@ use office_base::{CandId, ProgId, Seat};
 use reasons::{Reason, WhyAnswer};
 use rounds::Round;
 use seeks::{Seek, is_sought};
+use window_ends::place_of;
 
 impl Proceedings {
     /// The answer to why, for the candidate at this position, by the last published round.
@@ -138,18 +139,4 @@ impl Proceedings {
             &season.register.people()[at],
         )
     }
-}
-
-/// How far down the list a programme stands, from 0; the length of the list where it does not.
-fn place_of(list: &[ProgId], prog: ProgId) -> usize
-    ensures { result ≡ place_of list.now prog.0 }
-{
-    let mut place = 0;
-    for other in list {
-        if *other == prog {
-            return place;
-        }
-        place += 1;
-    }
-    place
 }

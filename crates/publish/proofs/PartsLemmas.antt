@@ -56,10 +56,10 @@ is_left-inside piece part more e = record {
 -- ---- cuts
 
 -- equal lists have equal heads and tails
-heads : (a b : ℕ) (xs ys : List ℕ) → a ∷ xs ≡ b ∷ ys → a ≡ b
+pub heads : (a b : ℕ) (xs ys : List ℕ) → a ∷ xs ≡ b ∷ ys → a ≡ b
 heads a b xs ys e = ap (λ (z : List ℕ). get_or z 0 0) e
 
-tails : (a b : ℕ) (xs ys : List ℕ) → a ∷ xs ≡ b ∷ ys → xs ≡ ys
+pub tails : (a b : ℕ) (xs ys : List ℕ) → a ∷ xs ≡ b ∷ ys → xs ≡ ys
 tails a b xs ys e = ap (λ (z : List ℕ). drop 1 z) e
 
 -- there is one way to cut at the first of a byte

@@ -1,5 +1,5 @@
 -- What a piece of a line begins, part by part.
-use Rattle.std.proofs.Common.{◌≡◌, inl, inr, ℕ, true, false, eqb, List, [], ◌∷◌, ◌++◌, length, drop, get_or, refl, sym, ap, ◌∙◌, arith, eq-eqb}
+use Rattle.std.proofs.Common.{◌≡◌, inl, inr, ℕ, true, false, eqb, List, [], ◌∷◌, ◌++◌, length, refl, sym, ap, ◌∙◌, arith, eq-eqb}
 use Rattle.std.proofs.lemmas.Bool.{cond-true, cond-false, ne_eqb, cases_eq, false≢true}
 use Rattle.std.specs.Fmt.{decimal}
 use Rattle.office_base.specs.declared.step.StepKind.{StepKind}
@@ -9,6 +9,7 @@ use Rattle.step_lines.specs.Lines.{step_name}
 use Rattle.publish.specs.Parts.{IsApart, IsLeft, is_prefix}
 use Rattle.publish.specs.Pieces.{BeginsCode, BeginsRow, BeginsSeat, BeginsStep}
 use Rattle.publish.specs.Reading.{HasNo}
+use Rattle.publish.proofs.PartsLemmas.{heads, tails}
 
 -- a piece that begins a line begins it with what follows
 pub prefix-more : (piece whole : List ℕ) → is_prefix piece whole ≡ true → (more : List ℕ) × (whole ≡ piece ++ more)
@@ -20,12 +21,6 @@ prefix-more (b ∷ piece) (c ∷ whole) e = elim (cases_eq b c) [
       (more, ap (λ z. z ∷ whole) (sym same) ∙ ap (λ z. b ∷ z) is)
   | inr other ↦ absurd (false≢true (sym (cond-false (eqb b c) (is_prefix piece whole) false (ne_eqb b c other)) ∙ e))
 ]
-
-heads : (a b : ℕ) (xs ys : List ℕ) → a ∷ xs ≡ b ∷ ys → a ≡ b
-heads a b xs ys e = ap (λ (z : List ℕ). get_or z 0 0) e
-
-tails : (a b : ℕ) (xs ys : List ℕ) → a ∷ xs ≡ b ∷ ys → xs ≡ ys
-tails a b xs ys e = ap (λ (z : List ℕ). drop 1 z) e
 
 -- a piece of the first line begins that line
 pub prefix-line : (byte : ℕ) (piece more line rest : List ℕ) → HasNo byte piece → piece ++ more ≡ line ++ byte ∷ rest → (tail : List ℕ) → is_prefix piece (line ++ byte ∷ tail) ≡ true

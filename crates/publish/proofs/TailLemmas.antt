@@ -1,5 +1,5 @@
 -- Which rows can follow, and that so many can exactly where some text completes them.
-use Rattle.std.proofs.Common.{◌≡◌, ◌<◌, ◌≤◌, ◌+◌, ◌^◌, inl, inr, ℕ, zero, suc, eqb, List, [], ◌∷◌, ◌++◌, Some, is_some, length, drop, get_or, map, refl, sym, ap, subst, ◌∙◌, arith, append_assoc, eq-eqb}
+use Rattle.std.proofs.Common.{◌≡◌, ◌<◌, ◌≤◌, ◌+◌, ◌^◌, inl, inr, ℕ, zero, suc, eqb, List, [], ◌∷◌, ◌++◌, Some, is_some, length, map, refl, sym, ap, subst, ◌∙◌, arith, append_assoc, eq-eqb}
 use Rattle.std.proofs.lemmas.Bool.{cond-true, cond-false, ne_eqb, cases_eq, false≢true}
 use Rattle.std.specs.List.{flat_map}
 use Rattle.std.specs.Option.{unwrap_or}
@@ -12,6 +12,7 @@ use Rattle.publish.specs.Parts.{people_after, row_words}
 use Rattle.publish.specs.Reader.{AreSmall}
 use Rattle.publish.specs.Rows.{AreRows, CanGoOn, IsTail, ending, row_line, tail_text, word}
 use Rattle.publish.specs.declared.sort.Sort.{Sort}
+use Rattle.publish.proofs.PartsLemmas.{heads, tails}
 
 -- the ids of people
 abbrev pub ids : List Person → List ℕ
@@ -22,12 +23,6 @@ abbrev pub cands : List AllotRow → List ℕ
 cands rows = map (λ row. row.cand.0) rows
 
 -- ---- lists within lists
-
-heads : (a b : ℕ) (xs ys : List ℕ) → a ∷ xs ≡ b ∷ ys → a ≡ b
-heads a b xs ys e = ap (λ (z : List ℕ). get_or z 0 0) e
-
-tails : (a b : ℕ) (xs ys : List ℕ) → a ∷ xs ≡ b ∷ ys → xs ≡ ys
-tails a b xs ys e = ap (λ (z : List ℕ). drop 1 z) e
 
 pub sub-nothing : (ys : List ℕ) → IsSublist [] ys
 sub-nothing [] = refl

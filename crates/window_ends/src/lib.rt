@@ -12,4 +12,4 @@ mod standing;
 
 pub use allotting::{final_rows, rows_of_round};
 pub use leaving::leave_all;
-pub use seeking::seeks_after;
+pub use seeking::{place_of, seeks_after};

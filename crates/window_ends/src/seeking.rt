@@ -15,16 +15,16 @@ use seeks::Seek;
 use std::alloc::Global;
 
 /// How far down a list a programme stands, from 0; the length of the list where it does not.
-fn place_of(list: &[ProgId], prog: ProgId) -> u16
-    requires { length list.now ≤ 1000 }
-    ensures { result ≡ place_of list.now prog.0 }
+pub fn place_of(list: &[ProgId], prog: ProgId) -> usize
+    ensures place { result ≡ place_of list.now prog.0 }
+    ensures within { result ≤ length list.now }
 {
     for (place, other) in list.iter().enumerate() {
         if *other == prog {
-            return place as u16;
+            return place;
         }
     }
-    list.len() as u16
+    list.len()
 }
 
 /// The place of a seat in a list, where there is a seat.
@@ -33,7 +33,7 @@ fn seat_place(list: &[ProgId], seat: Option<Seat>) -> Option<u16>
     ensures { result ≡ option_map (λ seat. place_of list.now seat.prog.0) seat }
 {
     match seat {
-        Some(seat) => Some(place_of(list, seat.prog)),
+        Some(seat) => Some(place_of(list, seat.prog) as u16),
         None => None,
     }
 }
