@@ -28,6 +28,7 @@ use Rattle.command_answers.specs.Writes.{Writes, memory_line, read_line}
 use Rattle.command_answers.specs.declared.status.Status.{Status}
 use Rattle.command_answers.specs.declared.status.Status.TheVariants.{Ok as Done, Usage, BadInput, ReadFault, WriteFault, KeeperFault, OutOfMemory, Differs}
 use Rattle.season_commands.specs.Office.{EndsOffice, keeper_line}
+use Rattle.season_commands.specs.Run.{TellsNoSeason}
 use Rattle.season_commands.specs.Stray.{replay_line}
 
 abbrev pub no_season_line : List ℕ
@@ -124,6 +125,32 @@ abbrev pub TellsSound : Tables → Type 0
 TellsSound Untold = ⊥
 TellsSound NoSeason = ⊥
 TellsSound (Records records) = HaveNoFault records
+
+-- the text of the records is no bundle
+abbrev pub HaveTextFault : Kept → Type 0
+HaveTextFault records = (fault : SeasonFault) × HasFault false records.season fault
+
+-- the keeper tells records whose text is no bundle
+abbrev pub TellsTextFault : Tables → Type 0
+TellsTextFault Untold = ⊥
+TellsTextFault NoSeason = ⊥
+TellsTextFault (Records records) = HaveTextFault records
+
+-- The text of the records is a bundle, and of each season that the text spells a row or a seat of theirs has a fault.
+pub record HaveRowFault (records : Kept) : Type 0 where
+  pub season : Season
+  pub read : IsSeason records.season season
+  pub faulty : (spelt : Season) → IsSeason records.season spelt → (fault : ReplayFault) × (fault ≢ NoMemory) × IsReplayFault (facts_of spelt) records fault
+
+-- the keeper tells records that have such a fault
+abbrev pub TellsRowFault : Tables → Type 0
+TellsRowFault Untold = ⊥
+TellsRowFault NoSeason = ⊥
+TellsRowFault (Records records) = HaveRowFault records
+
+-- the keeper tells that no office can go on: it holds no season, or records with a fault
+abbrev pub TellsNoOffice : Tables → Type 0
+TellsNoOffice tables = TellsNoSeason tables ⊎ (TellsTextFault tables ⊎ TellsRowFault tables)
 
 -- the status of why no office goes on
 abbrev pub unresumed_status : ResumeFault → Status

@@ -7,7 +7,7 @@ ghost use Rattle.office_moves.specs.Stands.{Stand};
 ghost use Rattle.round_cut.specs.Resume.{IsJudged};
 ghost use Rattle.command_answers.specs.Answers.{IsFailureOf, Tells};
 ghost use Rattle.command_answers.specs.Writes.{Writes};
-ghost use Rattle.season_commands.specs.Resume.{AreLeftRequests, EndsAsked, EndsResume, IsFaultyScript, IsScript, IsUnresumedLine, IsUnresumedText, TellsSound, script_answers, unresumed_status};
+ghost use Rattle.season_commands.specs.Resume.{AreLeftRequests, EndsAsked, EndsResume, IsFaultyScript, IsScript, IsUnresumedLine, IsUnresumedText, TellsNoOffice, TellsRowFault, TellsSound, TellsTextFault, script_answers, unresumed_status};
 ghost use Rattle.season_commands.specs.Run.{TellsNoSeason};
 ghost use Rattle.season_commands.specs.Stray.{differs_line};
 ghost use Rattle.season_file.specs.Season.{IsSeason};
@@ -19,8 +19,11 @@ use crate::stray::{differs_text, stray_text};
 use command_answers::{Failure, Status, tell_failure, tell_no_memory, write_answer};
 use keeper_mem::{Keeper, Kept};
 use office_base::{CandId, OutOfMemory, Seat, Sink, Source, Text};
+use office_moves::says_what_is_sound;
+use replays::laws::one_end;
 use request_rows::Script;
 use round_cut::{Office, ResumeFault, Unresumed};
+use season_file::laws::one_reading;
 use season_file::{Season, read_script};
 use season_texts::fault_text;
 use std::alloc::Global;
@@ -51,9 +54,19 @@ pub fn resume_season<S: Source, K: Sink, P: Keeper>(
         → (result.0 ≡ Status.BadInput) ⊎ (result.0 ≡ Status.OutOfMemory) }
     ensures none_kept { TellsNoSeason (P.tables keeper) → ¬ Rose (K.faults sink.old) (K.faults sink.new) → ¬ Rose (P.faults keeper) (P.faults result.1)
         → (result.0 ≡ Status.BadInput) ⊎ (result.0 ≡ Status.OutOfMemory) }
+    ensures kept_text { TellsTextFault (P.tables keeper) → ¬ Rose (K.faults sink.old) (K.faults sink.new) → ¬ Rose (P.faults keeper) (P.faults result.1)
+        → (result.0 ≡ Status.BadInput) ⊎ (result.0 ≡ Status.OutOfMemory) }
+    ensures differs { TellsRowFault (P.tables keeper) → ¬ Rose (K.faults sink.old) (K.faults sink.new) → ¬ Rose (P.faults keeper) (P.faults result.1)
+        → (result.0 ≡ Status.Differs) ⊎ (result.0 ≡ Status.OutOfMemory) }
+    ensures unread { (result.0 ≡ Status.Differs) ⊎ TellsNoOffice (P.tables keeper) → source.new ≡ source.old }
 {
+    one_end();
+    one_reading();
     match Office::resume_or_records(alloc, keeper) {
-        Ok(office) => go_on(alloc, office, source, sink),
+        Ok(office) => {
+            says_what_is_sound(office.season());
+            go_on(alloc, office, source, sink)
+        }
         Err((keeper, stopped)) => (tell_unresumed(alloc, sink, &stopped), keeper),
     }
 }
