@@ -1,5 +1,5 @@
 -- The command `resume`: an office goes on from what the keeper holds; its input are requests alone, and its output are the replies to them.
-use Rattle.std.specs.Prelude.{◌≡◌, ◌≢◌, ◌<◌, ◌≤◌, ◌⊎◌, ℕ, false, List, Option, Ok, Err, codes, length}
+use Rattle.std.specs.Prelude.{◌≡◌, ◌≢◌, ◌<◌, ◌≤◌, ◌⊎◌, ℕ, false, List, Option, Ok, Err, IsSome, codes, length}
 use Rattle.std.specs.Str.{IsUtf8}
 use Rattle.office_base.specs.Limits.{most_bundle_bytes}
 use Rattle.office_base.specs.Outside.{AreLeft}
@@ -161,6 +161,16 @@ unresumed_status (StrayRaise row) = Differs
 unresumed_status (SeatsDiffer round cand one other) = Differs
 unresumed_status KeeperFailed = KeeperFault
 unresumed_status NoMemoryToResume = OutOfMemory
+
+-- the records themselves have the fault; where it is a difference, they are there
+abbrev pub IsOfRecords : Option Kept → ResumeFault → Type 0
+IsOfRecords records NoneKept = ⊥
+IsOfRecords records (BadSeason fault) = Unit {0}
+IsOfRecords records (Stray row) = Unit {0}
+IsOfRecords records (StrayRaise row) = Unit {0}
+IsOfRecords records (SeatsDiffer round cand one other) = IsSome records
+IsOfRecords records KeeperFailed = ⊥
+IsOfRecords records NoMemoryToResume = ⊥
 
 -- the line that tells it is one that goes with its status
 abbrev pub IsUnresumedLine : Option Kept → ResumeFault → List ℕ → Type 0
