@@ -3,7 +3,7 @@ ghost use Rattle.std.specs.Prelude.{◌≡◌, ◌≢◌, ◌≤◌, ◌⊎◌, 
 ghost use Rattle.office_base.specs.Outside.{Rose, IsAtEnd, Appends};
 ghost use Rattle.allocation_cli.specs.Program.{BeginsNone, BeginsOffice, Ends, IsReady, IsWritten, ReadsNone, ReadsSource, TellsFault, TellsInput};
 ghost use Rattle.command_answers.specs.Answers.{Tells};
-ghost use Rattle.season_commands.specs.Resume.{IsFaultyScript, TellsSound};
+ghost use Rattle.season_commands.specs.Resume.{IsFaultyScript, TellsNoOffice, TellsRowFault, TellsSound, TellsTextFault};
 ghost use Rattle.season_commands.specs.Run.{TellsNoSeason, TellsSeason};
 ghost use Rattle.command_words.specs.Words.{IsInRange, Spell, SpellNothing};
 ghost use Rattle.command_words.specs.declared.words.Command.{Command as AnyCommand};
@@ -47,6 +47,10 @@ pub fn allocate<S: Source, K: Sink, P: Keeper>(
     ensures unkept { SpellNothing words.now → result.1 ≡ keeper }
     ensures untouched { (command : AnyCommand) → Spell words.now command → BeginsNone command → result.1 ≡ keeper }
 
+    // Under `resume` the records come first: where they have a fault, or there are none, the source is as it was.
+    ensures records_first { (store : AnyStore) → Spell words.now (Resume store) → (result.0 ≡ Status.Differs) ⊎ TellsNoOffice (P.tables keeper)
+        → (S.left source.new ≡ S.left source.old) × (S.faults source.new ≡ S.faults source.old) }
+
     // A fault of the outside comes only where that object failed in this call.
     ensures read_fault { result.0 ≡ Status.ReadFault → Rose (S.faults source.old) (S.faults source.new) }
     ensures write_fault { result.0 ≡ Status.WriteFault → Rose (K.faults sink.old) (K.faults sink.new) }
@@ -76,6 +80,12 @@ pub fn allocate<S: Source, K: Sink, P: Keeper>(
     ensures none_kept { (store : AnyStore) → Spell words.now (Resume store) → TellsNoSeason (P.tables keeper)
         → ¬ Rose (K.faults sink.old) (K.faults sink.new) → ¬ Rose (P.faults keeper) (P.faults result.1)
         → (result.0 ≡ Status.BadInput) ⊎ (result.0 ≡ Status.OutOfMemory) }
+    ensures kept_text { (store : AnyStore) → Spell words.now (Resume store) → TellsTextFault (P.tables keeper)
+        → ¬ Rose (K.faults sink.old) (K.faults sink.new) → ¬ Rose (P.faults keeper) (P.faults result.1)
+        → (result.0 ≡ Status.BadInput) ⊎ (result.0 ≡ Status.OutOfMemory) }
+    ensures differs { (store : AnyStore) → Spell words.now (Resume store) → TellsRowFault (P.tables keeper)
+        → ¬ Rose (K.faults sink.old) (K.faults sink.new) → ¬ Rose (P.faults keeper) (P.faults result.1)
+        → (result.0 ≡ Status.Differs) ⊎ (result.0 ≡ Status.OutOfMemory) }
 {
     one_spelling();
     match read_words(alloc, words) {
@@ -99,6 +109,8 @@ fn run<S: Source, K: Sink, P: Keeper>(
     ensures read_whole { ReadsSource command → result.0 ≡ Status.Ok → IsAtEnd (S.left source.new) }
     ensures spared { ReadsNone command → (S.left source.new ≡ S.left source.old) × (S.faults source.new ≡ S.faults source.old) }
     ensures untouched { BeginsNone command → result.1 ≡ keeper }
+    ensures records_first { (store : AnyStore) → command ≡ Resume store → (result.0 ≡ Status.Differs) ⊎ TellsNoOffice (P.tables keeper)
+        → (S.left source.new ≡ S.left source.old) × (S.faults source.new ≡ S.faults source.old) }
     ensures read_fault { result.0 ≡ Status.ReadFault → Rose (S.faults source.old) (S.faults source.new) }
     ensures write_fault { result.0 ≡ Status.WriteFault → Rose (K.faults sink.old) (K.faults sink.new) }
     ensures keeper_fault { result.0 ≡ Status.KeeperFault → Rose (P.faults keeper) (P.faults result.1) }
@@ -121,6 +133,12 @@ fn run<S: Source, K: Sink, P: Keeper>(
     ensures none_kept { (store : AnyStore) → command ≡ Resume store → TellsNoSeason (P.tables keeper)
         → ¬ Rose (K.faults sink.old) (K.faults sink.new) → ¬ Rose (P.faults keeper) (P.faults result.1)
         → (result.0 ≡ Status.BadInput) ⊎ (result.0 ≡ Status.OutOfMemory) }
+    ensures kept_text { (store : AnyStore) → command ≡ Resume store → TellsTextFault (P.tables keeper)
+        → ¬ Rose (K.faults sink.old) (K.faults sink.new) → ¬ Rose (P.faults keeper) (P.faults result.1)
+        → (result.0 ≡ Status.BadInput) ⊎ (result.0 ≡ Status.OutOfMemory) }
+    ensures differs { (store : AnyStore) → command ≡ Resume store → TellsRowFault (P.tables keeper)
+        → ¬ Rose (K.faults sink.old) (K.faults sink.new) → ¬ Rose (P.faults keeper) (P.faults result.1)
+        → (result.0 ≡ Status.Differs) ⊎ (result.0 ≡ Status.OutOfMemory) }
 {
     one_answer();
     match command {

@@ -1,5 +1,5 @@
 -- An office goes on from what a keeper holds.
-use Rattle.std.specs.Prelude.{◌≡◌, false, Option, Some, None}
+use Rattle.std.specs.Prelude.{◌≡◌, false, List, Option, Some, None}
 use Rattle.office_base.specs.declared.asks.Seat.{Seat}
 use Rattle.season_file.specs.Laws.{HasFault}
 use Rattle.season_file.specs.Season.{IsSeason}
@@ -9,6 +9,9 @@ use Rattle.keeper_mem.specs.declared.rows.Kept.{Kept}
 use Rattle.office_moves.specs.Facts.{SeasonFacts}
 use Rattle.office_moves.specs.Season.{facts_of}
 use Rattle.office_moves.specs.State.{State}
+use Rattle.office_moves.specs.declared.moves.Entry.{Entry}
+use Rattle.replays.specs.Acts.{kept_acts}
+use Rattle.replays.specs.Counted.{counted}
 use Rattle.replays.specs.Faults.{IsReplayFault}
 use Rattle.replays.specs.Replay.{IsReplayed}
 use Rattle.replays.specs.declared.fault.ReplayFault.{ReplayFault}
@@ -26,6 +29,10 @@ pub record LeadTo (records : Kept) (facts : SeasonFacts) (state : State) : Type 
 -- the records of these tables, or any where nothing is told, lead to a state of a season
 abbrev pub IsResumed : Tables → SeasonFacts → State → Type 0
 IsResumed tables facts state = (records : Kept) × IsLoaded tables records × LeadTo records facts state
+
+-- the entries are what is kept in these tables, or in any where nothing is told: window after window its raises, its answers and its cut, with the numbers 1, 2, 3
+abbrev pub HoldsTheKept : Tables → List Entry → Type 0
+HoldsTheKept tables entries = (records : Kept) × IsLoaded tables records × (entries ≡ counted (kept_acts records))
 
 -- the text reads as a season, and the rows and seats have this fault first
 abbrev pub HaveReplayFault : Kept → ReplayFault → Type 0

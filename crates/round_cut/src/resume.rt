@@ -3,10 +3,12 @@ ghost use Rattle.std.specs.Prelude.{◌≡◌, ◌≤◌, IfOk, IfErr, OnOk, IsE
 ghost use Rattle.office_base.specs.Outside.{Rose};
 ghost use Rattle.keeper_mem.specs.Tables.{AreTold, IsLoaded, Tables};
 ghost use Rattle.office_moves.specs.History.{IsHistory};
+ghost use Rattle.office_moves.specs.Promise.{KeepsItsWord};
 ghost use Rattle.office_moves.specs.Stands.{AreRecordsOf, Stand};
-ghost use Rattle.replays.specs.Counted.{AreCounted};
+ghost use Rattle.replays.specs.Acts.{kept_acts};
+ghost use Rattle.replays.specs.Counted.{AreCounted, counted};
 ghost use Rattle.round_cut.specs.Office.{HasRoom};
-ghost use Rattle.round_cut.specs.Resume.{HaveFault, IsJudged, IsLoadFault, IsResumeFault, IsResumed, IsRoomFault, LeadTo};
+ghost use Rattle.round_cut.specs.Resume.{HaveFault, HoldsTheKept, IsJudged, IsLoadFault, IsResumeFault, IsResumed, IsRoomFault, LeadTo};
 
 use crate::fault::ResumeFault;
 use crate::office::Office;
@@ -82,6 +84,7 @@ fn load_records<K: Keeper>(alloc: Global, keeper: &mut K) -> Result<Kept, Resume
 fn replay_records(alloc: Global, records: &Kept) -> Result<Proceedings, ResumeFault>
     ensures led { IfOk result (λ book. LeadTo records.now book.season book.state) }
     ensures stands { IfOk result (λ book. AreRecordsOf book.season book.state records.now) }
+    ensures entries { IfOk result (λ book. book.entries ≡ counted (kept_acts records.now)) }
     ensures counted { IfOk result (λ book. AreCounted book.entries) }
     ensures fault { IfErr result (λ fault. HaveFault records.now fault) }
 {
@@ -110,8 +113,10 @@ impl<K: Keeper> Office<K> {
     #[tactic(auto, using(crate::proofs::Resumed::judged_fault))]
     pub fn resume(alloc: Global, keeper: K) -> Result<Office<K>, (K, ResumeFault)>
         ensures resumed { IfOk result (λ office. IsResumed (K.tables keeper) office.season office.state) }
+        ensures entries { IfOk result (λ office. HoldsTheKept (K.tables keeper) office.entries) }
         ensures counted { IfOk result (λ office. AreCounted office.entries) }
         ensures history { IfOk result (λ office. IsHistory office.season office.entries office.state) }
+        ensures word { IfOk result (λ office. KeepsItsWord office.season office.state) }
         ensures fault { IfErr result (λ e. IsResumeFault (K.tables keeper) e.1) }
         ensures stands { IfOk result (λ office. Stand office.season office.state (K.tables office.keeper)) }
         ensures told { IfOk result (λ office. AreTold (K.tables keeper) (K.tables office.keeper)) }
@@ -134,8 +139,10 @@ impl<K: Keeper> Office<K> {
     /// As `resume`; after a fault of the records these are handed back too, so that it can be told with the codes of their season.
     pub fn resume_or_records(alloc: Global, mut keeper: K) -> Result<Office<K>, (K, Unresumed)>
         ensures resumed { IfOk result (λ office. IsResumed (K.tables keeper) office.season office.state) }
+        ensures entries { IfOk result (λ office. HoldsTheKept (K.tables keeper) office.entries) }
         ensures counted { IfOk result (λ office. AreCounted office.entries) }
         ensures history { IfOk result (λ office. IsHistory office.season office.entries office.state) }
+        ensures word { IfOk result (λ office. KeepsItsWord office.season office.state) }
         ensures fault { IfErr result (λ e. IsJudged (K.tables keeper) e.1.records e.1.fault) }
         ensures stands { IfOk result (λ office. Stand office.season office.state (K.tables office.keeper)) }
         ensures told { IfOk result (λ office. AreTold (K.tables keeper) (K.tables office.keeper)) }

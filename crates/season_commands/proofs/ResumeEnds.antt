@@ -1,5 +1,5 @@
 -- How the command `resume` ends.
-use Rattle.std.proofs.Common.{◌≡◌, ◌≢◌, ◌⊎◌, ◌∙◌, ap, inl, inr, ℕ, false, List, Option, Some, None, Result, Ok, Err, refl, sym, subst}
+use Rattle.std.proofs.Common.{◌≡◌, ◌≢◌, ◌⊎◌, ◌∙◌, ap, inl, inr, ℕ, Bool, false, List, [], Option, Some, None, Result, Ok, Err, refl, sym, subst}
 use Rattle.std.specs.Prelude.{IfOk}
 use Rattle.office_base.specs.declared.asks.Seat.{Seat}
 use Rattle.office_base.specs.declared.person.CandId.{CandId}
@@ -7,13 +7,16 @@ use Rattle.office_base.specs.Outside.{Appends}
 use Rattle.office_base.specs.declared.asks.Request.{Request}
 use Rattle.keeper_mem.specs.Tables.{Tables, Untold, NoSeason, Records, AreTold, IsFound, IsLoaded}
 use Rattle.keeper_mem.specs.declared.rows.Kept.{Kept}
-use Rattle.office_moves.specs.Facts.{SeasonFacts}
+use Rattle.office_moves.specs.Facts.{IsSound, SeasonFacts}
 use Rattle.office_moves.specs.State.{State}
 use Rattle.round_cut.specs.Resume.{IsFaultOf, IsJudged, IsLoadFault, IsResumed}
 use Rattle.round_cut.specs.declared.fault.ResumeFault.{ResumeFault}
 use Rattle.round_cut.specs.declared.fault.ResumeFault.TheVariants.{NoSeason as NoneKept, BadSeason, Stray, StrayRaise, Differs, KeeperFault, OutOfMemory as NoMemoryToResume}
+use Rattle.replays.specs.Faults.{IsReplayFault}
+use Rattle.replays.specs.Laws.{HaveOneEnd}
 use Rattle.replays.specs.declared.fault.ReplayFault.TheVariants.{Stray as StrayAnswer, StrayRaise as StrayLift, Differs as SeatsDiffer, OutOfMemory as NoMemoryToReplay}
-use Rattle.season_file.specs.Season.{IsSeason}
+use Rattle.season_file.specs.Laws.{HaveOneReading}
+use Rattle.season_file.specs.Season.{IsSeason, content_of}
 use Rattle.season_file.specs.declared.fault.SeasonFault.{SeasonFault}
 use Rattle.season_file.specs.declared.season.Season.{Season}
 use Rattle.season_texts.specs.Texts.{fault_line}
@@ -25,7 +28,7 @@ use Rattle.command_answers.specs.declared.status.Status.{Status}
 use Rattle.command_answers.specs.declared.status.Status.TheVariants.{Ok as Done, BadInput, ReadFault, WriteFault, KeeperFault as KeeperFailed, OutOfMemory, Differs as StatusDiffers}
 use Rattle.command_answers.proofs.Ended.{told_is_written}
 use Rattle.season_commands.specs.Office.{EndsOffice, keeper_line}
-use Rattle.season_commands.specs.Resume.{AreLeftRequests, EndsAsked, EndsResume, HaveNoFault, IsScript, IsFaultyScript, IsUnaskedText, IsUnresumedLine, IsUnresumedText, TellsSound, no_season_line, script_answers, unresumed_status}
+use Rattle.season_commands.specs.Resume.{AreLeftRequests, EndsAsked, EndsResume, HaveNoFault, IsScript, IsFaultyScript, IsUnaskedText, IsUnresumedLine, IsUnresumedText, HaveRowFault, HaveTextFault, TellsNoOffice, TellsRowFault, TellsSound, TellsTextFault, no_season_line, script_answers, unresumed_status}
 use Rattle.season_commands.specs.Run.{TellsNoSeason}
 use Rattle.season_commands.specs.Stray.{differs_line, raise_line_of, replay_line, stray_line}
 use Rattle.season_commands.proofs.Requests.{not_faulty}
@@ -203,4 +206,116 @@ sound_stops tables records fault result rose broke sound judged cause held statu
     elim status [
       | inl told ↦ elim (told_sound tables records fault sound judged) [ inl failed ↦ absurd (held (cause failed)) | inr short ↦ told ∙ ap unresumed_status short ]
       | inr other ↦ elim other [ inl short ↦ short | inr failed ↦ absurd (kept (wrote failed)) ]
+    ]
+
+-- ---- records with a fault
+
+-- why no office goes on: what has this status, or what may come at any time
+abbrev IsStop : Status → ResumeFault → Type 0
+IsStop want fault = (unresumed_status fault ≡ want) ⊎ ((fault ≡ KeeperFault) ⊎ (fault ≡ NoMemoryToResume))
+
+-- Where neither the keeper nor the sink failed, that is the status, or there was no memory.
+stops : (want : Status) (fault : ResumeFault) (result : Status) (rose broke : Type 0) → IsStop want fault → (fault ≡ KeeperFault → rose) → (rose → ⊥)
+    → (result ≡ unresumed_status fault) ⊎ ((result ≡ OutOfMemory) ⊎ (result ≡ WriteFault)) → (result ≡ WriteFault → broke) → (broke → ⊥) → (result ≡ want) ⊎ (result ≡ OutOfMemory)
+stops want fault result rose broke stop cause held status wrote kept =
+    elim status [
+      | inl told ↦ elim stop [
+        | inl same ↦ inl (told ∙ same)
+        | inr other ↦ elim other [ inl failed ↦ absurd (held (cause failed)) | inr short ↦ inr (told ∙ ap unresumed_status short) ]
+      ]
+      | inr other ↦ elim other [ inl short ↦ inr short | inr failed ↦ absurd (kept (wrote failed)) ]
+    ]
+
+-- A text that is no bundle spells no season.
+spells_none : (records : Kept) (season : Season) → HaveOneReading false records.season → HaveTextFault records → IsSeason records.season season → ⊥
+spells_none records season reading (fault, has) read = reading.apart (content_of season read.row) [] fault read.given has
+
+-- An office does not go on from records whose text is no bundle.
+pub none_goes_on_from_no_bundle : (tables : Tables) (facts : SeasonFacts) (start : State) → ((requests : Bool) (bytes : List ℕ) → HaveOneReading requests bytes) → IsResumed tables facts start
+    → TellsTextFault tables → ⊥
+none_goes_on_from_no_bundle Untold facts start reading resumed tells = tells
+none_goes_on_from_no_bundle NoSeason facts start reading resumed tells = tells
+none_goes_on_from_no_bundle (Records kept) facts start reading (records, loaded, lead) tells =
+    spells_none records lead.season (reading false records.season) (subst (λ (k : Kept). HaveTextFault k) loaded tells) lead.read
+
+text_fault : (records : Kept) (fault : ResumeFault) → HaveOneReading false records.season → HaveTextFault records → IsFaultOf records fault → IsStop BadInput fault
+text_fault records NoneKept reading have is = absurd is
+text_fault records (BadSeason fault) reading have is = inl refl
+text_fault records (Stray row) reading have is = absurd (spells_none records is.0 reading have is.1)
+text_fault records (StrayRaise row) reading have is = absurd (spells_none records is.0 reading have is.1)
+text_fault records (Differs round cand one other) reading have is = absurd (spells_none records is.0 reading have is.1)
+text_fault records KeeperFault reading have is = inr (inl refl)
+text_fault records NoMemoryToResume reading have is = inr (inr refl)
+
+told_text_fault : (tables : Tables) (records : Option Kept) (fault : ResumeFault) → ((requests : Bool) (bytes : List ℕ) → HaveOneReading requests bytes) → TellsTextFault tables
+    → IsJudged tables records fault → IsStop BadInput fault
+told_text_fault Untold records fault reading tells judged = absurd tells
+told_text_fault NoSeason records fault reading tells judged = absurd tells
+told_text_fault (Records kept) None fault reading tells judged = inr (unloaded_fault kept fault judged)
+told_text_fault (Records kept) (Some loaded) fault reading tells judged = text_fault loaded fault (reading false loaded.season) (subst (λ (k : Kept). HaveTextFault k) judged.0 tells) judged.1
+
+-- Where the text is no bundle, and neither the keeper nor the sink failed, that is told, or there was no memory.
+pub text_fault_stops : (tables : Tables) (records : Option Kept) (fault : ResumeFault) (result : Status) (rose broke : Type 0) → ((requests : Bool) (bytes : List ℕ) → HaveOneReading requests bytes)
+    → TellsTextFault tables → IsJudged tables records fault → (fault ≡ KeeperFault → rose) → (rose → ⊥) → (result ≡ unresumed_status fault) ⊎ ((result ≡ OutOfMemory) ⊎ (result ≡ WriteFault))
+    → (result ≡ WriteFault → broke) → (broke → ⊥) → (result ≡ BadInput) ⊎ (result ≡ OutOfMemory)
+text_fault_stops tables records fault result rose broke reading tells judged = stops BadInput fault result rose broke (told_text_fault tables records fault reading tells judged)
+
+-- An office does not go on from records whose rows or seats have a fault.
+pub none_goes_on : (tables : Tables) (facts : SeasonFacts) (start : State) → ((facts : SeasonFacts) (kept : Kept) → IsSound facts → HaveOneEnd facts kept) → IsSound facts → IsResumed tables facts start
+    → TellsRowFault tables → ⊥
+none_goes_on Untold facts start law sound resumed tells = tells
+none_goes_on NoSeason facts start law sound resumed tells = tells
+none_goes_on (Records kept) facts start law sound (records, loaded, lead) tells =
+    let there : HaveRowFault records = subst (λ (k : Kept). HaveRowFault k) loaded tells in
+    let (fault, some, is) = there.faulty lead.season lead.read in
+    some ((law facts records sound).apart start fault lead.replayed (subst (λ (f : SeasonFacts). IsReplayFault f records fault) (sym lead.same) is))
+
+row_fault : (records : Kept) (fault : ResumeFault) → HaveOneReading false records.season → HaveRowFault records → IsFaultOf records fault → IsStop StatusDiffers fault
+row_fault records NoneKept reading have is = absurd is
+row_fault records (BadSeason fault) reading have is = absurd (spells_none records have.season reading (fault, is) have.read)
+row_fault records (Stray row) reading have is = inl refl
+row_fault records (StrayRaise row) reading have is = inl refl
+row_fault records (Differs round cand one other) reading have is = inl refl
+row_fault records KeeperFault reading have is = inr (inl refl)
+row_fault records NoMemoryToResume reading have is = inr (inr refl)
+
+told_row_fault : (tables : Tables) (records : Option Kept) (fault : ResumeFault) → ((requests : Bool) (bytes : List ℕ) → HaveOneReading requests bytes) → TellsRowFault tables
+    → IsJudged tables records fault → IsStop StatusDiffers fault
+told_row_fault Untold records fault reading tells judged = absurd tells
+told_row_fault NoSeason records fault reading tells judged = absurd tells
+told_row_fault (Records kept) None fault reading tells judged = inr (unloaded_fault kept fault judged)
+told_row_fault (Records kept) (Some loaded) fault reading tells judged = row_fault loaded fault (reading false loaded.season) (subst (λ (k : Kept). HaveRowFault k) judged.0 tells) judged.1
+
+-- Where a row or a seat has a fault, and neither the keeper nor the sink failed, it is told, or there was no memory.
+pub row_fault_stops : (tables : Tables) (records : Option Kept) (fault : ResumeFault) (result : Status) (rose broke : Type 0) → ((requests : Bool) (bytes : List ℕ) → HaveOneReading requests bytes)
+    → TellsRowFault tables → IsJudged tables records fault → (fault ≡ KeeperFault → rose) → (rose → ⊥) → (result ≡ unresumed_status fault) ⊎ ((result ≡ OutOfMemory) ⊎ (result ≡ WriteFault))
+    → (result ≡ WriteFault → broke) → (broke → ⊥) → (result ≡ StatusDiffers) ⊎ (result ≡ OutOfMemory)
+row_fault_stops tables records fault result rose broke reading tells judged = stops StatusDiffers fault result rose broke (told_row_fault tables records fault reading tells judged)
+
+-- ---- before the source is read
+
+-- An office does not go on where there is no season, nor from records with a fault.
+pub no_office_goes_on : (tables : Tables) (facts : SeasonFacts) (start : State) → ((requests : Bool) (bytes : List ℕ) → HaveOneReading requests bytes)
+    → ((facts : SeasonFacts) (kept : Kept) → IsSound facts → HaveOneEnd facts kept) → IsSound facts → IsResumed tables facts start → TellsNoOffice tables → ⊥
+no_office_goes_on tables facts start reading law sound resumed tells =
+    elim tells [
+      | inl none ↦ goes_on_from_a_season tables resumed none
+      | inr faulty ↦ elim faulty [
+        | inl text ↦ none_goes_on_from_no_bundle tables facts start reading resumed text
+        | inr row ↦ none_goes_on tables facts start law sound resumed row
+      ]
+    ]
+  where
+    goes_on_from_a_season : (tables : Tables) → IsResumed tables facts start → TellsNoSeason tables → ⊥
+    goes_on_from_a_season Untold resumed none = none
+    goes_on_from_a_season NoSeason resumed none = resumed.1
+    goes_on_from_a_season (Records kept) resumed none = none
+
+-- An office that went on tells no difference.
+pub none_differs : (facts : SeasonFacts) (start : State) (left : Option (List ℕ)) (before after : Tables) (written now : Option (List ℕ)) (status : Status)
+    → (output : List ℕ) × Appends output written now × EndsAsked facts start left before after status output → status ≡ StatusDiffers → ⊥
+none_differs facts start left before after written now status end same =
+    elim (subst (λ (s : Status). EndsAsked facts start left before after s end.0) same end.2) [
+      | inl unasked ↦ elim unasked.0 [ inl text ↦ text | inr failed ↦ let wrong : StatusDiffers ≡ WriteFault = failed.0 in absurd (cc wrong) ]
+      | inr asked ↦ asked.2
     ]

@@ -1,5 +1,5 @@
 -- The command `resume`: an office goes on from what the keeper holds; its input are requests alone, and its output are the replies to them.
-use Rattle.std.specs.Prelude.{◌≡◌, ◌≢◌, ◌<◌, ◌≤◌, ◌⊎◌, ℕ, false, List, Option, Ok, Err, codes, length}
+use Rattle.std.specs.Prelude.{◌≡◌, ◌≢◌, ◌<◌, ◌≤◌, ◌⊎◌, ℕ, false, List, Option, Ok, Err, IsSome, codes, length}
 use Rattle.std.specs.Str.{IsUtf8}
 use Rattle.office_base.specs.Limits.{most_bundle_bytes}
 use Rattle.office_base.specs.Outside.{AreLeft}
@@ -28,6 +28,7 @@ use Rattle.command_answers.specs.Writes.{Writes, memory_line, read_line}
 use Rattle.command_answers.specs.declared.status.Status.{Status}
 use Rattle.command_answers.specs.declared.status.Status.TheVariants.{Ok as Done, Usage, BadInput, ReadFault, WriteFault, KeeperFault, OutOfMemory, Differs}
 use Rattle.season_commands.specs.Office.{EndsOffice, keeper_line}
+use Rattle.season_commands.specs.Run.{TellsNoSeason}
 use Rattle.season_commands.specs.Stray.{replay_line}
 
 abbrev pub no_season_line : List ℕ
@@ -125,6 +126,32 @@ TellsSound Untold = ⊥
 TellsSound NoSeason = ⊥
 TellsSound (Records records) = HaveNoFault records
 
+-- the text of the records is no bundle
+abbrev pub HaveTextFault : Kept → Type 0
+HaveTextFault records = (fault : SeasonFault) × HasFault false records.season fault
+
+-- the keeper tells records whose text is no bundle
+abbrev pub TellsTextFault : Tables → Type 0
+TellsTextFault Untold = ⊥
+TellsTextFault NoSeason = ⊥
+TellsTextFault (Records records) = HaveTextFault records
+
+-- The text of the records is a bundle, and of each season that the text spells a row or a seat of theirs has a fault.
+pub record HaveRowFault (records : Kept) : Type 0 where
+  pub season : Season
+  pub read : IsSeason records.season season
+  pub faulty : (spelt : Season) → IsSeason records.season spelt → (fault : ReplayFault) × (fault ≢ NoMemory) × IsReplayFault (facts_of spelt) records fault
+
+-- the keeper tells records that have such a fault
+abbrev pub TellsRowFault : Tables → Type 0
+TellsRowFault Untold = ⊥
+TellsRowFault NoSeason = ⊥
+TellsRowFault (Records records) = HaveRowFault records
+
+-- the keeper tells that no office can go on: it holds no season, or records with a fault
+abbrev pub TellsNoOffice : Tables → Type 0
+TellsNoOffice tables = TellsNoSeason tables ⊎ (TellsTextFault tables ⊎ TellsRowFault tables)
+
 -- the status of why no office goes on
 abbrev pub unresumed_status : ResumeFault → Status
 unresumed_status NoneKept = BadInput
@@ -134,6 +161,16 @@ unresumed_status (StrayRaise row) = Differs
 unresumed_status (SeatsDiffer round cand one other) = Differs
 unresumed_status KeeperFailed = KeeperFault
 unresumed_status NoMemoryToResume = OutOfMemory
+
+-- the records themselves have the fault; where it is a difference, they are there
+abbrev pub IsOfRecords : Option Kept → ResumeFault → Type 0
+IsOfRecords records NoneKept = ⊥
+IsOfRecords records (BadSeason fault) = Unit {0}
+IsOfRecords records (Stray row) = Unit {0}
+IsOfRecords records (StrayRaise row) = Unit {0}
+IsOfRecords records (SeatsDiffer round cand one other) = IsSome records
+IsOfRecords records KeeperFailed = ⊥
+IsOfRecords records NoMemoryToResume = ⊥
 
 -- the line that tells it is one that goes with its status
 abbrev pub IsUnresumedLine : Option Kept → ResumeFault → List ℕ → Type 0

@@ -7,7 +7,7 @@ ghost use Rattle.office_moves.specs.Stands.{Stand};
 ghost use Rattle.round_cut.specs.Resume.{IsJudged};
 ghost use Rattle.command_answers.specs.Answers.{IsFailureOf, Tells};
 ghost use Rattle.command_answers.specs.Writes.{Writes};
-ghost use Rattle.season_commands.specs.Resume.{AreLeftRequests, EndsAsked, EndsResume, IsFaultyScript, IsScript, IsUnresumedLine, IsUnresumedText, TellsSound, script_answers, unresumed_status};
+ghost use Rattle.season_commands.specs.Resume.{AreLeftRequests, EndsAsked, EndsResume, IsFaultyScript, IsOfRecords, IsScript, IsUnresumedLine, IsUnresumedText, TellsNoOffice, TellsRowFault, TellsSound, TellsTextFault, script_answers, unresumed_status};
 ghost use Rattle.season_commands.specs.Run.{TellsNoSeason};
 ghost use Rattle.season_commands.specs.Stray.{differs_line};
 ghost use Rattle.season_file.specs.Season.{IsSeason};
@@ -19,8 +19,11 @@ use crate::stray::{differs_text, stray_text};
 use command_answers::{Failure, Status, tell_failure, tell_no_memory, write_answer};
 use keeper_mem::{Keeper, Kept};
 use office_base::{CandId, OutOfMemory, Seat, Sink, Source, Text};
+use office_moves::says_what_is_sound;
+use replays::laws::one_end;
 use request_rows::Script;
 use round_cut::{Office, ResumeFault, Unresumed};
+use season_file::laws::one_reading;
 use season_file::{Season, read_script};
 use season_texts::fault_text;
 use std::alloc::Global;
@@ -51,9 +54,19 @@ pub fn resume_season<S: Source, K: Sink, P: Keeper>(
         → (result.0 ≡ Status.BadInput) ⊎ (result.0 ≡ Status.OutOfMemory) }
     ensures none_kept { TellsNoSeason (P.tables keeper) → ¬ Rose (K.faults sink.old) (K.faults sink.new) → ¬ Rose (P.faults keeper) (P.faults result.1)
         → (result.0 ≡ Status.BadInput) ⊎ (result.0 ≡ Status.OutOfMemory) }
+    ensures kept_text { TellsTextFault (P.tables keeper) → ¬ Rose (K.faults sink.old) (K.faults sink.new) → ¬ Rose (P.faults keeper) (P.faults result.1)
+        → (result.0 ≡ Status.BadInput) ⊎ (result.0 ≡ Status.OutOfMemory) }
+    ensures differs { TellsRowFault (P.tables keeper) → ¬ Rose (K.faults sink.old) (K.faults sink.new) → ¬ Rose (P.faults keeper) (P.faults result.1)
+        → (result.0 ≡ Status.Differs) ⊎ (result.0 ≡ Status.OutOfMemory) }
+    ensures unread { (result.0 ≡ Status.Differs) ⊎ TellsNoOffice (P.tables keeper) → source.new ≡ source.old }
 {
+    one_end();
+    one_reading();
     match Office::resume_or_records(alloc, keeper) {
-        Ok(office) => go_on(alloc, office, source, sink),
+        Ok(office) => {
+            says_what_is_sound(office.season());
+            go_on(alloc, office, source, sink)
+        }
         Err((keeper, stopped)) => (tell_unresumed(alloc, sink, &stopped), keeper),
     }
 }
@@ -106,6 +119,7 @@ fn read_requests<S: Source>(alloc: Global, source: &mut S) -> Result<Script, Fai
 
 /// Writes why no office goes on.
 fn tell_unresumed<K: Sink>(alloc: Global, sink: &mut K, stopped: &Unresumed) -> Status
+    requires { (tables : Tables) × IsJudged tables stopped.now.records stopped.now.fault }
     ensures written { (tables : Tables) → IsJudged tables stopped.now.records stopped.now.fault
         → (output : List ℕ) × Appends output (K.written sink.old) (K.written sink.new) × Writes (IsUnresumedText tables) result output }
     ensures status { (result ≡ unresumed_status stopped.now.fault) ⊎ ((result ≡ Status.OutOfMemory) ⊎ (result ≡ Status.WriteFault)) }
@@ -118,12 +132,16 @@ fn tell_unresumed<K: Sink>(alloc: Global, sink: &mut K, stopped: &Unresumed) -> 
         }
         ResumeFault::KeeperFault => write_answer(sink, b"fault: keeper\n", Status::KeeperFault),
         ResumeFault::OutOfMemory => tell_no_memory(sink),
-        _ => tell_judged(alloc, sink, stopped),
+        ResumeFault::BadSeason(_)
+        | ResumeFault::Stray { .. }
+        | ResumeFault::StrayRaise { .. }
+        | ResumeFault::Differs { .. } => tell_judged(alloc, sink, stopped),
     }
 }
 
 /// Writes what is wrong with the records, in a line made for it.
 fn tell_judged<K: Sink>(alloc: Global, sink: &mut K, stopped: &Unresumed) -> Status
+    requires { IsOfRecords stopped.now.records stopped.now.fault }
     ensures written { (tables : Tables) → IsJudged tables stopped.now.records stopped.now.fault
         → (output : List ℕ) × Appends output (K.written sink.old) (K.written sink.new) × Writes (IsUnresumedText tables) result output }
     ensures status { (result ≡ unresumed_status stopped.now.fault) ⊎ ((result ≡ Status.OutOfMemory) ⊎ (result ≡ Status.WriteFault)) }
@@ -151,6 +169,7 @@ fn unresumed_status(fault: ResumeFault) -> Status
 
 /// The line that tells what is wrong with the records.
 fn judged_text(alloc: Global, stopped: &Unresumed) -> Result<Text, OutOfMemory>
+    requires { IsOfRecords stopped.now.records stopped.now.fault }
     ensures { IfOk result (IsUnresumedLine stopped.now.records stopped.now.fault) }
 {
     match stopped.fault {
@@ -164,10 +183,10 @@ fn judged_text(alloc: Global, stopped: &Unresumed) -> Result<Text, OutOfMemory>
             computed,
         } => match &stopped.records {
             Some(records) => difference_text(alloc, records, round, cand, kept, computed),
-            None => Err(OutOfMemory),
+            None => unreachable!("a difference is one of records that were loaded"),
         },
         ResumeFault::NoSeason | ResumeFault::KeeperFault | ResumeFault::OutOfMemory => {
-            Err(OutOfMemory)
+            unreachable!("the records have no such fault")
         }
     }
 }

@@ -29,6 +29,16 @@ returns-in-Err-Usage-clause-none_kept g c store spelled none wrote kept =
     let fault : c.in-Err-Usage.field-0 ≡ words_fault.Usage = cc in
     absurd (c.in-Err-Usage.ensures.usage (ap Err fault) (Resume store) spelled)
 
+pub returns-in-Err-Usage-clause-kept_text : goal.returns-in-Err-Usage-clause-kept_text
+returns-in-Err-Usage-clause-kept_text g c store spelled tells wrote kept =
+    let fault : c.in-Err-Usage.field-0 ≡ words_fault.Usage = cc in
+    absurd (c.in-Err-Usage.ensures.usage (ap Err fault) (Resume store) spelled)
+
+pub returns-in-Err-Usage-clause-differs : goal.returns-in-Err-Usage-clause-differs
+returns-in-Err-Usage-clause-differs g c store spelled tells wrote kept =
+    let fault : c.in-Err-Usage.field-0 ≡ words_fault.Usage = cc in
+    absurd (c.in-Err-Usage.ensures.usage (ap Err fault) (Resume store) spelled)
+
 pub returns-in-Err-OutOfMemory-clause-written : goal.returns-in-Err-OutOfMemory-clause-written
 returns-in-Err-OutOfMemory-clause-written g c =
     let (output, appends, writes) = told_is_written IsWantText OutOfMemory c.tell_no_memory.result memory_line _ _ _ refl c.tell_no_memory.ensures.told in
