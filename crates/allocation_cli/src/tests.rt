@@ -576,6 +576,9 @@ fn the_sink_fails_at_each_reply(rt: HostRuntime) -> Result<(), Fail> {
         assert!(rt; ended.output == first_replies(alloc, count, "")?, "{call}");
         assert!(rt; ended.kept == Some(kept), "{call}");
     }
+    // there is no seventh write
+    let ended = run_failing(alloc, &[], &[7], &[])?;
+    assert_eq!(rt; ended.status, Status::Ok);
     // a fault's line that cannot be written hides the fault of the keeper
     let ended = run_failing(alloc, &[], &[3], &[6])?;
     assert_eq!(rt; ended.status, Status::WriteFault);
@@ -587,12 +590,16 @@ fn the_sink_fails_at_each_reply(rt: HostRuntime) -> Result<(), Fail> {
 #[test]
 fn the_source_of_a_run_fails(rt: HostRuntime) -> Result<(), Fail> {
     let alloc = rt.alloc();
-    for call in [1, 2, 5, 12] {
+    // thirteen reads take the bytes, and the fourteenth finds their end
+    for call in 1..=14 {
         let ended = run_failing(alloc, &[call], &[], &[])?;
         assert_eq!(rt; ended.status, Status::ReadFault);
         assert!(rt; ended.output.as_str() == "fault: read\n");
         assert!(rt; ended.kept == None);
     }
+    let ended = run_failing(alloc, &[15], &[], &[])?;
+    assert_eq!(rt; ended.status, Status::Ok);
+    assert!(rt; ended.kept == Some(KEPT[6]));
     Ok(())
 }
 
