@@ -281,7 +281,10 @@ fn a_season_is_generated_and_read(rt: HostRuntime) -> Result<(), Fail> {
     let (ended, season, _) = over(alloc, &words, "", 1, 0, 0, keeper)?;
     assert!(rt; ended == Status::Ok);
     let line = "bundle candidates 800 programmes 100 choices 32000 rounds 6\n";
-    assert!(rt; writes(alloc, "check", season.as_str(), line, Status::Ok)?);
+    let keeper = SureKeeper::new(alloc);
+    let (ended, written, _) = over(alloc, &["check"], season.as_str(), 4096, 0, 0, keeper)?;
+    assert!(rt; ended == Status::Ok);
+    assert!(rt; written.as_str() == line);
     Ok(())
 }
 
