@@ -1,85 +1,115 @@
 // The command `resume` over records in memory: whole ones, those that stand after each failing call, and damaged ones.
-use crate::program::allocate;
-use crate::tests::{REQUESTS, first_replies, five_candidates, words_of};
+use crate::tests::{REQUESTS, asked_season, first_replies, over, tells};
 use command_answers::Status;
 use keeper_mem::{AllotRow, AllotRows, Keeper, Kept, MemKeeper};
-use office_base::{MemSink, ProgId, SureSource};
+use office_base::ProgId;
 use std::alloc::Global;
 use std::test::Fail;
 
-// What is kept of the season of everybody moving up, where the keeper fails at these calls.
-fn kept_after(alloc: Global, fail_at: &[u32]) -> Result<Kept, Fail> {
-    let words = words_of(alloc, &["run", "memory"])?;
-    let season = five_candidates(alloc)?;
-    let bundle = format!(in alloc; "{season}{REQUESTS}")?;
-    let mut source = SureSource::new(alloc, bundle.as_bytes(), 40)?;
-    let mut sink = MemSink::new(alloc, 1000, &[])?;
-    let keeper = MemKeeper::new(alloc, fail_at)?;
-    let (_, mut keeper) = allocate(alloc, &words, &mut source, &mut sink, keeper);
+// The keeper of the season of everybody moving up, where these calls of the sink and of the keeper fail, 0 for none.
+fn run_over(alloc: Global, sink_at: u32, keeper_at: u32) -> Result<MemKeeper, Fail> {
+    let season = asked_season(alloc)?;
+    let keeper = MemKeeper::new(alloc, &[keeper_at])?;
+    let words = ["run", "memory"];
+    let (_, _, keeper) = over(alloc, &words, season.as_str(), 40, 0, sink_at, keeper)?;
+    Ok(keeper)
+}
+
+// What such a keeper holds.
+fn held_by(alloc: Global, mut keeper: MemKeeper) -> Result<Kept, Fail> {
     match keeper.load(alloc) {
         Ok(Some(kept)) => Ok(kept),
         _ => Err(Fail::new("nothing is kept")),
     }
 }
 
-// Whether an office that goes on from these records writes this for the requests, and ends so.
-fn goes_on(
-    alloc: Global,
-    keeper: MemKeeper,
-    script: &str,
-    output: &str,
-    status: Status,
-) -> Result<bool, Fail> {
-    let words = words_of(alloc, &["resume", "season.db"])?;
-    let mut source = SureSource::new(alloc, script.as_bytes(), 7)?;
-    let mut sink = MemSink::new(alloc, 1000, &[])?;
-    let (ended, _) = allocate(alloc, &words, &mut source, &mut sink, keeper);
-    Ok(ended == status && sink.bytes() == output.as_bytes())
+fn are_same(one: &Kept, other: &Kept) -> bool {
+    one.season.as_slice() == other.season.as_slice()
+        && one.answers.as_slice() == other.answers.as_slice()
+        && one.raises.as_slice() == other.raises.as_slice()
+        && one.allots.as_slice() == other.allots.as_slice()
+        && one.cuts == other.cuts
 }
 
 #[test]
 fn an_office_goes_on(rt: HostRuntime) -> Result<(), Fail> {
     let alloc = rt.alloc();
-    let keeper = MemKeeper::from_tables(alloc, kept_after(alloc, &[])?, &[])?;
+    let keeper = run_over(alloc, 0, 0)?;
     let state = "state window 2 rounds 2 published 2\n";
-    assert!(rt; goes_on(alloc, keeper, "state,nobody\n", state, Status::Ok)?);
-    let keeper = MemKeeper::from_tables(alloc, kept_after(alloc, &[])?, &[])?;
+    let keeper = tells(alloc, "resume", "state,nobody\n", keeper, state, Status::Ok)?;
     let fault = "fault: requests row 1 BadRequest\n";
-    assert!(rt; goes_on(alloc, keeper, "cut,clerk\n", fault, Status::BadInput)?);
-    let keeper = MemKeeper::new(alloc, &[])?;
-    let none = "fault: keeper holds no season\n";
-    assert!(rt; goes_on(alloc, keeper, "", none, Status::BadInput)?);
+    let _ = tells(
+        alloc,
+        "resume",
+        "cut,clerk\n",
+        keeper,
+        fault,
+        Status::BadInput,
+    )?;
     Ok(())
 }
 
 #[test]
-fn an_office_goes_on_after_each_failing_call(rt: HostRuntime) -> Result<(), Fail> {
+fn no_office_goes_on_without_a_season(rt: HostRuntime) -> Result<(), Fail> {
     let alloc = rt.alloc();
+    let keeper = MemKeeper::new(alloc, &[])?;
+    let none = "fault: keeper holds no season\n";
+    let _ = tells(alloc, "resume", "", keeper, none, Status::BadInput)?;
+    Ok(())
+}
+
+// What is kept where the office goes on from what stands after these failing calls, and is asked everything again: each request has its reply of the
+// undisturbed run, which is its receipt where it was answered before.
+fn kept_again(alloc: Global, sink_at: u32, keeper_at: u32) -> Result<Kept, Fail> {
     let Some(script) = REQUESTS.strip_prefix("[requests]\n") else {
         return Err(Fail::new("no requests"));
     };
-    // what was answered before gives its receipt again
     let replies = first_replies(alloc, 6, "")?;
+    let keeper = run_over(alloc, sink_at, keeper_at)?;
+    let keeper = tells(
+        alloc,
+        "resume",
+        script,
+        keeper,
+        replies.as_str(),
+        Status::Ok,
+    )?;
+    held_by(alloc, keeper)
+}
+
+// Whether that leaves the tables of the undisturbed run.
+fn is_undisturbed(alloc: Global, sink_at: u32, keeper_at: u32) -> Result<bool, Fail> {
+    let undisturbed = held_by(alloc, run_over(alloc, 0, 0)?)?;
+    let kept = kept_again(alloc, sink_at, keeper_at)?;
+    Ok(are_same(&kept, &undisturbed))
+}
+
+#[test]
+fn an_office_goes_on_after_each_failing_call(rt: HostRuntime) -> Result<(), Fail> {
     for call in 4..=12 {
-        let keeper = MemKeeper::from_tables(alloc, kept_after(alloc, &[call])?, &[])?;
-        assert!(rt;
-            goes_on(alloc, keeper, script, replies.as_str(), Status::Ok)?,
-            "{call}"
-        );
+        assert!(rt; is_undisturbed(rt.alloc(), 0, call)?, "{call}");
+    }
+    Ok(())
+}
+
+#[test]
+fn an_office_goes_on_after_each_failing_reply(rt: HostRuntime) -> Result<(), Fail> {
+    for call in 1..=6 {
+        assert!(rt; is_undisturbed(rt.alloc(), call, 0)?, "{call}");
     }
     Ok(())
 }
 
 // The records with another programme of the second candidate in round 1.
-fn changed(alloc: Global, prog: u16) -> Result<Kept, Fail> {
-    let kept = kept_after(alloc, &[])?;
+fn changed(alloc: Global, prog: u16) -> Result<MemKeeper, Fail> {
+    let kept = held_by(alloc, run_over(alloc, 0, 0)?)?;
     let mut allots = AllotRows::new(alloc);
     for row in kept.allots.as_slice() {
         let is_changed = row.round == 1 && row.cand.0 == 2;
         let prog = if is_changed { ProgId(prog) } else { row.prog };
         allots.extend_from_slice(&[AllotRow { prog, ..*row }])?;
     }
-    Ok(Kept { allots, ..kept })
+    Ok(MemKeeper::from_tables(alloc, Kept { allots, ..kept }, &[])?)
 }
 
 #[test]
@@ -96,8 +126,15 @@ fn a_changed_seat_is_told(rt: HostRuntime) -> Result<(), Fail> {
         ),
     ];
     for (prog, line) in lines {
-        let keeper = MemKeeper::from_tables(alloc, changed(alloc, prog)?, &[])?;
-        assert!(rt; goes_on(alloc, keeper, "state,nobody\n", line, Status::Differs)?);
+        let keeper = changed(alloc, prog)?;
+        let _ = tells(
+            alloc,
+            "resume",
+            "state,nobody\n",
+            keeper,
+            line,
+            Status::Differs,
+        )?;
     }
     Ok(())
 }

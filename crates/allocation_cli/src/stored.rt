@@ -1,9 +1,7 @@
 // The commands `run` and `resume` over a keeper over a database in memory: the same bytes as over records in memory, also after rows were changed by hand.
-use crate::program::allocate;
-use crate::tests::{REQUESTS, first_replies, five_candidates, words_of};
+use crate::tests::{asked_season, first_replies, five_candidates, tells};
 use command_answers::Status;
 use keeper_sqlite::SqliteKeeper;
-use office_base::{MemSink, SureSource};
 use sqlite::{Connection, MemStore};
 use std::alloc::Global;
 use std::test::Fail;
@@ -24,28 +22,6 @@ fn after(keeper: Database, statement: &str) -> Result<Database, Fail> {
     Ok(SqliteKeeper::new(connection))
 }
 
-// The keeper that a command gives back which writes this for the input, and ends so.
-fn over(
-    alloc: Global,
-    keeper: Database,
-    command: &str,
-    input: &str,
-    output: &str,
-    status: Status,
-) -> Result<Database, Fail> {
-    let words = words_of(alloc, &[command, "season.db"])?;
-    let mut source = SureSource::new(alloc, input.as_bytes(), 40)?;
-    let mut sink = MemSink::new(alloc, 1000, &[])?;
-    let (ended, keeper) = allocate(alloc, &words, &mut source, &mut sink, keeper);
-    if ended != status {
-        return Err(Fail::new("another status"));
-    }
-    if sink.bytes() != output.as_bytes() {
-        return Err(Fail::new("other bytes"));
-    }
-    Ok(keeper)
-}
-
 const STATE: &str = "state window 2 rounds 2 published 2\n";
 
 // What `resume` writes where the second candidate's seat of a round is kept as A and computed as B.
@@ -53,30 +29,32 @@ const IN_ROUND_1: &str = "fault: differs round 1 candidate 2 kept A OPEN compute
 
 const IN_ROUND_2: &str = "fault: differs round 2 candidate 2 kept A OPEN computed B OPEN\n";
 
+// What `resume` does over these records.
+fn goes_on(
+    alloc: Global,
+    keeper: Database,
+    output: &str,
+    status: Status,
+) -> Result<Database, Fail> {
+    tells(alloc, "resume", "state,nobody\n", keeper, output, status)
+}
+
 #[test]
 fn a_season_is_kept_in_a_database(rt: HostRuntime) -> Result<(), Fail> {
     let alloc = rt.alloc();
-    let season = five_candidates(alloc)?;
-    let bundle = format!(in alloc; "{season}{REQUESTS}")?;
-    let input = bundle.as_str();
+    let season = asked_season(alloc)?;
+    let input = season.as_str();
     let replies = first_replies(alloc, 6, "")?;
     let keeper = database(alloc)?;
-    let keeper = over(alloc, keeper, "run", input, replies.as_str(), Status::Ok)?;
-    let keeper = over(alloc, keeper, "resume", "state,nobody\n", STATE, Status::Ok)?;
+    let keeper = tells(alloc, "run", input, keeper, replies.as_str(), Status::Ok)?;
+    let keeper = goes_on(alloc, keeper, STATE, Status::Ok)?;
     let held = "fault: keeper holds a season\n";
-    let keeper = over(alloc, keeper, "run", input, held, Status::BadInput)?;
+    let keeper = tells(alloc, "run", input, keeper, held, Status::BadInput)?;
     let keeper = after(
         keeper,
         "UPDATE allot SET prog = 0 WHERE rnd = 1 AND cand = 2",
     )?;
-    let _ = over(
-        alloc,
-        keeper,
-        "resume",
-        "state,nobody\n",
-        IN_ROUND_1,
-        Status::Differs,
-    )?;
+    let _ = goes_on(alloc, keeper, IN_ROUND_1, Status::Differs)?;
     Ok(())
 }
 
@@ -84,23 +62,17 @@ fn a_season_is_kept_in_a_database(rt: HostRuntime) -> Result<(), Fail> {
 fn a_database_without_a_season_is_told(rt: HostRuntime) -> Result<(), Fail> {
     let alloc = rt.alloc();
     let none = "fault: keeper holds no season\n";
-    let _ = over(
+    let _ = tells(
         alloc,
-        database(alloc)?,
         "resume",
         "",
+        database(alloc)?,
         none,
         Status::BadInput,
     )?;
     let keeper = after(database(alloc)?, "INSERT INTO phase VALUES (2, 0)")?;
-    let _ = over(
-        alloc,
-        keeper,
-        "resume",
-        "",
-        "fault: keeper\n",
-        Status::KeeperFault,
-    )?;
+    let fault = "fault: keeper\n";
+    let _ = tells(alloc, "resume", "", keeper, fault, Status::KeeperFault)?;
     Ok(())
 }
 
@@ -117,24 +89,11 @@ fn a_raise_that_was_taken_out_is_told(rt: HostRuntime) -> Result<(), Fail> {
     let season = five_candidates(alloc)?;
     let season = season.as_str().replace(alloc, "bundle 1", "bundle 2")?;
     let bundle = format!(in alloc; "{season}{RAISED}")?;
+    let input = bundle.as_str();
     let keeper = database(alloc)?;
-    let keeper = over(
-        alloc,
-        keeper,
-        "run",
-        bundle.as_str(),
-        RAISED_REPLIES,
-        Status::Ok,
-    )?;
-    let keeper = over(alloc, keeper, "resume", "state,nobody\n", STATE, Status::Ok)?;
+    let keeper = tells(alloc, "run", input, keeper, RAISED_REPLIES, Status::Ok)?;
+    let keeper = goes_on(alloc, keeper, STATE, Status::Ok)?;
     let keeper = after(keeper, "DELETE FROM lift")?;
-    let _ = over(
-        alloc,
-        keeper,
-        "resume",
-        "state,nobody\n",
-        IN_ROUND_2,
-        Status::Differs,
-    )?;
+    let _ = goes_on(alloc, keeper, IN_ROUND_2, Status::Differs)?;
     Ok(())
 }

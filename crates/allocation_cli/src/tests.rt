@@ -1,4 +1,8 @@
 // The commands on worked inputs and on a failing outside, over objects in memory.
+//
+// `over` is the one place where these modules run the program over objects in memory: a test hands it a row of a table, and compares what comes back.
+ghost use Rattle.std.specs.Prelude.{◌<◌};
+
 use crate::program::allocate;
 use command_answers::Status;
 use keeper_mem::{Keeper, MemKeeper, SureKeeper};
@@ -8,7 +12,7 @@ use std::alloc::Global;
 use std::io;
 use std::test::Fail;
 
-pub(crate) fn words_of(alloc: Global, text: &[&str]) -> Result<Words, Fail> {
+fn words_of(alloc: Global, text: &[&str]) -> Result<Words, Fail> {
     let mut words = Words::new(alloc);
     for word in text {
         words.push(word)?;
@@ -16,7 +20,45 @@ pub(crate) fn words_of(alloc: Global, text: &[&str]) -> Result<Words, Fail> {
     Ok(words)
 }
 
-// Runs a command on an input, in pieces of three bytes, and compares what it writes and its status.
+// More bytes than any command of these tests writes.
+const ROOM: usize = 1_000_000;
+
+// Runs the words on an input, in pieces of so many bytes, over a keeper: how that ends, what is written, and the keeper. The numbers are those of the
+// calls of the source and of the sink that fail, 0 for none.
+pub(crate) fn over<P: Keeper + Drop>(
+    alloc: Global,
+    words: &[&str],
+    input: &str,
+    piece: usize,
+    source_at: u32,
+    sink_at: u32,
+    keeper: P,
+) -> Result<(Status, String, P), Fail>
+    requires { 0 < piece }
+{
+    let words = words_of(alloc, words)?;
+    let mut source = MemSource::new(alloc, input.as_bytes(), piece, &[source_at])?;
+    let mut sink = MemSink::new(alloc, ROOM, &[sink_at])?;
+    let (status, keeper) = allocate(alloc, &words, &mut source, &mut sink, keeper);
+    let output = String::from_utf8(Vec::from_slice(alloc, sink.bytes())?)?;
+    Ok((status, output, keeper))
+}
+
+// Whether the words write this for an input, in pieces of three bytes, where this call of the source fails, and end so.
+fn writes_failing(
+    alloc: Global,
+    words: &[&str],
+    input: &str,
+    source_at: u32,
+    output: &str,
+    status: Status,
+) -> Result<bool, Fail> {
+    let keeper = SureKeeper::new(alloc);
+    let (ended, written, _) = over(alloc, words, input, 3, source_at, 0, keeper)?;
+    Ok(ended == status && written.as_str() == output)
+}
+
+// Whether a command writes this for an input, and ends so.
 fn writes(
     alloc: Global,
     command: &str,
@@ -24,17 +66,26 @@ fn writes(
     output: &str,
     status: Status,
 ) -> Result<bool, Fail> {
-    let words = words_of(alloc, &[command])?;
-    let mut source = MemSource::new(alloc, input.as_bytes(), 3, &[])?;
-    let mut sink = MemSink::new(alloc, 1000, &[])?;
-    let (ended, _) = allocate(
-        alloc,
-        &words,
-        &mut source,
-        &mut sink,
-        SureKeeper::new(alloc),
-    );
-    Ok(ended == status && sink.bytes() == output.as_bytes())
+    writes_failing(alloc, &[command], input, 0, output, status)
+}
+
+// The keeper that a command over a store gives back which writes this for the input, in pieces of seven bytes, and ends so.
+pub(crate) fn tells<P: Keeper + Drop>(
+    alloc: Global,
+    command: &str,
+    input: &str,
+    keeper: P,
+    output: &str,
+    status: Status,
+) -> Result<P, Fail> {
+    let (ended, written, keeper) = over(alloc, &[command, "season.db"], input, 7, 0, 0, keeper)?;
+    if ended != status {
+        return Err(Fail::new("another status"));
+    }
+    if written.as_str() != output {
+        return Err(Fail::new("other bytes"));
+    }
+    Ok(keeper)
 }
 
 // Worked sheets, with what `step` writes for each.
@@ -225,132 +276,79 @@ fn a_fault_of_a_season_is_told(rt: HostRuntime) -> Result<(), Fail> {
 #[test]
 fn a_season_is_generated_and_read(rt: HostRuntime) -> Result<(), Fail> {
     let alloc = rt.alloc();
-    let words = words_of(alloc, &["generate", "800", "7", "text"])?;
-    let mut source = SureSource::new(alloc, b"", 1)?;
-    let mut sink = MemSink::new(alloc, 1_000_000, &[])?;
-    let (ended, _) = allocate(
-        alloc,
-        &words,
-        &mut source,
-        &mut sink,
-        SureKeeper::new(alloc),
-    );
-    assert_eq!(rt; ended, Status::Ok);
-    let check = words_of(alloc, &["check"])?;
-    let mut season = SureSource::new(alloc, sink.bytes(), 4096)?;
-    let mut line = MemSink::new(alloc, 100, &[])?;
-    let (ended, _) = allocate(
-        alloc,
-        &check,
-        &mut season,
-        &mut line,
-        SureKeeper::new(alloc),
-    );
-    assert_eq!(rt; ended, Status::Ok);
-    assert!(rt;
-        line.bytes() == b"bundle candidates 800 programmes 100 choices 32000 rounds 6\n".as_slice()
-    );
+    let words = ["generate", "800", "7", "text"];
+    let keeper = SureKeeper::new(alloc);
+    let (ended, season, _) = over(alloc, &words, "", 1, 0, 0, keeper)?;
+    assert!(rt; ended == Status::Ok);
+    let line = "bundle candidates 800 programmes 100 choices 32000 rounds 6\n";
+    let keeper = SureKeeper::new(alloc);
+    let (ended, written, _) = over(alloc, &["check"], season.as_str(), 4096, 0, 0, keeper)?;
+    assert!(rt; ended == Status::Ok);
+    assert!(rt; written.as_str() == line);
     Ok(())
 }
 
+const WRONG_WORDS: [&[&str]; 17] = [
+    &[],
+    &["step", "now"],
+    &["check", "step"],
+    &["run"],
+    &["run", "-season.db"],
+    &["step", "season.db"],
+    &["run", "memory", "memory"],
+    &["--help"],
+    &["run", ""],
+    &["generate", "1", "1"],
+    &["generate", "07", "1", "text"],
+    &["generate", "0", "1", "text"],
+    &["generate", "100001", "1", "text"],
+    &["generate", "1", "4294967296", "text"],
+    &["generate", "1", "+1", "text"],
+    &["generate", "1", "1", "text", "text"],
+    &["generate", "1", "1", "runs"],
+];
+
 #[test]
 fn wrong_words_are_refused(rt: HostRuntime) -> Result<(), Fail> {
+    for words in WRONG_WORDS {
+        assert!(rt; writes_failing(rt.alloc(), words, "", 0, "fault: usage\n", Status::Usage)?);
+    }
+    Ok(())
+}
+
+const EMPTY_SHEET: &str = "step sheet 1\nseats,0\n";
+
+#[test]
+fn the_source_of_a_command_fails(rt: HostRuntime) -> Result<(), Fail> {
     let alloc = rt.alloc();
-    for words in [
-        words_of(alloc, &[])?,
-        words_of(alloc, &["step", "now"])?,
-        words_of(alloc, &["check", "step"])?,
-        words_of(alloc, &["run"])?,
-        words_of(alloc, &["run", "-season.db"])?,
-        words_of(alloc, &["step", "season.db"])?,
-        words_of(alloc, &["run", "memory", "memory"])?,
-        words_of(alloc, &["--help"])?,
-        words_of(alloc, &["run", ""])?,
-        words_of(alloc, &["generate", "1", "1"])?,
-        words_of(alloc, &["generate", "07", "1", "text"])?,
-        words_of(alloc, &["generate", "0", "1", "text"])?,
-        words_of(alloc, &["generate", "100001", "1", "text"])?,
-        words_of(alloc, &["generate", "1", "4294967296", "text"])?,
-        words_of(alloc, &["generate", "1", "+1", "text"])?,
-        words_of(alloc, &["generate", "1", "1", "text", "text"])?,
-        words_of(alloc, &["generate", "1", "1", "runs"])?,
-    ] {
-        let mut source = SureSource::new(alloc, b"", 1)?;
-        let mut sink = MemSink::new(alloc, 100, &[])?;
-        assert_eq!(rt;
-            allocate(
-                alloc,
-                &words,
-                &mut source,
-                &mut sink,
-                SureKeeper::new(alloc)
-            )
-            .0,
-            Status::Usage
+    let season = five_candidates(alloc)?;
+    for (command, input) in [("step", EMPTY_SHEET), ("check", season.as_str())] {
+        let line = "fault: read\n";
+        assert!(rt;
+            writes_failing(alloc, &[command], input, 2, line, Status::ReadFault)?,
+            "{command}"
         );
-        assert!(rt; sink.bytes() == b"fault: usage\n".as_slice());
     }
     Ok(())
 }
 
 #[test]
-fn the_outside_fails(rt: HostRuntime) -> Result<(), Fail> {
+fn the_sink_of_a_command_fails(rt: HostRuntime) -> Result<(), Fail> {
+    let alloc = rt.alloc();
+    let keeper = SureKeeper::new(alloc);
+    let (ended, _, _) = over(alloc, &["step"], EMPTY_SHEET, 4, 0, 1, keeper)?;
+    assert!(rt; ended == Status::WriteFault);
+    Ok(())
+}
+
+#[test]
+fn nothing_of_the_outside_fails(rt: HostRuntime) -> Result<(), Fail> {
     let alloc = rt.alloc();
     let words = words_of(alloc, &["step"])?;
-    let mut source = MemSource::new(alloc, b"step sheet 1\nseats,0\n", 4, &[2])?;
-    let mut sink = MemSink::new(alloc, 100, &[])?;
-    assert_eq!(rt;
-        allocate(
-            alloc,
-            &words,
-            &mut source,
-            &mut sink,
-            SureKeeper::new(alloc)
-        )
-        .0,
-        Status::ReadFault
-    );
-    assert!(rt; sink.bytes() == b"fault: read\n".as_slice());
-    let check = words_of(alloc, &["check"])?;
-    let mut source = MemSource::new(alloc, five_candidates(alloc)?.as_bytes(), 40, &[2])?;
-    let mut sink = MemSink::new(alloc, 100, &[])?;
-    assert_eq!(rt;
-        allocate(
-            alloc,
-            &check,
-            &mut source,
-            &mut sink,
-            SureKeeper::new(alloc)
-        )
-        .0,
-        Status::ReadFault
-    );
-    assert!(rt; sink.bytes() == b"fault: read\n".as_slice());
-    let mut source = SureSource::new(alloc, b"step sheet 1\nseats,0\n", 4)?;
-    let mut sink = MemSink::new(alloc, 100, &[1])?;
-    assert_eq!(rt;
-        allocate(
-            alloc,
-            &words,
-            &mut source,
-            &mut sink,
-            SureKeeper::new(alloc)
-        )
-        .0,
-        Status::WriteFault
-    );
-    let mut source = SureSource::new(alloc, b"step sheet 1\nseats,0\n", 4)?;
-    assert_eq!(rt;
-        allocate(
-            alloc,
-            &words,
-            &mut source,
-            &mut SureSink::new(),
-            SureKeeper::new(alloc)
-        )
-        .0,
-        Status::Ok
-    );
+    let mut source = SureSource::new(alloc, EMPTY_SHEET.as_bytes(), 4)?;
+    let keeper = SureKeeper::new(alloc);
+    let (ended, _) = allocate(alloc, &words, &mut source, &mut SureSink::new(), keeper);
+    assert!(rt; ended == Status::Ok);
     Ok(())
 }
 
@@ -403,49 +401,57 @@ impl io::Write for Slow {
     }
 }
 
+// The numbers of the calls of a reader and a writer that fail, 0 for none; the status; and how much is written of what.
+type Failing = (u64, u64, u64, Status, &'static str, usize);
+
+const NO_SEATS: &str = "step seats 0 candidates 0 admitted 0\nhonoured 0\nend\n";
+
+const FAILING: [Failing; 9] = [
+    (0, 0, 0, Status::Ok, NO_SEATS, 52),
+    (1, 0, 0, Status::ReadFault, "fault: read\n", 12),
+    (5, 0, 0, Status::ReadFault, "fault: read\n", 12),
+    // the read that finds the end
+    (12, 0, 0, Status::ReadFault, "fault: read\n", 12),
+    (0, 1, 0, Status::WriteFault, NO_SEATS, 0),
+    (0, 4, 0, Status::WriteFault, NO_SEATS, 9),
+    (0, 0, 4, Status::WriteFault, NO_SEATS, 9),
+    (0, 17, 0, Status::WriteFault, NO_SEATS, 48),
+    (5, 3, 0, Status::WriteFault, "fault: read\n", 6),
+];
+
+// Whether `step` over such streams ends so, and writes so much.
+fn fails_once(alloc: Global, at_once: bool, failing: Failing) -> Result<bool, Fail> {
+    let (read, write, nothing, status, text, count) = failing;
+    let words = words_of(alloc, &["step"])?;
+    let mut source = StandardInput::new(Pieces {
+        bytes: EMPTY_SHEET.as_bytes(),
+        calls: 0,
+        fail_at: read,
+    });
+    let mut writer = Slow {
+        bytes: Vec::new(alloc),
+        calls: 0,
+        fail_at: write,
+        nothing_at: nothing,
+    };
+    let Ok(mut sink) = StandardOutput::new(alloc, &mut writer, at_once) else {
+        return Err(Fail::new("no block"));
+    };
+    let keeper = SureKeeper::new(alloc);
+    let (ended, _) = allocate(alloc, &words, &mut source, &mut sink, keeper);
+    let ended = if sink.finish().is_ok() {
+        ended
+    } else {
+        Status::WriteFault
+    };
+    Ok(ended == status && Some(writer.bytes.as_slice()) == text.as_bytes().get(..count))
+}
+
 #[test]
 fn the_real_streams_fail_once(rt: HostRuntime) -> Result<(), Fail> {
-    let alloc = rt.alloc();
-    let words = words_of(alloc, &["step"])?;
-    let list = "step seats 0 candidates 0 admitted 0\nhonoured 0\nend\n";
-    // the numbers of the calls that fail, 0 for none; the status; and how much is written of what
-    let cases = [
-        (0, 0, 0, Status::Ok, list, list.len()),
-        (1, 0, 0, Status::ReadFault, "fault: read\n", 12),
-        (5, 0, 0, Status::ReadFault, "fault: read\n", 12),
-        // the read that finds the end
-        (12, 0, 0, Status::ReadFault, "fault: read\n", 12),
-        (0, 1, 0, Status::WriteFault, list, 0),
-        (0, 4, 0, Status::WriteFault, list, 9),
-        (0, 0, 4, Status::WriteFault, list, 9),
-        (0, 17, 0, Status::WriteFault, list, 48),
-        (5, 3, 0, Status::WriteFault, "fault: read\n", 6),
-    ];
-    for (read, write, nothing, status, text, count) in cases {
+    for failing in FAILING {
         for at_once in [false, true] {
-            let mut source = StandardInput::new(Pieces {
-                bytes: b"step sheet 1\nseats,0\n",
-                calls: 0,
-                fail_at: read,
-            });
-            let mut writer = Slow {
-                bytes: Vec::new(alloc),
-                calls: 0,
-                fail_at: write,
-                nothing_at: nothing,
-            };
-            let Ok(mut sink) = StandardOutput::new(alloc, &mut writer, at_once) else {
-                return Err(Fail::new("no block"));
-            };
-            let keeper = SureKeeper::new(alloc);
-            let (ended, _) = allocate(alloc, &words, &mut source, &mut sink, keeper);
-            let ended = if sink.finish().is_ok() {
-                ended
-            } else {
-                Status::WriteFault
-            };
-            assert_eq!(rt; ended, status);
-            assert!(rt; Some(writer.bytes.as_slice()) == text.as_bytes().get(..count));
+            assert!(rt; fails_once(rt.alloc(), at_once, failing)?);
         }
     }
     Ok(())
@@ -464,39 +470,52 @@ const REPLIES: [&str; 6] = [
     "published 2 seated 4\nround 2 seated 4\nallot 2 A OPEN\nallot 3 B OPEN\nallot 4 C OPEN\nallot 5 E OPEN\nend round\n",
 ];
 
-// How a run ended: what was written, and how many answers and cuts the keeper holds, where it holds a season.
-#[derive(Drop)]
-struct Ended {
-    status: Status,
-    output: String,
-    kept: Option<(usize, u16)>,
+pub(crate) fn asked_season(alloc: Global) -> Result<String, Fail> {
+    Ok(format!(in alloc; "{SEASON}{REGISTER}{MATRIX}{CHOICES}{REQUESTS}")?)
 }
 
-// Runs that season over a keeper, a source and a sink of which these calls fail.
-fn run_failing(
+// Whether the words run over these bytes and records in memory end with this status and output, and leave so many answers and cuts kept, or no season.
+// The numbers are those of the calls of the source, the sink and the keeper that fail, 0 for none.
+pub(crate) fn ends_so(
     alloc: Global,
-    source_at: &[u32],
-    sink_at: &[u32],
-    keeper_at: &[u32],
-) -> Result<Ended, Fail> {
-    let words = words_of(alloc, &["run", "memory"])?;
-    let season = five_candidates(alloc)?;
-    let bundle = format!(in alloc; "{season}{REQUESTS}")?;
-    let mut source = MemSource::new(alloc, bundle.as_bytes(), 40, source_at)?;
-    let mut sink = MemSink::new(alloc, 1000, sink_at)?;
-    let keeper = MemKeeper::new(alloc, keeper_at)?;
-    let (status, mut keeper) = allocate(alloc, &words, &mut source, &mut sink, keeper);
-    let kept = match keeper.load(alloc) {
-        Ok(Some(kept)) => Some((kept.answers.len(), kept.cuts)),
+    words: &[&str],
+    input: &str,
+    [source_at, sink_at, keeper_at]: [u32; 3],
+    status: Status,
+    output: &str,
+    kept: Option<(usize, u16)>,
+) -> Result<bool, Fail> {
+    let keeper = MemKeeper::new(alloc, &[keeper_at])?;
+    let (ended, written, mut keeper) = over(alloc, words, input, 40, source_at, sink_at, keeper)?;
+    let held = match keeper.load(alloc) {
+        Ok(Some(held)) => Some((held.answers.len(), held.cuts)),
         Ok(None) => None,
         Err(_) => return Err(Fail::new("nothing can be loaded")),
     };
-    let output = String::from_utf8(Vec::from_slice(alloc, sink.bytes())?)?;
-    Ok(Ended {
+    Ok(ended == status && written.as_str() == output && held == kept)
+}
+
+// Whether that season, where these calls fail, ends with this status, so many replies and this line, and leaves so much kept.
+fn moves_up(
+    alloc: Global,
+    fail_at: [u32; 3],
+    status: Status,
+    count: usize,
+    line: &str,
+    kept: Option<(usize, u16)>,
+) -> Result<bool, Fail> {
+    let season = asked_season(alloc)?;
+    let output = first_replies(alloc, count, line)?;
+    let words = ["run", "memory"];
+    ends_so(
+        alloc,
+        &words,
+        season.as_str(),
+        fail_at,
         status,
-        output,
+        output.as_str(),
         kept,
-    })
+    )
 }
 
 // The replies to the first requests, and a line.
@@ -516,17 +535,15 @@ const KEPT: [(usize, u16); 7] = [(0, 0), (0, 1), (1, 1), (2, 1), (3, 1), (4, 1),
 
 #[test]
 fn everybody_moves_up(rt: HostRuntime) -> Result<(), Fail> {
-    let alloc = rt.alloc();
-    let ended = run_failing(alloc, &[], &[], &[])?;
-    assert_eq!(rt; ended.status, Status::Ok);
-    assert!(rt; ended.output == first_replies(alloc, 6, "")?);
-    assert!(rt; ended.kept == Some((4, 2)));
+    // there is no fifteenth read, no seventh write, and no thirteenth call of the keeper but that of `ends_so`, which looks at what is kept
+    for fail_at in [[0, 0, 0], [15, 0, 0], [0, 7, 0], [0, 0, 14]] {
+        assert!(rt; moves_up(rt.alloc(), fail_at, Status::Ok, 6, "", Some(KEPT[6]))?);
+    }
     Ok(())
 }
 
 #[test]
 fn the_keeper_fails_at_each_call(rt: HostRuntime) -> Result<(), Fail> {
-    let alloc = rt.alloc();
     // the call that fails, how many requests are answered before it, and what is kept then: three calls begin the office, each cut and the withdrawal
     // are one call, and the other answers take room first
     let cases = [
@@ -544,83 +561,79 @@ fn the_keeper_fails_at_each_call(rt: HostRuntime) -> Result<(), Fail> {
         (12, 5, Some(KEPT[5])),
     ];
     for (call, count, kept) in cases {
-        let ended = run_failing(alloc, &[], &[], &[call])?;
-        assert_eq!(rt; ended.status, Status::KeeperFault);
+        let status = Status::KeeperFault;
         assert!(rt;
-            ended.output == first_replies(alloc, count, "fault: keeper\n")?,
+            moves_up(
+                rt.alloc(),
+                [0, 0, call],
+                status,
+                count,
+                "fault: keeper\n",
+                kept
+            )?,
             "{call}"
         );
-        assert!(rt; ended.kept == kept, "{call}");
     }
-    // the thirteenth call is that of this test, which looks at what is kept
-    let ended = run_failing(alloc, &[], &[], &[14])?;
-    assert_eq!(rt; ended.status, Status::Ok);
     Ok(())
 }
 
 #[test]
 fn the_sink_fails_at_each_reply(rt: HostRuntime) -> Result<(), Fail> {
-    let alloc = rt.alloc();
-    // the write that fails, how many replies are written before it, and what is kept then
+    // the write that fails, the call of the keeper that does, how many replies are written before, and what is kept then
     let cases = [
-        (1, 0, KEPT[1]),
-        (2, 1, KEPT[2]),
-        (3, 2, KEPT[3]),
-        (4, 3, KEPT[4]),
-        (5, 4, KEPT[5]),
-        (6, 5, KEPT[6]),
+        (1, 0, 0, KEPT[1]),
+        (2, 0, 1, KEPT[2]),
+        (3, 0, 2, KEPT[3]),
+        (4, 0, 3, KEPT[4]),
+        (5, 0, 4, KEPT[5]),
+        (6, 0, 5, KEPT[6]),
+        // a fault's line that cannot be written hides the fault of the keeper
+        (3, 6, 2, KEPT[2]),
     ];
-    for (call, count, kept) in cases {
-        let ended = run_failing(alloc, &[], &[call], &[])?;
-        assert_eq!(rt; ended.status, Status::WriteFault);
-        assert!(rt; ended.output == first_replies(alloc, count, "")?, "{call}");
-        assert!(rt; ended.kept == Some(kept), "{call}");
+    for (call, keeper_at, count, kept) in cases {
+        let status = Status::WriteFault;
+        assert!(rt;
+            moves_up(
+                rt.alloc(),
+                [0, call, keeper_at],
+                status,
+                count,
+                "",
+                Some(kept)
+            )?,
+            "{call}"
+        );
     }
-    // there is no seventh write
-    let ended = run_failing(alloc, &[], &[7], &[])?;
-    assert_eq!(rt; ended.status, Status::Ok);
-    // a fault's line that cannot be written hides the fault of the keeper
-    let ended = run_failing(alloc, &[], &[3], &[6])?;
-    assert_eq!(rt; ended.status, Status::WriteFault);
-    assert!(rt; ended.output == first_replies(alloc, 2, "")?);
-    assert!(rt; ended.kept == Some(KEPT[2]));
     Ok(())
 }
 
 #[test]
 fn the_source_of_a_run_fails(rt: HostRuntime) -> Result<(), Fail> {
-    let alloc = rt.alloc();
     // thirteen reads take the bytes, and the fourteenth finds their end
     for call in 1..=14 {
-        let ended = run_failing(alloc, &[call], &[], &[])?;
-        assert_eq!(rt; ended.status, Status::ReadFault);
-        assert!(rt; ended.output.as_str() == "fault: read\n");
-        assert!(rt; ended.kept == None);
+        assert!(rt;
+            moves_up(
+                rt.alloc(),
+                [call, 0, 0],
+                Status::ReadFault,
+                0,
+                "fault: read\n",
+                None
+            )?,
+            "{call}"
+        );
     }
-    let ended = run_failing(alloc, &[15], &[], &[])?;
-    assert_eq!(rt; ended.status, Status::Ok);
-    assert!(rt; ended.kept == Some(KEPT[6]));
     Ok(())
 }
 
 #[test]
 fn a_season_is_kept_once(rt: HostRuntime) -> Result<(), Fail> {
     let alloc = rt.alloc();
-    let words = words_of(alloc, &["run", "memory"])?;
     let season = five_candidates(alloc)?;
-    let mut source = SureSource::new(alloc, season.as_bytes(), 40)?;
-    let mut sink = MemSink::new(alloc, 100, &[])?;
-    let (first, keeper) = allocate(
-        alloc,
-        &words,
-        &mut source,
-        &mut sink,
-        SureKeeper::new(alloc),
-    );
-    assert_eq!(rt; first, Status::Ok);
-    let mut again = SureSource::new(alloc, season.as_bytes(), 40)?;
-    let (second, _) = allocate(alloc, &words, &mut again, &mut sink, keeper);
-    assert_eq!(rt; second, Status::BadInput);
-    assert!(rt; sink.bytes() == b"fault: keeper holds a season\n".as_slice());
+    let season = season.as_str();
+    let keeper = SureKeeper::new(alloc);
+    let keeper = tells(alloc, "run", season, keeper, "", Status::Ok)?;
+    let held = "fault: keeper holds a season\n";
+    let _ = tells(alloc, "run", season, keeper, held, Status::BadInput)?;
     Ok(())
 }
