@@ -1,5 +1,6 @@
 pub mod Certificate
 pub mod Codes
+pub mod Laws
 pub mod Limits
 pub mod Lists
 pub mod Memory
@@ -9,4 +10,5 @@ pub mod Outside
 pub mod Person
 pub mod Placement
 pub mod StepChoice
+pub mod StepNumbers
 pub mod Version
