@@ -1,5 +1,6 @@
 pub mod Certificate
 pub mod Codes
+pub mod FaultLines
 pub mod Laws
 pub mod Limits
 pub mod Lists
