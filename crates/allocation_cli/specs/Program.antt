@@ -9,7 +9,8 @@ use Rattle.season_commands.specs.Run.{EndsRun, TellsNoSeason}
 use Rattle.step_command.specs.Step.{IsFaultySheet, IsSheet, step_answers}
 use Rattle.command_words.specs.Words.{Spell, SpellNothing}
 use Rattle.season_generator.specs.Bundle.{generated}
-use Rattle.command_answers.specs.Writes.{IsTextOf, Writes, memory_line}
+use Rattle.office_base.specs.FaultLines.{memory_line}
+use Rattle.command_answers.specs.Writes.{IsTextOf, Writes}
 use Rattle.command_answers.specs.declared.status.Status.{Status}
 use Rattle.command_answers.specs.declared.status.Status.TheVariants.{Ok as Done, Usage, BadInput, ReadFault, WriteFault, KeeperFault, OutOfMemory, Differs}
 use Rattle.command_words.specs.declared.words.Command.{Command}

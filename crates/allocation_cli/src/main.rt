@@ -40,7 +40,7 @@ fn main(rt: HostRuntime) -> ExitCode {
     let output = rt.stdout();
     let at_once = output.is_terminal();
     let Ok(mut sink) = StandardOutput::new(alloc, output, at_once) else {
-        return ExitCode::from(tell_unheld(rt.stdout()).code());
+        return ExitCode::from(tell_unheld(&mut rt.stdout()).code());
     };
     let ended = match words_of(&rt, alloc) {
         Ok(words) => over_store(&rt, alloc, &words, &mut sink),

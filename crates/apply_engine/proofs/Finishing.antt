@@ -22,10 +22,10 @@ use Rattle.programme_lists.specs.Programme.{Admissions, admitted_by}
 use Rattle.programme_lists.specs.declared.programme.Programme.{Programme}
 use Rattle.programme_lists.specs.declared.programme.StepList.{StepList}
 use Rattle.rounds.specs.Rule.{MayApplyIn, rule_of}
-use Rattle.seat_matrix.specs.Fields.{step_number}
+use Rattle.office_base.specs.StepNumbers.{step_number}
 use Rattle.seat_matrix.specs.Matrix.{seats_in}
 use Rattle.seat_matrix.specs.declared.seats.ProgrammeSeats.{ProgrammeSeats}
-use Rattle.seat_matrix.proofs.StepNumbers.{kinds, kind_at, number_at}
+use Rattle.office_base.proofs.StepNumbers.{kinds, kind_at, number_at}
 use Rattle.seeks.specs.declared.seek.Seek.{Seek}
 use Rattle.apply_engine.specs.Engine.{HasEnded, HasRun, IsMade, IsSet, Setting, seekers_in}
 use Rattle.apply_engine.specs.Made.{AreGiven, AreInOrder, AreListed, AreShown, admitted_of, shown}

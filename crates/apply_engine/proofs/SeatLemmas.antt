@@ -12,8 +12,8 @@ use Rattle.office_base.specs.declared.step.StepKind.TheVariants.{Open, Ews, Obc,
 use Rattle.allocations.specs.Market.{seat_at}
 use Rattle.programme_lists.specs.declared.programme.Programme.{Programme}
 use Rattle.programme_lists.specs.declared.programme.StepList.{StepList}
-use Rattle.seat_matrix.specs.Fields.{step_number}
-use Rattle.seat_matrix.proofs.StepNumbers.{one_number, below_six}
+use Rattle.office_base.specs.StepNumbers.{step_number}
+use Rattle.office_base.proofs.StepNumbers.{one_number, below_six}
 use Rattle.apply_engine.specs.Made.{AreGiven, AreInOrder, AreOf, ArePut, AreShown, IsPut, IsShownOnce, admitted_of, shown}
 
 -- the list at a place shows whom it admits

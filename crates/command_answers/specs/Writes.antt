@@ -1,19 +1,12 @@
 -- What is written with a status: a text of it whole, or a prefix.
-use Rattle.std.specs.Prelude.{◌≡◌, ◌⊎◌, ℕ, List, Option, Result, Ok, Err, codes, take}
+use Rattle.std.specs.Prelude.{◌≡◌, ◌⊎◌, ℕ, List, Option, Result, Ok, Err, take}
+use Rattle.office_base.specs.FaultLines.{memory_line, read_line}
 use Rattle.office_base.specs.Outside.{Appends}
 use Rattle.command_answers.specs.Answers.{Answers, HasLeft}
 use Rattle.command_answers.specs.declared.failure.Failure.{Failure}
 use Rattle.command_answers.specs.declared.failure.Failure.TheVariants.{Read, Bad, NoMemory}
 use Rattle.command_answers.specs.declared.status.Status.{Status}
 use Rattle.command_answers.specs.declared.status.Status.TheVariants.{Ok as Done, Usage, BadInput, ReadFault, WriteFault, KeeperFault, OutOfMemory, Differs}
-
--- the line of a source that failed
-abbrev pub read_line : List ℕ
-read_line = codes "fault: read\n"
-
--- the line of want of memory
-abbrev pub memory_line : List ℕ
-memory_line = codes "fault: memory\n"
 
 -- The whole text of the status is written; or the sink failed, and a prefix of the text of some status is.
 abbrev pub Writes : (Status → List ℕ → Type 0) → Status → List ℕ → Type 0

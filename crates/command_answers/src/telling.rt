@@ -1,7 +1,8 @@
 // A text, or the line of a fault, written with its status.
 ghost use Rattle.std.specs.Prelude.{◌≡◌, ◌≢◌, Err};
 ghost use Rattle.office_base.specs.Outside.{Rose};
-ghost use Rattle.command_answers.specs.Writes.{IsTold, memory_line, status_of, text_of};
+ghost use Rattle.office_base.specs.FaultLines.{memory_line};
+ghost use Rattle.command_answers.specs.Writes.{IsTold, status_of, text_of};
 
 use crate::failure::Failure;
 use crate::status::Status;

@@ -29,8 +29,8 @@ use Rattle.programme_lists.proofs.Categories.{same_itself}
 use Rattle.reasons.specs.declared.reason.StepWhy.{StepWhy}
 use Rattle.seat_matrix.specs.Seats.{AreProgrammeSeats, seats_of}
 use Rattle.seat_matrix.specs.declared.seats.ProgrammeSeats.{ProgrammeSeats}
-use Rattle.seat_matrix.specs.Fields.{step_number}
-use Rattle.seat_matrix.proofs.StepNumbers.{kinds, kind_at}
+use Rattle.office_base.specs.StepNumbers.{step_number}
+use Rattle.office_base.proofs.StepNumbers.{kinds, kind_at}
 use Rattle.explain.specs.Just.{ReasonsAreJust, StandsAgainst, WasApplicant, told}
 use Rattle.explain.specs.Reason.{admitted_in, category_step, reason_from, refusal, step_why, why_at}
 use Rattle.explain.proofs.Lists.{left_by_take, none_taken, not_listed, stays, tells_worse}

@@ -9,7 +9,7 @@ use Rattle.office_base.specs.declared.person.ListId.{ListId}
 use Rattle.office_base.specs.declared.person.Person.{Person}
 use Rattle.office_base.specs.declared.step.StepKind.{StepKind}
 use Rattle.office_base.specs.declared.step.StepKind.TheVariants.{Open, Ews as EwsStep, Obc as ObcStep, Sc as ScStep, St as StStep, Dereserved}
-use Rattle.seat_matrix.specs.Fields.{step_number}
+use Rattle.office_base.specs.StepNumbers.{step_number}
 use Rattle.programme_lists.specs.Programme.{is_taken}
 use Rattle.programme_lists.specs.declared.programme.Programme.{Programme}
 use Rattle.programme_lists.specs.declared.programme.StepList.{StepList}

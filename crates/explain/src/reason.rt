@@ -8,10 +8,10 @@ ghost use Rattle.seat_matrix.specs.Matrix.{list_in};
 ghost use Rattle.explain.specs.Reason.{admitted_in, at_category, category_step, has_worse, reason_of, refusal, why_at};
 
 use dereserve::is_common;
-use office_base::{Category, ListId, Person, ProgId, StepKind};
+use office_base::{Category, ListId, Person, ProgId, StepKind, step_number};
 use programme_lists::{Programme, StepList};
 use reasons::{Reason, StepWhy};
-use seat_matrix::{Matrix, step_number};
+use seat_matrix::Matrix;
 
 /// Under which step the programme admits the person, or what stood against the person at each step for whose seats the person stood.
 /// It takes no memory.

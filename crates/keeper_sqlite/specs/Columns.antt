@@ -2,13 +2,14 @@
 use Rattle.std.specs.Prelude.{◌≡◌, ◌<◌, ◌^◌, ℕ, pos, List}
 use Rattle.sqlite.specs.Order.{Row, column}
 use Rattle.sqlite.specs.declared.types.Value.TheVariants.{Int, Blob}
+use Rattle.office_base.specs.StepNumbers.{step_number}
 use Rattle.office_base.specs.declared.asks.Choice.{Choice}
 use Rattle.office_base.specs.declared.step.StepKind.{StepKind}
 use Rattle.keeper_mem.specs.declared.rows.AnswerRow.{AnswerRow}
 use Rattle.keeper_mem.specs.declared.rows.AllotRow.{AllotRow}
 use Rattle.keeper_mem.specs.declared.rows.RaiseRow.{RaiseRow}
 use Rattle.keeper_sqlite.specs.declared.rising.Key.{Key}
-use Rattle.keeper_sqlite.specs.Numbers.{choice_number, step_number}
+use Rattle.keeper_sqlite.specs.Numbers.{choice_number}
 
 -- a column holds this whole number of at most so many bits
 abbrev pub Holds : Row → ℕ → ℕ → ℕ → Type 0

@@ -8,11 +8,10 @@ ghost use Rattle.keeper_sqlite.specs.Commits.{CommitsNothing};
 
 use crate::columns::{number_at, small_number_at, step_at};
 use crate::halt::Halt;
-use crate::numbers::number_of_step;
 use crate::records::{Record, expect_none, records_of};
 use crate::rising::Key;
 use keeper_mem::{AllotRow, AllotRows};
-use office_base::{CandId, ProgId};
+use office_base::{CandId, ProgId, step_number};
 use sqlite::{Alter, Row, Transaction, params};
 use std::alloc::Global;
 
@@ -52,7 +51,7 @@ pub(crate) fn insert_all<S: Alter>(
                 u32::from(row.round),
                 row.cand.0,
                 u32::from(row.prog.0),
-                number_of_step(row.step)
+                u32::from(step_number(row.step))
             ],
         )?;
     }

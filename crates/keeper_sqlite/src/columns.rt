@@ -6,8 +6,8 @@ ghost use Rattle.office_base.specs.declared.asks.Choice.{Choice};
 ghost use Rattle.office_base.specs.declared.step.StepKind.{StepKind};
 
 use crate::halt::Halt;
-use crate::numbers::{choice_of_number, step_of_number};
-use office_base::{Choice, StepKind};
+use crate::numbers::choice_of_number;
+use office_base::{Choice, StepKind, step_of_number};
 use sqlite::Row;
 
 /// A number of at most 32 bits.
@@ -49,5 +49,6 @@ pub(crate) fn step_at(row: &Row, at: usize) -> Result<StepKind, Halt>
     ensures ok { IfOk result (IsStepAt row.now at) }
     ensures err { IfErr result (λ halt. ¬ WantsMemory halt → (step : StepKind) → ¬ IsStepAt row.now at step) }
 {
-    step_of_number(number_at(row, at)?).ok_or(Halt::Unfit)
+    let number = u8::try_from(number_at(row, at)?).map_err(|_| Halt::Unfit)?;
+    step_of_number(number).ok_or(Halt::Unfit)
 }

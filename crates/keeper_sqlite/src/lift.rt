@@ -5,10 +5,9 @@ ghost use Rattle.keeper_sqlite.specs.Commits.{CommitsNothing};
 
 use crate::columns::{expect_number, small_number_at, step_at};
 use crate::halt::Halt;
-use crate::numbers::number_of_step;
 use crate::records::{Record, expect_none, records_of};
 use keeper_mem::{RaiseRow, RaiseRows};
-use office_base::ProgId;
+use office_base::{ProgId, step_number};
 use sqlite::{Alter, Row, Transaction, params};
 use std::alloc::Global;
 
@@ -42,7 +41,7 @@ pub(crate) fn insert<S: Alter>(tx: &mut Transaction<'_, S>, row: RaiseRow) -> Re
         params![
             u32::from(row.window),
             u32::from(row.prog.0),
-            number_of_step(row.step),
+            u32::from(step_number(row.step)),
             u32::from(row.seats)
         ],
     )?;

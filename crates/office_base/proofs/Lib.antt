@@ -1,3 +1,4 @@
 pub mod Lists
 pub mod People
+pub mod StepNumbers
 pub mod Streams

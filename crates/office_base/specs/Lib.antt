@@ -1,5 +1,7 @@
 pub mod Certificate
 pub mod Codes
+pub mod FaultLines
+pub mod Laws
 pub mod Limits
 pub mod Lists
 pub mod Memory
@@ -9,4 +11,5 @@ pub mod Outside
 pub mod Person
 pub mod Placement
 pub mod StepChoice
+pub mod StepNumbers
 pub mod Version

@@ -16,7 +16,7 @@ use Rattle.office_base.specs.declared.step.StepKind.{StepKind}
 use Rattle.keeper_mem.specs.declared.rows.AllotRow.{AllotRow}
 use Rattle.keeper_mem.specs.declared.rows.AnswerRow.{AnswerRow}
 use Rattle.keeper_mem.specs.declared.rows.RaiseRow.{RaiseRow}
-use Rattle.seat_matrix.specs.Fields.{step_number}
+use Rattle.office_base.specs.StepNumbers.{step_number}
 use Rattle.rounds.specs.Round.{seated}
 use Rattle.rounds.specs.declared.round.Round.{Round}
 use Rattle.office_moves.specs.Facts.{SeasonFacts, find_programme}

@@ -4,11 +4,11 @@ use Rattle.std.proofs.lemmas.Bool.{cases_Bool, eq-eqb, eqb-true}
 use Rattle.office_base.specs.Limits.{most_step_seats}
 use Rattle.office_base.specs.declared.step.StepKind.{StepKind}
 use Rattle.keeper_mem.specs.declared.rows.RaiseRow.{RaiseRow}
-use Rattle.seat_matrix.specs.Fields.{step_number}
+use Rattle.office_base.specs.StepNumbers.{step_number}
 use Rattle.seat_matrix.specs.Laws.{OneStepChanges}
 use Rattle.seat_matrix.specs.Matrix.{AreSeats, HasSeating, SeatTable, matrix_with, seating_in}
 use Rattle.seat_matrix.specs.Seats.{IsSeated, is_dereserved}
-use Rattle.seat_matrix.proofs.StepNumbers.{one_number}
+use Rattle.office_base.proofs.StepNumbers.{one_number}
 use Rattle.rounds.specs.Rule.{IsRaised}
 use Rattle.office_moves.specs.Raised.{raised, raised_to}
 

@@ -34,7 +34,8 @@ place_later : {X : Type 0} (b : Bool) (x : X) (rest : Option X) (xs : List X) (a
 place_later true x rest xs at n e same later = absurd (cc)
 place_later false x rest xs at n e same later = rw same later
 
-other_way : (m n : ℕ) → (m == n) ≡ false → (n == m) ≡ false
+-- two numbers that are not equal are not so the other way round
+pub other_way : (m n : ℕ) → (m == n) ≡ false → (n == m) ≡ false
 other_way m n e = elim (cases_Bool (n == m)) [
   | inl same ↦ absurd (let own : m == n ≡ true = eq-eqb m n (sym (eqb-true n m same)) in cc)
   | inr other ↦ other

@@ -2,52 +2,27 @@
 use Rattle.std.proofs.Common.{◌≡◌, ◌≢◌, ◌<◌, ◌≤◌, ◌+◌, ◌⊎◌, inl, inr, ℕ, zero, suc, Bool, true, false, List, [], ◌∷◌, Option, Some, None, length, slice_set, arith, refl, sym, ap, ◌∙◌, subst, ◌==◌, if◌then◌else◌}
 use Rattle.std.specs.Prelude.{slice_get, option_map, replicate, ◌&&◌}
 use Rattle.std.specs.Option.{option_and_then}
-use Rattle.std.specs.List.{AllByRecursion}
-use Rattle.std.proofs.lemmas.Bool.{cases_Bool, cases_lt}
-use Rattle.std.proofs.lemmas.Bool.Decides.{nat_tests}
+use Rattle.std.proofs.lemmas.Bool.{cases_lt, eq-eqb, eqb-true}
 use Rattle.office_base.specs.Lists.{Pairwise}
 use Rattle.office_base.specs.Person.{at_person}
 use Rattle.office_base.specs.declared.asks.Seat.{Seat}
 use Rattle.office_base.specs.declared.person.CandId.{CandId}
 use Rattle.office_base.specs.declared.person.Person.{Person}
+use Rattle.office_base.proofs.Lists.{all-get}
 use Rattle.office_base.proofs.People.{at_person-get}
 use Rattle.keeper_mem.specs.declared.rows.AllotRow.{AllotRow}
 use Rattle.rank_lists.specs.Register.{row_of}
 use Rattle.office_moves.specs.Moves.{row_before, rows_along}
 use Rattle.office_moves.specs.Stands.{first_allot}
+use Rattle.proceedings.proofs.Positions.{Stands, other_way, stands}
 use Rattle.replays.specs.Differences.{AreFound, IsComparison, IsComparisonOf, IsFirstPlace, IsOfNobody, IsOfPeople, IsStranger, seat_along, seat_or}
 use Rattle.replays.specs.declared.compare.Difference.{Difference}
-
-eq_means : (m n : ℕ) → m == n ≡ true → m ≡ n
-eq_means m n e = grind (arith, nat_tests)
-
-eq_true : (m n : ℕ) → m ≡ n → m == n ≡ true
-eq_true m n e = grind (arith, nat_tests)
 
 -- the ids of the people rise
 abbrev pub AreRising : List Person → Type 0
 AreRising people = Pairwise (λ a b. a.id.0 < b.id.0) people
 
 -- ---- places of people
-
--- the person of this id stands at this place
-pub record Stands (id : ℕ) (people : List Person) (at : ℕ) : Type 0 where
-  pub person : Person
-  pub there : slice_get people at ≡ Some person
-  pub mine : person.id.0 ≡ id
-
-row_cases : (b : Bool) (rest : Option ℕ) (at : ℕ) → (if b then Some 0 else option_map (λ n. n + 1) rest) ≡ Some at
-    → ((b ≡ true) × (at ≡ 0)) ⊎ ((n : ℕ) × (b ≡ false) × (rest ≡ Some n) × (at ≡ suc n))
-row_cases true rest at e = inl (refl, cc)
-row_cases false None at e = absurd (cc)
-row_cases false (Some n) at e = inr (n, refl, refl, let same : n + 1 ≡ at = cc in omega (arith, same))
-
-pub stands : (id : ℕ) (people : List Person) (at : ℕ) → row_of id people ≡ Some at → Stands id people at
-stands id [] at e = absurd (cc)
-stands id (p ∷ people) at e = elim (row_cases (id == p.id.0) (row_of id people) at e) [
-  | inl h ↦ record { person = p; there = rw h.1 refl; mine = sym (eq_means id p.id.0 h.0) }
-  | inr h ↦ let rest = stands id people h.0 h.2 in record { person = rest.person; there = rw h.3 rest.there; mine = rest.mine }
-]
 
 -- nobody has an id that has no place
 none_when : (b : Bool) (rest : Option ℕ) → (if b then Some 0 else option_map (λ n. n + 1) rest) ≡ None → (b ≡ false) × (rest ≡ None)
@@ -61,15 +36,9 @@ not_there id [] (suc at) p none there mine = cc
 not_there id (first ∷ people) zero p none there mine =
     let apart = none_when (id == first.id.0) (row_of id people) none in
     let same : first ≡ p = cc in
-    let test = eq_true id first.id.0 (sym (ap (λ (q : Person). q.id.0) same ∙ mine)) in
+    let test = eq-eqb id first.id.0 (sym (ap (λ (q : Person). q.id.0) same ∙ mine)) in
     absurd (let f = apart.0 in cc)
 not_there id (first ∷ people) (suc at) p none there mine = not_there id people at p (none_when (id == first.id.0) (row_of id people) none).1 there mine
-
-other_way : (m n : ℕ) → (m == n) ≡ false → (n == m) ≡ false
-other_way m n e = elim (cases_Bool (n == m)) [
-  | inl same ↦ absurd (let own : m == n ≡ true = eq_true m n (sym (eq_means n m same)) in cc)
-  | inr other ↦ other
-]
 
 no_seat : {X : Type 0} (id : ℕ) (people : List Person) (xs : List X) → row_of id people ≡ None → at_person id people xs ≡ None
 no_seat id [] xs none = refl
@@ -81,19 +50,13 @@ no_seat id (p ∷ people) (x ∷ xs) none = let apart = none_when (id == p.id.0)
     step false x rest e f = f
 
 -- ids rise with places
-each_at : {X : Type 0} (P : X → Type 0) (xs : List X) (at : ℕ) (x : X) → AllByRecursion P xs → slice_get xs at ≡ Some x → P x
-each_at P [] zero x all there = absurd (cc)
-each_at P [] (suc at) x all there = absurd (cc)
-each_at P (y ∷ xs) zero x all there = let same : y ≡ x = cc in subst P same all.0
-each_at P (y ∷ xs) (suc at) x all there = each_at P xs at x all.1 there
-
 rising_at : (people : List Person) (i j : ℕ) (p q : Person) → AreRising people → slice_get people i ≡ Some p → slice_get people j ≡ Some q → i < j → p.id.0 < q.id.0
 rising_at [] zero j p q rising a b less = absurd (cc)
 rising_at [] (suc i) j p q rising a b less = absurd (cc)
 rising_at (first ∷ people) i zero p q rising a b less = absurd (omega arith)
 rising_at (first ∷ people) zero (suc j) p q rising a b less =
     let same : first ≡ p = cc in
-    subst (λ (r : Person). r.id.0 < q.id.0) same (each_at (λ (r : Person). first.id.0 < r.id.0) people j q rising.0 b)
+    subst (λ (r : Person). r.id.0 < q.id.0) same (all-get (λ (r : Person). first.id.0 < r.id.0) people j q rising.0 b)
 rising_at (first ∷ people) (suc i) (suc j) p q rising a b less = rising_at people i j p q rising.1 a b (omega arith)
 
 pub one_place : (people : List Person) (i j : ℕ) (p q : Person) → AreRising people → slice_get people i ≡ Some p → slice_get people j ≡ Some q → p.id.0 ≡ q.id.0 → i ≡ j
@@ -120,11 +83,11 @@ here_if false b x y e f = absurd (cc)
 pub row_skips : (number id : ℕ) (row : AllotRow) (rest : List AllotRow) → (row.round ≡ number → row.cand.0 ≡ id → ⊥) → first_allot number id (row ∷ rest) ≡ first_allot number id rest
 row_skips number id row rest never =
     skip_if (row.round == number) (row.cand.0 == id) (Some (record { prog = row.prog; step = row.step })) (first_allot number id rest)
-    (λ a b. never (eq_means row.round number a) (eq_means row.cand.0 id b))
+    (λ a b. never (eqb-true row.round number a) (eqb-true row.cand.0 id b))
 
 pub row_hits : (number id : ℕ) (row : AllotRow) (rest : List AllotRow) → row.round ≡ number → row.cand.0 ≡ id → first_allot number id (row ∷ rest) ≡ Some (record { prog = row.prog; step = row.step })
 row_hits number id row rest a b =
-    here_if (row.round == number) (row.cand.0 == id) (Some (record { prog = row.prog; step = row.step })) (first_allot number id rest) (eq_true row.round number a) (eq_true row.cand.0 id b)
+    here_if (row.round == number) (row.cand.0 == id) (Some (record { prog = row.prog; step = row.step })) (first_allot number id rest) (eq-eqb row.round number a) (eq-eqb row.cand.0 id b)
 
 -- ---- seats that are found
 
@@ -436,7 +399,7 @@ pub rows_outside : (number other id : ℕ) (seat : ℕ → Option Seat) (people 
 rows_outside number other id seat [] nobody = refl
 rows_outside number other id seat (p ∷ people) nobody =
     let apart = none_when (id == p.id.0) (row_of id people) nobody in
-    row_outside number other id p.id (seat p.id.0) (rows_along number seat people) (λ same. let f = eq_true id p.id.0 (sym same) in let g = apart.0 in cc)
+    row_outside number other id p.id (seat p.id.0) (rows_along number seat people) (λ same. let f = eq-eqb id p.id.0 (sym same) in let g = apart.0 in cc)
     ∙ rows_outside number other id seat people apart.1
 
 -- a comparison with seats that are said otherwise

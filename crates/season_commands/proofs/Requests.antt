@@ -1,10 +1,9 @@
 -- How the reading of requests ends, and that it has one answer.
-use Rattle.std.proofs.Common.{◌≡◌, ◌<◌, ◌≤◌, ◌⊎◌, ◌∙◌, inl, inr, ℕ, Bool, List, Option, Some, None, Result, Ok, Err, length, refl, sym, subst, ap, arith}
+use Rattle.std.proofs.Common.{◌≡◌, ◌<◌, ◌≤◌, ◌⊎◌, ◌∙◌, inl, inr, ℕ, List, Option, Result, Ok, Err, length, refl, sym, ap, arith}
 use Rattle.std.specs.Str.{IsUtf8, is_utf8}
 use Rattle.std.proofs.lemmas.Bool.{cases_Bool, cases_lt}
 use Rattle.std.proofs.lemmas.Str.{IsUtf8-from_is_utf8, is_utf8-from_IsUtf8}
 use Rattle.office_base.specs.Limits.{most_bundle_bytes}
-use Rattle.office_base.specs.Outside.{AreLeft}
 use Rattle.office_base.specs.declared.asks.Request.{Request}
 use Rattle.section_rows.specs.Rows.{rows_of}
 use Rattle.request_rows.specs.Requests.{script_of}
@@ -13,7 +12,7 @@ use Rattle.season_file.specs.Season.{IsText}
 use Rattle.season_file.specs.declared.fault.SeasonFault.{SeasonFault}
 use Rattle.season_file.specs.declared.fault.SeasonFault.TheVariants.{ReadFault, TooLong, BadFirstLine, Section, BadSeason, Register, Matrix, Choices, NotUtf8, BadRequest, OutOfMemory}
 use Rattle.season_texts.specs.Texts.{fault_line}
-use Rattle.command_answers.specs.Answers.{HasLeft, HaveOneAnswer, IsFailureOf, Tells}
+use Rattle.command_answers.specs.Answers.{HasLeft, HaveOneAnswer, IsFailureOf}
 use Rattle.command_answers.specs.declared.failure.Failure.{Failure}
 use Rattle.command_answers.specs.declared.failure.Failure.TheVariants.{Read, Bad, NoMemory}
 use Rattle.command_answers.proofs.Ended.{all_left, long_left}
@@ -61,18 +60,6 @@ requests_apart bytes script (Choices fault) are has = has
 requests_apart bytes script NotUtf8 are has = has.1 are.0.utf8
 requests_apart bytes script (BadRequest row) are has = cc (are.1, has.1)
 requests_apart bytes script OutOfMemory are has = has
-
--- What a source tells without faults has no fault's line.
-pub not_faulty : (left : Option (List ℕ)) (line : List ℕ) → Tells IsScript left → HasLeft IsRequestFaultLine left line → ⊥
-not_faulty None line tells has = tells
-not_faulty (Some bytes) line tells has =
-    requests_apart bytes tells.0 has.2.0 tells.1 (subst (λ (b : List ℕ). HaveRequestFault b has.2.0) has.1 has.2.1)
-
--- What a source tells with a fault gives no requests.
-pub not_requests : (left : Option (List ℕ)) (script : List Request) → Tells IsFaultyScript left → AreLeftRequests left script → ⊥
-not_requests None script tells are = tells
-not_requests (Some bytes) script tells are =
-    requests_apart bytes script tells.0 (subst (λ (b : List ℕ). AreRequests b script) are.1 are.2) tells.1
 
 -- ---- one answer
 

@@ -21,7 +21,8 @@ use Rattle.season_file.specs.declared.fault.SeasonFault.{SeasonFault}
 use Rattle.season_file.specs.declared.season.Season.{Season}
 use Rattle.season_texts.specs.Texts.{fault_line}
 use Rattle.command_answers.specs.Answers.{IsFailureOf, Tells}
-use Rattle.command_answers.specs.Writes.{IsTold, Writes, memory_line, status_of, text_of}
+use Rattle.office_base.specs.FaultLines.{memory_line}
+use Rattle.command_answers.specs.Writes.{IsTold, Writes, status_of, text_of}
 use Rattle.command_answers.specs.declared.failure.Failure.{Failure}
 use Rattle.command_answers.specs.declared.failure.Failure.TheVariants.{Read, Bad, NoMemory}
 use Rattle.command_answers.specs.declared.status.Status.{Status}
@@ -31,7 +32,6 @@ use Rattle.season_commands.specs.Office.{EndsOffice, keeper_line}
 use Rattle.season_commands.specs.Resume.{AreLeftRequests, EndsAsked, EndsResume, HaveNoFault, IsScript, IsFaultyScript, IsUnaskedText, IsUnresumedLine, IsUnresumedText, HaveRowFault, HaveTextFault, TellsNoOffice, TellsRowFault, TellsSound, TellsTextFault, no_season_line, script_answers, unresumed_status}
 use Rattle.season_commands.specs.Run.{TellsNoSeason}
 use Rattle.season_commands.specs.Stray.{differs_line, raise_line_of, replay_line, stray_line}
-use Rattle.season_commands.proofs.Requests.{not_faulty}
 
 -- ---- the lines of faults
 

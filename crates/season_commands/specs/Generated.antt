@@ -17,7 +17,8 @@ use Rattle.round_cut.specs.declared.fault.OfficeFault.TheVariants.{KeeperFault a
 use Rattle.season_generator.specs.Bundle.{generated}
 use Rattle.season_generator.specs.Summary.{summary_text}
 use Rattle.season_generator.specs.declared.summary.Summary.{Summary}
-use Rattle.command_answers.specs.Writes.{Writes, memory_line}
+use Rattle.office_base.specs.FaultLines.{memory_line}
+use Rattle.command_answers.specs.Writes.{Writes}
 use Rattle.command_answers.specs.declared.status.Status.{Status}
 use Rattle.command_answers.specs.declared.status.Status.TheVariants.{Ok as Done, Usage, BadInput, ReadFault, WriteFault, KeeperFault, OutOfMemory, Differs}
 use Rattle.season_commands.specs.Check.{IsBundleFaultLine}

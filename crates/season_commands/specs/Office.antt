@@ -6,7 +6,7 @@ use Rattle.office_moves.specs.Facts.{SeasonFacts}
 use Rattle.office_moves.specs.State.{State}
 use Rattle.office_moves.specs.declared.moves.Reply.{Reply}
 use Rattle.script_runs.specs.Runs.{AfterOneMore, AfterSome, reply_bytes}
-use Rattle.command_answers.specs.Writes.{memory_line}
+use Rattle.office_base.specs.FaultLines.{memory_line}
 use Rattle.command_answers.specs.declared.status.Status.{Status}
 use Rattle.command_answers.specs.declared.status.Status.TheVariants.{Ok as Done, Usage, BadInput, ReadFault, WriteFault, KeeperFault, OutOfMemory, Differs}
 

@@ -24,7 +24,8 @@ use Rattle.round_cut.specs.Resume.{IsJudged, IsResumed}
 use Rattle.round_cut.specs.declared.fault.ResumeFault.{ResumeFault}
 use Rattle.round_cut.specs.declared.fault.ResumeFault.TheVariants.{NoSeason as NoneKept, BadSeason, Stray, StrayRaise, Differs as SeatsDiffer, KeeperFault as KeeperFailed, OutOfMemory as NoMemoryToResume}
 use Rattle.command_answers.specs.Answers.{Answers, HasLeft}
-use Rattle.command_answers.specs.Writes.{Writes, memory_line, read_line}
+use Rattle.office_base.specs.FaultLines.{memory_line, read_line}
+use Rattle.command_answers.specs.Writes.{Writes}
 use Rattle.command_answers.specs.declared.status.Status.{Status}
 use Rattle.command_answers.specs.declared.status.Status.TheVariants.{Ok as Done, Usage, BadInput, ReadFault, WriteFault, KeeperFault, OutOfMemory, Differs}
 use Rattle.season_commands.specs.Office.{EndsOffice, keeper_line}

@@ -11,7 +11,8 @@ use Rattle.round_cut.specs.declared.fault.BeginFault.TheVariants.{NotEmpty, Keep
 use Rattle.command_answers.specs.Answers.{HasLeft}
 use Rattle.season_commands.specs.Check.{IsBundleFaultLine, IsLeftBundle}
 use Rattle.season_commands.specs.Office.{EndsOffice, keeper_line}
-use Rattle.command_answers.specs.Writes.{Writes, memory_line, read_line}
+use Rattle.office_base.specs.FaultLines.{memory_line, read_line}
+use Rattle.command_answers.specs.Writes.{Writes}
 use Rattle.command_answers.specs.declared.status.Status.{Status}
 use Rattle.command_answers.specs.declared.status.Status.TheVariants.{Ok as Done, Usage, BadInput, ReadFault, WriteFault, KeeperFault, OutOfMemory, Differs}
 

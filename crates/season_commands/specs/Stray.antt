@@ -7,7 +7,7 @@ use Rattle.step_lines.specs.Lines.{step_name}
 use Rattle.published_texts.specs.Texts.{code_in}
 use Rattle.replays.specs.declared.fault.ReplayFault.{ReplayFault}
 use Rattle.replays.specs.declared.fault.ReplayFault.TheVariants.{Stray, StrayRaise, Differs, OutOfMemory}
-use Rattle.command_answers.specs.Writes.{memory_line}
+use Rattle.office_base.specs.FaultLines.{memory_line}
 
 -- the code of a programme; a number that the matrix does not have is written ?
 abbrev pub code_or_mark : SeatTable → ℕ → List ℕ

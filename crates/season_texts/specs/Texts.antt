@@ -1,6 +1,7 @@
 -- The texts of a season bundle.
 use Rattle.std.specs.Prelude.{ℕ, List, ◌++◌, codes, length, sum_by}
 use Rattle.std.specs.Fmt.{decimal}
+use Rattle.office_base.specs.FaultLines.{memory_line, read_line}
 use Rattle.rank_lists.specs.Kinds as rank_kinds
 use Rattle.seat_matrix.specs.Kinds as matrix_kinds
 use Rattle.choice_lists.specs.Choices.{list_of}
@@ -35,10 +36,6 @@ section_line line = codes "fault: bundle line " ++ decimal line ++ codes " Secti
 abbrev pub row_line : List ℕ → ℕ → List ℕ → List ℕ
 row_line section row kind = codes "fault: " ++ section ++ codes " row " ++ decimal row ++ codes " " ++ kind ++ codes "\n"
 
--- the line of want of memory
-abbrev pub memory_line : List ℕ
-memory_line = codes "fault: memory\n"
-
 -- the line of a table's fault, by the table's name and the names of its kinds
 abbrev pub table_line : {Kind : Type 0} → List ℕ → (Kind → List ℕ) → TableFault Kind → List ℕ
 table_line name kind_name (BadRow row kind) = row_line name row (kind_name kind)
@@ -46,7 +43,7 @@ table_line name kind_name NoTableMemory = memory_line
 
 -- the line that tells a fault
 abbrev pub fault_line : SeasonFault → List ℕ
-fault_line ReadFault = codes "fault: read\n"
+fault_line ReadFault = read_line
 fault_line TooLong = codes "fault: bundle TooLong\n"
 fault_line BadFirstLine = codes "fault: bundle BadFirstLine\n"
 fault_line (Section line) = section_line line

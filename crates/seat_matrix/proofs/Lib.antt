@@ -1,4 +1,3 @@
 mod Codes
 mod LawsLemmas
 mod SeatsLemmas
-pub mod StepNumbers

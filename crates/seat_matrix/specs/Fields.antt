@@ -2,20 +2,9 @@
 use Rattle.std.specs.Prelude.{ℕ, ◌==◌, nat_le, List, [], ◌∷◌, Option, Some, None, length, if◌then◌else◌}
 use Rattle.std.specs.Option.{option_and_then}
 use Rattle.office_base.specs.Limits.{most_step_seats}
-use Rattle.office_base.specs.declared.step.StepKind.{StepKind}
-use Rattle.office_base.specs.declared.step.StepKind.TheVariants.{Open, Ews, Obc, Sc, St, Dereserved}
 use Rattle.office_text.specs.Number.{number_within}
 use Rattle.section_rows.specs.Rows.{Row, field}
 use Rattle.seat_matrix.specs.declared.seats.Seating.{Seating}
-
--- the number of a step; seats that a category left unfilled are no step of the matrix
-abbrev pub step_number : StepKind → ℕ
-step_number Open = 0
-step_number Ews = 1
-step_number Obc = 2
-step_number Sc = 3
-step_number St = 4
-step_number Dereserved = 5
 
 -- how many seats a text spells
 abbrev pub count_of : List ℕ → Option ℕ

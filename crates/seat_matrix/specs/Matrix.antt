@@ -15,7 +15,8 @@ use Rattle.section_rows.specs.Rows.{Row, field}
 use Rattle.section_rows.specs.Steps.{after, first_of, needs, unless}
 use Rattle.section_rows.specs.Table.{IsTableFault, Reading, entries_of, table_judge}
 use Rattle.section_rows.specs.declared.fault.TableFault.{TableFault}
-use Rattle.seat_matrix.specs.Fields.{seating_of, step_number}
+use Rattle.office_base.specs.StepNumbers.{step_number}
+use Rattle.seat_matrix.specs.Fields.{seating_of}
 use Rattle.seat_matrix.specs.declared.entry.Entry.{Entry}
 use Rattle.seat_matrix.specs.declared.entry.Home.{Home}
 use Rattle.seat_matrix.specs.declared.fault.MatrixKind.{MatrixKind}

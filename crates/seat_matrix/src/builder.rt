@@ -9,12 +9,12 @@ ghost use Rattle.seat_matrix.specs.Matrix.{with_code};
 
 use crate::entry::{Entry, Home};
 use crate::fault::MatrixKind;
-use crate::fields::{protected, read_seating, step_number};
+use crate::fields::read_seating;
 use crate::matrix::Matrix;
 use crate::seats::{Seating, Seatings};
 use indexmap::IndexMap;
 use office_base::limits::{MOST_MATRIX_SEATS, MOST_PROGRAMMES};
-use office_base::{Code, ListId, OutOfMemory, StepKind};
+use office_base::{Code, ListId, OutOfMemory, StepKind, step_number};
 use office_text::{read_number, read_step};
 use section_rows::{Rows, TableBuilder};
 use std::alloc::Global;
@@ -29,7 +29,7 @@ pub(crate) struct MatrixBuilder {
 }
 
 impl MatrixBuilder {
-    ghost use Rattle.seat_matrix.specs.Fields.{step_number};
+    ghost use Rattle.office_base.specs.StepNumbers.{step_number};
     ghost use Rattle.seat_matrix.specs.Matrix.{IsMatrix, codes_of, given, home_at, new_row, reading, seating_at, seatings_in, settles};
     ghost use Rattle.seat_matrix.specs.Builder.{Keeps};
     ghost use Rattle.seat_matrix.specs.declared.entry.Entry.{Entry};
@@ -99,7 +99,7 @@ impl MatrixBuilder {
         let Some(seating) = read_seating(row) else {
             return Err(MatrixKind::BadNumber);
         };
-        if u32::from(seating.seats) < protected(&seating.protections) {
+        if u32::from(seating.seats) < seating.protections.sum() {
             return Err(MatrixKind::ProtectionsExceedSeats);
         }
         let Some(list) = read_number(row.field(2), 1, 4) else {

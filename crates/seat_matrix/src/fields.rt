@@ -1,26 +1,12 @@
 // The fields of a row of the matrix.
-ghost use Rattle.std.specs.Prelude.{◌≡◌, ◌<◌, sum};
-ghost use Rattle.seat_matrix.specs.Fields.{step_number, count_of, protection_of, protections_of, seating_of};
+ghost use Rattle.std.specs.Prelude.{◌≡◌, ◌<◌};
+ghost use Rattle.seat_matrix.specs.Fields.{count_of, protection_of, protections_of, seating_of};
 
 use crate::seats::Seating;
+use office_base::Protections;
 use office_base::limits::MOST_STEP_SEATS;
-use office_base::{Protections, StepKind};
 use office_text::read_number;
 use section_rows::Rows;
-
-/// The number of a step among the six, from 0.
-pub fn step_number(step: StepKind) -> u8
-    ensures { result ≡ step_number step }
-{
-    match step {
-        StepKind::Open => 0,
-        StepKind::Ews => 1,
-        StepKind::Obc => 2,
-        StepKind::Sc => 3,
-        StepKind::St => 4,
-        StepKind::Dereserved => 5,
-    }
-}
 
 /// How many seats a text spells.
 fn read_count(text: &[u8]) -> Option<u16>
@@ -67,13 +53,4 @@ pub(crate) fn read_seating(row: &Rows<'_>) -> Option<Seating>
         seats,
         protections: Protections { counts },
     })
-}
-
-/// How many seats are protected.
-pub(crate) fn protected(protections: &Protections) -> u32
-    ensures { result ≡ sum protections.now.counts }
-{
-    let [women, disabled, servicemen, sports, fighters, local] = protections.counts;
-    let first = u32::from(women) + u32::from(disabled) + u32::from(servicemen);
-    first + u32::from(sports) + u32::from(fighters) + u32::from(local)
 }

@@ -16,6 +16,5 @@ pub mod seats;
 
 pub use entry::{Entry, Home};
 pub use fault::{MatrixFault, MatrixKind};
-pub use fields::step_number;
 pub use matrix::Matrix;
 pub use seats::{ProgrammeSeats, Seating, Seatings};

@@ -1,6 +1,9 @@
 // Standard input and output as a source and a sink. They are the trusted edge: they tell no bytes, and raise a counter,
 // which begins with 0, at each error.
-ghost use Rattle.std.specs.Prelude.{◌≡◌, ◌≤◌, IfOk, None, length};
+ghost use Rattle.std.specs.Prelude.{◌≡◌, ◌≤◌, ◌⊎◌, IfOk, OnOk, None, length};
+ghost use Rattle.std.specs.Io.KnownBytes.{Appends};
+ghost use Rattle.office_base.specs.FaultLines.{memory_line};
+ghost use Rattle.command_answers.specs.declared.status.Status.TheVariants as status;
 
 use command_answers::Status;
 use office_base::{Failed, OutOfMemory, Sink, Source};
@@ -65,7 +68,9 @@ impl<W: Write + Drop> StandardOutput<W> {
     }
 
     /// Gives on what is held. After an error, here or before, what is still held is given up.
-    pub fn finish(self) -> Result<(), Failed> {
+    pub fn finish(self) -> Result<(), Failed>
+        ensures ok { OnOk result (self.faults ≡ 0) }
+    {
         let StandardOutput {
             mut writer,
             at_once: _,
@@ -107,8 +112,11 @@ impl<W: Write + Drop> Sink for StandardOutput<W> {
     }
 }
 
-/// Tells a writer that no memory was found to hold what is written to it.
-pub fn tell_unheld<W: Write + Drop>(mut writer: W) -> Status {
+/// Tells a writer that no memory was found to hold what is written to it. The status says whether it took the whole line.
+pub fn tell_unheld<W: Write>(writer: &mut W) -> Status
+    ensures status { (result ≡ status.OutOfMemory) ⊎ (result ≡ status.WriteFault) }
+    ensures bytes { result ≡ status.OutOfMemory → Appends (W.contents writer.old) (W.contents writer.new) memory_line }
+{
     match writer.write_all(b"fault: memory\n") {
         Ok(()) => Status::OutOfMemory,
         Err(_) => Status::WriteFault,

@@ -17,7 +17,7 @@ fn main(rt: HostRuntime) -> ExitCode {
     let output = rt.stdout();
     let at_once = output.is_terminal();
     let Ok(mut sink) = StandardOutput::new(rt.alloc(), output, at_once) else {
-        return ExitCode::from(tell_unheld(rt.stdout()).code());
+        return ExitCode::from(tell_unheld(&mut rt.stdout()).code());
     };
     let status = match asks_for_a_step(&rt) {
         Ok(true) => {

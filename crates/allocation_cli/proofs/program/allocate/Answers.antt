@@ -3,7 +3,7 @@ use Rattle.command_words.specs.declared.words.Command.{Command}
 use Rattle.command_words.specs.declared.words.Command.TheVariants.{Resume}
 use Rattle.command_words.specs.declared.words.WordsFault.TheVariants as words_fault
 use Rattle.allocation_cli.specs.Program.{IsReady, IsUsageText, IsWantText, TellsFault, TellsInput, usage_line}
-use Rattle.command_answers.specs.Writes.{memory_line}
+use Rattle.office_base.specs.FaultLines.{memory_line}
 use Rattle.command_answers.specs.declared.status.Status.TheVariants.{OutOfMemory, Usage}
 use Rattle.command_answers.proofs.Ended.{told_is_written}
 use Rattle.allocation_cli.proofs.program.allocate.Goals as goal

@@ -1,7 +1,8 @@
 use Rattle.std.proofs.Common.{◌≡◌, ◌∙◌, ◌<◌, Some, None, sym, ap, arith, length, subst}
 use Rattle.std.specs.Prelude.{slice_get}
 use Rattle.std.proofs.lemmas.Option.{get_or_from_slice_get, slice_get-get_or}
-use Rattle.replays.proofs.Seats.{found_more, found_skips, not_there, one_place, stands}
+use Rattle.proceedings.proofs.Positions.{stands}
+use Rattle.replays.proofs.Seats.{found_more, found_skips, not_there, one_place}
 use Rattle.replays.proofs.compare.put_seat.Goals as goal
 
 pub returns-then-row-number : goal.returns-then-row-number

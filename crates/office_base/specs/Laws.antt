@@ -1,0 +1,9 @@
+-- What holds of the words of the office.
+use Rattle.std.specs.Prelude.{◌≡◌, ℕ, Some}
+use Rattle.office_base.specs.StepNumbers.{step_number, step_of_number}
+use Rattle.office_base.specs.declared.step.StepKind.{StepKind}
+
+-- Inverse: a step is the one of its number, and the number of that step is no other.
+abbrev pub StepNumbersLaw : Type 0
+StepNumbersLaw = ((step : StepKind) → step_of_number (step_number step) ≡ Some step)
+    × ((n : ℕ) (step : StepKind) → step_of_number n ≡ Some step → step_number step ≡ n)
