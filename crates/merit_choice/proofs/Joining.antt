@@ -1,5 +1,5 @@
 -- What the matching tells of a person who comes, and what it makes of the needed and of the marks.
-use Rattle.std.proofs.Common.{◌≡◌, ◌≢◌, ◌<◌, ◌⊎◌, ℕ, Bool, true, false, Some, None, List, [], ◌∷◌, ◌++◌, length, get_or, set, sym, ◌∙◌, subst, inl, inr}
+use Rattle.std.proofs.Common.{◌≡◌, ◌≢◌, ◌<◌, ◌⊎◌, ℕ, Bool, true, false, Some, List, [], ◌∷◌, ◌++◌, length, get_or, set, sym, ◌∙◌, subst, inl, inr}
 use Rattle.std.specs.Prelude.{IsSome}
 use Rattle.std.specs.List.{AllByRecursion}
 use Rattle.office_base.specs.Lists.{AnyByRecursion}
@@ -13,7 +13,6 @@ use Rattle.placements.specs.Ranks.{AreDistinct, CanBePlaced, without}
 use Rattle.placements.proofs.Ranks.{any_all, any_append, among_again, among_back, among_front, among_itself, one_person, front_among_end, end_among_front, placed_end, placed_front, all_among}
 use Rattle.placements.proofs.Replace.{distinct_push}
 use Rattle.placements.proofs.Without.{without_among, without_apart, among_without}
-use Rattle.placements.proofs.Merit.{ahead_again}
 use Rattle.slot_matching.specs.Augmented.{CanReplace, IsWorstFor}
 use Rattle.slot_matching.specs.Kept.{Kept, MayJoin, with_member, without_member}
 use Rattle.merit_choice.specs.InMerit.{IsNewTo}
