@@ -69,6 +69,11 @@ search_found ids lists q (Err at) rising count result =
       ]
     ])))
 
+-- Where the id of a candidate stands at a place, the candidate's list stands there.
+pub found_there : (ids : List ℕ) (lists : List (List ProgId)) (q at : ℕ) → Rising ids → length ids ≡ length lists → at < length ids → get_or ids at 0 ≡ q
+    → (at < length lists) × (listed (slice_get lists at) ≡ list_of (lists_along ids lists) q)
+found_there ids lists q at rising count within same = (omega (arith, within, count), ap listed (sym (found_here ids lists q at rising count within same)))
+
 -- There are as many candidates as lists, and the lists stand at the same places.
 pub length_along : (ids : List ℕ) (lists : List (List ProgId)) → length ids ≡ length lists → length (lists_along ids lists) ≡ length lists
 length_along [] [] count = refl

@@ -62,6 +62,20 @@ impl Choices {
         }
     }
 
+    /// The same as `list`, found without a search where the candidate is the one at this position of the register, from 0. It takes
+    /// no memory.
+    pub fn list_near(&self, at: usize, cand: CandId) -> &[ProgId]
+        ensures list { result.now ≡ list_of self.now cand.0 }
+        ensures distinct { AreDistinct result.now }
+        ensures short { length result.now ≤ most_row_choices }
+    {
+        if at < self.ids.len() && self.ids[at] == cand.0 {
+            self.lists.at(at)
+        } else {
+            self.list(cand)
+        }
+    }
+
     /// The list of the candidate at this position of the register, from 0. It takes no memory.
     pub fn list_at(&self, at: usize) -> &[ProgId]
         requires { at < length self.now }

@@ -1,5 +1,5 @@
 -- What the matching tells of a person who comes, and what it makes of the needed and of the marks.
-use Rattle.std.proofs.Common.{◌≡◌, ◌≢◌, ◌<◌, ◌⊎◌, ℕ, Bool, true, false, Some, None, List, [], ◌∷◌, ◌++◌, length, get_or, set, sym, ◌∙◌, subst, inl, inr}
+use Rattle.std.proofs.Common.{◌≡◌, ◌≢◌, ◌<◌, ◌⊎◌, ℕ, Bool, true, false, Some, List, [], ◌∷◌, ◌++◌, length, get_or, set, sym, ◌∙◌, subst, inl, inr}
 use Rattle.std.specs.Prelude.{IsSome}
 use Rattle.std.specs.List.{AllByRecursion}
 use Rattle.office_base.specs.Lists.{AnyByRecursion}
@@ -13,7 +13,6 @@ use Rattle.placements.specs.Ranks.{AreDistinct, CanBePlaced, without}
 use Rattle.placements.proofs.Ranks.{any_all, any_append, among_again, among_back, among_front, among_itself, one_person, front_among_end, end_among_front, placed_end, placed_front, all_among}
 use Rattle.placements.proofs.Replace.{distinct_push}
 use Rattle.placements.proofs.Without.{without_among, without_apart, among_without}
-use Rattle.placements.proofs.Merit.{ahead_again}
 use Rattle.slot_matching.specs.Augmented.{CanReplace, IsWorstFor}
 use Rattle.slot_matching.specs.Kept.{Kept, MayJoin, with_member, without_member}
 use Rattle.merit_choice.specs.InMerit.{IsNewTo}
@@ -94,31 +93,6 @@ joined_kept list held marks kept person new matched cannot nobody =
       told = ((λ his. nobody_of person held new.distinct (among_more person members held matched.needs.among his)), matched.told);
     }
 
--- so nobody who can be replaced by nobody
-pub joined_none : (list : ListId) (held : List Person) (marks : List Bool) (kept : Kept) (person : Person) → IsNewTo list held person → IsMatched list held marks kept
-    → ¬ CanBePlaced kept.protections (kept.members ++ person ∷ []) → IsWorstFor kept person None → IsMatched list (person ∷ held) (false ∷ marks) kept
-joined_none list held marks kept person new matched cannot nobody =
-    joined_kept list held marks kept person new matched cannot (λ one his better can.
-    let found = any_all (λ (other : Person). one ≡ other) (λ (other : Person). ¬ CanReplace kept person other) kept.members his nobody in
-    found.2 (subst (CanReplace kept person) found.1 can))
-
--- and nobody where the person is not better than the worst who can be replaced
-pub joined_worse : (list : ListId) (held : List Person) (marks : List Bool) (kept : Kept) (person other : Person) (cand : CandId) (at : ℕ) → IsNewTo list held person → IsMatched list held marks kept
-    → AreDistinct held → ¬ CanBePlaced kept.protections (kept.members ++ person ∷ []) → IsWorstFor kept person (Some cand) → at < length held → (get_or held at other).id ≡ cand
-    → (IsBetter list person (get_or held at other) → ⊥) → IsMatched list (person ∷ held) (false ∷ marks) kept
-joined_worse list held marks kept person other cand at new matched distinct cannot worst inside who not_better =
-    let in_held = among_more worst.0 kept.members held matched.needs.among worst.2 in
-    let same : worst.0 ≡ get_or held at other = one_person held distinct worst.0 (get_or held at other) in_held (among_at held at other inside) (worst.1 ∙ sym who) in
-    let not_worse : IsBetter list person worst.0 → ⊥ = λ better. not_better (subst (IsBetter list person) same better) in
-    joined_kept list held marks kept person new matched cannot (λ one his better can.
-    let found = any_all (λ (each : Person). one ≡ each) (λ (each : Person). CanReplace kept person each → (each ≡ worst.0) ⊎ IsBetter kept.list each worst.0) kept.members his worst.4 in
-    elim (found.2 (subst (CanReplace kept person) found.1 can)) [
-      | inl equal ↦ not_worse (subst (IsBetter list person) (found.1 ∙ equal) better)
-      | inr above ↦
-          let ahead : IsBetter list one worst.0 = subst (λ (each : Person). IsBetter list each worst.0) (sym found.1) (subst (λ (l : ListId). IsBetter l found.0 worst.0) matched.same_list above) in
-          not_worse (ahead_again (number_in list person) (number_in list one) (number_in list worst.0) better ahead)
-    ])
-
 -- a better person takes that one's place, without the mark there
 pub joined_exchanged : (list : ListId) (held : List Person) (marks : List Bool) (kept after : Kept) (person other : Person) (cand : CandId) (at : ℕ) → AreRanked list held → IsNewTo list held person
     → IsMatched list held marks kept → ¬ CanBePlaced kept.protections (kept.members ++ person ∷ []) → IsWorstFor kept person (Some cand) → at < length held
@@ -169,9 +143,3 @@ pub worst_member : (list : ListId) (held : List Person) (marks : List Bool) (kep
     → AnyByRecursion (λ (member : Person). member.id ≡ cand) kept.members
 worst_member list held marks kept person cand matched worst =
     subst (λ c. AnyByRecursion (λ (member : Person). member.id ≡ c) kept.members) worst.1 (has_number worst.0 kept.members worst.2)
-
-pub worst_held : (list : ListId) (held : List Person) (marks : List Bool) (kept : Kept) (person : Person) (cand : CandId) → IsMatched list held marks kept → IsWorstFor kept person (Some cand)
-    → AnyByRecursion (λ (member : Person). member.id ≡ cand) held
-worst_held list held marks kept person cand matched worst =
-    subst (λ c. AnyByRecursion (λ (member : Person). member.id ≡ c) held) worst.1
-    (has_number worst.0 held (among_more worst.0 kept.members held matched.needs.among worst.2))

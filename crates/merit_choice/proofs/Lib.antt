@@ -2,6 +2,7 @@ mod ByHand
 mod Exchanged
 mod Filled
 mod Filling
+mod Halves
 mod InMerit
 mod Joining
 mod Marking
@@ -12,4 +13,5 @@ mod Offering
 mod OneByOne
 mod Places
 mod Raises
+mod Replacing
 pub mod StepLaws

@@ -30,7 +30,7 @@ not_ahead_back first second ahead = elim (cases_Bool (is_ahead first second)) [
 ]
 
 -- before one who is worse the person stands where the person does among those before that one
-with_before : (list : ListId) (person worse : Person) (front rest : List Person) → is_better list person worse ≡ true
+pub with_before : (list : ListId) (person worse : Person) (front rest : List Person) → is_better list person worse ≡ true
     → with_person list person (front ++ worse ∷ rest) ≡ with_person list person front ++ worse ∷ rest
 with_before list person worse [] rest told =
     ap (λ (b : Bool). cond b (person ∷ worse ∷ rest) (worse ∷ with_person list person rest)) told

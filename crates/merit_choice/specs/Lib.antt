@@ -4,3 +4,4 @@ pub mod Laws
 pub mod Marks
 pub mod Needed
 pub mod State
+pub mod Within

@@ -1,14 +1,17 @@
 // The people whom the seats hold, in merit order, each with a mark: whether the protections need the person.
-ghost use Rattle.std.specs.Prelude.{◌≡◌, ◌≤◌, ◌<◌, length, vec_len, vec_capacity, MatchOption};
+ghost use Rattle.std.specs.Prelude.{◌≡◌, ◌≤◌, ◌<◌, ◌↔◌, true, IsTrue, length, vec_len, vec_capacity, MatchOption};
 ghost use Rattle.std.specs.List.{insert};
 ghost use Rattle.office_base.specs.Person.{IsList};
 ghost use Rattle.office_base.specs.StepChoice.{AreRanked};
+ghost use Rattle.placements.specs.Demand.{is_within};
 ghost use Rattle.merit_choice.specs.Held.{IsLastFree, AreAllSet, IsLeft};
 ghost use Rattle.merit_choice.specs.InMerit.{with_person, IsNewTo};
+ghost use Rattle.merit_choice.specs.Within.{AreNoneWithin, IsLastWithin};
 
-use office_base::{ListId, Person, better};
+use office_base::{ListId, Person, TraitSet, better};
+use placements::is_within;
 
-/// The place that a new person has among people in merit order.
+/// The place that a new person has among people in merit order. Whoever comes after all of them costs one look.
 pub(crate) fn place_for(people: &[Person], person: &Person, list: ListId) -> usize
     requires list { IsList list }
     requires ranked { AreRanked list people.now }
@@ -16,14 +19,35 @@ pub(crate) fn place_for(people: &[Person], person: &Person, list: ListId) -> usi
     ensures within { result ≤ length people.now }
     ensures place { insert people.now result person.now ≡ with_person list person.now people.now }
 {
-    let mut at = people.len();
-    while at > 0 {
-        if better(&people[at - 1], person, list) {
-            return at;
-        }
-        at -= 1;
+    let count = people.len();
+    if count == 0 {
+        return 0;
     }
-    0
+    if better(&people[count - 1], person, list) {
+        return count;
+    }
+    place_among(people, person, list)
+}
+
+/// The same place, found by halves.
+fn place_among(people: &[Person], person: &Person, list: ListId) -> usize
+    requires list { IsList list }
+    requires ranked { AreRanked list people.now }
+    requires new { IsNewTo list people.now person.now }
+    ensures within { result ≤ length people.now }
+    ensures place { insert people.now result person.now ≡ with_person list person.now people.now }
+{
+    let mut low = 0;
+    let mut high = people.len();
+    while low < high {
+        let middle = low + (high - low) / 2;
+        if better(&people[middle], person, list) {
+            low = middle + 1;
+        } else {
+            high = middle;
+        }
+    }
+    low
 }
 
 /// Puts a new person at the merit place among people, into room that is there. It takes no memory.
@@ -62,6 +86,33 @@ fn last_free(marks: &[bool]) -> Option<usize>
     while at > 0 {
         at -= 1;
         if !marks[at] {
+            return Some(at);
+        }
+    }
+    None
+}
+
+/// Whether the mark is set, and the person holds no trait outside the set.
+fn is_needed_within(person: &Person, mark: bool, set: TraitSet) -> bool
+    ensures { IsTrue result ↔ (mark ≡ true) × (is_within person.now.traits set ≡ true) }
+{
+    mark && is_within(person.traits, set)
+}
+
+/// The last place, from this one on, whose mark is set and whose person holds no trait outside the set.
+pub(crate) fn last_within(
+    people: &[Person],
+    marks: &[bool],
+    from: usize,
+    set: TraitSet,
+) -> Option<usize>
+    requires { length people.now ≡ length marks.now }
+    ensures { MatchOption result (AreNoneWithin set people.now marks.now from) (IsLastWithin set people.now marks.now from) }
+{
+    let mut at = people.len();
+    while at > from {
+        at -= 1;
+        if is_needed_within(&people[at], marks[at], set) {
             return Some(at);
         }
     }

@@ -1,17 +1,15 @@
 // The choice of a step from people who come one at a time.
-ghost use Rattle.std.specs.Prelude.{◌≡◌, ◌≤◌, ◌<◌, [], ◌∷◌, length, sum, vec_len, vec_capacity, IfOk};
+ghost use Rattle.std.specs.Prelude.{◌≡◌, ◌≤◌, ◌<◌, [], ◌∷◌, Some, length, sum, vec_len, vec_capacity, IfOk};
 ghost use Rattle.std.specs.List.{insert};
 ghost use Rattle.office_base.specs.Person.{IsList};
 ghost use Rattle.office_base.specs.StepChoice.{AreRanked, IsStepChoice};
-ghost use Rattle.placements.specs.Ranks.{CanBePlaced};
-ghost use Rattle.slot_matching.specs.Augmented.{IsWorstFor};
-ghost use Rattle.slot_matching.specs.Kept.{with_member};
+ghost use Rattle.slot_matching.specs.Replaceable.{IsReplaceable};
 ghost use Rattle.merit_choice.specs.InMerit.{IsNewTo, with_person};
 ghost use Rattle.merit_choice.specs.State.{HandsOn, IsStepKept, step_with, IsAnswered, IsMatched};
 
-use crate::held::{leave, place_for, put};
-use office_base::{CandId, ListId, OutOfMemory, Person, Protections, better};
-use slot_matching::{Augment, Matching, place_of};
+use crate::held::{last_within, leave, place_for, put};
+use office_base::{CandId, ListId, OutOfMemory, Person, Protections, TraitSet};
+use slot_matching::Matching;
 use std::alloc::Global;
 use std::marker::Model;
 
@@ -158,61 +156,69 @@ fn enter(
         marks.as_mut_slice(),
         person,
         list,
+        at,
     );
     put(held, at, *person);
     put(marks, at, needed);
 }
 
-/// Offers a person to the matching, and tells whether the person is one of the needed then. Who is so no longer loses the mark.
+/// Keeps a person who comes at this merit place in the matching too, where the protections need the person then, and tells
+/// whether they do. Who is needed no longer loses the mark.
 fn join(
     matching: &mut Matching,
     held: &[Person],
     marks: &mut [bool],
     person: &Person,
     list: ListId,
+    at: usize,
 ) -> bool
     requires list { IsList list }
     requires ranked { AreRanked list held.now }
     requires new { IsNewTo list held.now person.now }
+    requires within { at ≤ length held.now }
+    requires place { insert held.now at person.now ≡ with_person list person.now held.now }
     requires matched { IsMatched list held.now marks.old matching.old }
     ensures protections { matching.new.protections ≡ matching.old.protections }
     ensures matched { IsMatched list (person.now ∷ held.now) (result ∷ marks.new) matching.new }
 {
-    match matching.augment(person) {
-        Augment::Raised => true,
-        Augment::Held { worst: None } => false,
-        Augment::Held { worst: Some(worst) } => {
-            replace(matching, held, marks, person, list, worst)
+    match matching.replaceable(person) {
+        None => {
+            let _raised = matching.augment(person);
+            true
         }
+        Some(set) => replace(matching, held, marks, person, list, at, set),
     }
 }
 
 /// Puts the person in the place of the worst of the needed whom the person can replace, where that one is worse, and tells
-/// whether it did.
+/// whether it did. These hold no trait outside the set; whoever is worse stands at the person's merit place or after it.
 fn replace(
     matching: &mut Matching,
     held: &[Person],
     marks: &mut [bool],
     person: &Person,
     list: ListId,
-    worst: CandId,
+    at: usize,
+    set: TraitSet,
 ) -> bool
     requires list { IsList list }
     requires ranked { AreRanked list held.now }
     requires new { IsNewTo list held.now person.now }
+    requires within { at ≤ length held.now }
+    requires place { insert held.now at person.now ≡ with_person list person.now held.now }
     requires matched { IsMatched list held.now marks.old matching.old }
-    requires held_back { ¬ CanBePlaced matching.old.protections (with_member matching.old person.now).members }
-    requires worst { IsWorstFor matching.old person.now (Some worst) }
+    requires replaceable { IsReplaceable matching.old person.now (Some set) }
     ensures protections { matching.new.protections ≡ matching.old.protections }
     ensures matched { IsMatched list (person.now ∷ held.now) (result ∷ marks.new) matching.new }
 {
-    let Some(at) = place_of(held, worst) else {
-        unreachable!("whoever is needed is held")
-    };
-    if !better(person, &held[at], list) {
+    // nobody is needed who holds no trait
+    if set.0 == 0 {
         return false;
     }
-    matching.exchange(worst, person);
-    marks[at] = false;
+    let Some(last) = last_within(held, marks, at, set) else {
+        return false;
+    };
+    matching.exchange(held[last].id, person);
+    marks[last] = false;
     true
 }

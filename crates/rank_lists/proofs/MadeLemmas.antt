@@ -193,6 +193,15 @@ searched_ids people ids q r rising same within found =
     let here : IsSearchInRange r (length people) = rw (sym (ap length same ∙ length-map people id_of)) within in
     searched people q r rising here (over_ids people q r here rising (rw (sym same) found))
 
+-- The position of an id that stands at a place is that place.
+pub id_there : (people : List Person) (ids : List ℕ) (q at : ℕ) → Rising people → ids ≡ map (λ p. p.id.0) people → at < length ids → get_or ids at 0 ≡ q → Some at ≡ row_of q people
+id_there people ids q at rising same within here =
+    let size = ap length same ∙ length-map people id_of in
+    let inside : at < length people = omega (arith, within, size) in
+    let d = some_person people at inside in
+    let told : (get_or people at d).id.0 ≡ q = sym (get_or-map id_of people at d 0 inside) ∙ ap (λ (those : List ℕ). get_or those at 0) (sym same) ∙ here in
+    sym (row_here people q at d rising inside told)
+
 -- where a text is no token, nobody holds it
 pub not_held : (o : Option CandId) (b : Bool) → (IsSome o → b ≡ true) → b ≡ false → None ≡ o
 not_held None b h e = refl

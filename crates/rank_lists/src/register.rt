@@ -1,5 +1,5 @@
 // The merit register, as the layers above see it.
-ghost use Rattle.std.specs.Prelude.{◌≡◌, ◌<◌, List, IfOk, IfErr, IfSome, IsTrue, ◌↔◌, length, option_copied, slice_get};
+ghost use Rattle.std.specs.Prelude.{◌≡◌, ◌<◌, List, IfOk, IfErr, IfSome, IsTrue, ◌↔◌, length, option_copied, slice_get, slice_index};
 ghost use Rattle.std.specs.Option.{option_and_then};
 ghost use Rattle.office_base.specs.Person.{IsList};
 ghost use Rattle.section_rows.specs.Rows.{rows_of};
@@ -52,6 +52,9 @@ impl Register {
         ensures within { IfSome result (λ at. at < length self.now.people) }
         ensures person { option_and_then (λ at. slice_get self.now.people at) result ≡ find_person id.0 self.now.people }
     {
+        if let Some(at) = counted(self.ids.as_slice(), id.0) {
+            return Some(at);
+        }
         match self.ids.binary_search(&id.0) {
             Ok(at) => Some(at as u32),
             Err(_) => None,
@@ -105,5 +108,20 @@ impl Register {
             Some(person) => person.place(list),
             None => Place::Absent,
         }
+    }
+}
+
+/// The position of an id, where the ids run on from the first one to it without a gap. It takes no memory.
+fn counted(ids: &[u32], id: u32) -> Option<u32>
+    ensures { IfSome result (λ at. (at < length ids.now) × (slice_index ids.now at ≡ id)) }
+{
+    let Some(first) = ids.first() else {
+        return None;
+    };
+    let at = id.saturating_sub(*first);
+    if (at as usize) < ids.len() && ids[at as usize] == id {
+        Some(at)
+    } else {
+        None
     }
 }

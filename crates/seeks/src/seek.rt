@@ -40,8 +40,8 @@ fn is_left(matrix: &Matrix, seek: Seek, list: &[ProgId], place: usize, prog: Pro
     }
 }
 
-/// Puts what a seek leaves of a list after the others. After want of memory a part of it stands there.
-pub fn push_left(
+/// Puts those programmes of a list that a seek leaves after the others, one by one.
+fn push_each(
     out: &mut Vec<ProgId>,
     matrix: &Matrix,
     seek: Seek,
@@ -55,6 +55,27 @@ pub fn push_left(
         if is_left(matrix, seek, list, place, *prog) {
             out.push(*prog)?;
         }
+    }
+    Ok(())
+}
+
+/// Puts what a seek leaves of a list after the others. After want of memory a part of it stands there.
+pub fn push_left(
+    out: &mut Vec<ProgId>,
+    matrix: &Matrix,
+    seek: Seek,
+    list: &[ProgId],
+) -> Result<(), OutOfMemory>
+    requires within { IsWithinList list.now seek }
+    requires below { AreBelow (length matrix.now.programmes) list.now }
+    ensures { OnOk result (out.new.items ≡ out.old.items ++ seek_leaves matrix.now seek list.now) }
+{
+    match seek {
+        Seek::Whole => out.extend_from_slice(list)?,
+        Seek::UpTo(last) => out.extend_from_slice(&list[..usize::from(last) + 1])?,
+        Seek::Within(_) => push_each(out, matrix, seek, list)?,
+        Seek::Only(seat) => out.push(list[usize::from(seat)])?,
+        Seek::Nothing => {}
     }
     Ok(())
 }

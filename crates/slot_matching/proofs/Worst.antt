@@ -2,7 +2,7 @@
 use Rattle.std.proofs.Common.{◌≡◌, ◌∙◌, ◌≢◌, ◌⊎◌, ℕ, List, [], ◌∷◌, true, false, Option, Some, None, refl, sym, ap, subst, inl, inr, arith}
 use Rattle.std.proofs.lemmas.Bool.{cases_Bool, cases_lt, false≢true}
 use Rattle.std.specs.List.{AllByRecursion}
-use Rattle.std.specs.Prelude.{IsSome}
+use Rattle.std.specs.Prelude.{◌↔◌, IsSome}
 use Rattle.office_base.specs.Lists.{AnyByRecursion, Pairwise}
 use Rattle.office_base.specs.Person.{IsBetter, IsAhead, number_in}
 use Rattle.office_base.specs.declared.person.ListId.{ListId}
@@ -14,10 +14,11 @@ use Rattle.placements.proofs.Ranks.{any_all}
 use Rattle.placements.proofs.Replace.{MayReplace, replaced_within, not_replaced_outside}
 use Rattle.placements.proofs.Without.{leaves_member}
 use Rattle.slot_matching.specs.Augmented.{CanReplace, IsWorstFor}
-use Rattle.slot_matching.specs.Full.{IsLeastFull}
+use Rattle.slot_matching.specs.Full.{IsLeastFull, IsLeastOf}
 use Rattle.slot_matching.specs.Kept.{Kept, MayJoin, IsCounted}
 use Rattle.slot_matching.specs.Members.{IsWorstWithin, id_of}
-use Rattle.slot_matching.proofs.Steps.{none_short}
+use Rattle.slot_matching.specs.Replaceable.{IsReplaceable}
+use Rattle.slot_matching.proofs.Steps.{can_join, joins_where, none_short}
 
 -- what the lemmas on who can be replaced ask for
 may_replace : (kept : Kept) (person : Person) (spare : List ℕ) (size : ℕ) → IsCounted kept spare size → MayJoin kept person
@@ -112,3 +113,26 @@ worst_for kept person spare size set (Some worst) counted may least found = (
             (at_member (λ one. is_within one.traits set ≡ true → ¬ IsBetter kept.list worst one) member kept.members found.2 is_member inside))
       ]
     ]
+
+-- Just the members within the least full set can be replaced.
+pub replace_within : (kept : Kept) (person : Person) (spare : List ℕ) (size : ℕ) (set : TraitSet) → IsCounted kept spare size → MayJoin kept person
+    → IsLeastFull 64 spare person.traits set → AllByRecursion (λ member. CanReplace kept person member ↔ (is_within member.traits set ≡ true)) kept.members
+replace_within kept person spare size set counted may least =
+    each_member (λ member. CanReplace kept person member ↔ (is_within member.traits set ≡ true)) kept.members (λ member is_member. (
+      (λ can. elim (cases_Bool (is_within member.traits set)) [
+        | inl inside ↦ inside
+        | inr outside ↦ absurd (cannot_replace kept person member spare size set counted may least is_member outside can)
+      ]),
+      (λ inside. can_replace kept person member spare size set counted may least is_member inside),
+    ))
+
+-- What the least full set tells of a person, where there is one.
+pub told_by : (kept : Kept) (person : Person) (spare : List ℕ) (size : ℕ) (set : Option TraitSet) → IsCounted kept spare size → MayJoin kept person
+    → IsLeastOf 64 spare person.traits set → IsReplaceable kept person set
+told_by kept person spare size None counted may has = can_join kept person spare size counted may has
+told_by kept person spare size (Some set) counted may least = (
+  (λ can.
+      let some = joins_where kept person spare size counted may can set.0 least.small least.holds in
+      let none = least.full in omega arith),
+  replace_within kept person spare size set counted may least,
+)

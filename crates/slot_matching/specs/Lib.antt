@@ -3,3 +3,4 @@ pub mod Full
 pub mod Kept
 pub mod Laws
 pub mod Members
+pub mod Replaceable

@@ -5,6 +5,7 @@ ghost use Rattle.office_base.specs.Person.{IsList};
 ghost use Rattle.office_base.specs.Placement.{IsHonoured};
 ghost use Rattle.placements.specs.Ranks.{CanBePlaced, without};
 ghost use Rattle.slot_matching.specs.Augmented.{IsAugmented};
+ghost use Rattle.slot_matching.specs.Replaceable.{IsReplaceable};
 ghost use Rattle.slot_matching.specs.Kept.{IsKept, MayJoin, with_member, without_member};
 
 use crate::members::{id_of, place_of, worst_within};
@@ -74,6 +75,16 @@ impl Matching {
         ensures { IsTrue result ↔ CanBePlaced self.now.protections (with_member self.now person.now).members }
     {
         has_spare(&self.spare, person.traits)
+    }
+
+    /// In whose place the person can be kept, where the members cannot all be placed with the person: in that of each member who
+    /// holds no trait outside this set. None where they can, so that `augment` would answer `Raised`. It takes no memory, and
+    /// looks at no member.
+    pub fn replaceable(&self, person: &Person) -> Option<TraitSet>
+        requires { MayJoin self.now person.now }
+        ensures { IsReplaceable self.now person.now result }
+    {
+        least_full(&self.spare, person.traits)
     }
 
     /// Keeps the person too, where all members can then still be placed. Whoever stands on a position may be moved to

@@ -2,6 +2,7 @@
 //
 // A person can be placed with the members exactly where each set that holds the person's traits has one to spare.
 ghost use Rattle.std.specs.Prelude.{◌≡◌, ◌≤◌, ◌<◌, ◌+◌, ℕ, length, sum, slice_index, IsTrue, true, ◌↔◌, if◌then◌else◌};
+ghost use Rattle.office_base.specs.Person.{IsTraitSet};
 ghost use Rattle.placements.specs.Demand.{is_within, positions};
 ghost use Rattle.slot_matching.specs.Full.{AreClosed, HasSpareBelow, IsLeastOf, met};
 
@@ -37,6 +38,20 @@ fn meet(found: Option<TraitSet>, set: TraitSet) -> TraitSet
 /// The least set that holds these traits and has nothing to spare, or None where each set that holds them has one.
 pub(crate) fn least_full(spare: &[u16], traits: TraitSet) -> Option<TraitSet>
     requires sets { length spare.now ≡ 64 }
+    requires traits { IsTraitSet traits }
+    requires closed { AreClosed spare.now }
+    ensures { IsLeastOf 64 spare.now traits result }
+{
+    // mostly these very traits
+    if spare[usize::from(traits.0)] == 0 {
+        return Some(traits);
+    }
+    common_full(spare, traits)
+}
+
+/// What all sets that hold these traits and have nothing to spare hold in common, or None where each set that holds them has one.
+fn common_full(spare: &[u16], traits: TraitSet) -> Option<TraitSet>
+    requires sets { length spare.now ≡ 64 }
     requires closed { AreClosed spare.now }
     ensures { IsLeastOf 64 spare.now traits result }
 {
@@ -52,6 +67,16 @@ pub(crate) fn least_full(spare: &[u16], traits: TraitSet) -> Option<TraitSet>
 
 /// Whether each set that holds these traits has one to spare.
 pub(crate) fn has_spare(spare: &[u16], traits: TraitSet) -> bool
+    requires sets { length spare.now ≡ 64 }
+    requires traits { IsTraitSet traits }
+    ensures { IsTrue result ↔ HasSpareBelow 64 spare.now traits }
+{
+    // where they have none themselves, no other set need be looked at
+    spare[usize::from(traits.0)] > 0 && all_have_spare(spare, traits)
+}
+
+/// The same, set by set.
+fn all_have_spare(spare: &[u16], traits: TraitSet) -> bool
     requires { length spare.now ≡ 64 }
     ensures { IsTrue result ↔ HasSpareBelow 64 spare.now traits }
 {

@@ -1,6 +1,6 @@
 use Rattle.std.proofs.Common.{◌≡◌, ◌++◌, drop}
 use Rattle.seeks.specs.Seek.{left_from, seek_leaves}
-use Rattle.seeks.proofs.seek.push_left.Given as goal
+use Rattle.seeks.proofs.seek.push_each.Given as goal
 
 -- with what is left of the rest it is all that is left
 abbrev pub invariant-loop-place : goal.invariant-loop-place

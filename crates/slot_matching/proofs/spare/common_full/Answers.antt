@@ -3,8 +3,8 @@ use Rattle.std.proofs.lemmas.Bool.{both_ways}
 use Rattle.office_base.specs.declared.person.TraitSet.{TraitSet}
 use Rattle.slot_matching.specs.Full.{IsLeastFull, IsLeastOf}
 use Rattle.slot_matching.proofs.Full.{least_found, least_passed}
-use Rattle.slot_matching.proofs.spare.least_full.Goals.{then-is_within+then-spare-from-eq0, else-is_within, else-is_within-via-then-is_within+else-spare-from-eq0, else-is_within-via-else-is_within}
-use Rattle.slot_matching.proofs.spare.least_full.Goals as goal
+use Rattle.slot_matching.proofs.spare.common_full.Goals.{then-is_within+then-spare-from-eq0, else-is_within, else-is_within-via-then-is_within+else-spare-from-eq0, else-is_within-via-else-is_within}
+use Rattle.slot_matching.proofs.spare.common_full.Goals as goal
 
 pub loop-n-preserved : goal.loop-n-preserved
 loop-n-preserved c =
