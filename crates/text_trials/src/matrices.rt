@@ -1,58 +1,8 @@
-// Bodies of the matrix with their answers.
+// A body of the matrix with its programmes.
 use crate::sections::MATRIX_HEADER;
 use office_base::{Code, ListId, ProgId, StepKind};
-use seat_matrix::{Matrix, MatrixFault, MatrixKind};
+use seat_matrix::Matrix;
 use std::test::Fail;
-
-/// The first fault of a header with these rows below it.
-fn fault(rt: HostRuntime, rows: &str) -> Result<Option<(u32, MatrixKind)>, Fail> {
-    let text = format!(in rt.alloc(); "{MATRIX_HEADER}{rows}")?;
-    match Matrix::read(rt.alloc(), text.as_bytes()) {
-        Err(MatrixFault::Bad { row, kind }) => Ok(Some((row, kind))),
-        _ => Ok(None),
-    }
-}
-
-#[test]
-fn faults_are_told_with_their_rows(rt: HostRuntime) -> Result<(), Fail> {
-    let cases = [
-        (",I1,1,OPEN,1", 2, MatrixKind::BadCode),
-        ("A_B,I1,1,OPEN,1", 2, MatrixKind::BadCode),
-        ("A,,1,OPEN,1", 2, MatrixKind::BadCode),
-        ("A,I1,1,D,1", 2, MatrixKind::BadCode),
-        ("A,I1,1,OPEN,1\nA,I1,1,OPEN,1", 3, MatrixKind::RepeatedRow),
-        ("A,I1,1,EWS,1\nA,I1,1,GEN-EWS,1", 3, MatrixKind::RepeatedRow),
-        ("A,I1,1,OPEN,4001", 2, MatrixKind::BadNumber),
-        ("A,I1,1,OPEN", 2, MatrixKind::BadNumber),
-        ("A,I1,1,OPEN,1,0,0,0,0,0,0,1", 2, MatrixKind::BadNumber),
-        ("A,I1,1,OPEN,3,2,2", 2, MatrixKind::ProtectionsExceedSeats),
-        ("A,I1,5,OPEN,1", 2, MatrixKind::UnknownList),
-        ("A,I1,1,OPEN,1\nA,I2,1,SC,1", 3, MatrixKind::TwoInstitutes),
-        ("A,I1,1,OPEN,1\nA,I1,2,SC,1", 3, MatrixKind::TwoLists),
-        // the first of two faults of a row, and of two rows
-        ("A,I1,5,OPEN,1,2", 2, MatrixKind::ProtectionsExceedSeats),
-        ("A,I1,1,OPEN,1\nA,I2,2,SC,1", 3, MatrixKind::TwoInstitutes),
-        ("A,I1,9,OPEN,1\n,I1,1,OPEN,1", 2, MatrixKind::UnknownList),
-    ];
-    for (rows, row, kind) in cases {
-        assert!(rt; fault(rt, rows)? == Some((row, kind)));
-    }
-    assert!(rt;
-        Matrix::read(rt.alloc(), b"").err()
-            == Some(MatrixFault::Bad {
-                row: 1,
-                kind: MatrixKind::BadHeader
-            })
-    );
-    assert!(rt;
-        Matrix::read(rt.alloc(), b"programme,list\n").err()
-            == Some(MatrixFault::Bad {
-                row: 1,
-                kind: MatrixKind::BadHeader
-            })
-    );
-    Ok(())
-}
 
 #[test]
 fn spellings_are_read(rt: HostRuntime) -> Result<(), Fail> {

@@ -1,6 +1,6 @@
-// Scripts of requests with their answers.
+// A script with its requests.
 use office_base::{Ask, By, CandId, Choice, Code, StepKind};
-use request_rows::{ScriptFault, read_script};
+use request_rows::read_script;
 use std::test::Fail;
 
 #[test]
@@ -43,20 +43,4 @@ fn requests_are_read(rt: HostRuntime) -> Result<(), Fail> {
         assert!(rt; request.by == by && request.ask == ask);
     }
     Ok(())
-}
-
-#[test]
-fn the_first_row_that_is_no_request_is_told(rt: HostRuntime) {
-    let cases: [(&[u8], u32); 7] = [
-        (b"answer,7,7,0,0,slide", 1),
-        (b"answer,7,7,0,1,stay", 1),
-        (b"state,clerk\nstate,clerk,1", 2),
-        (b"state,clerk\n\nseat,me,7\ncut,clerk", 2),
-        (b"cut,clerk,01", 1),
-        (b"raise,clerk,2,B-1,OPEN,0", 1),
-        (b"State,clerk", 1),
-    ];
-    for (body, row) in cases {
-        assert!(rt; read_script(rt.alloc(), body).err() == Some(ScriptFault::BadRequest { row }));
-    }
 }

@@ -7,7 +7,7 @@ pub const REGISTER_HEADER: &str = "id,category,traits,token,m1,m2,m3,m4\n";
 
 pub const MATRIX_HEADER: &str = "programme,institute,list,step,seats,W,D,X,S,F,L\n";
 
-pub const CHOICES_HEADER: &str = "candidate,programmes\n";
+const CHOICES_HEADER: &str = "candidate,programmes\n";
 
 pub const FIRST_SECTION: &str = "office bundle 1\n[season]\nrounds,2\nclerk,clerk0001\n";
 
