@@ -1,4 +1,4 @@
-// The command `generate` with `run`: what it writes of a season that a person followed, the numbers of a larger one, and a failing outside.
+// The command `generate` with `run`: what it writes and keeps of a season that a person followed, and a failing outside.
 use crate::tests::{ends_so, over};
 use command_answers::Status;
 use keeper_mem::SureKeeper;
@@ -14,69 +14,10 @@ const TWO: &str =
 const TWO_WORDS: [&str; 4] = ["generate", "2", "1", "run"];
 
 #[test]
-fn a_small_season_is_run(rt: HostRuntime) -> Result<(), Fail> {
-    let (status, kept) = (Status::Ok, Some((8, 7)));
-    assert!(rt; ends_so(rt.alloc(), &TWO_WORDS, "", [0, 0, 0], status, TWO, kept)?);
-    Ok(())
-}
-
-// The number after a word of a line.
-fn number_after(line: &str, word: &str) -> Result<usize, Fail> {
-    let mut found = false;
-    for part in line.split(' ') {
-        if found {
-            return match part.parse::<usize>() {
-                Ok(number) => Ok(number),
-                Err(_) => Err(Fail::new("no number stands there")),
-            };
-        }
-        found = part == word;
-    }
-    Err(Fail::new("the word is not there"))
-}
-
-// What is written of a season of forty candidates.
-fn forty(alloc: Global) -> Result<String, Fail> {
-    let words = ["generate", "40", "7", "run"];
-    let keeper = SureKeeper::new(alloc);
-    let (ended, output, _) = over(alloc, &words, "", 1, 0, 0, keeper)?;
-    if ended != Status::Ok {
-        return Err(Fail::new("another status"));
-    }
-    Ok(output)
-}
-
-// Whether a line has the number of this round, or counts 240 answers.
-fn is_right(line: &str, round: usize) -> Result<bool, Fail> {
-    if line.starts_with("round ") {
-        return Ok(number_after(line, "round")? == round && number_after(line, "seated")? <= 40);
-    }
-    if line.starts_with("noted ") {
-        let noted = number_after(line, "noted")?;
-        return Ok(noted.saturating_add(number_after(line, "refused")?) == 240);
-    }
-    Ok(true)
-}
-
-#[test]
-fn each_answer_of_a_season_is_counted(rt: HostRuntime) -> Result<(), Fail> {
-    let output = forty(rt.alloc())?;
-    assert!(rt; output == forty(rt.alloc())?);
-    let mut rounds = 0usize;
-    for line in output.lines() {
-        if line.starts_with("round ") {
-            rounds = rounds.saturating_add(1);
-        }
-        assert!(rt; is_right(line, rounds)?, "{line}");
-    }
-    assert!(rt; rounds == 6);
-    Ok(())
-}
-
-#[test]
 fn the_outside_of_a_generated_run_fails(rt: HostRuntime) -> Result<(), Fail> {
     let fault = "fault: keeper\n";
     let cases = [
+        ([0, 0, 0], Status::Ok, TWO, Some((8, 7))),
         // where the keeper fails nothing but that is written
         ([0, 0, 1], Status::KeeperFault, fault, None),
         ([0, 0, 10], Status::KeeperFault, fault, Some((2, 2))),

@@ -14,8 +14,6 @@ mod program;
 #[cfg(test)]
 mod resumes;
 #[cfg(test)]
-mod stored;
-#[cfg(test)]
 mod tests;
 
 use crate::program::allocate;

@@ -44,290 +44,20 @@ pub(crate) fn over<P: Keeper + Drop>(
     Ok((status, output, keeper))
 }
 
-// Whether the words write this for an input, in pieces of three bytes, where this call of the source fails, and end so.
-fn writes_failing(
-    alloc: Global,
-    words: &[&str],
-    input: &str,
-    source_at: u32,
-    output: &str,
-    status: Status,
-) -> Result<bool, Fail> {
-    let keeper = SureKeeper::new(alloc);
-    let (ended, written, _) = over(alloc, words, input, 3, source_at, 0, keeper)?;
-    Ok(ended == status && written.as_str() == output)
-}
-
-// Whether a command writes this for an input, and ends so.
-fn writes(
-    alloc: Global,
-    command: &str,
-    input: &str,
-    output: &str,
-    status: Status,
-) -> Result<bool, Fail> {
-    writes_failing(alloc, &[command], input, 0, output, status)
-}
-
-// The keeper that a command over a store gives back which writes this for the input, in pieces of seven bytes, and ends so.
-pub(crate) fn tells<P: Keeper + Drop>(
-    alloc: Global,
-    command: &str,
-    input: &str,
-    keeper: P,
-    output: &str,
-    status: Status,
-) -> Result<P, Fail> {
-    let (ended, written, keeper) = over(alloc, &[command, "season.db"], input, 7, 0, 0, keeper)?;
-    if ended != status {
-        return Err(Fail::new("another status"));
-    }
-    if written.as_str() != output {
-        return Err(Fail::new("other bytes"));
-    }
-    Ok(keeper)
-}
-
-// Worked sheets, with what `step` writes for each.
-const SHEETS: [(&str, &str); 9] = [
-    // the best, where nothing is protected
-    (
-        "step sheet 1\nseats,3\ncand,11,-\ncand,12,W\ncand,13,-\ncand,14,-\ncand,15,D\n",
-        "step seats 3 candidates 5 admitted 3\nhonoured 0\n11 -\n12 -\n13 -\nend\n",
-    ),
-    // the same with a byte order mark and CR LF
-    (
-        "\u{FEFF}step sheet 1\r\nseats,3\r\ncand,11,-\r\ncand,12,W\r\ncand,13,-\r\ncand,14,-\r\ncand,15,D\r\n",
-        "step seats 3 candidates 5 admitted 3\nhonoured 0\n11 -\n12 -\n13 -\nend\n",
-    ),
-    (
-        "step sheet 1\nseats,0\ncand,1,W\n",
-        "step seats 0 candidates 1 admitted 0\nhonoured 0\nend\n",
-    ),
-    // nobody
-    (
-        "step sheet 1\nseats,2\nprotect,W,1\n",
-        "step seats 2 candidates 0 admitted 0\nhonoured 0\nend\n",
-    ),
-    // who holds both traits fills one position
-    (
-        "step sheet 1\nseats,2\nprotect,W,1\nprotect,D,1\ncand,1,-\ncand,2,-\ncand,3,WD\ncand,4,D\n",
-        "step seats 2 candidates 4 admitted 2\nhonoured 2\n3 W\n4 D\nend\n",
-    ),
-    // the second is moved from W to D
-    (
-        "step sheet 1\nseats,2\nprotect,W,1\nprotect,D,1\ncand,1,-\ncand,2,WD\ncand,3,W\ncand,4,D\n",
-        "step seats 2 candidates 4 admitted 2\nhonoured 2\n2 D\n3 W\nend\n",
-    ),
-    // one protection cannot be filled
-    (
-        "step sheet 1\nseats,3\nprotect,W,2\ncand,1,-\ncand,2,-\ncand,3,-\ncand,4,W\n",
-        "step seats 3 candidates 4 admitted 3\nhonoured 1\n1 -\n2 -\n4 W\nend\n",
-    ),
-    // three traits
-    (
-        "step sheet 1\nseats,3\nprotect,W,1\nprotect,D,1\nprotect,X,1\ncand,1,WD\ncand,2,DX\ncand,3,W\ncand,4,X\n",
-        "step seats 3 candidates 4 admitted 3\nhonoured 3\n1 D\n2 X\n3 W\nend\n",
-    ),
-    // commas at the ends of lines, and empty lines
-    (
-        "step sheet 1,,\n\nseats,1,\n,,\ncand,7,\ncand,8,W",
-        "step seats 1 candidates 2 admitted 1\nhonoured 0\n7 -\nend\n",
-    ),
-];
-
-#[test]
-fn the_best_are_admitted(rt: HostRuntime) -> Result<(), Fail> {
-    for (sheet, list) in SHEETS {
-        assert!(rt;
-            writes(rt.alloc(), "step", sheet, list, Status::Ok)?,
-            "{sheet}"
-        );
-    }
-    Ok(())
-}
-
-#[test]
-fn a_fault_is_told(rt: HostRuntime) -> Result<(), Fail> {
-    let cases = [
-        ("", "fault: sheet line 1 BadFirstLine\n"),
-        (
-            "step sheet 2\nseats,1\n",
-            "fault: sheet line 1 BadFirstLine\n",
-        ),
-        ("step sheet 1\n", "fault: sheet line 2 BadLine\n"),
-        // the protections of two lines are more than the seats
-        (
-            "step sheet 1\nseats,2\nprotect,W,1\nprotect,D,2\ncand,1,-\n",
-            "fault: sheet line 4 ProtectionsExceedSeats\n",
-        ),
-    ];
-    for (sheet, line) in cases {
-        assert!(rt;
-            writes(rt.alloc(), "step", sheet, line, Status::BadInput)?,
-            "{sheet}"
-        );
-    }
-    Ok(())
-}
-
-// The season of five candidates, in its four parts.
-const SEASON: &str = "office bundle 1\n[season]\nrounds,2\nclerk,clerk0001\n";
-
-const REGISTER: &str =
-    "[register]\nid,category,traits,token,m1,m2,m3,m4\n1,GEN,-,tok00001,1\n2,GEN,-,tok00002,2\n3,GEN,-,tok00003,3\n4,GEN,-,tok00004,4\n5,GEN,-,tok00005,5\n";
-
-const MATRIX: &str =
-    "[matrix]\nprogramme,institute,list,step,seats,W,D,X,S,F,L\nA,I1,1,OPEN,1\nB,I2,1,OPEN,1\nC,I2,1,OPEN,1\nE,I3,1,OPEN,1\n";
-
-const CHOICES: &str = "[choices]\ncandidate,programmes\n1,A\n2,A,B\n3,B,C\n4,C,E\n5,E\n";
-
-pub(crate) fn five_candidates(alloc: Global) -> Result<String, Fail> {
-    Ok(format!(in alloc; "{SEASON}{REGISTER}{MATRIX}{CHOICES}")?)
-}
-
-// The season of five candidates with a piece of it replaced wherever it stands.
-fn changed(alloc: Global, from: &str, to: &str) -> Result<String, Fail> {
-    Ok(five_candidates(alloc)?.as_str().replace(alloc, from, to)?)
-}
-
-#[test]
-fn a_season_is_counted(rt: HostRuntime) -> Result<(), Fail> {
-    let alloc = rt.alloc();
-    let counts = "bundle candidates 5 programmes 4 choices 8 rounds 2\n";
-    let season = five_candidates(alloc)?;
-    assert!(rt; writes(alloc, "check", season.as_str(), counts, Status::Ok)?);
-    let commas = changed(alloc, "\n", ",,\r\n")?;
-    let marked = format!(in alloc; "\u{FEFF}{commas}")?;
-    assert!(rt; writes(alloc, "check", marked.as_str(), counts, Status::Ok)?);
-    let asked = format!(in alloc; "{marked}[requests]\ncut,clerk,0\n")?;
-    assert!(rt; writes(alloc, "check", asked.as_str(), counts, Status::Ok)?);
-    Ok(())
-}
-
-#[test]
-fn a_fault_of_a_season_is_told(rt: HostRuntime) -> Result<(), Fail> {
-    let alloc = rt.alloc();
-    let cases = [
-        (
-            "5,GEN,-,tok00005,5",
-            "5,GEN,-,tok00005,4",
-            "fault: register row 6 RepeatedPlace\n",
-        ),
-        (
-            "5,E\n",
-            "5,A,A\n",
-            "fault: choices row 6 RepeatedProgramme\n",
-        ),
-        (
-            "E,I3,1,OPEN,1",
-            "E,I3,5,OPEN,1",
-            "fault: matrix row 5 UnknownList\n",
-        ),
-        ("rounds,2", "rounds,11", "fault: season row 1 BadSeason\n"),
-        ("clerk0001", "tok00003", "fault: season row 2 BadSeason\n"),
-        (
-            "office bundle 1",
-            "office bundle 3",
-            "fault: bundle BadFirstLine\n",
-        ),
-        (
-            "bundle 1\n",
-            "bundle 1\n,,\n",
-            "fault: bundle line 2 Section\n",
-        ),
-        (
-            "5,E\n",
-            "5,E\n[requests]\n[requests]\n",
-            "fault: bundle line 26 Section\n",
-        ),
-        (
-            "5,E\n",
-            "5,E\n[requests]\nstate,nobody\ncut,clerk,65536\n",
-            "fault: requests row 2 BadRequest\n",
-        ),
-    ];
-    for (from, to, line) in cases {
-        let bundle = changed(alloc, from, to)?;
-        assert!(rt; writes(alloc, "check", bundle.as_str(), line, Status::BadInput)?);
-    }
-    let torn = format!(in alloc; "{SEASON}{REGISTER}[matrix]\n")?;
-    assert!(rt;
-        writes(
-            alloc,
-            "check",
-            torn.as_str(),
-            "fault: bundle line 13 Section\n",
-            Status::BadInput
-        )?
-    );
-    assert!(rt;
-        writes(
-            alloc,
-            "check",
-            "",
-            "fault: bundle BadFirstLine\n",
-            Status::BadInput
-        )?
-    );
-    Ok(())
-}
-
-#[test]
-fn a_season_is_generated_and_read(rt: HostRuntime) -> Result<(), Fail> {
-    let alloc = rt.alloc();
-    let words = ["generate", "800", "7", "text"];
-    let keeper = SureKeeper::new(alloc);
-    let (ended, season, _) = over(alloc, &words, "", 1, 0, 0, keeper)?;
-    assert!(rt; ended == Status::Ok);
-    let line = "bundle candidates 800 programmes 100 choices 32000 rounds 6\n";
-    let keeper = SureKeeper::new(alloc);
-    let (ended, written, _) = over(alloc, &["check"], season.as_str(), 4096, 0, 0, keeper)?;
-    assert!(rt; ended == Status::Ok);
-    assert!(rt; written.as_str() == line);
-    Ok(())
-}
-
-const WRONG_WORDS: [&[&str]; 17] = [
-    &[],
-    &["step", "now"],
-    &["check", "step"],
-    &["run"],
-    &["run", "-season.db"],
-    &["step", "season.db"],
-    &["run", "memory", "memory"],
-    &["--help"],
-    &["run", ""],
-    &["generate", "1", "1"],
-    &["generate", "07", "1", "text"],
-    &["generate", "0", "1", "text"],
-    &["generate", "100001", "1", "text"],
-    &["generate", "1", "4294967296", "text"],
-    &["generate", "1", "+1", "text"],
-    &["generate", "1", "1", "text", "text"],
-    &["generate", "1", "1", "runs"],
-];
-
-#[test]
-fn wrong_words_are_refused(rt: HostRuntime) -> Result<(), Fail> {
-    for words in WRONG_WORDS {
-        assert!(rt; writes_failing(rt.alloc(), words, "", 0, "fault: usage\n", Status::Usage)?);
-    }
-    Ok(())
-}
+// The season of five candidates up to its requests.
+const SEASON: &str =
+    "office bundle 1\n[season]\nrounds,2\nclerk,clerk0001\n[register]\nid,category,traits,token,m1,m2,m3,m4\n1,GEN,-,tok00001,1\n2,GEN,-,tok00002,2\n3,GEN,-,tok00003,3\n4,GEN,-,tok00004,4\n5,GEN,-,tok00005,5\n[matrix]\nprogramme,institute,list,step,seats,W,D,X,S,F,L\nA,I1,1,OPEN,1\nB,I2,1,OPEN,1\nC,I2,1,OPEN,1\nE,I3,1,OPEN,1\n[choices]\ncandidate,programmes\n1,A\n2,A,B\n3,B,C\n4,C,E\n5,E\n[requests]\n";
 
 const EMPTY_SHEET: &str = "step sheet 1\nseats,0\n";
 
 #[test]
 fn the_source_of_a_command_fails(rt: HostRuntime) -> Result<(), Fail> {
     let alloc = rt.alloc();
-    let season = five_candidates(alloc)?;
-    for (command, input) in [("step", EMPTY_SHEET), ("check", season.as_str())] {
-        let line = "fault: read\n";
-        assert!(rt;
-            writes_failing(alloc, &[command], input, 2, line, Status::ReadFault)?,
-            "{command}"
-        );
+    for (command, input) in [("step", EMPTY_SHEET), ("check", SEASON)] {
+        let keeper = SureKeeper::new(alloc);
+        let (ended, line, _) = over(alloc, &[command], input, 3, 2, 0, keeper)?;
+        assert!(rt; ended == Status::ReadFault, "{command}");
+        assert!(rt; line.as_str() == "fault: read\n", "{command}");
     }
     Ok(())
 }
@@ -459,7 +189,7 @@ fn the_real_streams_fail_once(rt: HostRuntime) -> Result<(), Fail> {
 
 // What is asked in the season of five candidates, and the reply to each request: candidate 1 leaves, and everybody moves up.
 pub(crate) const REQUESTS: &str =
-    "[requests]\ncut,clerk,0\nanswer,1,1,1,1,withdraw\nanswer,2,2,1,1,float\nanswer,3,3,1,1,float\nanswer,4,4,1,1,float\ncut,clerk,1\n";
+    "cut,clerk,0\nanswer,1,1,1,1,withdraw\nanswer,2,2,1,1,float\nanswer,3,3,1,1,float\nanswer,4,4,1,1,float\ncut,clerk,1\n";
 
 const REPLIES: [&str; 6] = [
     "published 1 seated 4\nround 1 seated 4\nallot 1 A OPEN\nallot 2 B OPEN\nallot 3 C OPEN\nallot 4 E OPEN\nend round\n",
@@ -471,7 +201,7 @@ const REPLIES: [&str; 6] = [
 ];
 
 pub(crate) fn asked_season(alloc: Global) -> Result<String, Fail> {
-    Ok(format!(in alloc; "{SEASON}{REGISTER}{MATRIX}{CHOICES}{REQUESTS}")?)
+    Ok(format!(in alloc; "{SEASON}{REQUESTS}")?)
 }
 
 // Whether the words run over these bytes and records in memory end with this status and output, and leave so many answers and cuts kept, or no season.
@@ -495,29 +225,6 @@ pub(crate) fn ends_so(
     Ok(ended == status && written.as_str() == output && held == kept)
 }
 
-// Whether that season, where these calls fail, ends with this status, so many replies and this line, and leaves so much kept.
-fn moves_up(
-    alloc: Global,
-    fail_at: [u32; 3],
-    status: Status,
-    count: usize,
-    line: &str,
-    kept: Option<(usize, u16)>,
-) -> Result<bool, Fail> {
-    let season = asked_season(alloc)?;
-    let output = first_replies(alloc, count, line)?;
-    let words = ["run", "memory"];
-    ends_so(
-        alloc,
-        &words,
-        season.as_str(),
-        fail_at,
-        status,
-        output.as_str(),
-        kept,
-    )
-}
-
 // The replies to the first requests, and a line.
 pub(crate) fn first_replies(alloc: Global, count: usize, line: &str) -> Result<String, Fail> {
     let mut text = String::new(alloc);
@@ -530,110 +237,125 @@ pub(crate) fn first_replies(alloc: Global, count: usize, line: &str) -> Result<S
     Ok(text)
 }
 
-// What is kept after so many requests of the season of five candidates.
+// What is kept after so many requests of the season of five candidates: answers and cuts.
 const KEPT: [(usize, u16); 7] = [(0, 0), (0, 1), (1, 1), (2, 1), (3, 1), (4, 1), (4, 2)];
 
-#[test]
-fn everybody_moves_up(rt: HostRuntime) -> Result<(), Fail> {
+// The calls of the source, the sink and the keeper that fail in that season; how that ends, how many replies are written and which line after them;
+// and what is kept then, as an item of KEPT, or no season.
+type Failed = ([u32; 3], Status, usize, &'static str, Option<usize>);
+
+const FAILED: [Failed; 23] = [
     // there is no fifteenth read, no seventh write, and no thirteenth call of the keeper but that of `ends_so`, which looks at what is kept
-    for fail_at in [[0, 0, 0], [15, 0, 0], [0, 7, 0], [0, 0, 14]] {
-        assert!(rt; moves_up(rt.alloc(), fail_at, Status::Ok, 6, "", Some(KEPT[6]))?);
-    }
-    Ok(())
+    ([0, 0, 0], Status::Ok, 6, "", Some(6)),
+    ([15, 0, 0], Status::Ok, 6, "", Some(6)),
+    ([0, 7, 0], Status::Ok, 6, "", Some(6)),
+    ([0, 0, 14], Status::Ok, 6, "", Some(6)),
+    // three calls of the keeper begin the office, each cut and the withdrawal are one call, and the other answers take room first
+    ([0, 0, 1], Status::KeeperFault, 0, "fault: keeper\n", None),
+    ([0, 0, 2], Status::KeeperFault, 0, "fault: keeper\n", None),
+    ([0, 0, 3], Status::KeeperFault, 0, "fault: keeper\n", None),
+    (
+        [0, 0, 4],
+        Status::KeeperFault,
+        0,
+        "fault: keeper\n",
+        Some(0),
+    ),
+    (
+        [0, 0, 5],
+        Status::KeeperFault,
+        1,
+        "fault: keeper\n",
+        Some(1),
+    ),
+    (
+        [0, 0, 6],
+        Status::KeeperFault,
+        2,
+        "fault: keeper\n",
+        Some(2),
+    ),
+    (
+        [0, 0, 7],
+        Status::KeeperFault,
+        2,
+        "fault: keeper\n",
+        Some(2),
+    ),
+    (
+        [0, 0, 8],
+        Status::KeeperFault,
+        3,
+        "fault: keeper\n",
+        Some(3),
+    ),
+    (
+        [0, 0, 9],
+        Status::KeeperFault,
+        3,
+        "fault: keeper\n",
+        Some(3),
+    ),
+    (
+        [0, 0, 10],
+        Status::KeeperFault,
+        4,
+        "fault: keeper\n",
+        Some(4),
+    ),
+    (
+        [0, 0, 11],
+        Status::KeeperFault,
+        4,
+        "fault: keeper\n",
+        Some(4),
+    ),
+    (
+        [0, 0, 12],
+        Status::KeeperFault,
+        5,
+        "fault: keeper\n",
+        Some(5),
+    ),
+    ([0, 1, 0], Status::WriteFault, 0, "", Some(1)),
+    ([0, 2, 0], Status::WriteFault, 1, "", Some(2)),
+    ([0, 3, 0], Status::WriteFault, 2, "", Some(3)),
+    ([0, 4, 0], Status::WriteFault, 3, "", Some(4)),
+    ([0, 5, 0], Status::WriteFault, 4, "", Some(5)),
+    ([0, 6, 0], Status::WriteFault, 5, "", Some(6)),
+    // a fault's line that cannot be written hides the fault of the keeper
+    ([0, 3, 6], Status::WriteFault, 2, "", Some(2)),
+];
+
+// Whether that season ends so where these calls fail.
+fn fails_so(alloc: Global, failed: Failed) -> Result<bool, Fail> {
+    let (fail_at, status, count, line, kept) = failed;
+    let season = asked_season(alloc)?;
+    let output = first_replies(alloc, count, line)?;
+    let kept = match kept {
+        Some(at) => KEPT.get(at).copied(),
+        None => None,
+    };
+    ends_so(
+        alloc,
+        &["run", "memory"],
+        season.as_str(),
+        fail_at,
+        status,
+        output.as_str(),
+        kept,
+    )
 }
 
 #[test]
-fn the_keeper_fails_at_each_call(rt: HostRuntime) -> Result<(), Fail> {
-    // the call that fails, how many requests are answered before it, and what is kept then: three calls begin the office, each cut and the withdrawal
-    // are one call, and the other answers take room first
-    let cases = [
-        (1, 0, None),
-        (2, 0, None),
-        (3, 0, None),
-        (4, 0, Some(KEPT[0])),
-        (5, 1, Some(KEPT[1])),
-        (6, 2, Some(KEPT[2])),
-        (7, 2, Some(KEPT[2])),
-        (8, 3, Some(KEPT[3])),
-        (9, 3, Some(KEPT[3])),
-        (10, 4, Some(KEPT[4])),
-        (11, 4, Some(KEPT[4])),
-        (12, 5, Some(KEPT[5])),
-    ];
-    for (call, count, kept) in cases {
-        let status = Status::KeeperFault;
-        assert!(rt;
-            moves_up(
-                rt.alloc(),
-                [0, 0, call],
-                status,
-                count,
-                "fault: keeper\n",
-                kept
-            )?,
-            "{call}"
-        );
+fn the_outside_of_a_run_fails_at_each_call(rt: HostRuntime) -> Result<(), Fail> {
+    for failed in FAILED {
+        assert!(rt; fails_so(rt.alloc(), failed)?, "{:?}", failed.0);
     }
-    Ok(())
-}
-
-#[test]
-fn the_sink_fails_at_each_reply(rt: HostRuntime) -> Result<(), Fail> {
-    // the write that fails, the call of the keeper that does, how many replies are written before, and what is kept then
-    let cases = [
-        (1, 0, 0, KEPT[1]),
-        (2, 0, 1, KEPT[2]),
-        (3, 0, 2, KEPT[3]),
-        (4, 0, 3, KEPT[4]),
-        (5, 0, 4, KEPT[5]),
-        (6, 0, 5, KEPT[6]),
-        // a fault's line that cannot be written hides the fault of the keeper
-        (3, 6, 2, KEPT[2]),
-    ];
-    for (call, keeper_at, count, kept) in cases {
-        let status = Status::WriteFault;
-        assert!(rt;
-            moves_up(
-                rt.alloc(),
-                [0, call, keeper_at],
-                status,
-                count,
-                "",
-                Some(kept)
-            )?,
-            "{call}"
-        );
-    }
-    Ok(())
-}
-
-#[test]
-fn the_source_of_a_run_fails(rt: HostRuntime) -> Result<(), Fail> {
     // thirteen reads take the bytes, and the fourteenth finds their end
     for call in 1..=14 {
-        assert!(rt;
-            moves_up(
-                rt.alloc(),
-                [call, 0, 0],
-                Status::ReadFault,
-                0,
-                "fault: read\n",
-                None
-            )?,
-            "{call}"
-        );
+        let failed = ([call, 0, 0], Status::ReadFault, 0, "fault: read\n", None);
+        assert!(rt; fails_so(rt.alloc(), failed)?, "{call}");
     }
-    Ok(())
-}
-
-#[test]
-fn a_season_is_kept_once(rt: HostRuntime) -> Result<(), Fail> {
-    let alloc = rt.alloc();
-    let season = five_candidates(alloc)?;
-    let season = season.as_str();
-    let keeper = SureKeeper::new(alloc);
-    let keeper = tells(alloc, "run", season, keeper, "", Status::Ok)?;
-    let held = "fault: keeper holds a season\n";
-    let _ = tells(alloc, "run", season, keeper, held, Status::BadInput)?;
     Ok(())
 }

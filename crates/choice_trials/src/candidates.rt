@@ -6,7 +6,7 @@ ghost use Rattle.office_base.specs.Person.{IsList, number_in};
 ghost use Rattle.programme_lists.specs.Chosen.{AreApplicants};
 
 use office_base::{
-    CandId, Category, ListId, OutOfMemory, Pair, People, Person, Place, Protections, Step, TraitSet,
+    CandId, Category, ListId, OutOfMemory, People, Person, Place, Protections, Step, TraitSet,
 };
 use plain_choice::is_step;
 use seat_matrix::Matrix;
@@ -15,8 +15,6 @@ use std::alloc::Global;
 pub const W: u8 = 1;
 
 pub const D: u8 = 2;
-
-pub const X: u8 = 4;
 
 /// What a candidate is, but for the number.
 #[derive(Clone, Copy)]
@@ -180,11 +178,4 @@ pub fn are_people(people: &[Person], told: &[u32]) -> bool {
             .iter()
             .zip(told)
             .all(|(person, number)| person.id.0 == *number)
-}
-
-/// Whether the pairs are of these numbers and slots, in this order.
-pub fn are_pairs(pairs: &[Pair], told: &[(u32, u8)]) -> bool {
-    pairs.len() == told.len()
-        && pairs.iter().zip(told).all(|(pair, (number, slot))| pair.cand.0 == *number
-            && pair.slot == *slot)
 }

@@ -3,8 +3,7 @@
 ghost use Rattle.std.specs.Prelude.{IfOk, IfSome};
 ghost use Rattle.season_file.specs.Season.{IsSeason};
 
-use crate::rows::FIVE;
-use crate::runs::{Left, answered, read};
+use crate::runs::{FIVE, Left, answered, read};
 use keeper_mem::{Keeper, Kept, MemKeeper};
 use office_base::{OutOfMemory, Request};
 use round_cut::{BeginFault, Office};

@@ -2,8 +2,7 @@
 ghost use Rattle.std.specs.Prelude.{IfOk, IfSome};
 ghost use Rattle.season_file.specs.Season.{IsSeason};
 
-use crate::rows::{ROWS, Row};
-use keeper_mem::{Keeper, Kept, SureKeeper};
+use keeper_mem::{Keeper, Kept};
 use office_base::{MemSink, MemSource, OutOfMemory, Request};
 use office_moves::Entry;
 use request_rows::Script;
@@ -11,7 +10,10 @@ use round_cut::Office;
 use script_runs::{RunEnd, answer_all};
 use season_file::Season;
 use std::alloc::Global;
-use std::test::Fail;
+
+/// Five candidates of one merit list. Each but the first wants the seat of the one before most.
+pub(crate) const FIVE: &str =
+    "office bundle 1\n[season]\nrounds,2\nclerk,clerk0001\n[register]\nid,category,traits,token,m1,m2,m3,m4\n1,GEN,-,tok00001,1\n2,GEN,-,tok00002,2\n3,GEN,-,tok00003,3\n4,GEN,-,tok00004,4\n5,GEN,-,tok00005,5\n[matrix]\nprogramme,institute,list,step,seats,W,D,X,S,F,L\nA,I1,1,OPEN,1\nB,I2,1,OPEN,1\nC,I2,1,OPEN,1\nE,I3,1,OPEN,1\n[choices]\ncandidate,programmes\n1,A\n2,A,B\n3,B,C\n4,C,E\n5,E\n[requests]\n";
 
 /// More bytes than any reply text of these trials.
 const ROOM: usize = 100_000;
@@ -74,24 +76,4 @@ pub(crate) fn answered<K: Keeper + Drop>(
         published,
         kept,
     }))
-}
-
-/// Whether the office answers a worked script with these replies.
-fn is_answered(alloc: Global, row: &Row) -> Result<bool, OutOfMemory> {
-    let Some((season, script)) = read(alloc, row.bundle, row.requests)? else {
-        return Ok(false);
-    };
-    let keeper = SureKeeper::new(alloc);
-    let Some(left) = answered(alloc, season, keeper, script.as_slice(), &[])? else {
-        return Ok(false);
-    };
-    Ok(left.ends == [RunEnd::Done, RunEnd::Done] && left.replies.bytes() == row.replies.as_bytes())
-}
-
-#[test]
-fn worked_scripts_are_answered(rt: HostRuntime) -> Result<(), Fail> {
-    for row in &ROWS {
-        assert!(rt; is_answered(rt.alloc(), row)?, "{}", row.replies);
-    }
-    Ok(())
 }

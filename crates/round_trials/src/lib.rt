@@ -1,10 +1,8 @@
-// Whole seasons from bundle to round, with the seats that a person worked out by hand; and small markets, with those that a plain program
-// finds among all allocations.
+// Small seasons from bundle to round, with the seats that a person worked out by hand.
 //
-// It has tests alone, so nothing stands on it.
+// It has tests alone, so nothing stands on it. Drawn markets stand outside, in checks/plain_trials.py: the rounds of the program are held against a
+// plain program that goes through all allocations.
 #![tactic(auto)]
 
-#[cfg(test)]
-mod small_markets;
 #[cfg(test)]
 mod worked;

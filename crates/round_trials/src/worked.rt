@@ -21,7 +21,7 @@ const DISPLACED: &str =
     "office bundle 2\n[season]\nrounds,1\nclerk,clerk0001\n[register]\nid,category,traits,token,m1,m2,m3,m4\n1,GEN,-,tok00001,2\n2,GEN,-,tok00002,1\n3,GEN,-,tok00003,3\n[matrix]\nprogramme,institute,list,step,seats,W,D,X,S,F,L\nA,I1,1,OPEN,1\nB,I2,1,OPEN,1\n[choices]\ncandidate,programmes\n1,A,B\n2,A\n3,B\n";
 
 /// So many candidates who seek their whole lists.
-pub(crate) fn whole(alloc: Global, count: usize) -> Result<Seeks, OutOfMemory>
+fn whole(alloc: Global, count: usize) -> Result<Seeks, OutOfMemory>
     ensures { IfOk result (λ seeks. seeks ≡ replicate count Whole) }
 {
     Ok(Listed::from_vec(vec![in alloc; Seek::Whole; count]?))

@@ -1,172 +1,63 @@
-// Bundles with their answers.
-use crate::sections::{
-    CHOICES_HEADER, FIRST_SECTION, choices_section, matrix_section, register_section,
-};
-use choice_lists::{ChoiceFault, ChoiceKind};
-use office_base::{By, CandId, MemSource, ProgId};
-use season_file::{Season, SeasonFault, read_script};
-use std::alloc::{AllocError, Global};
-use std::test::Fail;
+// A bundle with its season, and what is left out of the text. Faults of bundles stand in cases/.
+use office_base::{CandId, MemSource, ProgId};
+use season_file::Season;
+use std::alloc::Global;
 
 /// The season of five candidates.
-fn five_candidates(alloc: Global) -> Result<String, AllocError> {
-    let register = register_section(alloc)?;
-    let matrix = matrix_section(alloc)?;
-    let choices = choices_section(alloc)?;
-    Ok(format!(in alloc; "{FIRST_SECTION}{register}{matrix}{choices}")?)
+const FIVE: &str =
+    "office bundle 1\n[season]\nrounds,2\nclerk,clerk0001\n[register]\nid,category,traits,token,m1,m2,m3,m4\n1,GEN,-,tok00001,1\n2,GEN,-,tok00002,2\n3,GEN,-,tok00003,3\n4,GEN,-,tok00004,4\n5,GEN,-,tok00005,5\n[matrix]\nprogramme,institute,list,step,seats,W,D,X,S,F,L\nA,I1,1,OPEN,1\nB,I2,1,OPEN,1\nC,I2,1,OPEN,1\nE,I3,1,OPEN,1\n[choices]\ncandidate,programmes\n1,A\n2,A,B\n3,B,C\n4,C,E\n5,E\n";
+
+/// Whether the parts of that season are as they stand there.
+fn has_parts(season: &Season) -> bool {
+    season.version == 1
+        && season.rounds == 2
+        && season.register.people().len() == 5
+        && season.choices.list(CandId(4)) == [ProgId(2), ProgId(3)].as_slice()
+        && season.text.as_slice() == FIVE.as_bytes()
 }
 
-/// The fault of these four parts, one after another.
-fn fault(
-    rt: HostRuntime,
-    season: &str,
-    register: &str,
-    matrix: &str,
-    choices: &str,
-) -> Result<Option<SeasonFault>, Fail> {
-    let text = format!(in rt.alloc(); "{season}{register}{matrix}{choices}")?;
-    Ok(Season::from_text(rt.alloc(), text.as_bytes()).err())
-}
-
-#[test]
-fn a_season_is_read(rt: HostRuntime) -> Result<(), Fail> {
-    let text = five_candidates(rt.alloc())?;
-    let Ok(season) = Season::from_text(rt.alloc(), text.as_bytes()) else {
-        assert!(rt; false);
-        return Ok(());
-    };
-    assert_eq!(rt; season.rounds, 2);
-    assert_eq!(rt; season.register.people().len(), 5);
-    assert!(rt; season.choices.list(CandId(4)) == [ProgId(2), ProgId(3)].as_slice());
-    assert!(rt; season.text.as_slice() == text.as_bytes());
-    Ok(())
+/// Whether this text is that season.
+fn is_five(alloc: Global, text: &[u8]) -> bool {
+    match Season::from_text(alloc, text) {
+        Ok(season) => has_parts(&season),
+        Err(_) => false,
+    }
 }
 
 #[test]
-fn faults_are_told_in_their_order(rt: HostRuntime) -> Result<(), Fail> {
-    let register = register_section(rt.alloc())?;
-    let matrix = matrix_section(rt.alloc())?;
-    let choices = choices_section(rt.alloc())?;
-    let (register, matrix, choices) = (register.as_str(), matrix.as_str(), choices.as_str());
-    assert!(rt; fault(rt, "", "", "", "")? == Some(SeasonFault::BadFirstLine));
-    assert!(rt;
-        fault(rt, FIRST_SECTION, register, "[matrix]\n", "")?
-            == Some(SeasonFault::Section { line: 13 })
-    );
-    assert!(rt;
-        fault(rt, FIRST_SECTION, matrix, register, choices)?
-            == Some(SeasonFault::Section { line: 5 })
-    );
-    assert!(rt;
-        fault(rt, "office bundle 1\n\n,,\n", register, "", "")?
-            == Some(SeasonFault::Section { line: 3 })
-    );
-    assert!(rt;
-        fault(
-            rt,
-            "office bundle 1\n[season]\nrounds,11\n",
-            register,
-            matrix,
-            choices
-        )? == Some(SeasonFault::BadSeason { row: 1 })
-    );
-    assert!(rt;
-        fault(
-            rt,
-            "office bundle 1\n[season]\nclerk,tok00003\nrounds,1\n",
-            register,
-            matrix,
-            choices
-        )? == Some(SeasonFault::BadSeason { row: 1 })
-    );
-    let twice = format!(in rt.alloc(); "[choices]\n{CHOICES_HEADER}5,A,A\n")?;
-    assert!(rt;
-        fault(rt, FIRST_SECTION, register, matrix, twice.as_str())?
-            == Some(SeasonFault::Choices(ChoiceFault::Bad {
-                row: 2,
-                kind: ChoiceKind::RepeatedProgramme
-            }))
-    );
-    Ok(())
+fn a_season_is_read(rt: HostRuntime) {
+    assert!(rt; is_five(rt.alloc(), FIVE.as_bytes()));
+}
+
+/// Sections of requests, and how many each has.
+const REQUESTS: [(&str, usize); 4] = [
+    ("", 0),
+    ("[requests]", 0),
+    ("[requests],,\r\n\n", 0),
+    (
+        "[requests]\ncut,clerk,0\n\"answer\",1,1,1,1,float,,\n,,\nstate,nobody",
+        3,
+    ),
+];
+
+/// Whether this section after the season of five candidates is read as so many requests, and left out of the text. None where there is no memory.
+fn reads(alloc: Global, requests: &str, count: usize) -> Option<bool> {
+    let text = format!(in alloc; "{FIVE}{requests}").ok()?;
+    let mut source = MemSource::new(alloc, text.as_bytes(), 7, &[]).ok()?;
+    match Season::read(alloc, &mut source, true) {
+        Ok((season, script)) => Some(
+            script.len() == count && has_parts(&season) && is_five(alloc, season.text.as_slice()),
+        ),
+        Err(_) => Some(false),
+    }
 }
 
 #[test]
-fn line_ends_marks_and_commas_do_not_matter(rt: HostRuntime) -> Result<(), Fail> {
-    let season = five_candidates(rt.alloc())?;
-    let text = format!(in rt.alloc(); "\u{FEFF}{season}")?;
-    let text = text.as_str().replace(rt.alloc(), "\n", ",,\r\n")?;
-    assert!(rt; Season::from_text(rt.alloc(), text.as_bytes()).is_ok());
-    Ok(())
-}
-
-/// Whether this section of requests after the season of five candidates is read as so many requests, and left out of the text.
-fn reads(rt: HostRuntime, requests: &str, count: usize) -> Result<bool, Fail> {
-    let season = five_candidates(rt.alloc())?;
-    let text = format!(in rt.alloc(); "{season}{requests}")?;
-    let mut source = MemSource::new(rt.alloc(), text.as_bytes(), 7, &[])?;
-    let Ok((read, script)) = Season::read(rt.alloc(), &mut source, true) else {
-        return Ok(false);
-    };
-    Ok(
-        read.version == 1
-            && read.text.as_slice() == season.as_bytes()
-            && script.len() == count
-            && Season::from_text(rt.alloc(), read.text.as_slice()).is_ok(),
-    )
-}
-
-#[test]
-fn requests_are_read_and_left_out_of_the_text(rt: HostRuntime) -> Result<(), Fail> {
-    assert!(rt; reads(rt, "", 0)?);
-    assert!(rt; reads(rt, "[requests]", 0)?);
-    assert!(rt; reads(rt, "[requests],,\r\n\n", 0)?);
-    assert!(rt;
-        reads(
-            rt,
-            "[requests]\ncut,clerk,0\n\"answer\",1,1,1,1,float,,\n,,\nstate,nobody",
-            3
-        )?
-    );
-    Ok(())
-}
-
-/// The fault of this section of requests after the season of five candidates.
-fn requests_fault(rt: HostRuntime, requests: &str) -> Result<Option<SeasonFault>, Fail> {
-    let season = five_candidates(rt.alloc())?;
-    let text = format!(in rt.alloc(); "{season}{requests}")?;
-    let mut source = MemSource::new(rt.alloc(), text.as_bytes(), 4096, &[])?;
-    Ok(Season::read(rt.alloc(), &mut source, true).err())
-}
-
-#[test]
-fn requests_are_refused(rt: HostRuntime) -> Result<(), Fail> {
-    assert!(rt;
-        requests_fault(rt, "[requests]\nstate,nobody\ncut,clerk,65536\n")?
-            == Some(SeasonFault::BadRequest { row: 2 })
-    );
-    assert!(rt;
-        requests_fault(rt, "[requests]\nanswer,1,1,1,0,float\n")?
-            == Some(SeasonFault::BadRequest { row: 1 })
-    );
-    assert!(rt;
-        requests_fault(rt, "[requests]\ncut,clerk\n[requests]\n")?
-            == Some(SeasonFault::Section { line: 27 })
-    );
-    assert!(rt; requests_fault(rt, "[lists]\n")? == Some(SeasonFault::Section { line: 25 }));
-    Ok(())
-}
-
-#[test]
-fn a_body_of_requests_is_read_alone(rt: HostRuntime) -> Result<(), Fail> {
-    let body = "\u{FEFF}raise,clerk,1,A,GEN-EWS,4000\nwhy,2,3,B-1\n";
-    let mut source = MemSource::new(rt.alloc(), body.as_bytes(), 4096, &[])?;
-    let script = read_script(rt.alloc(), &mut source)?;
-    assert_eq!(rt; script.len(), 2);
-    assert!(rt; script.as_slice()[0].by == By::Clerk);
-    assert!(rt; script.as_slice()[1].by == By::Candidate(CandId(2)));
-    let mut none = MemSource::new(rt.alloc(), b"", 4096, &[])?;
-    assert!(rt; read_script(rt.alloc(), &mut none)?.is_empty());
-    let mut bad = MemSource::new(rt.alloc(), b"\xFF", 4096, &[])?;
-    assert!(rt; read_script(rt.alloc(), &mut bad).err() == Some(SeasonFault::NotUtf8));
-    Ok(())
+fn requests_are_read_and_left_out_of_the_text(rt: HostRuntime) {
+    for (requests, count) in REQUESTS {
+        assert!(rt;
+            reads(rt.alloc(), requests, count) == Some(true),
+            "{requests}"
+        );
+    }
 }

@@ -1,16 +1,13 @@
-// The readers and the texts on bodies, sheets and bundles with their answers from outside.
+// The values that readers give, the published texts and the replies, and the readers of published texts, with answers from outside.
 //
 // It has tests alone, so nothing stands on it: the layers under it are proved once, without them. What a text is read as is
-// proved in its own layer; here stand spellings that a person wrote down, one body for each fault, and the sizes that are
-// just too large.
+// proved in its own layer. Bodies with a fault and sizes that are just too large stand in cases/, since the program tells them.
 #![tactic(auto)]
 
 #[cfg(test)]
 mod bundles;
 #[cfg(test)]
 mod choices;
-#[cfg(test)]
-mod limits;
 #[cfg(test)]
 mod lists;
 #[cfg(test)]
