@@ -179,7 +179,11 @@ def read(folder):
 
 
 def called(program, words, given, room):
-    ran = subprocess.run([program, *words], input=given, stdout=subprocess.PIPE, stderr=subprocess.DEVNULL, cwd=room, timeout=SECONDS)
+    """What the program writes, and its status, or None where it does not end."""
+    try:
+        ran = subprocess.run([program, *words], input=given, stdout=subprocess.PIPE, stderr=subprocess.DEVNULL, cwd=room, timeout=SECONDS)
+    except subprocess.TimeoutExpired:
+        return b"", None
     return ran.stdout, ran.returncode
 
 
