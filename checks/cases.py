@@ -7,6 +7,8 @@ import subprocess
 import tempfile
 
 SECONDS = 120
+# the tables of a store are strict, which older ones do not know
+READS_STORES = sqlite3.sqlite_version_info >= (3, 37)
 # where a sync costs nothing, if there is such a place
 ROOMS = "/dev/shm" if os.access("/dev/shm", os.W_OK) else None
 ESCAPE = re.compile(r"\\(?:x([0-9A-F]{2})|([rnt\\]))")
@@ -179,7 +181,11 @@ def read(folder):
 
 
 def called(program, words, given, room):
-    ran = subprocess.run([program, *words], input=given, stdout=subprocess.PIPE, stderr=subprocess.DEVNULL, cwd=room, timeout=SECONDS)
+    """What the program writes, and its status, or None where it does not end."""
+    try:
+        ran = subprocess.run([program, *words], input=given, stdout=subprocess.PIPE, stderr=subprocess.DEVNULL, cwd=room, timeout=SECONDS)
+    except subprocess.TimeoutExpired:
+        return b"", None
     return ran.stdout, ran.returncode
 
 
@@ -213,6 +219,8 @@ def fault_of_call(program, call, room):
 
 def fault_of(program, case):
     """Why the program does not answer the case as it stands there, or None."""
+    if not READS_STORES and any(isinstance(it, str) for it in case.steps):
+        return None
     with tempfile.TemporaryDirectory(prefix="case-", dir=ROOMS) as room:
         for step in case.steps:
             if isinstance(step, str):

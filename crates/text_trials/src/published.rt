@@ -150,14 +150,18 @@ fn a_list_is_written(rt: HostRuntime) {
     assert!(rt; is_list_written(rt.alloc()) == Some(true));
 }
 
-const fn why(kind: StepKind, seats: u32, worse: bool) -> Option<StepWhy> {
-    Some(StepWhy { kind, seats, worse })
-}
-
 const REFUSED: Reason = Reason::Refused {
-    at_open: why(StepKind::Open, 2, true),
+    at_open: Some(StepWhy {
+        kind: StepKind::Open,
+        seats: 2,
+        worse: true,
+    }),
     at_category: None,
-    at_dereserved: why(StepKind::Dereserved, 0, false),
+    at_dereserved: Some(StepWhy {
+        kind: StepKind::Dereserved,
+        seats: 0,
+        worse: false,
+    }),
 };
 
 /// Answers to candidate 7 on the first programme, and their texts.

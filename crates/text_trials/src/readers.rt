@@ -9,7 +9,7 @@ use std::alloc::Global;
 pub(crate) const SEASON: &str =
     "office bundle 1\n[season]\nclerk,clerk0001\nrounds,7\n[register]\nid,category,traits,token,m1,m2,m3,m4\n12,SC,W,tok00012,3,1R\n7,GEN,-,tok00007,1\n9,GEN,-,tok00009,2\n[matrix]\nprogramme,institute,list,step,seats,W,D,X,S,F,L\nA,I1,1,OPEN,1\nA,I1,1,SC,2\nB,I2,2,SC,1\n[choices]\ncandidate,programmes\n12,B,A\n7,A\n";
 
-const fn row(round: u16, cand: u32, prog: u16, step: StepKind) -> AllotRow {
+fn row(round: u16, cand: u32, prog: u16, step: StepKind) -> AllotRow {
     AllotRow {
         round,
         cand: CandId(cand),
@@ -30,28 +30,32 @@ pub(crate) fn line_of<T>(read: &Result<T, TextFault>) -> Option<u32> {
 /// Final admissions that are read, and their rows.
 const FINAL: &str = "final 2\nadmit 7 A OPEN\nadmit 12 B D\nend final\n";
 
-const FINAL_ROWS: [AllotRow; 2] = [
-    row(8, 7, 0, StepKind::Open),
-    row(8, 12, 1, StepKind::Dereserved),
-];
+fn final_rows() -> [AllotRow; 2] {
+    [
+        row(8, 7, 0, StepKind::Open),
+        row(8, 12, 1, StepKind::Dereserved),
+    ]
+}
 
 /// A round that is read, and its rows.
 const ROUND: &str = "round 3 seated 2\nallot 9 A EWS\nallot 12 A SC\nend round\n";
 
-const ROUND_ROWS: [AllotRow; 2] = [row(3, 9, 0, StepKind::Ews), row(3, 12, 0, StepKind::Sc)];
+fn round_rows() -> [AllotRow; 2] {
+    [row(3, 9, 0, StepKind::Ews), row(3, 12, 0, StepKind::Sc)]
+}
 
 /// Whether the final admissions are read so. None where they are not read.
 fn final_is_read(alloc: Global) -> Option<bool> {
     let season = Season::from_text(alloc, SEASON.as_bytes()).ok()?;
     let read = read_final(alloc, &season, FINAL.as_bytes()).ok()?;
-    Some(read.rows.as_slice() == FINAL_ROWS.as_slice())
+    Some(read.rows.as_slice() == final_rows().as_slice())
 }
 
 /// Whether the round is read so. None where it is not read.
 fn round_is_read(alloc: Global) -> Option<bool> {
     let season = Season::from_text(alloc, SEASON.as_bytes()).ok()?;
     let read = read_round(alloc, &season, ROUND.as_bytes()).ok()?;
-    Some(read.round == 3 && read.rows.as_slice() == ROUND_ROWS.as_slice())
+    Some(read.round == 3 && read.rows.as_slice() == round_rows().as_slice())
 }
 
 #[test]

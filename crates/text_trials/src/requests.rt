@@ -6,7 +6,7 @@ use std::alloc::Global;
 const SCRIPT: &[u8] =
     b"answer,7,7,0,2,slide,,\r\ncut,clerk,3\n\nseat,nobody,7\nwhy,7,7,B-1\nlist,clerk,1,B-1\nstate,clerk\nraise,clerk,2,B-1,OBC-NCL,40\n";
 
-const fn request(by: By, ask: Ask) -> Request {
+fn request(by: By, ask: Ask) -> Request {
     Request { by, ask }
 }
 
