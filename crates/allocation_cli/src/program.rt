@@ -56,12 +56,11 @@ pub fn allocate<S: Source, K: Sink, P: Keeper>(
     ensures write_fault { result.0 ≡ Status.WriteFault → Rose (K.faults sink.old) (K.faults sink.new) }
     ensures keeper_fault { result.0 ≡ Status.KeeperFault → Rose (P.faults keeper) (P.faults result.1) }
 
-    // A fault of the outside is told: without one the object did not fail. A sink's fault hides one of the source or of the keeper, and want of memory one
-    // of the keeper.
+    // A fault of the outside is told: without one the object did not fail. A sink's fault alone hides one of the source or of the keeper.
     ensures source_steady { result.0 ≢ Status.ReadFault → result.0 ≢ Status.WriteFault → S.faults source.new ≡ S.faults source.old }
     ensures sink_steady { result.0 ≢ Status.WriteFault → K.faults sink.new ≡ K.faults sink.old }
     ensures keeper_count { P.faults keeper ≤ P.faults result.1 }
-    ensures keeper_steady { result.0 ≢ Status.KeeperFault → result.0 ≢ Status.WriteFault → result.0 ≢ Status.OutOfMemory → P.faults result.1 ≡ P.faults keeper }
+    ensures keeper_steady { result.0 ≢ Status.KeeperFault → result.0 ≢ Status.WriteFault → P.faults result.1 ≡ P.faults keeper }
 
     // Where none failed, the answer is the one that the words, the bytes and the tables call for, or want of memory.
     ensures usage { SpellNothing words.now → ¬ Rose (K.faults sink.old) (K.faults sink.new) → (result.0 ≡ Status.Usage) ⊎ (result.0 ≡ Status.OutOfMemory) }
@@ -117,7 +116,7 @@ fn run<S: Source, K: Sink, P: Keeper>(
     ensures source_steady { result.0 ≢ Status.ReadFault → result.0 ≢ Status.WriteFault → S.faults source.new ≡ S.faults source.old }
     ensures sink_steady { result.0 ≢ Status.WriteFault → K.faults sink.new ≡ K.faults sink.old }
     ensures keeper_count { P.faults keeper ≤ P.faults result.1 }
-    ensures keeper_steady { result.0 ≢ Status.KeeperFault → result.0 ≢ Status.WriteFault → result.0 ≢ Status.OutOfMemory → P.faults result.1 ≡ P.faults keeper }
+    ensures keeper_steady { result.0 ≢ Status.KeeperFault → result.0 ≢ Status.WriteFault → P.faults result.1 ≡ P.faults keeper }
     ensures complete { TellsInput command (S.left source.old) → IsReady command (P.tables keeper)
         → ¬ Rose (S.faults source.old) (S.faults source.new) → ¬ Rose (K.faults sink.old) (K.faults sink.new) → ¬ Rose (P.faults keeper) (P.faults result.1)
         → (result.0 ≡ Status.Ok) ⊎ (result.0 ≡ Status.OutOfMemory) }
@@ -169,7 +168,7 @@ fn generated<K: Sink, P: Keeper>(
     ensures keeper_fault { result.0 ≡ Status.KeeperFault → Rose (P.faults keeper) (P.faults result.1) }
     ensures sink_steady { result.0 ≢ Status.WriteFault → K.faults sink.new ≡ K.faults sink.old }
     ensures keeper_count { P.faults keeper ≤ P.faults result.1 }
-    ensures keeper_steady { result.0 ≢ Status.KeeperFault → result.0 ≢ Status.WriteFault → result.0 ≢ Status.OutOfMemory → P.faults result.1 ≡ P.faults keeper }
+    ensures keeper_steady { result.0 ≢ Status.KeeperFault → result.0 ≢ Status.WriteFault → P.faults result.1 ≡ P.faults keeper }
     ensures complete { IsReady (Generate n seed out) (P.tables keeper) → ¬ Rose (K.faults sink.old) (K.faults sink.new) → ¬ Rose (P.faults keeper) (P.faults result.1)
         → (result.0 ≡ Status.Ok) ⊎ (result.0 ≡ Status.OutOfMemory) }
     ensures refused { (left : Option (List ℕ)) → TellsFault (Generate n seed out) left → ¬ Rose (K.faults sink.old) (K.faults sink.new)

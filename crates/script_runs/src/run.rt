@@ -52,7 +52,7 @@ pub fn answer_all<P: Keeper, K: Sink>(
     ensures stands { Stand office.new.season office.new.state (P.tables office.new.keeper) }
     ensures keeper_cause { result ≡ RunEnd.KeeperFault → Rose (P.faults office.old.keeper) (P.faults office.new.keeper) }
     ensures keeper_count { P.faults office.old.keeper ≤ P.faults office.new.keeper }
-    ensures keeper_steady { (result ≡ RunEnd.Done) ⊎ (result ≡ RunEnd.WriteFault) → P.faults office.new.keeper ≡ P.faults office.old.keeper }
+    ensures keeper_steady { result ≢ RunEnd.KeeperFault → P.faults office.new.keeper ≡ P.faults office.old.keeper }
     ensures write_cause { result ≡ RunEnd.WriteFault → Rose (K.faults sink.old) (K.faults sink.new) }
     ensures write_count { K.faults sink.old ≤ K.faults sink.new }
     ensures write_steady { result ≢ RunEnd.WriteFault → K.faults sink.new ≡ K.faults sink.old }
@@ -98,7 +98,7 @@ fn answer_one<P: Keeper, K: Sink>(
     ensures stands { Stand office.new.season office.new.state (P.tables office.new.keeper) }
     ensures keeper_cause { result ≡ RunEnd.KeeperFault → Rose (P.faults office.old.keeper) (P.faults office.new.keeper) }
     ensures keeper_count { P.faults office.old.keeper ≤ P.faults office.new.keeper }
-    ensures keeper_steady { (result ≡ RunEnd.Done) ⊎ (result ≡ RunEnd.WriteFault) → P.faults office.new.keeper ≡ P.faults office.old.keeper }
+    ensures keeper_steady { result ≢ RunEnd.KeeperFault → P.faults office.new.keeper ≡ P.faults office.old.keeper }
     ensures write_cause { result ≡ RunEnd.WriteFault → Rose (K.faults sink.old) (K.faults sink.new) }
     ensures write_count { K.faults sink.old ≤ K.faults sink.new }
     ensures write_steady { result ≢ RunEnd.WriteFault → K.faults sink.new ≡ K.faults sink.old }
@@ -135,6 +135,7 @@ pub(crate) fn next_reply<P: Keeper>(
     ensures cause { IsErrOf result OfficeFault.KeeperFault → Rose (P.faults office.old.keeper) (P.faults office.new.keeper) }
     ensures count { P.faults office.old.keeper ≤ P.faults office.new.keeper }
     ensures steady { OnOk result (P.faults office.new.keeper ≡ P.faults office.old.keeper) }
+    ensures steady_memory { IsErrOf result OfficeFault.OutOfMemory → P.faults office.new.keeper ≡ P.faults office.old.keeper }
 {
     histories::laws::history_grows();
     histories::laws::orderly();

@@ -38,6 +38,7 @@ pub fn count_all<P: Keeper>(
     ensures cause { IsErrOf result OfficeFault.KeeperFault → Rose (P.faults office.old.keeper) (P.faults office.new.keeper) }
     ensures count { P.faults office.old.keeper ≤ P.faults office.new.keeper }
     ensures steady { OnOk result (P.faults office.new.keeper ≡ P.faults office.old.keeper) }
+    ensures steady_memory { IsErrOf result OfficeFault.OutOfMemory → P.faults office.new.keeper ≡ P.faults office.old.keeper }
 {
     check_order(office);
     let mut tally = Tally {
@@ -73,6 +74,7 @@ fn count_one<P: Keeper>(
     ensures cause { IsErrOf result OfficeFault.KeeperFault → Rose (P.faults office.old.keeper) (P.faults office.new.keeper) }
     ensures count { P.faults office.old.keeper ≤ P.faults office.new.keeper }
     ensures steady { OnOk result (P.faults office.new.keeper ≡ P.faults office.old.keeper) }
+    ensures steady_memory { IsErrOf result OfficeFault.OutOfMemory → P.faults office.new.keeper ≡ P.faults office.old.keeper }
 {
     match next_reply(alloc, office, request) {
         Ok(reply) => Ok(tally.with(request, &reply)),

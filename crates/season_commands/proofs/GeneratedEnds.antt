@@ -183,16 +183,16 @@ pub summary_told : (summary : Result (List ℕ) OfficeFault) (written now : Opti
 summary_told summary written now broke result told =
     elim told [ inl whole ↦ told_whole summary broke result whole.0 | inr cut ↦ told_in_part summary broke result cut.0 cut.1 ]
 
--- where no fault of the outside and no want of memory is told, there is a summary
-whole_held : (summary : Result (List ℕ) OfficeFault) (Held : Type 0) (result : Status) → result ≡ summed_status summary → OnOk summary Held → (result ≡ KeeperFault → ⊥) → (result ≡ OutOfMemory → ⊥) → Held
-whole_held (Ok text) Held result is held kept room = held
-whole_held (Err NoKeeper) Held result is held kept room = absurd (kept is)
-whole_held (Err NoMemory) Held result is held kept room = absurd (room is)
+-- where no fault of the outside is told, there is a summary, or there was no memory
+whole_held : (summary : Result (List ℕ) OfficeFault) (Held : Type 0) (result : Status) → result ≡ summed_status summary → OnOk summary Held → (IsErrOf summary NoMemory → Held) → (result ≡ KeeperFault → ⊥) → Held
+whole_held (Ok text) Held result is held short kept = held
+whole_held (Err NoKeeper) Held result is held short kept = absurd (kept is)
+whole_held (Err NoMemory) Held result is held short kept = short refl
 
 pub summary_held : (summary : Result (List ℕ) OfficeFault) (written now : Option (List ℕ)) (broke Held : Type 0) (result : Status) → IsTold (summed_status summary) (summed_text summary) written now broke result
-    → OnOk summary Held → (result ≡ KeeperFault → ⊥) → (result ≡ WriteFault → ⊥) → (result ≡ OutOfMemory → ⊥) → Held
-summary_held summary written now broke Held result told held kept wrote room =
-    elim told [ inl whole ↦ whole_held summary Held result whole.0 held kept room | inr cut ↦ absurd (wrote cut.0) ]
+    → OnOk summary Held → (IsErrOf summary NoMemory → Held) → (result ≡ KeeperFault → ⊥) → (result ≡ WriteFault → ⊥) → Held
+summary_held summary written now broke Held result told held short kept wrote =
+    elim told [ inl whole ↦ whole_held summary Held result whole.0 held short kept | inr cut ↦ absurd (wrote cut.0) ]
 
 -- ---- along the rounds
 

@@ -48,7 +48,7 @@ pub fn run_generated<K: Sink, P: Keeper>(
     ensures keeper_fault { result.0 ≡ Status.KeeperFault → Rose (P.faults keeper) (P.faults result.1) }
     ensures sink_steady { result.0 ≢ Status.WriteFault → K.faults sink.new ≡ K.faults sink.old }
     ensures keeper_count { P.faults keeper ≤ P.faults result.1 }
-    ensures keeper_steady { result.0 ≢ Status.KeeperFault → result.0 ≢ Status.WriteFault → result.0 ≢ Status.OutOfMemory → P.faults result.1 ≡ P.faults keeper }
+    ensures keeper_steady { result.0 ≢ Status.KeeperFault → result.0 ≢ Status.WriteFault → P.faults result.1 ≡ P.faults keeper }
     ensures complete { IsBundle (generated n seed) → TellsNoSeason (P.tables keeper) → ¬ Rose (K.faults sink.old) (K.faults sink.new) → ¬ Rose (P.faults keeper) (P.faults result.1)
         → (result.0 ≡ Status.Ok) ⊎ (result.0 ≡ Status.OutOfMemory) }
     ensures refused { IsFaultyBundle (generated n seed) → ¬ Rose (K.faults sink.old) (K.faults sink.new)
@@ -106,7 +106,7 @@ fn run_made<K: Sink, P: Keeper>(
     ensures keeper_fault { result.0 ≡ Status.KeeperFault → Rose (P.faults keeper) (P.faults result.1) }
     ensures sink_steady { result.0 ≢ Status.WriteFault → K.faults sink.new ≡ K.faults sink.old }
     ensures keeper_count { P.faults keeper ≤ P.faults result.1 }
-    ensures keeper_steady { result.0 ≢ Status.KeeperFault → result.0 ≢ Status.WriteFault → result.0 ≢ Status.OutOfMemory → P.faults result.1 ≡ P.faults keeper }
+    ensures keeper_steady { result.0 ≢ Status.KeeperFault → result.0 ≢ Status.WriteFault → P.faults result.1 ≡ P.faults keeper }
     ensures complete { TellsNoSeason (P.tables keeper) → ¬ Rose (K.faults sink.old) (K.faults sink.new) → ¬ Rose (P.faults keeper) (P.faults result.1)
         → (result.0 ≡ Status.Ok) ⊎ (result.0 ≡ Status.OutOfMemory) }
     ensures not_empty { TellsSeason (P.tables keeper) → ¬ Rose (K.faults sink.old) (K.faults sink.new) → ¬ Rose (P.faults keeper) (P.faults result.1)
@@ -137,7 +137,7 @@ fn count_office<K: Sink, P: Keeper>(
     ensures keeper_fault { result.0 ≡ Status.KeeperFault → Rose (P.faults office.keeper) (P.faults result.1) }
     ensures sink_steady { result.0 ≢ Status.WriteFault → K.faults sink.new ≡ K.faults sink.old }
     ensures keeper_count { P.faults office.keeper ≤ P.faults result.1 }
-    ensures keeper_steady { result.0 ≢ Status.KeeperFault → result.0 ≢ Status.WriteFault → result.0 ≢ Status.OutOfMemory → P.faults result.1 ≡ P.faults office.keeper }
+    ensures keeper_steady { result.0 ≢ Status.KeeperFault → result.0 ≢ Status.WriteFault → P.faults result.1 ≡ P.faults office.keeper }
     ensures complete { ¬ Rose (K.faults sink.old) (K.faults sink.new) → ¬ Rose (P.faults office.keeper) (P.faults result.1)
         → (result.0 ≡ Status.Ok) ⊎ (result.0 ≡ Status.OutOfMemory) }
 {
@@ -164,7 +164,7 @@ fn count_script<K: Sink, P: Keeper>(
     ensures keeper_fault { result ≡ Status.KeeperFault → Rose (P.faults office.old.keeper) (P.faults office.new.keeper) }
     ensures sink_steady { result ≢ Status.WriteFault → K.faults sink.new ≡ K.faults sink.old }
     ensures keeper_count { P.faults office.old.keeper ≤ P.faults office.new.keeper }
-    ensures keeper_steady { result ≢ Status.KeeperFault → result ≢ Status.WriteFault → result ≢ Status.OutOfMemory → P.faults office.new.keeper ≡ P.faults office.old.keeper }
+    ensures keeper_steady { result ≢ Status.KeeperFault → result ≢ Status.WriteFault → P.faults office.new.keeper ≡ P.faults office.old.keeper }
     ensures complete { ¬ Rose (K.faults sink.old) (K.faults sink.new) → ¬ Rose (P.faults office.old.keeper) (P.faults office.new.keeper)
         → (result ≡ Status.Ok) ⊎ (result ≡ Status.OutOfMemory) }
 {
@@ -190,6 +190,7 @@ fn counted_text<P: Keeper>(
     ensures cause { IsErrOf result OfficeFault.KeeperFault → Rose (P.faults office.old.keeper) (P.faults office.new.keeper) }
     ensures count { P.faults office.old.keeper ≤ P.faults office.new.keeper }
     ensures steady { OnOk result (P.faults office.new.keeper ≡ P.faults office.old.keeper) }
+    ensures steady_memory { IsErrOf result OfficeFault.OutOfMemory → P.faults office.new.keeper ≡ P.faults office.old.keeper }
 {
     match count_all(alloc, office, script) {
         Ok(tally) => match tallied_text(alloc, n, seed, office, tally) {

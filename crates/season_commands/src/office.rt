@@ -27,7 +27,7 @@ pub(crate) fn run_office<K: Sink, P: Keeper>(
     ensures keeper_fault { result.0 ≡ Status.KeeperFault → Rose (P.faults office.keeper) (P.faults result.1) }
     ensures sink_steady { result.0 ≢ Status.WriteFault → K.faults sink.new ≡ K.faults sink.old }
     ensures keeper_count { P.faults office.keeper ≤ P.faults result.1 }
-    ensures keeper_steady { result.0 ≡ Status.Ok → P.faults result.1 ≡ P.faults office.keeper }
+    ensures keeper_steady { result.0 ≢ Status.KeeperFault → result.0 ≢ Status.WriteFault → P.faults result.1 ≡ P.faults office.keeper }
     ensures complete { ¬ Rose (K.faults sink.old) (K.faults sink.new) → ¬ Rose (P.faults office.keeper) (P.faults result.1)
         → (result.0 ≡ Status.Ok) ⊎ (result.0 ≡ Status.OutOfMemory) }
 {
@@ -50,7 +50,7 @@ fn answer_script<K: Sink, P: Keeper>(
     ensures keeper_fault { result ≡ Status.KeeperFault → Rose (P.faults office.old.keeper) (P.faults office.new.keeper) }
     ensures sink_steady { result ≢ Status.WriteFault → K.faults sink.new ≡ K.faults sink.old }
     ensures keeper_count { P.faults office.old.keeper ≤ P.faults office.new.keeper }
-    ensures keeper_steady { result ≡ Status.Ok → P.faults office.new.keeper ≡ P.faults office.old.keeper }
+    ensures keeper_steady { result ≢ Status.KeeperFault → result ≢ Status.WriteFault → P.faults office.new.keeper ≡ P.faults office.old.keeper }
     ensures complete { ¬ Rose (K.faults sink.old) (K.faults sink.new) → ¬ Rose (P.faults office.old.keeper) (P.faults office.new.keeper)
         → (result ≡ Status.Ok) ⊎ (result ≡ Status.OutOfMemory) }
 {

@@ -37,7 +37,7 @@ pub fn run_season<S: Source, K: Sink, P: Keeper>(
     ensures source_steady { result.0 ≢ Status.ReadFault → result.0 ≢ Status.WriteFault → S.faults source.new ≡ S.faults source.old }
     ensures sink_steady { result.0 ≢ Status.WriteFault → K.faults sink.new ≡ K.faults sink.old }
     ensures keeper_count { P.faults keeper ≤ P.faults result.1 }
-    ensures keeper_steady { result.0 ≢ Status.KeeperFault → result.0 ≢ Status.WriteFault → result.0 ≢ Status.OutOfMemory → P.faults result.1 ≡ P.faults keeper }
+    ensures keeper_steady { result.0 ≢ Status.KeeperFault → result.0 ≢ Status.WriteFault → P.faults result.1 ≡ P.faults keeper }
     ensures complete { Tells IsBundle (S.left source.old) → TellsNoSeason (P.tables keeper)
         → ¬ Rose (S.faults source.old) (S.faults source.new) → ¬ Rose (K.faults sink.old) (K.faults sink.new) → ¬ Rose (P.faults keeper) (P.faults result.1)
         → (result.0 ≡ Status.Ok) ⊎ (result.0 ≡ Status.OutOfMemory) }
@@ -71,7 +71,7 @@ fn run_script<K: Sink, P: Keeper>(
     ensures keeper_fault { result.0 ≡ Status.KeeperFault → Rose (P.faults keeper) (P.faults result.1) }
     ensures sink_steady { result.0 ≢ Status.WriteFault → K.faults sink.new ≡ K.faults sink.old }
     ensures keeper_count { P.faults keeper ≤ P.faults result.1 }
-    ensures keeper_steady { result.0 ≢ Status.KeeperFault → result.0 ≢ Status.WriteFault → result.0 ≢ Status.OutOfMemory → P.faults result.1 ≡ P.faults keeper }
+    ensures keeper_steady { result.0 ≢ Status.KeeperFault → result.0 ≢ Status.WriteFault → P.faults result.1 ≡ P.faults keeper }
     ensures complete { TellsNoSeason (P.tables keeper) → ¬ Rose (K.faults sink.old) (K.faults sink.new) → ¬ Rose (P.faults keeper) (P.faults result.1)
         → (result.0 ≡ Status.Ok) ⊎ (result.0 ≡ Status.OutOfMemory) }
     ensures not_empty { TellsSeason (P.tables keeper) → ¬ Rose (K.faults sink.old) (K.faults sink.new) → ¬ Rose (P.faults keeper) (P.faults result.1)

@@ -24,7 +24,7 @@ requests-preserved g c =
       word = c.in-Done.ensures.orderly.word;
       stands = c.in-Done.ensures.stands;
     } in
-    goes _ _ _ _ _ _ _ _ _ _ _ _ _ _ _ _ _ _ _ _ _ _ _ c.requests.invariant next (c.in-Done.ensures.done refl) left (c.in-Done.ensures.keeper_steady (inl refl)) (c.in-Done.ensures.write_steady (λ e. cc))
+    goes _ _ _ _ _ _ _ _ _ _ _ _ _ _ _ _ _ _ _ _ _ _ _ c.requests.invariant next (c.in-Done.ensures.done refl) left (c.in-Done.ensures.keeper_steady (λ e. cc)) (c.in-Done.ensures.write_steady (λ e. cc))
 
 pub returns-clause-done : goal.returns-clause-done
 returns-clause-done g c = λ e.

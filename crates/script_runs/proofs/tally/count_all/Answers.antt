@@ -73,3 +73,6 @@ returns-in-Err-clause-cause g c e = subst (λ n. Rose n (g.P.Keeper.faults c.cou
 
 pub returns-in-Err-clause-count : goal.returns-in-Err-clause-count
 returns-in-Err-clause-count g c = let same = c.requests.invariant.0.keeper in let more = c.count_one.ensures.count in omega (arith, same, more)
+
+pub returns-in-Err-clause-steady_memory : goal.returns-in-Err-clause-steady_memory
+returns-in-Err-clause-steady_memory g c e = c.count_one.ensures.steady_memory (c.in-Err.is ∙ e) ∙ c.requests.invariant.0.keeper

@@ -16,7 +16,9 @@ pub returns-clause-keeper_fault : goal.returns-clause-keeper_fault
 returns-clause-keeper_fault g c is = c.counted_text-summary.ensures.cause ((summary_told c.counted_text-summary.result _ _ _ c.write_summary.result c.write_summary.ensures.told).keeper is)
 
 pub returns-clause-keeper_steady : goal.returns-clause-keeper_steady
-returns-clause-keeper_steady g c = summary_held c.counted_text-summary.result _ _ _ _ c.write_summary.result c.write_summary.ensures.told c.counted_text-summary.ensures.steady
+returns-clause-keeper_steady g c =
+    summary_held c.counted_text-summary.result _ _ _ _ c.write_summary.result c.write_summary.ensures.told c.counted_text-summary.ensures.steady
+    c.counted_text-summary.ensures.steady_memory
 
 pub returns-clause-complete : goal.returns-clause-complete
 returns-clause-complete g c wrote kept =

@@ -34,6 +34,10 @@ returns-in-Err-clause-differs g c tells wrote kept =
     row_fault_stops _ c.in-Err.stopped.records c.in-Err.stopped.fault c.tell_unresumed.result _ _ c.one_reading.ensures tells c.in-Err.ensures.fault c.in-Err.ensures.cause kept c.tell_unresumed.ensures.status
     c.tell_unresumed.ensures.write_fault wrote
 
+pub returns-in-Err-clause-keeper_steady : goal.returns-in-Err-clause-keeper_steady
+returns-in-Err-clause-keeper_steady g c held wrote =
+    c.in-Err.ensures.steady_err (λ failed. elim (c.tell_unresumed.ensures.keeper failed) [ inl is ↦ held is | inr is ↦ wrote is ])
+
 pub returns-in-Ok-clause-unread : goal.returns-in-Ok-clause-unread
 returns-in-Ok-clause-unread g c early =
     absurd (elim early [
