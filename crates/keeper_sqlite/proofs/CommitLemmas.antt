@@ -1,11 +1,17 @@
 -- What calls that follow one another commit.
-use Rattle.std.proofs.Common.{◌≡◌, true, refl, inl, arith}
+use Rattle.std.proofs.Common.{◌≡◌, true, Result, Ok, Err, IsTrue, IfOk, IsErrOf, OnOk, sym, subst, refl, inl, arith}
 use Rattle.sqlite.specs.Store.{Ghosts}
-use Rattle.sqlite.specs.State.{State}
+use Rattle.sqlite.specs.State.{State, HasCleanDisk}
 use Rattle.sqlite.specs.Held.{Held, state}
 use Rattle.sqlite.proofs.StateLemmas.{survives_then}
 use Rattle.sqlite.proofs.Callers.{survives_begin}
 use Rattle.keeper_sqlite.specs.Commits.{CommitsNothing, CommitsShown, CommitsOnce}
+use Rattle.keeper_sqlite.specs.Kept.{Keeps, Makes}
+use Rattle.keeper_mem.specs.declared.keeper.KeepFault.{KeepFault}
+use Rattle.keeper_mem.specs.declared.keeper.KeepFault.TheVariants.{Failed}
+use Rattle.keeper_sqlite.specs.Stored.{Stored}
+use Rattle.keeper_sqlite.specs.declared.halt.Halt.{Halt}
+use Rattle.keeper_sqlite.specs.declared.transactions.Change.{Change}
 
 pub nothing_same : (s : State) → CommitsNothing s s
 nothing_same s = record { clean = omega arith; shield = λ h. h; counts = omega arith; limit = refl; closes = λ clean h. inl h; crash = λ clean db h. inl h }
@@ -23,3 +29,22 @@ pub once_made : {S : Type 0} (g : Ghosts S) (old begun mid last : Held S) → be
 unfolding CommitsOnce
 once_made g old begun mid last is done settled =
     (_, survives_then (state g old) (state g mid) (state g last) _ _ _ (λ _ db none. absurd none) (λ _ db same. same) (survives_begin g old (state g mid) _ (rw is at done)) settled)
+
+-- What a transaction did is kept, where it ended well.
+pub kept_made : {S : Type 0} (g : Ghosts S) (change : Change) (old begun mid last : Held S) (done ended : Result (Unit {0}) Halt) → begun ≡ record old { in_transaction = true }
+    → (HasCleanDisk (state g mid) → IsTrue begun.in_transaction → OnOk done (Makes g change begun mid)) → CommitsShown (state g mid) (state g last) → OnOk ended (done ≡ Ok tt)
+    → (HasCleanDisk (state g last) → OnOk ended ((state g last).now ≡ (state g mid).now)) → (HasCleanDisk (state g last) → OnOk ended ((state g last).committed ≡ (state g mid).now))
+    → HasCleanDisk (state g last) → OnOk ended (Keeps g (Makes g change) old last)
+kept_made g change old begun mid last done (Err halt) is made settled ok now committed clean = tt
+kept_made g change old begun mid last done (Ok none) is made settled ok now committed clean =
+    let before : HasCleanDisk (state g mid) = omega (arith, settled.clean) in
+    record { last = mid; done = rw is at (rw ok at (made before (rw is))); shown = now clean; committed = committed clean }
+
+-- What is told of a transaction is what was kept.
+pub kept_told : {S : Type 0} (g : Ghosts S) (P : Held S → Type 0) (done : Result (Unit {0}) Halt) (told : Result (Unit {0}) KeepFault) (mid last : Stored S)
+    → IfOk told (λ value. done ≡ Ok value) → (¬ IsErrOf told Failed → last ≡ mid) → (HasCleanDisk (state g mid.connection) → OnOk done (P mid.connection))
+    → HasCleanDisk (state g last.connection) → OnOk told (P last.connection)
+kept_told g P done (Err fault) mid last ok same kept clean = tt
+kept_told {S} g P done (Ok none) mid last ok same kept clean =
+    let is : last ≡ mid = same (λ failed. let e = failed in cc) in
+    subst (λ (k : Stored S). P k.connection) (sym is) (rw ok at (kept (subst (λ (k : Stored S). HasCleanDisk (state g k.connection)) is clean)))

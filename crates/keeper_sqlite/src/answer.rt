@@ -1,7 +1,9 @@
 // The table of answers.
-ghost use Rattle.std.specs.Prelude.{◌≡◌};
+ghost use Rattle.std.specs.Prelude.{◌≡◌, IsTrue, OnOk};
+ghost use Rattle.sqlite.specs.State.{HasCleanDisk};
 ghost use Rattle.sqlite.specs.Held.{state};
 ghost use Rattle.keeper_sqlite.specs.Commits.{CommitsNothing};
+ghost use Rattle.keeper_sqlite.specs.Kept.{Ran, answer_text, answer_values};
 
 use crate::columns::{choice_at, expect_number, number_at, small_number_at};
 use crate::halt::Halt;
@@ -36,6 +38,8 @@ pub(crate) fn expect_empty<S: Alter>(tx: &mut Transaction<'_, S>) -> Result<(), 
 pub(crate) fn insert<S: Alter>(tx: &mut Transaction<'_, S>, row: AnswerRow) -> Result<(), Halt>
     ensures same_reference { tx.new.conn.ghost_name ≡ tx.old.conn.ghost_name }
     ensures inside { CommitsNothing (state S.Store tx.old.conn.now) (state S.Store tx.new.conn.now) }
+    ensures ran { HasCleanDisk (state S.Store tx.new.conn.now) → IsTrue tx.old.conn.now.in_transaction
+        → OnOk result (Ran S.Store answer_text (answer_values row) tx.old.conn.now tx.new.conn.now) }
 {
     tx.execute(
         "INSERT INTO answer (win, cand, turn, choice) VALUES (?1, ?2, ?3, ?4)",

@@ -1,8 +1,10 @@
 // The keeper over a connection.
-ghost use Rattle.std.specs.Prelude.{◌≡◌, ◌≤◌, IsErrOf, IfOk, IfErr};
+ghost use Rattle.std.specs.Prelude.{◌≡◌, ◌≤◌, IsErrOf, IfOk, IfErr, OnOk};
 ghost use Rattle.office_base.specs.Memory.{counted};
+ghost use Rattle.sqlite.specs.State.{HasCleanDisk};
 ghost use Rattle.sqlite.specs.Held.{state};
 ghost use Rattle.keeper_sqlite.specs.Commits.{CommitsOnce};
+ghost use Rattle.keeper_sqlite.specs.Kept.{Keeps, Makes, Ran, answer_text, answer_values, raise_text, raise_values};
 ghost use Rattle.keeper_sqlite.specs.Halts.{keep_fault, faults_after};
 
 use crate::halt::Halt;
@@ -76,6 +78,7 @@ impl<S: Alter> SqliteKeeper<S> {
         ensures steady { ¬ IsErrOf result KeepFault.Failed → self.new.faults ≡ self.old.faults }
         ensures counted { IsErrOf result KeepFault.Failed → self.new.faults ≡ counted self.old.faults }
         ensures once { CommitsOnce (state S.Store self.old.connection) (state S.Store self.new.connection) }
+        ensures kept { HasCleanDisk (state S.Store self.new.connection) → OnOk result (Keeps S.Store (Makes S.Store change.entry) self.old.connection self.new.connection) }
     {
         let done = transactions::commit(&mut self.connection, change);
         self.settle(done)
@@ -138,11 +141,23 @@ impl<S: Alter> Keeper for SqliteKeeper<S> {
         Ok(())
     }
 
-    fn put_answer(&mut self, row: AnswerRow) -> Result<(), KeepFault> {
+    fn put_answer(&mut self, row: AnswerRow) -> Result<(), KeepFault>
+        ensures count { self.old.faults ≤ self.new.faults }
+        ensures steady { ¬ IsErrOf result KeepFault.Failed → self.new.faults ≡ self.old.faults }
+        ensures counted { IsErrOf result KeepFault.Failed → self.new.faults ≡ counted self.old.faults }
+        ensures once { CommitsOnce (state S.Store self.old.connection) (state S.Store self.new.connection) }
+        ensures kept { HasCleanDisk (state S.Store self.new.connection) → OnOk result (Keeps S.Store (Ran S.Store answer_text (answer_values row)) self.old.connection self.new.connection) }
+    {
         self.commit(Change::Answer(row))
     }
 
-    fn put_raise(&mut self, row: RaiseRow) -> Result<(), KeepFault> {
+    fn put_raise(&mut self, row: RaiseRow) -> Result<(), KeepFault>
+        ensures count { self.old.faults ≤ self.new.faults }
+        ensures steady { ¬ IsErrOf result KeepFault.Failed → self.new.faults ≡ self.old.faults }
+        ensures counted { IsErrOf result KeepFault.Failed → self.new.faults ≡ counted self.old.faults }
+        ensures once { CommitsOnce (state S.Store self.old.connection) (state S.Store self.new.connection) }
+        ensures kept { HasCleanDisk (state S.Store self.new.connection) → OnOk result (Keeps S.Store (Ran S.Store raise_text (raise_values row)) self.old.connection self.new.connection) }
+    {
         self.commit(Change::Raise(row))
     }
 

@@ -1,7 +1,9 @@
 // The table of raises.
-ghost use Rattle.std.specs.Prelude.{◌≡◌};
+ghost use Rattle.std.specs.Prelude.{◌≡◌, IsTrue, OnOk};
+ghost use Rattle.sqlite.specs.State.{HasCleanDisk};
 ghost use Rattle.sqlite.specs.Held.{state};
 ghost use Rattle.keeper_sqlite.specs.Commits.{CommitsNothing};
+ghost use Rattle.keeper_sqlite.specs.Kept.{Ran, raise_text, raise_values};
 
 use crate::columns::{expect_number, small_number_at, step_at};
 use crate::halt::Halt;
@@ -35,6 +37,8 @@ pub(crate) fn expect_empty<S: Alter>(tx: &mut Transaction<'_, S>) -> Result<(), 
 pub(crate) fn insert<S: Alter>(tx: &mut Transaction<'_, S>, row: RaiseRow) -> Result<(), Halt>
     ensures same_reference { tx.new.conn.ghost_name ≡ tx.old.conn.ghost_name }
     ensures inside { CommitsNothing (state S.Store tx.old.conn.now) (state S.Store tx.new.conn.now) }
+    ensures ran { HasCleanDisk (state S.Store tx.new.conn.now) → IsTrue tx.old.conn.now.in_transaction
+        → OnOk result (Ran S.Store raise_text (raise_values row) tx.old.conn.now tx.new.conn.now) }
 {
     tx.execute(
         "INSERT INTO lift (win, prog, step, seats) VALUES (?1, ?2, ?3, ?4)",

@@ -1,7 +1,9 @@
 // The transactions of a keeper: what each method does to the tables, all of it or nothing.
-ghost use Rattle.std.specs.Prelude.{◌≡◌, false, OnOk};
+ghost use Rattle.std.specs.Prelude.{◌≡◌, false, Ok, IsTrue, OnOk};
+ghost use Rattle.sqlite.specs.State.{HasCleanDisk};
 ghost use Rattle.sqlite.specs.Held.{state};
 ghost use Rattle.keeper_sqlite.specs.Commits.{CommitsNothing, CommitsShown, CommitsOnce};
+ghost use Rattle.keeper_sqlite.specs.Kept.{Keeps, Makes};
 
 use crate::halt::Halt;
 use crate::rising::are_rising;
@@ -38,7 +40,10 @@ fn expect_free<S: Alter>(connection: &Connection<S>) -> Result<(), Halt>
 
 /// Commits what was done, or rolls it back.
 fn settle<S: Alter>(tx: Transaction<'_, S>, done: Result<(), Halt>) -> Result<(), Halt>
-    ensures { CommitsShown (state S.Store tx.entry.conn.now) (state S.Store tx.exit.0.now) }
+    ensures shown { CommitsShown (state S.Store tx.entry.conn.now) (state S.Store tx.exit.0.now) }
+    ensures done { OnOk result (done ≡ Ok tt) }
+    ensures now { HasCleanDisk (state S.Store tx.exit.0.now) → OnOk result ((state S.Store tx.exit.0.now).now ≡ (state S.Store tx.entry.conn.now).now) }
+    ensures committed { HasCleanDisk (state S.Store tx.exit.0.now) → OnOk result ((state S.Store tx.exit.0.now).committed ≡ (state S.Store tx.entry.conn.now).now) }
 {
     done?;
     tx.commit()?;
@@ -50,7 +55,8 @@ pub(crate) fn commit<S: Alter>(
     connection: &mut Connection<S>,
     change: Change<'_>,
 ) -> Result<(), Halt>
-    ensures { CommitsOnce (state S.Store connection.old) (state S.Store connection.new) }
+    ensures once { CommitsOnce (state S.Store connection.old) (state S.Store connection.new) }
+    ensures kept { HasCleanDisk (state S.Store connection.new) → OnOk result (Keeps S.Store (Makes S.Store change.entry) connection.old connection.new) }
 {
     expect_free(connection)?;
     let mut tx = connection.transaction();
@@ -61,6 +67,8 @@ pub(crate) fn commit<S: Alter>(
 fn write<S: Alter>(tx: &mut Transaction<'_, S>, change: Change<'_>) -> Result<(), Halt>
     ensures same_reference { tx.new.conn.ghost_name ≡ tx.old.conn.ghost_name }
     ensures inside { CommitsNothing (state S.Store tx.old.conn.now) (state S.Store tx.new.conn.now) }
+    ensures made { HasCleanDisk (state S.Store tx.new.conn.now) → IsTrue tx.old.conn.now.in_transaction
+        → OnOk result (Makes S.Store change.entry tx.old.conn.now tx.new.conn.now) }
 {
     match change {
         Change::Tables => write_tables(tx),
