@@ -67,7 +67,7 @@ pub fn seeks_after(
     for (at, person) in people.iter().enumerate() {
         let standing = stand(left[at], table, at);
         let seat = round_seat(last, at, count);
-        let seek = seek_for(choices.list(person.id), standing, seat);
+        let seek = seek_for(choices.list_near(at, person.id), standing, seat);
         seeks.push(seek)?;
     }
     Ok(Listed::from_vec(seeks))

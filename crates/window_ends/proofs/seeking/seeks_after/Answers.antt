@@ -7,7 +7,7 @@ seek_for-seek-requires-clause-seated c = seated_there _ _ _ _ _ _ _ c.requires.s
 
 pub loop-at-preserved : goal.loop-at-preserved
 loop-at-preserved c =
-    seeks_more _ _ _ _ _ _ _ _ _ _ _ _ _ _ c.loop-at-test.true c.requires.left c.stand-standing.ensures c.round_seat-seat.ensures c.list.ensures.list c.seek_for-seek.ensures c.loop-at.invariant
+    seeks_more _ _ _ _ _ _ _ _ _ _ _ _ _ _ c.loop-at-test.true c.requires.left c.stand-standing.ensures c.round_seat-seat.ensures c.list_near.ensures.list c.seek_for-seek.ensures c.loop-at.invariant
     c.in_ok-push.ensures.items
 
 pub returns : goal.returns
