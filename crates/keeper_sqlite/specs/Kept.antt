@@ -5,9 +5,10 @@ use Rattle.sqlite.specs.Order.{Row}
 use Rattle.sqlite.specs.State.{Executes}
 use Rattle.sqlite.specs.Held.{Held, state}
 use Rattle.sqlite.specs.declared.types.Value.TheVariants.{Int}
+use Rattle.office_base.specs.StepNumbers.{step_number}
 use Rattle.keeper_mem.specs.declared.rows.AnswerRow.{AnswerRow}
 use Rattle.keeper_mem.specs.declared.rows.RaiseRow.{RaiseRow}
-use Rattle.keeper_sqlite.specs.Numbers.{choice_number, step_number}
+use Rattle.keeper_sqlite.specs.Numbers.{choice_number}
 use Rattle.keeper_sqlite.specs.declared.transactions.Change.{Change}
 use Rattle.keeper_sqlite.specs.declared.transactions.Change.TheVariants.{Answer, Raise}
 
