@@ -8,7 +8,9 @@ import tempfile
 from cases import READS_STORES, ROOMS, called, first_difference
 from plain_office import MOST_SEATS, Office, Season, lists_of, sheet_text
 
-SCRIPTS, REQUESTS = 200, 40
+# how many scripts are drawn for each season, and how many markets: all of them, and where the answer has to come soon
+ALL, FEW = (200, 1000), (3, 40)
+REQUESTS = 40
 
 # ---- drawn scripts
 
@@ -92,12 +94,12 @@ REPLIES += [f"refused {it} " for it in (1, 2, 3, 5, 6, 7, 8, 9, 10, 11, 13, 14, 
 
 
 @functools.lru_cache(maxsize=None)
-def drawn_scripts(seasons):
+def drawn_scripts(seasons, count):
     """For each season so many scripts, with their replies and the rows that are kept of them."""
     draw, found = Draw(1), []
     for text in seasons:
         season = Season(text)
-        for number in range(SCRIPTS):
+        for number in range(count):
             rows, replies, office = drawn_script(season, draw, REQUESTS)
             found.append((f"drawn script {number} of {season.rounds} rounds", text, rows, replies, office.rows()))
     return found
@@ -150,8 +152,6 @@ def fault_of_summary(program, count, seed):
 
 
 # ---- small markets: four candidates, some with lists of nothing, and three programmes with merit lists of their own
-
-MARKETS = 1000
 
 
 def in_order(items, number):
@@ -216,10 +216,10 @@ def best_of(season, fair):
 
 
 @functools.lru_cache(maxsize=None)
-def drawn_markets():
+def drawn_markets(count):
     """So many markets, with the text of the first round, which is the best of all fair allocations; and how many have several of these."""
     draw, found, several = Draw(1), [], 0
-    for number in range(MARKETS):
+    for number in range(count):
         text = drawn_market(draw)
         season = Season(text)
         fair = list(fair_ones(season))
@@ -236,14 +236,17 @@ def fault_of_market(program, label, text, told):
     return None if (wrote, status) == (told.encode(), 0) else f"{label}: ended with status {status}: {first_difference(wrote, told.encode())}"
 
 
-def trials(program, texts):
-    """What is tried, each a call that gives a fault or None."""
-    scripts = drawn_scripts(tuple(texts[it].decode() for it in ("five candidates", "mixed candidates")))
-    yield lambda: lacking(scripts)
+def trials(program, texts, drawn):
+    """What is tried, each a call that gives a fault or None, with so many scripts a season and so many markets. That all replies come, and markets with
+    several fair allocations, is said of all of them."""
+    scripts = drawn_scripts(tuple(texts[it].decode() for it in ("five candidates", "mixed candidates")), drawn[0])
+    if drawn == ALL:
+        yield lambda: lacking(scripts)
     for script in scripts:
         yield functools.partial(fault_of_script, program, *script)
-    markets, several = drawn_markets()
-    yield lambda: None if several >= 20 else f"drawn markets: {several} have several fair allocations"
+    markets, several = drawn_markets(drawn[1])
+    if drawn == ALL:
+        yield lambda: None if several >= 20 else f"drawn markets: {several} have several fair allocations"
     for market in markets:
         yield functools.partial(fault_of_market, program, *market)
     for count, seed in ((2, 1), (40, 7)):
