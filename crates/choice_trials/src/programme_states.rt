@@ -1,5 +1,5 @@
-// Applicants who come to a programme one at a time: worked offers, and every order of offers to small programmes in both
-// versions of the bundle, held against the choice from all who came.
+// Applicants who come to a programme one at a time: every order of offers to small programmes in both versions of the
+// bundle, held against the choice from all who came.
 ghost use Rattle.std.specs.Prelude.{◌≡◌, ◌<◌, ◌∷◌, ◌++◌, IfOk, IsTrue, length};
 ghost use Rattle.office_base.specs.Person.{IsList};
 ghost use Rattle.office_base.specs.Version.{IsVersion};
@@ -7,10 +7,10 @@ ghost use Rattle.programme_lists.specs.Chosen.{AreApplicants, everybody};
 ghost use Rattle.seat_matrix.specs.Matrix.{seats_in};
 
 use crate::candidates::{
-    Kind, applicant, are_people, candidates_of, in_order, matrix_of, may_all_apply,
+    Kind, applicant, candidates_of, in_order, matrix_of, may_all_apply,
 };
-use office_base::{CandId, Category, ListId, OutOfMemory, Person, ProgId, StepKind, Steps};
-use open_then_category::{Offered, ProgrammeState, programme_choice};
+use office_base::{Category, ListId, OutOfMemory, Person, ProgId, StepKind, Steps};
+use open_then_category::{ProgrammeState, programme_choice};
 use seat_matrix::Matrix;
 use std::alloc::Global;
 use std::marker::Brand;
@@ -29,12 +29,12 @@ pub struct Chooser<'a> {
 fn joined(
     alloc: Global,
     people: &[Person],
-    others: &Vec<Person>,
+    others: &[Person],
 ) -> Result<Vec<Person>, OutOfMemory>
-    ensures { IfOk result (λ all. all.items ≡ people.now ++ others.now.items) }
+    ensures { IfOk result (λ all. all.items ≡ people.now ++ others.now) }
 {
     let mut all = Vec::from_slice(alloc, people)?;
-    all.extend_from_slice(others.as_slice())?;
+    all.extend_from_slice(others)?;
     Ok(all)
 }
 
@@ -43,11 +43,11 @@ pub fn held_by(alloc: Global, state: &ProgrammeState) -> Result<Vec<Person>, Out
     ensures { IfOk result (λ people. people.items ≡ everybody state.now.admissions) }
 {
     let dereserved = Vec::from_slice(alloc, state.admitted(StepKind::Dereserved))?;
-    let from_st = joined(alloc, state.admitted(StepKind::St), &dereserved)?;
-    let from_sc = joined(alloc, state.admitted(StepKind::Sc), &from_st)?;
-    let from_obc = joined(alloc, state.admitted(StepKind::Obc), &from_sc)?;
-    let from_ews = joined(alloc, state.admitted(StepKind::Ews), &from_obc)?;
-    joined(alloc, state.admitted(StepKind::Open), &from_ews)
+    let from_st = joined(alloc, state.admitted(StepKind::St), dereserved.as_slice())?;
+    let from_sc = joined(alloc, state.admitted(StepKind::Sc), from_st.as_slice())?;
+    let from_obc = joined(alloc, state.admitted(StepKind::Obc), from_sc.as_slice())?;
+    let from_ews = joined(alloc, state.admitted(StepKind::Ews), from_obc.as_slice())?;
+    joined(alloc, state.admitted(StepKind::Open), from_ews.as_slice())
 }
 
 // Whether the person may apply beside everybody whom the programme admits.
@@ -61,7 +61,7 @@ fn may_come(
     ensures { IfOk result (λ may. IsTrue may → AreApplicants list (person.now ∷ everybody state.now.admissions)) }
 {
     let held = held_by(alloc, state)?;
-    let all = joined(alloc, &[*person], &held)?;
+    let all = joined(alloc, &[*person], held.as_slice())?;
     Ok(may_all_apply(list, all.as_slice()))
 }
 
@@ -130,71 +130,6 @@ fn hold_choices_of<L: Ledger>(
     hold_choices(alloc, chooser, &mut state, &mut steps, &mut came, people)
 }
 
-// Offers the people to the programme one after another, and tells whether it answers as told.
-fn answer_as_told<L: Ledger>(
-    alloc: Global,
-    list: ListId,
-    state: &mut ProgrammeState,
-    steps: &mut Steps<L>,
-    people: &[Person],
-    told: &[Offered],
-) -> Result<bool, OutOfMemory>
-    requires list { IsList list }
-    requires same { state.old.seats.list ≡ list }
-    ensures { state.new.seats ≡ state.old.seats }
-{
-    let [person, later @ ..] = people else {
-        return Ok(told.is_empty());
-    };
-    let [answer, answers @ ..] = told else {
-        return Ok(false);
-    };
-    if !may_come(alloc, list, state, person)? {
-        return Ok(false);
-    }
-    if state.offer(person, steps) != *answer {
-        return Ok(false);
-    }
-    answer_as_told(alloc, list, state, steps, later, answers)
-}
-
-// Whether three people who come are taken, the last one displaces candidate 4, and candidate 2 moves from OPEN to OBC then.
-fn last_one_moves_another<L: Ledger>(
-    alloc: Global,
-    chooser: &Chooser<'_>,
-    people: &[Person],
-    blank: Blank,
-) -> Result<bool, OutOfMemory>
-    requires programme { chooser.now.prog.0 < length chooser.now.matrix.now.programmes }
-    requires version { IsVersion chooser.now.version }
-    requires name { blank.name ≡ L.name }
-    requires parts { blank.parts ≡ L.parts }
-    requires some { 0 < blank.parts }
-{
-    let [early @ .., _] = people else {
-        return Ok(false);
-    };
-    let [.., last] = people else {
-        return Ok(false);
-    };
-    let mut steps: Steps<L> = Steps::new(blank);
-    let mut state = ProgrammeState::new(alloc, chooser.matrix, chooser.version, chooser.prog)?;
-    let list = chooser.matrix.programme(chooser.prog).list;
-    let taken = [Offered::Taken, Offered::Taken, Offered::Taken];
-    if !answer_as_told(alloc, list, &mut state, &mut steps, early, &taken)?
-        || !are_people(state.admitted(StepKind::Open), &[2])
-    {
-        return Ok(false);
-    }
-    let displaced = [Offered::Displaced(CandId(4))];
-    Ok(
-        answer_as_told(alloc, list, &mut state, &mut steps, &[*last], &displaced)?
-            && are_people(state.admitted(StepKind::Open), &[1])
-            && are_people(state.admitted(StepKind::Obc), &[2])
-            && are_people(state.admitted(StepKind::Dereserved), &[3]),
-    )
-}
-
 // Whether the one programme of the matrix holds the choice after each offer, in so many orders of candidates of these kinds.
 fn agree_in_orders(
     alloc: Global,
@@ -235,31 +170,6 @@ fn all_agree(alloc: Global, matrix: &Matrix, kinds: &[Kind]) -> Result<bool, Out
         }
     }
     Ok(same)
-}
-
-#[test]
-fn worked_offers_to_a_programme(rt: HostRuntime) -> Result<(), Fail> {
-    let alloc = rt.alloc();
-    let Some(matrix) = matrix_of(alloc, "A,I1,1,OPEN,1\nA,I1,1,OBC,2\nA,I1,1,SC,2\n")? else {
-        assert!(rt; false);
-        return Ok(());
-    };
-    assert!(rt; matrix.count() == 1);
-    let kinds = [
-        applicant(Category::Gen, 0, true),
-        applicant(Category::Obc, 0, true),
-        applicant(Category::Gen, 0, true),
-        applicant(Category::Gen, 0, true),
-    ];
-    let people = candidates_of(alloc, &kinds)?;
-    let order = in_order(alloc, people.as_slice(), 0)?;
-    let chooser = Chooser {
-        version: 1,
-        matrix: &matrix,
-        prog: ProgId(0),
-    };
-    assert!(rt; last_one_moves_another::<Brand>(alloc, &chooser, order.as_slice(), Blank::new(1))?);
-    Ok(())
 }
 
 #[test]
