@@ -6,9 +6,7 @@ ghost use Rattle.office_base.specs.Version.{IsVersion};
 ghost use Rattle.programme_lists.specs.Chosen.{AreApplicants, everybody};
 ghost use Rattle.seat_matrix.specs.Matrix.{seats_in};
 
-use crate::candidates::{
-    Kind, applicant, candidates_of, in_order, matrix_of, may_all_apply,
-};
+use crate::candidates::{Kind, applicant, candidates_of, in_order, matrix_of, may_all_apply};
 use office_base::{Category, ListId, OutOfMemory, Person, ProgId, StepKind, Steps};
 use open_then_category::{ProgrammeState, programme_choice};
 use seat_matrix::Matrix;
@@ -26,11 +24,7 @@ pub struct Chooser<'a> {
 }
 
 // Some people, and others after them.
-fn joined(
-    alloc: Global,
-    people: &[Person],
-    others: &[Person],
-) -> Result<Vec<Person>, OutOfMemory>
+fn joined(alloc: Global, people: &[Person], others: &[Person]) -> Result<Vec<Person>, OutOfMemory>
     ensures { IfOk result (λ all. all.items ≡ people.now ++ others.now) }
 {
     let mut all = Vec::from_slice(alloc, people)?;
