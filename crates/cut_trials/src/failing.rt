@@ -64,6 +64,14 @@ fn left(
     answered(alloc, season, keeper, before, after)
 }
 
+/// Whether an office over a keeper that fails at this call, asked all and then all from a request on, stands as the other one.
+fn leaves(alloc: Global, call: u32, again: usize, other: &Left) -> Result<bool, OutOfMemory> {
+    match left(alloc, &[call], CALLS.len(), again)? {
+        Some(left) => Ok(stands_as(&left, other, [RunEnd::KeeperFault, RunEnd::Done])),
+        None => Ok(false),
+    }
+}
+
 /// Whether a fault at this call, which the request at this place makes, leaves all as before, and the request is answered when it is asked again.
 fn is_answered_again(
     alloc: Global,
@@ -72,19 +80,12 @@ fn is_answered_again(
     whole: &Left,
 ) -> Result<bool, OutOfMemory> {
     let count = CALLS.len();
-    let Some(before) = left(alloc, &[], place, count)? else {
-        return Ok(false);
-    };
-    let Some(failed) = left(alloc, &[call], count, count)? else {
-        return Ok(false);
-    };
-    let Some(again) = left(alloc, &[call], count, place)? else {
-        return Ok(false);
-    };
-    Ok(
-        stands_as(&failed, &before, [RunEnd::KeeperFault, RunEnd::Done])
-            && stands_as(&again, whole, [RunEnd::KeeperFault, RunEnd::Done]),
-    )
+    match left(alloc, &[], place, count)? {
+        Some(before) => Ok(
+            leaves(alloc, call, count, &before)? && leaves(alloc, call, place, whole)?,
+        ),
+        None => Ok(false),
+    }
 }
 
 #[test]
@@ -118,12 +119,13 @@ fn a_fault_of_the_keeper_leaves_all_as_before(rt: HostRuntime) -> Result<(), Fai
 fn handed_back(alloc: Global, season: Season, keeper: MemKeeper) -> Option<(MemKeeper, BeginFault)>
     requires { IsSeason season.text season }
 {
-    match Office::begin(alloc, season, keeper) {
+    let begun = Office::begin(alloc, season, keeper);
+    match begun {
         Ok(office) => {
-            let _ = office.into_keeper();
+            office.into_keeper();
             None
         }
-        Err(back) => Some(back),
+        Err((keeper, fault)) => Some((keeper, fault)),
     }
 }
 
@@ -152,7 +154,7 @@ fn begins_again(alloc: Global, call: u32, whole: &Left) -> Result<bool, OutOfMem
 pub(crate) fn whole_tables(alloc: Global) -> Result<Option<Kept>, OutOfMemory> {
     let count = CALLS.len();
     match left(alloc, &[], count, count)? {
-        Some(left) => Ok(left.kept),
+        Some(left) => Ok(left.into_kept()),
         None => Ok(None),
     }
 }

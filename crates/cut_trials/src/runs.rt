@@ -29,6 +29,21 @@ pub(crate) struct Left {
     pub(crate) kept: Option<Kept>,
 }
 
+impl Left {
+    /// What it kept.
+    pub(crate) fn into_kept(self) -> Option<Kept> {
+        let Left {
+            ends: _,
+            replies: _,
+            entries: _,
+            now: _,
+            published: _,
+            kept,
+        } = self;
+        kept
+    }
+}
+
 /// The season and the requests of a bundle; None where it has a fault.
 pub(crate) fn read(
     alloc: Global,
