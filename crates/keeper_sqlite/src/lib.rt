@@ -9,6 +9,7 @@
 
 mod allot;
 mod answer;
+mod calls;
 mod columns;
 mod halt;
 mod keeper;
