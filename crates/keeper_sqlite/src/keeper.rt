@@ -63,7 +63,7 @@ impl<S: Alter> SqliteKeeper<S> {
     }
 
     /// Makes the tables that are not there, all or none, and leaves those that are. A database without the table of raises becomes one that has
-    /// none.
+    /// none. Where it ends well, the five texts were run in their order and committed.
     pub fn make_tables(&mut self) -> Result<(), KeepFault>
         ensures count { self.old.faults ≤ self.new.faults }
         ensures steady { ¬ IsErrOf result KeepFault.Failed → self.new.faults ≡ self.old.faults }
