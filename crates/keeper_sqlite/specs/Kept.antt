@@ -2,7 +2,7 @@
 use Rattle.std.specs.Prelude.{◌≡◌, ℕ, pos, true, List, [], ◌∷◌, map, codes, Ok}
 use Rattle.sqlite.specs.Store.{Ghosts}
 use Rattle.sqlite.specs.Order.{Row}
-use Rattle.sqlite.specs.State.{Executes, Shown, IsUnchanged}
+use Rattle.sqlite.specs.State.{Executes}
 use Rattle.sqlite.specs.Held.{Held, state}
 use Rattle.sqlite.specs.declared.types.Value.TheVariants.{Int}
 use Rattle.office_base.specs.StepNumbers.{step_number}
@@ -24,12 +24,9 @@ raise_text = codes "INSERT INTO lift (win, prog, step, seats) VALUES (?1, ?2, ?3
 abbrev pub raise_values : RaiseRow → Row
 raise_values row = Int (pos row.window) ∷ Int (pos row.prog.0) ∷ Int (pos (step_number row.step)) ∷ Int (pos row.seats) ∷ []
 
--- a call on the database inside a transaction: a statement of this text is run with these values, a query of this text without values is answered
--- with these rows, or a statement is made ready
+-- a call on the database inside a transaction: a statement of this text is run with these values
 pub data Call : Type 0 where
   Runs : List ℕ → Row → Call
-  Asks : List ℕ → List Row → Call
-  Readies : Call
 
 -- the five tables, each made where it is not there
 abbrev pub season_table : List ℕ
@@ -60,11 +57,9 @@ module _ {S : Type 0} (g : Ghosts S) where
     pub count : ℕ
     pub ran : Executes text values (state g old) (state g new) (Ok count)
 
-  -- This call was made: what was run or shown is told by the kit's clauses, and a statement that is made ready changes nothing.
+  -- this call was made
   abbrev pub Did : Call → Held S → Held S → Type 0
   Did (Runs text values) old new = Ran text values old new
-  Did (Asks text rows) old new = Shown text [] (state g old) (state g new) rows
-  Did Readies old new = IsUnchanged (state g old) (state g new)
 
   -- these calls were made, one after the other and no others
   abbrev pub DidAll : List Call → Held S → Held S → Type 0
