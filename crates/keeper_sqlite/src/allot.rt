@@ -1,11 +1,15 @@
 // The table of published seats.
-ghost use Rattle.std.specs.Prelude.{◌≡◌, IfOk, IfErr};
+ghost use Rattle.std.specs.Prelude.{◌≡◌, [], ◌∷◌, IfOk, IfErr, OnOk};
+ghost use Rattle.sqlite.specs.State.{HasCleanDisk};
 ghost use Rattle.keeper_sqlite.specs.Halts.{WantsMemory};
 ghost use Rattle.keeper_sqlite.specs.Columns.{IsKeyRow};
 ghost use Rattle.keeper_sqlite.specs.declared.rising.Key.{Key};
 ghost use Rattle.sqlite.specs.Held.{state};
 ghost use Rattle.keeper_sqlite.specs.Commits.{CommitsNothing};
+ghost use Rattle.keeper_sqlite.specs.Kept.{DidAll, allot_table};
+ghost use Rattle.keeper_sqlite.specs.Kept.Call.{Runs};
 
+use crate::calls::run;
 use crate::columns::{number_at, small_number_at, step_at};
 use crate::halt::Halt;
 use crate::records::{Record, expect_none, records_of};
@@ -19,12 +23,13 @@ use std::alloc::Global;
 pub(crate) fn create<S: Alter>(tx: &mut Transaction<'_, S>) -> Result<(), Halt>
     ensures same_reference { tx.new.conn.ghost_name ≡ tx.old.conn.ghost_name }
     ensures inside { CommitsNothing (state S.Store tx.old.conn.now) (state S.Store tx.new.conn.now) }
+    ensures ran { HasCleanDisk (state S.Store tx.new.conn.now) → OnOk result (DidAll S.Store (Runs allot_table [] ∷ []) tx.old.conn.now tx.new.conn.now) }
 {
-    tx.execute(
+    run(
+        tx,
         "CREATE TABLE IF NOT EXISTS allot (rnd INTEGER NOT NULL, cand INTEGER NOT NULL, prog INTEGER NOT NULL, step INTEGER NOT NULL, PRIMARY KEY (rnd, cand)) STRICT",
         &[],
-    )?;
-    Ok(())
+    )
 }
 
 /// Tests that no row is there.

@@ -1,10 +1,12 @@
 // The table of answers.
-ghost use Rattle.std.specs.Prelude.{◌≡◌, IsTrue, OnOk};
+ghost use Rattle.std.specs.Prelude.{◌≡◌, [], ◌∷◌, IsTrue, OnOk};
 ghost use Rattle.sqlite.specs.State.{HasCleanDisk};
 ghost use Rattle.sqlite.specs.Held.{state};
 ghost use Rattle.keeper_sqlite.specs.Commits.{CommitsNothing};
-ghost use Rattle.keeper_sqlite.specs.Kept.{Ran, answer_text, answer_values};
+ghost use Rattle.keeper_sqlite.specs.Kept.{Ran, DidAll, answer_table, answer_text, answer_values};
+ghost use Rattle.keeper_sqlite.specs.Kept.Call.{Runs};
 
+use crate::calls::run;
 use crate::columns::{choice_at, expect_number, number_at, small_number_at};
 use crate::halt::Halt;
 use crate::numbers::number_of_choice;
@@ -18,12 +20,13 @@ use std::alloc::Global;
 pub(crate) fn create<S: Alter>(tx: &mut Transaction<'_, S>) -> Result<(), Halt>
     ensures same_reference { tx.new.conn.ghost_name ≡ tx.old.conn.ghost_name }
     ensures inside { CommitsNothing (state S.Store tx.old.conn.now) (state S.Store tx.new.conn.now) }
+    ensures ran { HasCleanDisk (state S.Store tx.new.conn.now) → OnOk result (DidAll S.Store (Runs answer_table [] ∷ []) tx.old.conn.now tx.new.conn.now) }
 {
-    tx.execute(
+    run(
+        tx,
         "CREATE TABLE IF NOT EXISTS answer (seq INTEGER PRIMARY KEY, win INTEGER NOT NULL, cand INTEGER NOT NULL, turn INTEGER NOT NULL, choice INTEGER NOT NULL, UNIQUE (win, cand, turn)) STRICT",
         &[],
-    )?;
-    Ok(())
+    )
 }
 
 /// Tests that no row is there.

@@ -1,10 +1,12 @@
 // The table of raises.
-ghost use Rattle.std.specs.Prelude.{◌≡◌, IsTrue, OnOk};
+ghost use Rattle.std.specs.Prelude.{◌≡◌, [], ◌∷◌, IsTrue, OnOk};
 ghost use Rattle.sqlite.specs.State.{HasCleanDisk};
 ghost use Rattle.sqlite.specs.Held.{state};
 ghost use Rattle.keeper_sqlite.specs.Commits.{CommitsNothing};
-ghost use Rattle.keeper_sqlite.specs.Kept.{Ran, raise_text, raise_values};
+ghost use Rattle.keeper_sqlite.specs.Kept.{Ran, DidAll, lift_table, raise_text, raise_values};
+ghost use Rattle.keeper_sqlite.specs.Kept.Call.{Runs};
 
+use crate::calls::run;
 use crate::columns::{expect_number, small_number_at, step_at};
 use crate::halt::Halt;
 use crate::records::{Record, expect_none, records_of};
@@ -17,12 +19,13 @@ use std::alloc::Global;
 pub(crate) fn create<S: Alter>(tx: &mut Transaction<'_, S>) -> Result<(), Halt>
     ensures same_reference { tx.new.conn.ghost_name ≡ tx.old.conn.ghost_name }
     ensures inside { CommitsNothing (state S.Store tx.old.conn.now) (state S.Store tx.new.conn.now) }
+    ensures ran { HasCleanDisk (state S.Store tx.new.conn.now) → OnOk result (DidAll S.Store (Runs lift_table [] ∷ []) tx.old.conn.now tx.new.conn.now) }
 {
-    tx.execute(
+    run(
+        tx,
         "CREATE TABLE IF NOT EXISTS lift (seq INTEGER PRIMARY KEY, win INTEGER NOT NULL, prog INTEGER NOT NULL, step INTEGER NOT NULL, seats INTEGER NOT NULL) STRICT",
         &[],
-    )?;
-    Ok(())
+    )
 }
 
 /// Tests that no row is there.

@@ -1,10 +1,14 @@
 // The table of one row that says that a season is there, and how many cuts were made.
-ghost use Rattle.std.specs.Prelude.{◌≡◌, ℕ, IfOk, IfErr};
+ghost use Rattle.std.specs.Prelude.{◌≡◌, ℕ, [], ◌∷◌, IfOk, IfErr, OnOk};
+ghost use Rattle.sqlite.specs.State.{HasCleanDisk};
 ghost use Rattle.keeper_sqlite.specs.Halts.{WantsMemory};
 ghost use Rattle.keeper_sqlite.specs.Columns.{IsPhaseRow};
 ghost use Rattle.sqlite.specs.Held.{state};
 ghost use Rattle.keeper_sqlite.specs.Commits.{CommitsNothing};
+ghost use Rattle.keeper_sqlite.specs.Kept.{DidAll, phase_table};
+ghost use Rattle.keeper_sqlite.specs.Kept.Call.{Runs};
 
+use crate::calls::run;
 use crate::columns::{number_at, small_number_at};
 use crate::halt::Halt;
 use sqlite::{Alter, Row, Transaction, params};
@@ -16,12 +20,13 @@ const ID: u32 = 1;
 pub(crate) fn create<S: Alter>(tx: &mut Transaction<'_, S>) -> Result<(), Halt>
     ensures same_reference { tx.new.conn.ghost_name ≡ tx.old.conn.ghost_name }
     ensures inside { CommitsNothing (state S.Store tx.old.conn.now) (state S.Store tx.new.conn.now) }
+    ensures ran { HasCleanDisk (state S.Store tx.new.conn.now) → OnOk result (DidAll S.Store (Runs phase_table [] ∷ []) tx.old.conn.now tx.new.conn.now) }
 {
-    tx.execute(
+    run(
+        tx,
         "CREATE TABLE IF NOT EXISTS phase (id INTEGER PRIMARY KEY, cuts INTEGER NOT NULL) STRICT",
         &[],
-    )?;
-    Ok(())
+    )
 }
 
 /// Puts the row of a season without cuts.

@@ -1,9 +1,9 @@
 // The transactions of a keeper: what each method does to the tables, all of it or nothing.
-ghost use Rattle.std.specs.Prelude.{◌≡◌, false, Ok, IsTrue, OnOk};
+ghost use Rattle.std.specs.Prelude.{◌≡◌, [], ◌∷◌, false, Ok, IsTrue, OnOk};
 ghost use Rattle.sqlite.specs.State.{HasCleanDisk};
 ghost use Rattle.sqlite.specs.Held.{state};
 ghost use Rattle.keeper_sqlite.specs.Commits.{CommitsNothing, CommitsShown, CommitsOnce};
-ghost use Rattle.keeper_sqlite.specs.Kept.{Keeps, Makes};
+ghost use Rattle.keeper_sqlite.specs.Kept.{Keeps, Makes, DidAll, plain_calls, table_texts, season_table, phase_table, answer_table, lift_table, allot_table};
 
 use crate::halt::Halt;
 use crate::rising::are_rising;
@@ -82,6 +82,7 @@ fn write<S: Alter>(tx: &mut Transaction<'_, S>, change: Change<'_>) -> Result<()
 fn write_tables<S: Alter>(tx: &mut Transaction<'_, S>) -> Result<(), Halt>
     ensures same_reference { tx.new.conn.ghost_name ≡ tx.old.conn.ghost_name }
     ensures inside { CommitsNothing (state S.Store tx.old.conn.now) (state S.Store tx.new.conn.now) }
+    ensures ran { HasCleanDisk (state S.Store tx.new.conn.now) → OnOk result (DidAll S.Store (plain_calls table_texts) tx.old.conn.now tx.new.conn.now) }
 {
     make_season_tables(tx)?;
     make_row_tables(tx)
@@ -90,6 +91,7 @@ fn write_tables<S: Alter>(tx: &mut Transaction<'_, S>) -> Result<(), Halt>
 fn make_season_tables<S: Alter>(tx: &mut Transaction<'_, S>) -> Result<(), Halt>
     ensures same_reference { tx.new.conn.ghost_name ≡ tx.old.conn.ghost_name }
     ensures inside { CommitsNothing (state S.Store tx.old.conn.now) (state S.Store tx.new.conn.now) }
+    ensures ran { HasCleanDisk (state S.Store tx.new.conn.now) → OnOk result (DidAll S.Store (plain_calls (season_table ∷ phase_table ∷ [])) tx.old.conn.now tx.new.conn.now) }
 {
     season::create(tx)?;
     phase::create(tx)
@@ -98,6 +100,7 @@ fn make_season_tables<S: Alter>(tx: &mut Transaction<'_, S>) -> Result<(), Halt>
 fn make_row_tables<S: Alter>(tx: &mut Transaction<'_, S>) -> Result<(), Halt>
     ensures same_reference { tx.new.conn.ghost_name ≡ tx.old.conn.ghost_name }
     ensures inside { CommitsNothing (state S.Store tx.old.conn.now) (state S.Store tx.new.conn.now) }
+    ensures ran { HasCleanDisk (state S.Store tx.new.conn.now) → OnOk result (DidAll S.Store (plain_calls (answer_table ∷ lift_table ∷ allot_table ∷ [])) tx.old.conn.now tx.new.conn.now) }
 {
     answer::create(tx)?;
     lift::create(tx)?;
