@@ -21,7 +21,6 @@ use Rattle.merit_choice.specs.declared.state.Offered.TheVariants.{Taken, Displac
 use Rattle.seat_matrix.specs.Seats.{AreProgrammeSeats, seats_of}
 use Rattle.seat_matrix.specs.Unfilled.{left_unfilled}
 use Rattle.seat_matrix.specs.declared.seats.ProgrammeSeats.{ProgrammeSeats}
-use Rattle.seat_matrix.specs.declared.seats.Seating.{Seating}
 use Rattle.programme_lists.specs.Chosen.{AreApplicants, ChoosesFrom, everybody}
 use Rattle.programme_lists.specs.Programme.{Admissions, admitted_by, is_of, left_over, people_of, step_with, unfilled, without}
 use Rattle.open_then_category.specs.State.{IsAnswered, IsPassed, IsProgrammeKept, LeavesOut, ProgrammeKept, count, nobody, step_kept}
@@ -199,12 +198,9 @@ nobody_kept laws version seats is_version ok =
       };
     }
 
--- what a step keeps, of seats that were read
-pub fresh_step : (seats : ProgrammeSeats) (kind : StepKind) (seating : Seating) (step : StepKept) → step ≡ record { list = seats.list; seats = seating.seats; protections = seating.protections; held = [] } → seating ≡ seats_of seats kind
-    → step ≡ step_kept seats kind step.held
-fresh_step seats kind seating step made same =
-    made ∙ ap (λ (s : Seating). let kept : StepKept = record { list = seats.list; seats = s.seats; protections = s.protections; held = [] } in kept) same
-    ∙ ap (λ (held : List Person). step_kept seats kind held) (sym (ap (λ (k : StepKept). k.held) made))
+-- what a step that holds nobody keeps
+pub fresh_step : (seats : ProgrammeSeats) (kind : StepKind) (step : StepKept) → step ≡ step_kept seats kind [] → step ≡ step_kept seats kind step.held
+fresh_step seats kind step made = made ∙ ap (λ (held : List Person). step_kept seats kind held) (sym (ap (λ (k : StepKept). k.held) made))
 
 -- what is answered where nobody leaves, where the person is left out, and where one of those held is
 pub answer_taken : (before after : ProgrammeKept) (person : Person) (leaver : Option Person) → leaver ≡ None → LeavesOut before.admissions person leaver after.admissions → IsAnswered before person Taken after

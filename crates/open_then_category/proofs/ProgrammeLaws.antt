@@ -446,15 +446,16 @@ module _ (laws : AreLawful) where
       let sc = laws.choice_exists (step_with seats.list (seats_of seats ScStep) (filter (is_of Sc) rest)) (filtered_step seats.list (seats_of seats ScStep) (is_of Sc) rest ok.list (ok.steps ScStep) rest_ranked) in
       let st = laws.choice_exists (step_with seats.list (seats_of seats StStep) (filter (is_of St) rest)) (filtered_step seats.list (seats_of seats StStep) (is_of St) rest ok.list (ok.steps StStep) rest_ranked) in
       let left = without (without (without (without rest ews.0) obc.0) sc.0) st.0 in
+      let best : List Person = take (left_unfilled version (seats_of seats EwsStep).seats (length ews.0) (seats_of seats ObcStep).seats (length obc.0)) (filter (is_common seats.list) left) in
       let admissions : Admissions = record {
         open_step = first.0;
         ews = ews.0;
         obc = obc.0;
         sc = sc.0;
         st = st.0;
-        dereserved = take (left_unfilled version (seats_of seats EwsStep).seats (length ews.0) (seats_of seats ObcStep).seats (length obc.0)) (filter (is_common seats.list) left);
+        dereserved = best;
       } in
-      (admissions, record { open_step = first.1; ews = ews.1; obc = obc.1; sc = sc.1; st = st.1; dereserved = refl })
+      (admissions, record { open_step = first.1; ews = ews.1; obc = obc.1; sc = sc.1; st = st.1; dereserved = refl {a = best} })
 
   pub each_refused_all_refused : RankedEachRefusedAllRefused
   each_refused_all_refused version seats kept all before after h alone =

@@ -2,4 +2,5 @@ pub mod Laws
 pub mod Order
 pub mod State
 pub mod StepLaws
+pub mod Stepwise
 pub mod Tried

@@ -6,12 +6,13 @@ ghost use Rattle.office_base.specs.Person.{IsList, is_common};
 ghost use Rattle.office_base.specs.StepChoice.{AreRanked, IsStep, IsStepChoice};
 ghost use Rattle.office_base.specs.Version.{IsVersion};
 ghost use Rattle.office_base.specs.declared.person.Person.{Person as AnyPerson};
-ghost use Rattle.office_base.specs.declared.step.StepKind.TheVariants.{Open as OpenStep, Dereserved as DereservedStep};
+ghost use Rattle.office_base.specs.declared.step.StepKind.TheVariants.{Open as OpenStep, Ews as EwsStep, Obc as ObcStep, Dereserved as DereservedStep};
 ghost use Rattle.seat_matrix.specs.Matrix.{list_in, seats_in};
 ghost use Rattle.seat_matrix.specs.Seats.{AreProgrammeSeats, no_protections, seats_of};
 ghost use Rattle.programme_lists.specs.Chosen.{AreApplicants, ShowsFrom};
 ghost use Rattle.programme_lists.specs.Listing.{Shows, ShowsChoice};
 ghost use Rattle.programme_lists.specs.Programme.{is_of, without, step_with};
+ghost use Rattle.open_then_category.specs.Stepwise.{AreCategorySteps, ShowsLast, empty_after};
 
 use crate::filters::{left_over, members, without};
 use crate::order::in_merit_order;
@@ -24,6 +25,15 @@ use programme_lists::{Programme, StepList};
 use seat_matrix::{Matrix, ProgrammeSeats, Seating};
 use slot_cert::{Cert, canonical_pairs};
 use std::alloc::Global;
+
+/// The lists of the four categories of a programme.
+#[derive(Drop)]
+pub(crate) struct CategorySteps {
+    ews: StepList,
+    obc: StepList,
+    sc: StepList,
+    st: StepList,
+}
 
 /// The list of a step with these people.
 fn step_list(
@@ -123,6 +133,70 @@ fn held_by(list: &StepList) -> u16
     list.admitted.len() as u16
 }
 
+/// The steps of the four categories.
+fn category_steps(
+    alloc: Global,
+    seats: &ProgrammeSeats,
+    rest: &[Person],
+) -> Result<CategorySteps, OutOfMemory>
+    requires seats { AreProgrammeSeats seats.now }
+    requires ranked { AreRanked seats.now.list rest.now }
+    requires few { length rest.now ≤ 4294967295 }
+    ensures { IfOk result (AreCategorySteps seats.now rest.now) }
+{
+    let ews = category_step(alloc, StepKind::Ews, Category::Ews, seats, rest)?;
+    let obc = category_step(alloc, StepKind::Obc, Category::Obc, seats, rest)?;
+    let sc = category_step(alloc, StepKind::Sc, Category::Sc, seats, rest)?;
+    let st = category_step(alloc, StepKind::St, Category::St, seats, rest)?;
+    Ok(CategorySteps { ews, obc, sc, st })
+}
+
+/// How many seats the categories leave to the de-reserved step.
+fn empty_seats(version: u8, seats: &ProgrammeSeats, steps: &CategorySteps) -> u32
+    requires version { IsVersion version }
+    requires seats { AreProgrammeSeats seats.now }
+    requires ews { length steps.now.ews.admitted ≤ (seats_of seats.now EwsStep).seats }
+    requires obc { length steps.now.obc.admitted ≤ (seats_of seats.now ObcStep).seats }
+    ensures { result ≡ empty_after version seats.now steps.now }
+{
+    let ews_seats = seats.of(StepKind::Ews).seats;
+    let obc_seats = seats.of(StepKind::Obc).seats;
+    left_unfilled(
+        version,
+        ews_seats,
+        held_by(&steps.ews),
+        obc_seats,
+        held_by(&steps.obc),
+    )
+}
+
+/// The step of de-reserved seats, from those of the rest whom the categories left.
+fn last_step(
+    alloc: Global,
+    version: u8,
+    seats: &ProgrammeSeats,
+    rest: &[Person],
+    steps: &CategorySteps,
+) -> Result<StepList, OutOfMemory>
+    requires version { IsVersion version }
+    requires seats { AreProgrammeSeats seats.now }
+    requires ranked { AreRanked seats.now.list rest.now }
+    requires few { length rest.now ≤ 4294967295 }
+    requires steps { AreCategorySteps seats.now rest.now steps.now }
+    ensures { IfOk result (ShowsLast version seats.now rest.now steps.now) }
+{
+    let left = left_over(
+        alloc,
+        rest,
+        steps.ews.admitted.as_slice(),
+        steps.obc.admitted.as_slice(),
+        steps.sc.admitted.as_slice(),
+        steps.st.admitted.as_slice(),
+    )?;
+    let empty = empty_seats(version, seats, steps);
+    dereserved_step(alloc, seats.list, empty, left.as_slice())
+}
+
 /// The choice of a programme from those whom its open step left, who stand in merit order.
 fn choose_from_rest(
     alloc: Global,
@@ -140,24 +214,11 @@ fn choose_from_rest(
         → Shows OpenStep (seats_of seats.now OpenStep).seats (seats_of seats.now OpenStep).protections (filter (is_common seats.now.list) applicants) first.admitted first
         → ShowsChoice version seats.now applicants programme) }
 {
-    let ews = category_step(alloc, StepKind::Ews, Category::Ews, seats, rest)?;
-    let obc = category_step(alloc, StepKind::Obc, Category::Obc, seats, rest)?;
-    let sc = category_step(alloc, StepKind::Sc, Category::Sc, seats, rest)?;
-    let st = category_step(alloc, StepKind::St, Category::St, seats, rest)?;
-    let left = left_over(
-        alloc,
-        rest,
-        ews.admitted.as_slice(),
-        obc.admitted.as_slice(),
-        sc.admitted.as_slice(),
-        st.admitted.as_slice(),
-    )?;
-    let ews_seats = seats.of(StepKind::Ews).seats;
-    let obc_seats = seats.of(StepKind::Obc).seats;
-    let empty = left_unfilled(version, ews_seats, held_by(&ews), obc_seats, held_by(&obc));
-    let dereserved = dereserved_step(alloc, seats.list, empty, left.as_slice())?;
+    let steps = category_steps(alloc, seats, rest)?;
+    let last = last_step(alloc, version, seats, rest, &steps)?;
+    let CategorySteps { ews, obc, sc, st } = steps;
     Ok(Programme {
-        steps: [first, ews, obc, sc, st, dereserved],
+        steps: [first, ews, obc, sc, st, last],
     })
 }
 

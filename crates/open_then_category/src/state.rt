@@ -7,19 +7,20 @@ ghost use Rattle.office_base.specs.Person.{IsList, is_common};
 ghost use Rattle.office_base.specs.StepChoice.{AreRanked};
 ghost use Rattle.office_base.specs.Version.{IsVersion};
 ghost use Rattle.office_base.specs.declared.person.Person.{Person as AnyPerson};
+ghost use Rattle.office_base.specs.declared.step.StepKind.TheVariants.{Ews as EwsStep, Obc as ObcStep, Sc as ScStep, St as StStep};
 ghost use Rattle.placements.specs.Ranks.{AreDistinct};
 ghost use Rattle.seat_matrix.specs.Matrix.{seats_in};
-ghost use Rattle.seat_matrix.specs.Seats.{IsSeated};
+ghost use Rattle.seat_matrix.specs.Seats.{AreProgrammeSeats};
 ghost use Rattle.programme_lists.specs.Chosen.{AreApplicants, ChoosesFrom, IsWith, everybody};
 ghost use Rattle.programme_lists.specs.Programme.{admitted_by, is_of};
-ghost use Rattle.open_then_category.specs.State.{IsAnswered, IsPassed, IsProgrammeKept, count, entered, left_last, nobody, passing};
+ghost use Rattle.open_then_category.specs.State.{IsAnswered, IsPassed, IsProgrammeKept, count, entered, left_last, nobody, passing, step_kept};
 
 use crate::filters::is_of;
 use crate::laws::{offers_keep_choices, offers_leave_one, resumes, step_laws};
 use dereserve::{is_common, left_unfilled};
 use merit_choice::{Offered, StepState, put_in_order};
 use office_base::{Category, ListId, OutOfMemory, Person, ProgId, StepKind, Steps};
-use seat_matrix::{Matrix, ProgrammeSeats, Seating};
+use seat_matrix::{Matrix, ProgrammeSeats};
 use std::alloc::Global;
 use std::marker::Model;
 use std::sync::ledger::Ledger;
@@ -62,17 +63,19 @@ impl ProgrammeState {
     {
         step_laws();
         let seats = matrix.programme(prog);
-        let list = seats.list;
         let room = usize::from(seats.steps.ews.seats) + usize::from(seats.steps.obc.seats) + 1;
+        let dereserved = Vec::with_capacity(alloc, room)?;
+        let open_step = step_state(alloc, &seats, StepKind::Open)?;
+        let CategoryStates { ews, obc, sc, st } = category_states(alloc, &seats)?;
         Ok(ProgrammeState {
             version,
             seats,
-            open_step: step_state(alloc, list, seats.of(StepKind::Open))?,
-            ews: step_state(alloc, list, seats.of(StepKind::Ews))?,
-            obc: step_state(alloc, list, seats.of(StepKind::Obc))?,
-            sc: step_state(alloc, list, seats.of(StepKind::Sc))?,
-            st: step_state(alloc, list, seats.of(StepKind::St))?,
-            dereserved: Vec::with_capacity(alloc, room)?,
+            open_step,
+            ews,
+            obc,
+            sc,
+            st,
+            dereserved,
         })
     }
 
@@ -148,13 +151,39 @@ impl ProgrammeState {
     }
 }
 
-/// A step of these seats that holds nobody.
-fn step_state(alloc: Global, list: ListId, seating: Seating) -> Result<StepState, OutOfMemory>
-    requires list { IsList list }
-    requires seats { IsSeated seating }
-    ensures { IfOk result (λ step. step ≡ record { list = list; seats = seating.seats; protections = seating.protections; held = [] }) }
+/// The steps of the four categories.
+#[derive(Drop)]
+pub(crate) struct CategoryStates {
+    ews: StepState,
+    obc: StepState,
+    sc: StepState,
+    st: StepState,
+}
+
+/// The steps of the categories of a programme, which hold nobody.
+fn category_states(alloc: Global, seats: &ProgrammeSeats) -> Result<CategoryStates, OutOfMemory>
+    requires { AreProgrammeSeats seats.now }
+    ensures { IfOk result (λ states. states ≡ record { ews = step_kept seats.now EwsStep []; obc = step_kept seats.now ObcStep []; sc = step_kept seats.now ScStep []; st = step_kept seats.now StStep [] }) }
 {
-    StepState::new(alloc, list, seating.seats, seating.protections)
+    Ok(CategoryStates {
+        ews: step_state(alloc, seats, StepKind::Ews)?,
+        obc: step_state(alloc, seats, StepKind::Obc)?,
+        sc: step_state(alloc, seats, StepKind::Sc)?,
+        st: step_state(alloc, seats, StepKind::St)?,
+    })
+}
+
+/// A step of a programme that holds nobody.
+fn step_state(
+    alloc: Global,
+    seats: &ProgrammeSeats,
+    kind: StepKind,
+) -> Result<StepState, OutOfMemory>
+    requires { AreProgrammeSeats seats.now }
+    ensures { IfOk result (λ step. step ≡ step_kept seats.now kind []) }
+{
+    let seating = seats.of(kind);
+    StepState::new(alloc, seats.list, seating.seats, seating.protections)
 }
 
 /// How many a step holds.
