@@ -3,7 +3,10 @@
 ghost use Rattle.std.specs.Prelude.{◌≡◌, ◌≤◌, ◌<◌, ◌∷◌, IfOk, IsTrue, length};
 ghost use Rattle.office_base.specs.Merit.{IsNewTo};
 ghost use Rattle.office_base.specs.Person.{IsList};
+ghost use Rattle.office_base.specs.Version.{IsVersion};
+ghost use Rattle.open_then_category.specs.State.{nobody};
 ghost use Rattle.programme_lists.specs.Chosen.{AreApplicants, everybody};
+ghost use Rattle.seat_matrix.specs.Matrix.{seats_in};
 ghost use Rattle.seat_matrix.specs.Seats.{AreProgrammeSeats};
 
 use crate::candidates::{is_new, matrix_of};
@@ -14,7 +17,6 @@ use seat_matrix::Matrix;
 use std::alloc::Global;
 use std::marker::Brand;
 use std::sync::ledger::{Blank, Ledger};
-use std::test::Fail;
 
 const CANDIDATES: u32 = 10_000;
 
@@ -131,6 +133,26 @@ fn offer_all<L: Ledger>(
     Ok(all)
 }
 
+// Offers all of the people, and tells whether the programme then holds the choice from all of them.
+fn holds_choice_after<L: Ledger>(
+    alloc: Global,
+    chooser: &Chooser<'_>,
+    state: &mut ProgrammeState,
+    steps: &mut Steps<L>,
+    people: &[Person],
+) -> Result<bool, OutOfMemory>
+    requires programme { chooser.now.prog.0 < length chooser.now.matrix.now.programmes }
+    requires version { IsVersion chooser.now.version }
+    requires seats { state.old.seats ≡ seats_in chooser.now.matrix.now chooser.now.prog.0 }
+    requires nobody { state.old.admissions ≡ nobody }
+{
+    let list = chooser.matrix.programme(chooser.prog).list;
+    Ok(
+        offer_all(alloc, list, state, steps, people)?
+            && is_choice_of(alloc, chooser, people, state)?,
+    )
+}
+
 // Whether the programme holds the choice from all people after they came.
 fn holds_choice<L: Ledger>(
     alloc: Global,
@@ -150,24 +172,31 @@ fn holds_choice<L: Ledger>(
     };
     let mut steps: Steps<L> = Steps::new(blank);
     let mut state = ProgrammeState::new(alloc, matrix, 2, ProgId(0))?;
-    let list = matrix.programme(ProgId(0)).list;
-    Ok(
-        offer_all(alloc, list, &mut state, &mut steps, people)?
-            && is_choice_of(alloc, &chooser, people, &state)?,
-    )
+    holds_choice_after(alloc, &chooser, &mut state, &mut steps, people)
+}
+
+// Whether the programme does from all candidates, spread by the stride.
+fn holds_choice_at(alloc: Global, matrix: &Matrix, stride: u32) -> Result<bool, OutOfMemory>
+    requires programme { 0 < length matrix.now.programmes }
+    requires stride { stride ≤ 20010 }
+{
+    let people = seekers(alloc, stride)?;
+    holds_choice::<Brand>(alloc, matrix, people.as_slice(), Blank::new(1))
+}
+
+// Whether it does at two strides.
+fn holds_choices(alloc: Global) -> Result<bool, OutOfMemory> {
+    match matrix_of(alloc, ROWS)? {
+        Some(matrix) => Ok(
+            matrix.count() == 1
+                && holds_choice_at(alloc, &matrix, 7_919)?
+                && holds_choice_at(alloc, &matrix, 12_345)?,
+        ),
+        None => Ok(false),
+    }
 }
 
 #[test]
-fn a_large_programme_holds_the_choice_from_all_who_came(rt: HostRuntime) -> Result<(), Fail> {
-    let alloc = rt.alloc();
-    let Some(matrix) = matrix_of(alloc, ROWS)? else {
-        assert!(rt; false);
-        return Ok(());
-    };
-    assert!(rt; matrix.count() == 1);
-    for stride in [7_919, 12_345] {
-        let people = seekers(alloc, stride)?;
-        assert!(rt; holds_choice::<Brand>(alloc, &matrix, people.as_slice(), Blank::new(1))?);
-    }
-    Ok(())
+fn a_large_programme_holds_the_choice_from_all_who_came(rt: HostRuntime) {
+    assert!(rt; holds_choices(rt.alloc()) == Ok(true));
 }

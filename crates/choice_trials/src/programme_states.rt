@@ -13,7 +13,6 @@ use seat_matrix::Matrix;
 use std::alloc::Global;
 use std::marker::Brand;
 use std::sync::ledger::{Blank, Ledger};
-use std::test::Fail;
 
 /// A bundle's version, a matrix of programmes and one of its programmes.
 #[derive(Drop)]
@@ -166,9 +165,18 @@ fn all_agree(alloc: Global, matrix: &Matrix, kinds: &[Kind]) -> Result<bool, Out
     Ok(same)
 }
 
-#[test]
-fn a_programme_holds_the_choice_from_all_who_came(rt: HostRuntime) -> Result<(), Fail> {
-    let alloc = rt.alloc();
+// Programmes with seats of several kinds, by the rows of their matrices.
+const PROGRAMMES: &[&str] = &[
+    "A,I1,1,OPEN,1\nA,I1,1,EWS,1\nA,I1,1,OBC,1\nA,I1,1,SC,1\n",
+    "A,I1,1,OPEN,1,1\nA,I1,1,EWS,2\n",
+    "A,I1,1,OPEN,2,1\nA,I1,1,OBC,1,0,1\n",
+    "A,I1,1,OPEN,1\nA,I1,1,OBC,2,1,1\nA,I1,1,ST,1\n",
+    "A,I1,1,EWS,1,1\nA,I1,1,OBC,1\nA,I1,1,SC,1,0,1\nA,I1,1,ST,1\n",
+    "A,I1,1,OPEN,1,0,1\nA,I1,1,EWS,1\nA,I1,1,ST,2\n",
+];
+
+// Whether the programme of these rows holds the choice from all applicants, in whatever order they come.
+fn rows_agree(alloc: Global, rows: &str) -> Result<bool, OutOfMemory> {
     let kinds = [
         applicant(Category::Gen, 1, true),
         applicant(Category::Ews, 1, true),
@@ -177,19 +185,17 @@ fn a_programme_holds_the_choice_from_all_who_came(rt: HostRuntime) -> Result<(),
         applicant(Category::Sc, 2, true),
         applicant(Category::St, 0, false),
     ];
-    for rows in [
-        "A,I1,1,OPEN,1\nA,I1,1,EWS,1\nA,I1,1,OBC,1\nA,I1,1,SC,1\n",
-        "A,I1,1,OPEN,1,1\nA,I1,1,EWS,2\n",
-        "A,I1,1,OPEN,2,1\nA,I1,1,OBC,1,0,1\n",
-        "A,I1,1,OPEN,1\nA,I1,1,OBC,2,1,1\nA,I1,1,ST,1\n",
-        "A,I1,1,EWS,1,1\nA,I1,1,OBC,1\nA,I1,1,SC,1,0,1\nA,I1,1,ST,1\n",
-        "A,I1,1,OPEN,1,0,1\nA,I1,1,EWS,1\nA,I1,1,ST,2\n",
-    ] {
-        let Some(matrix) = matrix_of(alloc, rows)? else {
-            assert!(rt; false, "{rows}");
-            return Ok(());
-        };
-        assert!(rt; all_agree(alloc, &matrix, &kinds)?, "{rows}");
+    match matrix_of(alloc, rows)? {
+        Some(matrix) => all_agree(alloc, &matrix, &kinds),
+        None => Ok(false),
     }
-    Ok(())
+}
+
+#[test]
+fn a_programme_holds_the_choice_from_all_who_came(rt: HostRuntime) {
+    let alloc = rt.alloc();
+    let same = PROGRAMMES
+        .iter()
+        .all(|rows| rows_agree(alloc, rows) == Ok(true));
+    assert!(rt; same);
 }

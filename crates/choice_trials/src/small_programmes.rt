@@ -8,7 +8,6 @@ use open_then_category::{StepList, programme_choice};
 use plain_choice::{PlainList, list_of};
 use seat_matrix::Matrix;
 use std::alloc::Global;
-use std::test::Fail;
 
 fn is_common(person: &Person) -> bool {
     matches!(person.places[0], Place::Common(_))
@@ -16,6 +15,13 @@ fn is_common(person: &Person) -> bool {
 
 fn is_taken(taken: &[Person], person: &Person) -> bool {
     taken.iter().any(|other| other.id == person.id)
+}
+
+// Whether one of the steps admits the person.
+fn is_admitted(steps: &[PlainList], person: &Person) -> bool {
+    steps
+        .iter()
+        .any(|told| is_taken(told.admitted.as_slice(), person))
 }
 
 // The people with a common place.
@@ -40,11 +46,11 @@ fn members(alloc: Global, people: &[Person], category: Category) -> Result<Peopl
     Ok(kept)
 }
 
-// The people whom a step did not take.
-fn left(alloc: Global, people: &[Person], taken: &[Person]) -> Result<People, OutOfMemory> {
+// The people whom none of the steps admits.
+fn left(alloc: Global, people: &[Person], steps: &[PlainList]) -> Result<People, OutOfMemory> {
     let mut kept = People::new(alloc);
     for person in people {
-        if !is_taken(taken, person) {
+        if !is_admitted(steps, person) {
             kept.push(*person)?;
         }
     }
@@ -97,21 +103,44 @@ fn dereserved_told(alloc: Global, people: &[Person], seats: u32) -> Result<Plain
     })
 }
 
-// What the six steps tell by the rule; None where a step has no choice.
-fn plain_choice_of(
+// How many seats go to the step of the seats left unfilled: those that stay empty of OBC, and of EWS in version 2.
+fn unfilled(steps: &[PlainList], version: u8) -> u32 {
+    let mut empty = 0u32;
+    for told in steps {
+        if told.kind == StepKind::Obc || (version == 2 && told.kind == StepKind::Ews) {
+            empty = empty.saturating_add(empty_seats(told));
+        }
+    }
+    empty
+}
+
+// Adds what a step tells of these people, and tells whether it has a choice.
+fn add_step(
     alloc: Global,
     matrix: &Matrix,
-    version: u8,
+    kind: StepKind,
+    people: People,
+    steps: &mut Vec<PlainList>,
+) -> Result<bool, OutOfMemory> {
+    match step_told(alloc, matrix, kind, people)? {
+        Some(told) => {
+            steps.push(told)?;
+            Ok(true)
+        }
+        None => Ok(false),
+    }
+}
+
+// Adds what the open step and those of the categories tell by the rule, and tells whether each has a choice.
+fn add_steps(
+    alloc: Global,
+    matrix: &Matrix,
     applicants: &[Person],
-) -> Result<Option<Vec<PlainList>>, OutOfMemory> {
+    steps: &mut Vec<PlainList>,
+) -> Result<bool, OutOfMemory> {
     let common = commons(alloc, applicants)?;
-    let Some(open) = step_told(alloc, matrix, StepKind::Open, common)? else {
-        return Ok(None);
-    };
-    let rest = left(alloc, applicants, open.admitted.as_slice())?;
-    let mut last = left(alloc, applicants, open.admitted.as_slice())?;
-    let mut steps = vec![in alloc; open]?;
-    let mut empty = 0u32;
+    let mut all = add_step(alloc, matrix, StepKind::Open, common, steps)?;
+    let rest = left(alloc, applicants, steps.as_slice())?;
     for (kind, category) in [
         (StepKind::Ews, Category::Ews),
         (StepKind::Obc, Category::Obc),
@@ -119,16 +148,25 @@ fn plain_choice_of(
         (StepKind::St, Category::St),
     ] {
         let people = members(alloc, rest.as_slice(), category)?;
-        let Some(told) = step_told(alloc, matrix, kind, people)? else {
-            return Ok(None);
-        };
-        if kind == StepKind::Obc || (version == 2 && kind == StepKind::Ews) {
-            empty = empty.saturating_add(empty_seats(&told));
-        }
-        last = left(alloc, last.as_slice(), told.admitted.as_slice())?;
-        steps.push(told)?;
+        all &= add_step(alloc, matrix, kind, people, steps)?;
     }
-    steps.push(dereserved_told(alloc, last.as_slice(), empty)?)?;
+    Ok(all)
+}
+
+// What the six steps tell by the rule; None where a step has no choice.
+fn plain_choice_of(
+    alloc: Global,
+    matrix: &Matrix,
+    version: u8,
+    applicants: &[Person],
+) -> Result<Option<Vec<PlainList>>, OutOfMemory> {
+    let mut steps = Vec::new(alloc);
+    if !add_steps(alloc, matrix, applicants, &mut steps)? {
+        return Ok(None);
+    }
+    let last = left(alloc, applicants, steps.as_slice())?;
+    let seats = unfilled(steps.as_slice(), version);
+    steps.push(dereserved_told(alloc, last.as_slice(), seats)?)?;
     Ok(Some(steps))
 }
 
@@ -215,9 +253,8 @@ fn agree_with_open(alloc: Global, open: u16, kinds: &[Kind]) -> Result<(bool, u3
     Ok((same, programmes))
 }
 
-#[test]
-fn the_programme_chooses_by_the_rule(rt: HostRuntime) -> Result<(), Fail> {
-    let alloc = rt.alloc();
+// Whether all programmes agree, of which twenty have no open seat and forty have one.
+fn programmes_agree(alloc: Global) -> Result<bool, OutOfMemory> {
     let kinds = [
         applicant(Category::Gen, 1, true),
         applicant(Category::Ews, 1, true),
@@ -226,10 +263,12 @@ fn the_programme_chooses_by_the_rule(rt: HostRuntime) -> Result<(), Fail> {
         applicant(Category::Sc, 2, true),
         applicant(Category::St, 0, false),
     ];
-    for (open, wanted) in [(0, 20), (1, 40)] {
-        let (same, programmes) = agree_with_open(alloc, open, &kinds)?;
-        assert!(rt; same, "open {open}");
-        assert_eq!(rt; programmes, wanted);
-    }
-    Ok(())
+    let none = agree_with_open(alloc, 0, &kinds)?;
+    let one = agree_with_open(alloc, 1, &kinds)?;
+    Ok(none == (true, 20) && one == (true, 40))
+}
+
+#[test]
+fn the_programme_chooses_by_the_rule(rt: HostRuntime) {
+    assert!(rt; programmes_agree(rt.alloc()) == Ok(true));
 }

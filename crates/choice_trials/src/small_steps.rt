@@ -5,7 +5,6 @@ use office_base::{OutOfMemory, Step};
 use plain_choice::{canonical, is_choice, is_step};
 use slot_cert::canonical_pairs;
 use std::alloc::Global;
-use std::test::Fail;
 
 // Whether the choice is the plain choice, and the canonical pairs of all people are the plain ones.
 fn agree(alloc: Global, step: &Step) -> Result<bool, OutOfMemory> {
@@ -32,20 +31,25 @@ fn all_agree(alloc: Global, sets: &[u8]) -> Result<bool, OutOfMemory> {
     Ok(same)
 }
 
-#[test]
-fn the_choice_is_the_plain_choice(rt: HostRuntime) -> Result<(), Fail> {
-    let alloc = rt.alloc();
+// Whether they agree on all steps of one to four people.
+fn agree_on_all(alloc: Global) -> Result<bool, OutOfMemory> {
+    let mut same = true;
     for first in 0..8u8 {
-        assert!(rt; all_agree(alloc, &[first])?);
+        same &= all_agree(alloc, &[first])?;
         for second in 0..8u8 {
-            assert!(rt; all_agree(alloc, &[first, second])?);
+            same &= all_agree(alloc, &[first, second])?;
             for third in 0..8u8 {
-                assert!(rt; all_agree(alloc, &[first, second, third])?);
+                same &= all_agree(alloc, &[first, second, third])?;
                 for fourth in 0..8u8 {
-                    assert!(rt; all_agree(alloc, &[first, second, third, fourth])?);
+                    same &= all_agree(alloc, &[first, second, third, fourth])?;
                 }
             }
         }
     }
-    Ok(())
+    Ok(same)
+}
+
+#[test]
+fn the_choice_is_the_plain_choice(rt: HostRuntime) {
+    assert!(rt; agree_on_all(rt.alloc()) == Ok(true));
 }

@@ -2,13 +2,13 @@
 // from all who came.
 ghost use Rattle.std.specs.Prelude.{◌≡◌};
 ghost use Rattle.office_base.specs.Person.{IsList};
+ghost use Rattle.office_base.specs.StepChoice.{IsStep};
 
 use crate::candidates::{D, W, in_order, is_new, step_of};
 use merit_choice::{Offered, StepState, choose};
 use office_base::{CandId, OutOfMemory, People, Person, Step};
 use plain_choice::is_step;
 use std::alloc::Global;
-use std::test::Fail;
 
 // Offers the people to the step one after another, and tells whether it answers as told.
 fn answer_as_told(state: &mut StepState, step: &Step, people: &[Person], told: &[Offered]) -> bool
@@ -82,17 +82,24 @@ fn hold_choices(
     hold_choices(alloc, state, step, came, later)
 }
 
-// Whether the step holds the choice after each offer, in so many orders of its people.
+// Whether the step holds the choice after each offer, in the order of this number.
+fn hold_in_order(alloc: Global, step: &Step, number: usize) -> Result<bool, OutOfMemory>
+    requires { IsStep step.now }
+{
+    let order = in_order(alloc, step.people.as_slice(), number)?;
+    let mut state = StepState::new(alloc, step.list, step.seats, step.protections)?;
+    let mut came = Vec::new(alloc);
+    hold_choices(alloc, &mut state, step, &mut came, order.as_slice())
+}
+
+// Whether it does in so many orders of its people.
 fn agree_in_orders(alloc: Global, step: &Step, orders: usize) -> Result<bool, OutOfMemory> {
     if !is_step(step) {
         return Ok(true);
     }
     let mut same = true;
     for number in 0..orders {
-        let order = in_order(alloc, step.people.as_slice(), number)?;
-        let mut state = StepState::new(alloc, step.list, step.seats, step.protections)?;
-        let mut came = Vec::new(alloc);
-        same &= hold_choices(alloc, &mut state, step, &mut came, order.as_slice())?;
+        same &= hold_in_order(alloc, step, number)?;
     }
     Ok(same)
 }
@@ -110,9 +117,22 @@ fn all_agree(alloc: Global, traits: &[u8], orders: usize) -> Result<bool, OutOfM
     Ok(same)
 }
 
-#[test]
-fn worked_offers_to_a_step(rt: HostRuntime) -> Result<(), Fail> {
-    let alloc = rt.alloc();
+// Whether the step answers as told where its people come in the order of this number.
+fn order_is_answered(
+    alloc: Global,
+    step: &Step,
+    number: usize,
+    told: &[Offered],
+) -> Result<bool, OutOfMemory>
+    requires { IsStep step.now }
+{
+    let order = in_order(alloc, step.people.as_slice(), number)?;
+    let mut state = StepState::new(alloc, step.list, step.seats, step.protections)?;
+    Ok(answer_as_told(&mut state, step, order.as_slice(), told))
+}
+
+// Whether a step of two seats answers as told where its people come from the first to the last, and from the last to the first.
+fn both_are_answered(alloc: Global) -> Result<bool, OutOfMemory> {
     let step = step_of(alloc, 2, [1, 1, 0], &[0, W + D, W, D])?;
     let first_to_last = [
         Offered::Taken,
@@ -126,33 +146,41 @@ fn worked_offers_to_a_step(rt: HostRuntime) -> Result<(), Fail> {
         Offered::Displaced(CandId(4)),
         Offered::Refused,
     ];
-    assert!(rt; is_step(&step));
-    for (number, told) in [(23, first_to_last), (0, last_to_first)] {
-        let order = in_order(alloc, step.people.as_slice(), number)?;
-        let mut state = StepState::new(alloc, step.list, step.seats, step.protections)?;
-        assert!(rt; answer_as_told(&mut state, &step, order.as_slice(), &told));
-    }
-    Ok(())
+    Ok(
+        is_step(&step)
+            && order_is_answered(alloc, &step, 23, &first_to_last)?
+            && order_is_answered(alloc, &step, 0, &last_to_first)?,
+    )
 }
 
-#[test]
-fn a_step_holds_the_choice_from_all_who_came(rt: HostRuntime) -> Result<(), Fail> {
-    let alloc = rt.alloc();
+// Whether all steps of three people over three traits, and of four over two, hold the choice from all who came.
+fn agree_on_all(alloc: Global) -> Result<bool, OutOfMemory> {
+    let mut same = true;
     for first in 0..8u8 {
         for second in 0..8u8 {
             for third in 0..8u8 {
-                assert!(rt; all_agree(alloc, &[first, second, third], 6)?);
+                same &= all_agree(alloc, &[first, second, third], 6)?;
             }
         }
     }
-    for sets in 0..256u32 {
-        let traits = [
-            (sets % 4) as u8,
-            (sets / 4 % 4) as u8,
-            (sets / 16 % 4) as u8,
-            (sets / 64) as u8,
-        ];
-        assert!(rt; all_agree(alloc, &traits, 24)?);
+    for first in 0..4u8 {
+        for second in 0..4u8 {
+            for third in 0..4u8 {
+                for fourth in 0..4u8 {
+                    same &= all_agree(alloc, &[first, second, third, fourth], 24)?;
+                }
+            }
+        }
     }
-    Ok(())
+    Ok(same)
+}
+
+#[test]
+fn worked_offers_to_a_step(rt: HostRuntime) {
+    assert!(rt; both_are_answered(rt.alloc()) == Ok(true));
+}
+
+#[test]
+fn a_step_holds_the_choice_from_all_who_came(rt: HostRuntime) {
+    assert!(rt; agree_on_all(rt.alloc()) == Ok(true));
 }
