@@ -1,16 +1,23 @@
 -- What a put keeps: which statement is run with which values, and that what it makes is committed.
-use Rattle.std.specs.Prelude.{◌≡◌, ℕ, pos, true, List, [], ◌∷◌, map, codes, Ok}
+use Rattle.std.specs.Prelude.{◌≡◌, ◌+◌, ℕ, pos, true, List, [], ◌∷◌, ◌++◌, map, codes, Option, Ok}
 use Rattle.sqlite.specs.Store.{Ghosts}
 use Rattle.sqlite.specs.Order.{Row}
-use Rattle.sqlite.specs.State.{Executes}
+use Rattle.sqlite.specs.State.{Executes, IsUnchanged, Shown}
 use Rattle.sqlite.specs.Held.{Held, state}
+use Rattle.sqlite.specs.Listing.{understood}
+use Rattle.sqlite.specs.Outline.{Outline}
+use Rattle.sqlite.specs.Steps.{Outlines}
 use Rattle.sqlite.specs.declared.types.Value.TheVariants.{Int}
 use Rattle.office_base.specs.StepNumbers.{step_number}
 use Rattle.keeper_mem.specs.declared.rows.AnswerRow.{AnswerRow}
+use Rattle.keeper_mem.specs.declared.rows.AllotRow.{AllotRow}
 use Rattle.keeper_mem.specs.declared.rows.RaiseRow.{RaiseRow}
+use Rattle.keeper_sqlite.specs.Columns.{IsPhaseRow, TellsKey}
+use Rattle.keeper_sqlite.specs.Rising.{are_rising}
+use Rattle.keeper_sqlite.specs.declared.rising.Key.{Key}
 use Rattle.keeper_sqlite.specs.Numbers.{choice_number}
 use Rattle.keeper_sqlite.specs.declared.transactions.Change.{Change}
-use Rattle.keeper_sqlite.specs.declared.transactions.Change.TheVariants.{Answer, Raise, Tables}
+use Rattle.keeper_sqlite.specs.declared.transactions.Change.TheVariants.{Answer, Raise, Tables, Cut}
 
 abbrev pub answer_text : List ℕ
 answer_text = codes "INSERT INTO answer (win, cand, turn, choice) VALUES (?1, ?2, ?3, ?4)"
@@ -24,9 +31,33 @@ raise_text = codes "INSERT INTO lift (win, prog, step, seats) VALUES (?1, ?2, ?3
 abbrev pub raise_values : RaiseRow → Row
 raise_values row = Int (pos row.window) ∷ Int (pos row.prog.0) ∷ Int (pos (step_number row.step)) ∷ Int (pos row.seats) ∷ []
 
--- a call on the database inside a transaction: a statement of this text is run with these values
+abbrev pub allot_text : List ℕ
+allot_text = codes "INSERT INTO allot (rnd, cand, prog, step) VALUES (?1, ?2, ?3, ?4)"
+
+abbrev pub allot_values : AllotRow → Row
+allot_values row = Int (pos row.round) ∷ Int (pos row.cand.0) ∷ Int (pos row.prog.0) ∷ Int (pos (step_number row.step)) ∷ []
+
+-- the number of cuts is put in place of the one that stands
+abbrev pub cuts_text : List ℕ
+cuts_text = codes "INSERT INTO phase (id, cuts) VALUES (?1, ?2) ON CONFLICT (id) DO UPDATE SET cuts = excluded.cuts"
+
+abbrev pub cuts_values : ℕ → Row
+cuts_values cuts = Int (pos 1) ∷ Int (pos cuts) ∷ []
+
+-- whether a season is there, and how many cuts were made
+abbrev pub phase_query : List ℕ
+phase_query = codes "SELECT id, cuts FROM phase ORDER BY id"
+
+-- the last key of the published seats
+abbrev pub key_query : List ℕ
+key_query = codes "SELECT rnd, cand FROM allot ORDER BY rnd DESC, cand DESC LIMIT 1"
+
+-- A call on the database inside a transaction: a statement of this text is run with these values; a query of this text, without values, is asked
+-- and told these rows; a statement of this text is made ready.
 pub data Call : Type 0 where
   Runs : List ℕ → Row → Call
+  Asks : List ℕ → List Row → Call
+  Readies : List ℕ → Call
 
 -- the five tables, each made where it is not there
 abbrev pub season_table : List ℕ
@@ -51,26 +82,66 @@ table_texts = season_table ∷ phase_table ∷ answer_table ∷ lift_table ∷ a
 abbrev pub plain_calls : List (List ℕ) → List Call
 plain_calls = map (λ text. Runs text [])
 
+-- the statement of this text is run once for each seat, in their order
+abbrev pub allot_calls : List ℕ → List AllotRow → List Call
+allot_calls text = map (λ row. Runs text (allot_values row))
+
+-- each seat is put by one statement that is made ready once, and one cut more is written
+abbrev pub seat_calls : ℕ → List AllotRow → List Call
+seat_calls made rows = Readies allot_text ∷ allot_calls allot_text rows ++ Runs cuts_text (cuts_values (made + 1)) ∷ []
+
 module _ {S : Type 0} (g : Ghosts S) where
   -- the statement of this text was run with these values
   pub record Ran (text : List ℕ) (values : Row) (old new : Held S) : Type 0 where
     pub count : ℕ
     pub ran : Executes text values (state g old) (state g new) (Ok count)
 
+  -- the database understood this text as a statement, and shows what it showed
+  pub record IsReady (text : List ℕ) (old new : Held S) : Type 0 where
+    pub outline : Outline
+    pub is : Outlines (understood (state g old).now.schema text) outline
+    pub same : IsUnchanged (state g old) (state g new)
+
   -- this call was made
   abbrev pub Did : Call → Held S → Held S → Type 0
   Did (Runs text values) old new = Ran text values old new
+  Did (Asks text rows) old new = Shown text [] (state g old) (state g new) rows
+  Did (Readies text) old new = IsReady text old new
 
   -- these calls were made, one after the other and no others
   abbrev pub DidAll : List Call → Held S → Held S → Type 0
   DidAll [] old new = old ≡ new
   DidAll (call ∷ calls) old new = (mid : Held S) × Did call old mid × DidAll calls mid new
 
+  -- the phase told one row, with the number of the cuts
+  pub record ToldPhase (made : ℕ) (old new : Held S) : Type 0 where
+    pub row : Row
+    pub is : IsPhaseRow row made
+    pub asked : DidAll (Asks phase_query (row ∷ []) ∷ []) old new
+
+  -- these rows rise, and above the last key that was told, where there was one
+  pub record AreAbove (rows : List AllotRow) (old new : Held S) : Type 0 where
+    pub told : List Row
+    pub last : Option Key
+    pub is : TellsKey told last
+    pub rising : are_rising last rows ≡ true
+    pub asked : DidAll (Asks key_query told ∷ []) old new
+
+  -- The phase told of so many cuts, and the rows are above the last key; then each of them was put, and one cut more.
+  pub record MakesCut (rows : List AllotRow) (old new : Held S) : Type 0 where
+    pub made : ℕ
+    pub asked : Held S
+    pub tested : Held S
+    pub phase : ToldPhase made old asked
+    pub above : AreAbove rows asked tested
+    pub put : DidAll (seat_calls made rows) tested new
+
   -- what a change runs
   abbrev pub Makes : Change → Held S → Held S → Type 0
   Makes (Answer row) old new = Ran answer_text (answer_values row) old new
   Makes (Raise row) old new = Ran raise_text (raise_values row) old new
   Makes Tables old new = DidAll (plain_calls table_texts) old new
+  Makes (Cut rows) old new = MakesCut rows.now old new
   Makes _ old new = Unit {0}
 
   -- A transaction began, this was done in it, and what was done is what the database shows and what the last commit left.

@@ -4,7 +4,7 @@ ghost use Rattle.office_base.specs.Memory.{counted};
 ghost use Rattle.sqlite.specs.State.{HasCleanDisk};
 ghost use Rattle.sqlite.specs.Held.{state};
 ghost use Rattle.keeper_sqlite.specs.Commits.{CommitsOnce};
-ghost use Rattle.keeper_sqlite.specs.Kept.{Keeps, Makes, Ran, DidAll, plain_calls, table_texts, answer_text, answer_values, raise_text, raise_values};
+ghost use Rattle.keeper_sqlite.specs.Kept.{Keeps, Makes, MakesCut, Ran, DidAll, plain_calls, table_texts, answer_text, answer_values, raise_text, raise_values};
 ghost use Rattle.keeper_sqlite.specs.Halts.{keep_fault, faults_after};
 
 use crate::halt::Halt;
@@ -163,7 +163,13 @@ impl<S: Alter> Keeper for SqliteKeeper<S> {
         self.commit(Change::Raise(row))
     }
 
-    fn put_cut(&mut self, rows: &[AllotRow]) -> Result<(), KeepFault> {
+    fn put_cut(&mut self, rows: &[AllotRow]) -> Result<(), KeepFault>
+        ensures count { self.old.faults ≤ self.new.faults }
+        ensures steady { ¬ IsErrOf result KeepFault.Failed → self.new.faults ≡ self.old.faults }
+        ensures counted { IsErrOf result KeepFault.Failed → self.new.faults ≡ counted self.old.faults }
+        ensures once { CommitsOnce (state S.Store self.old.connection) (state S.Store self.new.connection) }
+        ensures kept { HasCleanDisk (state S.Store self.new.connection) → OnOk result (Keeps S.Store (MakesCut S.Store rows.now) self.old.connection self.new.connection) }
+    {
         self.commit(Change::Cut(rows))
     }
 

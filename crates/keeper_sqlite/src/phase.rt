@@ -1,14 +1,15 @@
 // The table of one row that says that a season is there, and how many cuts were made.
-ghost use Rattle.std.specs.Prelude.{◌≡◌, ℕ, [], ◌∷◌, IfOk, IfErr, OnOk};
+ghost use Rattle.std.specs.Prelude.{◌≡◌, ℕ, List, [], ◌∷◌, IfOk, IfErr, OnOk};
+ghost use Rattle.sqlite.specs.Order.{Row as Values};
 ghost use Rattle.sqlite.specs.State.{HasCleanDisk};
 ghost use Rattle.keeper_sqlite.specs.Halts.{WantsMemory};
-ghost use Rattle.keeper_sqlite.specs.Columns.{IsPhaseRow};
+ghost use Rattle.keeper_sqlite.specs.Columns.{IsPhaseRow, TellsPhase};
 ghost use Rattle.sqlite.specs.Held.{state};
 ghost use Rattle.keeper_sqlite.specs.Commits.{CommitsNothing};
-ghost use Rattle.keeper_sqlite.specs.Kept.{DidAll, phase_table};
-ghost use Rattle.keeper_sqlite.specs.Kept.Call.{Runs};
+ghost use Rattle.keeper_sqlite.specs.Kept.{DidAll, phase_table, phase_query, cuts_text, cuts_values};
+ghost use Rattle.keeper_sqlite.specs.Kept.Call.{Runs, Asks};
 
-use crate::calls::run;
+use crate::calls::{ask, run};
 use crate::columns::{number_at, small_number_at};
 use crate::halt::Halt;
 use sqlite::{Alter, Row, Transaction, params};
@@ -42,21 +43,30 @@ pub(crate) fn insert<S: Alter>(tx: &mut Transaction<'_, S>) -> Result<(), Halt>
 pub(crate) fn upsert<S: Alter>(tx: &mut Transaction<'_, S>, cuts: u16) -> Result<(), Halt>
     ensures same_reference { tx.new.conn.ghost_name ≡ tx.old.conn.ghost_name }
     ensures inside { CommitsNothing (state S.Store tx.old.conn.now) (state S.Store tx.new.conn.now) }
+    ensures ran { HasCleanDisk (state S.Store tx.new.conn.now) → OnOk result (DidAll S.Store (Runs cuts_text (cuts_values cuts) ∷ []) tx.old.conn.now tx.new.conn.now) }
 {
-    tx.execute(
+    run(
+        tx,
         "INSERT INTO phase (id, cuts) VALUES (?1, ?2) ON CONFLICT (id) DO UPDATE SET cuts = excluded.cuts",
         params![ID, u32::from(cuts)],
-    )?;
-    Ok(())
+    )
 }
 
 /// The number of cuts, or None where no season is.
 pub(crate) fn read<S: Alter>(tx: &mut Transaction<'_, S>) -> Result<Option<u16>, Halt>
     ensures same_reference { tx.new.conn.ghost_name ≡ tx.old.conn.ghost_name }
     ensures inside { CommitsNothing (state S.Store tx.old.conn.now) (state S.Store tx.new.conn.now) }
+    ensures told { HasCleanDisk (state S.Store tx.new.conn.now)
+        → IfOk result (λ found. (rows : List Values) × TellsPhase rows found × DidAll S.Store (Asks phase_query rows ∷ []) tx.old.conn.now tx.new.conn.now) }
 {
-    let rows = tx.query_all("SELECT id, cuts FROM phase ORDER BY id", &[])?;
-    match rows.as_slice() {
+    phase_of(&ask(tx, "SELECT id, cuts FROM phase ORDER BY id")?)
+}
+
+/// The number of cuts in the rows of the table.
+fn phase_of(rows: &[Row]) -> Result<Option<u16>, Halt>
+    ensures ok { IfOk result (TellsPhase rows.now) }
+{
+    match rows {
         [] => Ok(None),
         [row] => Ok(Some(cuts_of(row)?)),
         _ => Err(Halt::Unfit),

@@ -1,9 +1,9 @@
 // The transactions of a keeper: what each method does to the tables, all of it or nothing.
-ghost use Rattle.std.specs.Prelude.{◌≡◌, [], ◌∷◌, false, Ok, IsTrue, OnOk};
+ghost use Rattle.std.specs.Prelude.{◌≡◌, ◌+◌, [], ◌∷◌, false, Ok, IsTrue, IfOk, OnOk};
 ghost use Rattle.sqlite.specs.State.{HasCleanDisk};
 ghost use Rattle.sqlite.specs.Held.{state};
 ghost use Rattle.keeper_sqlite.specs.Commits.{CommitsNothing, CommitsShown, CommitsOnce};
-ghost use Rattle.keeper_sqlite.specs.Kept.{Keeps, Makes, DidAll, plain_calls, table_texts, season_table, phase_table, answer_table, lift_table, allot_table};
+ghost use Rattle.keeper_sqlite.specs.Kept.{Keeps, Makes, MakesCut, ToldPhase, AreAbove, DidAll, seat_calls, plain_calls, table_texts, season_table, phase_table, answer_table, lift_table, allot_table};
 
 use crate::halt::Halt;
 use crate::rising::are_rising;
@@ -141,13 +141,52 @@ fn write_season<S: Alter>(tx: &mut Transaction<'_, S>, text: &[u8]) -> Result<()
 fn write_cut<S: Alter>(tx: &mut Transaction<'_, S>, rows: &[AllotRow]) -> Result<(), Halt>
     ensures same_reference { tx.new.conn.ghost_name ≡ tx.old.conn.ghost_name }
     ensures inside { CommitsNothing (state S.Store tx.old.conn.now) (state S.Store tx.new.conn.now) }
+    ensures made { HasCleanDisk (state S.Store tx.new.conn.now) → OnOk result (MakesCut S.Store rows.now tx.old.conn.now tx.new.conn.now) }
 {
-    let cuts = phase::read(tx)?
-        .and_then(|cuts| cuts.checked_add(1))
-        .ok_or(Halt::Unfit)?;
-    if !are_rising(allot::last_key(tx)?, rows) {
-        return Err(Halt::Unfit);
+    let made = read_made(tx)?;
+    expect_above(tx, rows)?;
+    put_seats(tx, made, rows)
+}
+
+/// How many cuts were made. The season has to be there.
+fn read_made<S: Alter>(tx: &mut Transaction<'_, S>) -> Result<u16, Halt>
+    ensures same_reference { tx.new.conn.ghost_name ≡ tx.old.conn.ghost_name }
+    ensures inside { CommitsNothing (state S.Store tx.old.conn.now) (state S.Store tx.new.conn.now) }
+    ensures told { HasCleanDisk (state S.Store tx.new.conn.now) → IfOk result (λ made. ToldPhase S.Store made tx.old.conn.now tx.new.conn.now) }
+{
+    phase::read(tx)?.ok_or(Halt::Unfit)
+}
+
+/// Tests that the rows rise above the last that is kept.
+fn expect_above<S: Alter>(tx: &mut Transaction<'_, S>, rows: &[AllotRow]) -> Result<(), Halt>
+    ensures same_reference { tx.new.conn.ghost_name ≡ tx.old.conn.ghost_name }
+    ensures inside { CommitsNothing (state S.Store tx.old.conn.now) (state S.Store tx.new.conn.now) }
+    ensures told { HasCleanDisk (state S.Store tx.new.conn.now) → OnOk result (AreAbove S.Store rows.now tx.old.conn.now tx.new.conn.now) }
+{
+    if are_rising(allot::last_key(tx)?, rows) {
+        Ok(())
+    } else {
+        Err(Halt::Unfit)
     }
+}
+
+fn one_more(made: u16) -> Result<u16, Halt>
+    ensures ok { IfOk result (λ cuts. cuts ≡ made + 1) }
+{
+    made.checked_add(1).ok_or(Halt::Unfit)
+}
+
+/// Puts the rows, and one cut more than were made.
+fn put_seats<S: Alter>(
+    tx: &mut Transaction<'_, S>,
+    made: u16,
+    rows: &[AllotRow],
+) -> Result<(), Halt>
+    ensures same_reference { tx.new.conn.ghost_name ≡ tx.old.conn.ghost_name }
+    ensures inside { CommitsNothing (state S.Store tx.old.conn.now) (state S.Store tx.new.conn.now) }
+    ensures ran { HasCleanDisk (state S.Store tx.new.conn.now) → OnOk result (DidAll S.Store (seat_calls made rows.now) tx.old.conn.now tx.new.conn.now) }
+{
+    let cuts = one_more(made)?;
     allot::insert_all(tx, rows)?;
     phase::upsert(tx, cuts)
 }
