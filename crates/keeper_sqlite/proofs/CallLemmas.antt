@@ -1,5 +1,5 @@
 -- Calls that follow one another in a transaction.
-use Rattle.std.proofs.Common.{◌≡◌, ◌+◌, ◌<◌, ℕ, drop, get_or, length, false, List, [], ◌∷◌, ◌++◌, Option, Some, Result, Ok, Err, IsTrue, IfOk, OnOk, sym, subst, refl, inl, inr, arith}
+use Rattle.std.proofs.Common.{◌≡◌, ◌+◌, ◌<◌, ◌≤◌, ◌∙◌, ap, ℕ, drop, get_or, length, false, List, [], ◌∷◌, ◌++◌, Option, Some, Result, Ok, Err, IsTrue, IfOk, OnOk, sym, subst, refl, inl, inr, arith}
 use Rattle.std.proofs.lemmas.Bool.{cases_Bool}
 use Rattle.std.proofs.lemmas.List.{drop_more}
 use Rattle.std.specs.Result.{result_ok}
@@ -13,7 +13,7 @@ use Rattle.sqlite.specs.declared.error.ErrorCode.TheVariants.{TransactionState}
 use Rattle.keeper_mem.specs.declared.rows.AllotRow.{AllotRow}
 use Rattle.keeper_sqlite.specs.Columns.{TellsPhase}
 use Rattle.keeper_sqlite.specs.Commits.{CommitsNothing}
-use Rattle.keeper_sqlite.specs.Kept.{Call, DidAll, MakesCut, ToldPhase, AreAbove, seat_calls, allot_calls, allot_values, phase_query}
+use Rattle.keeper_sqlite.specs.Kept.{Call, DidAll, MakesCut, ToldPhase, AreAbove, PutsText, seat_calls, allot_calls, allot_values, phase_query, part_text, part_values, part_calls, text_calls, season_calls, unanswered_calls, any_row_queries, opening_text, opening_values}
 use Rattle.keeper_sqlite.specs.Kept.Call.{Runs, Asks, Readies}
 use Rattle.keeper_sqlite.specs.declared.halt.Halt.{Halt}
 
@@ -92,6 +92,11 @@ pub told_as : {S A : Type 0} (g : Ghosts S) (text : List ℕ) (rows seen : List 
 told_as g text rows seen P old new (Err halt) is asked tells clean = tt
 told_as g text rows seen P old new (Ok found) is asked tells clean = (rows, subst (λ (r : List Row). P r found) is tells, asked clean)
 
+pub none_told : {S : Type 0} (g : Ghosts S) (text : List ℕ) (rows seen : List Row) (old new : Held S) (ended : Result (Unit {0}) Halt) → seen ≡ rows
+    → (HasCleanDisk (state g new) → DidAll g (Asks text rows ∷ []) old new) → OnOk ended (seen ≡ []) → HasCleanDisk (state g new) → OnOk ended (DidAll g (Asks text [] ∷ []) old new)
+none_told g text rows seen old new (Err halt) is asked empty clean = tt
+none_told {S} g text rows seen old new (Ok none) is asked empty clean = subst (λ (r : List Row). DidAll g (Asks text r ∷ []) old new) (sym is ∙ empty) (asked clean)
+
 -- one row of the phase
 pub told_one : {S : Type 0} (g : Ghosts S) (old new : Held S) (found : Option ℕ) (ended : Result ℕ Halt) → found ≡ result_ok ended
     → (HasCleanDisk (state g new) → (rows : List Row) × TellsPhase rows found × DidAll g (Asks phase_query rows ∷ []) old new)
@@ -111,3 +116,58 @@ ready_then {S} g text got calls old mid new (Ok none) nothing ready made clean =
     let was : HasCleanDisk (state g mid) = omega (arith, nothing.clean) in
     let first = ready was in
     did_then g (Readies text ∷ []) (calls text) old mid new first.1 (subst (λ (t : List ℕ). DidAll g (calls t) mid new) first.0 (made clean))
+
+-- Of a text that is put in parts, which are numbered on from here, this is left.
+abbrev pub LeavesText : {S : Type 0} → Ghosts S → List ℕ → List ℕ → ℕ → List ℕ → Held S → Held S → Type 0
+LeavesText {S} g insert text number rest old mid =
+    HasCleanDisk (state g mid) → (last : Held S) → PutsText g (part_calls insert number) rest mid last → PutsText g (part_calls insert 0) text old last
+
+pub leaves_text : {S : Type 0} (g : Ghosts S) (insert text : List ℕ) (old : Held S) → LeavesText g insert text 0 text old old
+leaves_text g insert text old clean last put = put
+
+-- one more part is put
+pub part_put : {S : Type 0} (g : Ghosts S) (insert text rest part after : List ℕ) (number next : ℕ) (old mid new : Held S) → rest ≡ part ++ after → length part ≤ 65536 → next ≡ number + 1
+    → CommitsNothing (state g mid) (state g new) → LeavesText g insert text number rest old mid → (HasCleanDisk (state g new) → DidAll g (Runs insert (part_values number part) ∷ []) mid new)
+    → LeavesText g insert text next after old new
+part_put {S} g insert text rest part after number next old mid new cut short is nothing leaves made clean last put =
+    let was : HasCleanDisk (state g mid) = omega (arith, nothing.clean) in
+    let later : DidAll g (part_calls insert (number + 1) put.parts) new last = subst (λ (n : ℕ). DidAll g (part_calls insert n put.parts) new last) is put.done in
+    leaves was last (record {
+      parts = part ∷ put.parts;
+      joined = ap (λ (bytes : List ℕ). part ++ bytes) put.joined ∙ sym cut;
+      short = (short, put.short);
+      done = did_then g (Runs insert (part_values number part) ∷ []) (part_calls insert (number + 1) put.parts) mid new last (made clean) later;
+    })
+
+pub text_put : {S : Type 0} (g : Ghosts S) (insert text rest : List ℕ) (number : ℕ) (old mid : Held S) → rest ≡ [] → LeavesText g insert text number rest old mid → HasCleanDisk (state g mid)
+    → PutsText g (part_calls insert 0) text old mid
+text_put g insert text rest number old mid none leaves clean = leaves clean mid (record { parts = []; joined = sym none; short = tt; done = refl })
+
+-- the statement for the parts is made ready before
+pub text_ready : {S : Type 0} (g : Ghosts S) (got text : List ℕ) (old mid new : Held S) (ended : Result (Unit {0}) Halt) → CommitsNothing (state g mid) (state g new)
+    → (HasCleanDisk (state g mid) → (got ≡ part_text) × DidAll g (Readies part_text ∷ []) old mid) → (HasCleanDisk (state g new) → OnOk ended (PutsText g (part_calls got 0) text mid new))
+    → HasCleanDisk (state g new) → OnOk ended (PutsText g text_calls text old new)
+text_ready g got text old mid new (Err halt) nothing ready put clean = tt
+text_ready {S} g got text old mid new (Ok none) nothing ready put clean =
+    let was : HasCleanDisk (state g mid) = omega (arith, nothing.clean) in
+    let first = ready was in
+    let then : PutsText g (part_calls part_text 0) text mid new = subst (λ (t : List ℕ). PutsText g (part_calls t 0) text mid new) first.0 (put clean) in
+    record { parts = then.parts; joined = then.joined; short = then.short; done = did_then g (Readies part_text ∷ []) (part_calls part_text 0 then.parts) old mid new first.1 then.done }
+
+-- the test of the tables, the parts and the row of the phase
+pub season_put : {S : Type 0} (g : Ghosts S) (text : List ℕ) (old one two new : Held S) (empty put ended : Result (Unit {0}) Halt) → empty ≡ Ok tt → put ≡ Ok tt
+    → CommitsNothing (state g one) (state g two) → CommitsNothing (state g two) (state g new)
+    → (HasCleanDisk (state g one) → OnOk empty (DidAll g (unanswered_calls any_row_queries) old one)) → (HasCleanDisk (state g two) → OnOk put (PutsText g text_calls text one two))
+    → (HasCleanDisk (state g new) → OnOk ended (DidAll g (Runs opening_text opening_values ∷ []) two new)) → HasCleanDisk (state g new) → OnOk ended (PutsText g season_calls text old new)
+season_put g text old one two new empty put (Err halt) is_empty is_put first next tested parts opened clean = tt
+season_put {S} g text old one two new empty put (Ok none) is_empty is_put first next tested parts opened clean =
+    let was : HasCleanDisk (state g two) = omega (arith, next.clean) in
+    let before : HasCleanDisk (state g one) = omega (arith, was, first.clean) in
+    let then : PutsText g text_calls text one two = rw is_put at (parts was) in
+    record {
+      parts = then.parts;
+      joined = then.joined;
+      short = then.short;
+      done = did_then g (unanswered_calls any_row_queries) (text_calls then.parts ++ Runs opening_text opening_values ∷ []) old one new (rw is_empty at (tested before))
+          (did_then g (text_calls then.parts) (Runs opening_text opening_values ∷ []) one two new then.done (opened clean));
+    }

@@ -1,5 +1,6 @@
 -- What a put keeps: which statement is run with which values, and that what it makes is committed.
-use Rattle.std.specs.Prelude.{◌≡◌, ◌+◌, ℕ, pos, true, List, [], ◌∷◌, ◌++◌, map, codes, Option, Ok}
+use Rattle.std.specs.Prelude.{◌≡◌, ◌+◌, ◌≤◌, ℕ, pos, true, List, [], ◌∷◌, ◌++◌, length, map, codes, Option, Ok}
+use Rattle.std.specs.List.{AllByRecursion, concat}
 use Rattle.sqlite.specs.Store.{Ghosts}
 use Rattle.sqlite.specs.Order.{Row}
 use Rattle.sqlite.specs.State.{Executes, IsUnchanged, Shown}
@@ -7,7 +8,7 @@ use Rattle.sqlite.specs.Held.{Held, state}
 use Rattle.sqlite.specs.Listing.{understood}
 use Rattle.sqlite.specs.Outline.{Outline}
 use Rattle.sqlite.specs.Steps.{Outlines}
-use Rattle.sqlite.specs.declared.types.Value.TheVariants.{Int}
+use Rattle.sqlite.specs.declared.types.Value.TheVariants.{Int, Blob}
 use Rattle.office_base.specs.StepNumbers.{step_number}
 use Rattle.keeper_mem.specs.declared.rows.AnswerRow.{AnswerRow}
 use Rattle.keeper_mem.specs.declared.rows.AllotRow.{AllotRow}
@@ -17,7 +18,7 @@ use Rattle.keeper_sqlite.specs.Rising.{are_rising}
 use Rattle.keeper_sqlite.specs.declared.rising.Key.{Key}
 use Rattle.keeper_sqlite.specs.Numbers.{choice_number}
 use Rattle.keeper_sqlite.specs.declared.transactions.Change.{Change}
-use Rattle.keeper_sqlite.specs.declared.transactions.Change.TheVariants.{Answer, Raise, Tables, Cut}
+use Rattle.keeper_sqlite.specs.declared.transactions.Change.TheVariants.{Answer, Raise, Tables, Season, Cut}
 
 abbrev pub answer_text : List ℕ
 answer_text = codes "INSERT INTO answer (win, cand, turn, choice) VALUES (?1, ?2, ?3, ?4)"
@@ -47,6 +48,24 @@ cuts_values cuts = Int (pos 1) ∷ Int (pos cuts) ∷ []
 -- whether a season is there, and how many cuts were made
 abbrev pub phase_query : List ℕ
 phase_query = codes "SELECT id, cuts FROM phase ORDER BY id"
+
+-- the row of a season without cuts
+abbrev pub opening_text : List ℕ
+opening_text = codes "INSERT INTO phase (id, cuts) VALUES (?1, 0)"
+
+abbrev pub opening_values : Row
+opening_values = Int (pos 1) ∷ []
+
+-- a part of the text of a season, with its number
+abbrev pub part_text : List ℕ
+part_text = codes "INSERT INTO season (part, bytes) VALUES (?1, ?2)"
+
+abbrev pub part_values : ℕ → List ℕ → Row
+part_values part bytes = Int (pos part) ∷ Blob bytes ∷ []
+
+-- whether a row stands, in each of the five tables
+abbrev pub any_row_queries : List (List ℕ)
+any_row_queries = phase_query ∷ codes "SELECT part FROM season LIMIT 1" ∷ codes "SELECT seq FROM answer LIMIT 1" ∷ codes "SELECT seq FROM lift LIMIT 1" ∷ codes "SELECT rnd FROM allot LIMIT 1" ∷ []
 
 -- the last key of the published seats
 abbrev pub key_query : List ℕ
@@ -82,6 +101,23 @@ table_texts = season_table ∷ phase_table ∷ answer_table ∷ lift_table ∷ a
 abbrev pub plain_calls : List (List ℕ) → List Call
 plain_calls = map (λ text. Runs text [])
 
+-- each text is asked, and tells no row
+abbrev pub unanswered_calls : List (List ℕ) → List Call
+unanswered_calls = map (λ text. Asks text [])
+
+-- the statement of this text is run once for each part, which are numbered in their order from this number on
+abbrev pub part_calls : List ℕ → ℕ → List (List ℕ) → List Call
+part_calls text n [] = []
+part_calls text n (part ∷ parts) = Runs text (part_values n part) ∷ part_calls text (n + 1) parts
+
+-- the parts are put by one statement that is made ready once
+abbrev pub text_calls : List (List ℕ) → List Call
+text_calls parts = Readies part_text ∷ part_calls part_text 0 parts
+
+-- no table has a row, the parts are put, numbered from 0, and then the row of a season without cuts
+abbrev pub season_calls : List (List ℕ) → List Call
+season_calls parts = unanswered_calls any_row_queries ++ text_calls parts ++ Runs opening_text opening_values ∷ []
+
 -- the statement of this text is run once for each seat, in their order
 abbrev pub allot_calls : List ℕ → List AllotRow → List Call
 allot_calls text = map (λ row. Runs text (allot_values row))
@@ -113,6 +149,13 @@ module _ {S : Type 0} (g : Ghosts S) where
   DidAll [] old new = old ≡ new
   DidAll (call ∷ calls) old new = (mid : Held S) × Did call old mid × DidAll calls mid new
 
+  -- The text is cut into parts of at most 65,536 bytes, and the calls for them were made.
+  pub record PutsText (calls : List (List ℕ) → List Call) (text : List ℕ) (old new : Held S) : Type 0 where
+    pub parts : List (List ℕ)
+    pub joined : concat parts ≡ text
+    pub short : AllByRecursion (λ part. length part ≤ 65536) parts
+    pub done : DidAll (calls parts) old new
+
   -- the phase told one row, with the number of the cuts
   pub record ToldPhase (made : ℕ) (old new : Held S) : Type 0 where
     pub row : Row
@@ -142,7 +185,7 @@ module _ {S : Type 0} (g : Ghosts S) where
   Makes (Raise row) old new = Ran raise_text (raise_values row) old new
   Makes Tables old new = DidAll (plain_calls table_texts) old new
   Makes (Cut rows) old new = MakesCut rows.now old new
-  Makes _ old new = Unit {0}
+  Makes (Season text) old new = PutsText season_calls text.now old new
 
   -- A transaction began, this was done in it, and what was done is what the database shows and what the last commit left.
   pub record Keeps (Done : Held S → Held S → Type 0) (old new : Held S) : Type 0 where

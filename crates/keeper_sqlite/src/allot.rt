@@ -1,5 +1,5 @@
 // The table of published seats.
-ghost use Rattle.std.specs.Prelude.{◌≡◌, List, [], ◌∷◌, IfOk, IfErr, OnOk};
+ghost use Rattle.std.specs.Prelude.{◌≡◌, List, [], ◌∷◌, codes, IfOk, IfErr, OnOk};
 ghost use Rattle.sqlite.specs.Order.{Row as Values};
 ghost use Rattle.sqlite.specs.State.{HasCleanDisk};
 ghost use Rattle.keeper_sqlite.specs.Halts.{WantsMemory};
@@ -10,10 +10,10 @@ ghost use Rattle.keeper_sqlite.specs.Commits.{CommitsNothing};
 ghost use Rattle.keeper_sqlite.specs.Kept.{DidAll, allot_table, allot_text, allot_values, allot_calls, key_query};
 ghost use Rattle.keeper_sqlite.specs.Kept.Call.{Runs, Asks, Readies};
 
-use crate::calls::{ask, make_ready, run, run_ready};
+use crate::calls::{ask, expect_none, make_ready, run, run_ready};
 use crate::columns::{number_at, small_number_at, step_at};
 use crate::halt::Halt;
-use crate::records::{Record, expect_none, records_of};
+use crate::records::{Record, records_of};
 use crate::rising::Key;
 use keeper_mem::{AllotRow, AllotRows};
 use office_base::{CandId, ProgId, step_number};
@@ -37,8 +37,9 @@ pub(crate) fn create<S: Alter>(tx: &mut Transaction<'_, S>) -> Result<(), Halt>
 pub(crate) fn expect_empty<S: Alter>(tx: &mut Transaction<'_, S>) -> Result<(), Halt>
     ensures same_reference { tx.new.conn.ghost_name ≡ tx.old.conn.ghost_name }
     ensures inside { CommitsNothing (state S.Store tx.old.conn.now) (state S.Store tx.new.conn.now) }
+    ensures told { HasCleanDisk (state S.Store tx.new.conn.now) → OnOk result (DidAll S.Store (Asks (codes "SELECT rnd FROM allot LIMIT 1") [] ∷ []) tx.old.conn.now tx.new.conn.now) }
 {
-    expect_none(&tx.query_all("SELECT rnd FROM allot LIMIT 1", &[])?)
+    expect_none(tx, "SELECT rnd FROM allot LIMIT 1")
 }
 
 /// Puts rows, by one statement that is made ready once.

@@ -34,6 +34,25 @@ pub(crate) fn ask<S: Alter>(tx: &mut Transaction<'_, S>, text: &str) -> Result<V
     Ok(tx.query_all(text, &[])?)
 }
 
+/// Tests that a query tells no row.
+pub(crate) fn expect_none<S: Alter>(tx: &mut Transaction<'_, S>, text: &str) -> Result<(), Halt>
+    ensures same_reference { tx.new.conn.ghost_name ≡ tx.old.conn.ghost_name }
+    ensures inside { CommitsNothing (state S.Store tx.old.conn.now) (state S.Store tx.new.conn.now) }
+    ensures told { HasCleanDisk (state S.Store tx.new.conn.now) → OnOk result (DidAll S.Store (Asks text.now [] ∷ []) tx.old.conn.now tx.new.conn.now) }
+{
+    expect_empty(&ask(tx, text)?)
+}
+
+fn expect_empty(rows: &[Row]) -> Result<(), Halt>
+    ensures { OnOk result (rows.now ≡ []) }
+{
+    if rows.is_empty() {
+        Ok(())
+    } else {
+        Err(Halt::Unfit)
+    }
+}
+
 /// Makes a statement ready.
 pub(crate) fn make_ready<S: Alter>(
     tx: &mut Transaction<'_, S>,

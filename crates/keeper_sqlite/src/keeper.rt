@@ -4,7 +4,7 @@ ghost use Rattle.office_base.specs.Memory.{counted};
 ghost use Rattle.sqlite.specs.State.{HasCleanDisk};
 ghost use Rattle.sqlite.specs.Held.{state};
 ghost use Rattle.keeper_sqlite.specs.Commits.{CommitsOnce};
-ghost use Rattle.keeper_sqlite.specs.Kept.{Keeps, Makes, MakesCut, Ran, DidAll, plain_calls, table_texts, answer_text, answer_values, raise_text, raise_values};
+ghost use Rattle.keeper_sqlite.specs.Kept.{Keeps, Makes, MakesCut, PutsText, Ran, DidAll, season_calls, plain_calls, table_texts, answer_text, answer_values, raise_text, raise_values};
 ghost use Rattle.keeper_sqlite.specs.Halts.{keep_fault, faults_after};
 
 use crate::halt::Halt;
@@ -135,7 +135,13 @@ impl<S: Alter> Keeper for SqliteKeeper<S> {
         self.settle(done)
     }
 
-    fn put_season(&mut self, text: &[u8]) -> Result<(), KeepFault> {
+    fn put_season(&mut self, text: &[u8]) -> Result<(), KeepFault>
+        ensures count { self.old.faults ≤ self.new.faults }
+        ensures steady { ¬ IsErrOf result KeepFault.Failed → self.new.faults ≡ self.old.faults }
+        ensures counted { IsErrOf result KeepFault.Failed → self.new.faults ≡ counted self.old.faults }
+        ensures once { CommitsOnce (state S.Store self.old.connection) (state S.Store self.new.connection) }
+        ensures kept { HasCleanDisk (state S.Store self.new.connection) → OnOk result (Keeps S.Store (PutsText S.Store season_calls text.now) self.old.connection self.new.connection) }
+    {
         self.commit(Change::Season(text))
     }
 

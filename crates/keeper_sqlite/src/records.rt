@@ -27,12 +27,3 @@ pub(crate) fn records_of<R: Record>(alloc: Global, rows: &[Row]) -> Result<Liste
     }
     Ok(records)
 }
-
-/// Tests that no row is there.
-pub(crate) fn expect_none(rows: &[Row]) -> Result<(), Halt> {
-    if rows.is_empty() {
-        Ok(())
-    } else {
-        Err(Halt::Unfit)
-    }
-}

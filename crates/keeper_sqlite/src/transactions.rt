@@ -1,9 +1,9 @@
 // The transactions of a keeper: what each method does to the tables, all of it or nothing.
-ghost use Rattle.std.specs.Prelude.{◌≡◌, ◌+◌, [], ◌∷◌, false, Ok, IsTrue, IfOk, OnOk};
+ghost use Rattle.std.specs.Prelude.{◌≡◌, ◌+◌, [], ◌∷◌, take, drop, false, Ok, IsTrue, IfOk, OnOk};
 ghost use Rattle.sqlite.specs.State.{HasCleanDisk};
 ghost use Rattle.sqlite.specs.Held.{state};
 ghost use Rattle.keeper_sqlite.specs.Commits.{CommitsNothing, CommitsShown, CommitsOnce};
-ghost use Rattle.keeper_sqlite.specs.Kept.{Keeps, Makes, MakesCut, ToldPhase, AreAbove, DidAll, seat_calls, plain_calls, table_texts, season_table, phase_table, answer_table, lift_table, allot_table};
+ghost use Rattle.keeper_sqlite.specs.Kept.{Keeps, Makes, MakesCut, ToldPhase, AreAbove, PutsText, DidAll, seat_calls, season_calls, unanswered_calls, any_row_queries, plain_calls, table_texts, season_table, phase_table, answer_table, lift_table, allot_table};
 
 use crate::halt::Halt;
 use crate::rising::are_rising;
@@ -116,26 +116,43 @@ pub(crate) fn has_season<S: Alter>(connection: &mut Connection<S>) -> Result<boo
     Ok(phase::read(&mut tx)?.is_some())
 }
 
-fn expect_empty<S: Alter>(tx: &mut Transaction<'_, S>) -> Result<(), Halt>
-    ensures same_reference { tx.new.conn.ghost_name ≡ tx.old.conn.ghost_name }
-    ensures inside { CommitsNothing (state S.Store tx.old.conn.now) (state S.Store tx.new.conn.now) }
-{
-    if phase::read(tx)?.is_some() {
-        return Err(Halt::Unfit);
-    }
-    season::expect_empty(tx)?;
-    answer::expect_empty(tx)?;
-    lift::expect_empty(tx)?;
-    allot::expect_empty(tx)
-}
-
 fn write_season<S: Alter>(tx: &mut Transaction<'_, S>, text: &[u8]) -> Result<(), Halt>
     ensures same_reference { tx.new.conn.ghost_name ≡ tx.old.conn.ghost_name }
     ensures inside { CommitsNothing (state S.Store tx.old.conn.now) (state S.Store tx.new.conn.now) }
+    ensures made { HasCleanDisk (state S.Store tx.new.conn.now) → OnOk result (PutsText S.Store season_calls text.now tx.old.conn.now tx.new.conn.now) }
 {
     expect_empty(tx)?;
     season::insert_text(tx, text)?;
     phase::insert(tx)
+}
+
+/// Tests that no table has a row.
+fn expect_empty<S: Alter>(tx: &mut Transaction<'_, S>) -> Result<(), Halt>
+    ensures same_reference { tx.new.conn.ghost_name ≡ tx.old.conn.ghost_name }
+    ensures inside { CommitsNothing (state S.Store tx.old.conn.now) (state S.Store tx.new.conn.now) }
+    ensures told { HasCleanDisk (state S.Store tx.new.conn.now) → OnOk result (DidAll S.Store (unanswered_calls any_row_queries) tx.old.conn.now tx.new.conn.now) }
+{
+    expect_no_season(tx)?;
+    expect_no_rows(tx)
+}
+
+fn expect_no_season<S: Alter>(tx: &mut Transaction<'_, S>) -> Result<(), Halt>
+    ensures same_reference { tx.new.conn.ghost_name ≡ tx.old.conn.ghost_name }
+    ensures inside { CommitsNothing (state S.Store tx.old.conn.now) (state S.Store tx.new.conn.now) }
+    ensures told { HasCleanDisk (state S.Store tx.new.conn.now) → OnOk result (DidAll S.Store (unanswered_calls (take 2 any_row_queries)) tx.old.conn.now tx.new.conn.now) }
+{
+    phase::expect_empty(tx)?;
+    season::expect_empty(tx)
+}
+
+fn expect_no_rows<S: Alter>(tx: &mut Transaction<'_, S>) -> Result<(), Halt>
+    ensures same_reference { tx.new.conn.ghost_name ≡ tx.old.conn.ghost_name }
+    ensures inside { CommitsNothing (state S.Store tx.old.conn.now) (state S.Store tx.new.conn.now) }
+    ensures told { HasCleanDisk (state S.Store tx.new.conn.now) → OnOk result (DidAll S.Store (unanswered_calls (drop 2 any_row_queries)) tx.old.conn.now tx.new.conn.now) }
+{
+    answer::expect_empty(tx)?;
+    lift::expect_empty(tx)?;
+    allot::expect_empty(tx)
 }
 
 fn write_cut<S: Alter>(tx: &mut Transaction<'_, S>, rows: &[AllotRow]) -> Result<(), Halt>
