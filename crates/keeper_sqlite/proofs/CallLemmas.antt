@@ -1,5 +1,5 @@
 -- Calls that follow one another in a transaction.
-use Rattle.std.proofs.Common.{◌≡◌, ◌+◌, ◌<◌, ◌≤◌, ◌∙◌, ap, ℕ, drop, get_or, length, false, List, [], ◌∷◌, ◌++◌, Option, Some, Result, Ok, Err, IsTrue, IfOk, OnOk, sym, subst, refl, inl, inr, arith}
+use Rattle.std.proofs.Common.{◌≡◌, ◌+◌, ◌<◌, ◌≤◌, ◌∙◌, ap, ℕ, drop, get_or, length, false, List, [], ◌∷◌, ◌++◌, Option, Some, None, Result, Ok, Err, IsTrue, IfOk, IfErr, OnOk, Bool, is_some, sym, subst, refl, inl, inr, arith}
 use Rattle.std.proofs.lemmas.Bool.{cases_Bool}
 use Rattle.std.proofs.lemmas.List.{drop_more}
 use Rattle.std.specs.Result.{result_ok}
@@ -11,10 +11,11 @@ use Rattle.sqlite.specs.declared.error.Error.{Error}
 use Rattle.sqlite.specs.declared.error.Error.TheVariants.{SqliteFailure}
 use Rattle.sqlite.specs.declared.error.ErrorCode.TheVariants.{TransactionState}
 use Rattle.keeper_mem.specs.declared.rows.AllotRow.{AllotRow}
-use Rattle.keeper_sqlite.specs.Columns.{TellsPhase}
+use Rattle.keeper_sqlite.specs.Columns.{IsPhaseRow, TellsPhase}
 use Rattle.keeper_sqlite.specs.Commits.{CommitsNothing}
-use Rattle.keeper_sqlite.specs.Kept.{Call, DidAll, MakesCut, ToldPhase, AreAbove, PutsText, seat_calls, allot_calls, allot_values, phase_query, part_text, part_values, part_calls, text_calls, season_calls, unanswered_calls, any_row_queries, opening_text, opening_values}
+use Rattle.keeper_sqlite.specs.Kept.{Call, DidAll, TellsPhaseOf, TellsSeason, LosesPhase, MakesCut, ToldPhase, AreAbove, PutsText, seat_calls, allot_calls, allot_values, phase_query, part_text, part_values, part_calls, text_calls, season_calls, unanswered_calls, any_row_queries, opening_text, opening_values}
 use Rattle.keeper_sqlite.specs.Kept.Call.{Runs, Asks, Readies}
+use Rattle.keeper_sqlite.specs.Halts.{WantsMemory}
 use Rattle.keeper_sqlite.specs.declared.halt.Halt.{Halt}
 
 -- A statement runs only inside a transaction.
@@ -92,6 +93,37 @@ pub told_as : {S A : Type 0} (g : Ghosts S) (text : List ℕ) (rows seen : List 
 told_as g text rows seen P old new (Err halt) is asked tells clean = tt
 told_as g text rows seen P old new (Ok found) is asked tells clean = (rows, subst (λ (r : List Row). P r found) is tells, asked clean)
 
+pub phase_told : {S : Type 0} (g : Ghosts S) (rows seen : List Row) (old new : Held S) (ended : Result (Option ℕ) Halt) → seen ≡ rows
+    → (HasCleanDisk (state g new) → DidAll g (Asks phase_query rows ∷ []) old new) → IfOk ended (TellsPhase seen)
+    → HasCleanDisk (state g new) → IfOk ended (λ found. TellsPhaseOf g found old new)
+phase_told g rows seen old new (Err halt) is asked tells clean = tt
+phase_told g rows seen old new (Ok found) is asked tells clean = record { rows = rows; tells = subst (λ (r : List Row). TellsPhase r found) is tells; asked = asked clean }
+
+pub phase_lost : {S : Type 0} (g : Ghosts S) (rows seen : List Row) (old new : Held S) (ended : Result (Option ℕ) Halt) → seen ≡ rows
+    → (HasCleanDisk (state g new) → DidAll g (Asks phase_query rows ∷ []) old new) → IfErr ended (λ halt. ¬ WantsMemory halt → (found : Option ℕ) → ¬ TellsPhase seen found)
+    → HasCleanDisk (state g new) → IfErr ended (λ halt. ¬ WantsMemory halt → LosesPhase g old new)
+phase_lost g rows seen old new (Ok found) is asked none clean = tt
+phase_lost g rows seen old new (Err halt) is asked none clean = λ enough.
+    inr (record { rows = rows; none = subst (λ (r : List Row). (found : Option ℕ) → ¬ TellsPhase r found) is (none enough); asked = asked clean })
+
+pub only_row : (rows : List Row) (row : Row) → 1 ≤ length rows → length rows < 2 → row ≡ get_or rows 0 row → rows ≡ row ∷ []
+only_row [] row least below is = absurd (omega (arith, least))
+only_row (a ∷ []) row least below is = ap (λ (r : Row). r ∷ []) (sym is)
+only_row (a ∷ b ∷ rows) row least below is = absurd (omega (arith, below))
+
+-- One row that is no phase tells of none.
+pub row_amiss : (rows : List Row) (row : Row) → rows ≡ row ∷ [] → ((cuts : ℕ) → ¬ IsPhaseRow row cuts) → (found : Option ℕ) → ¬ TellsPhase rows found
+row_amiss rows row is none None tells = let e : row ∷ [] ≡ [] = sym is ∙ tells in absurd (let f = e in cc)
+row_amiss rows row is none (Some made) tells =
+    let e : row ∷ [] ≡ tells.0 ∷ [] = sym is ∙ tells.1 in
+    let same : tells.0 ≡ row = (let f = e in cc) in
+    none made (subst (λ (r : Row). IsPhaseRow r made) same tells.2)
+
+-- a season is there where one is told
+pub season_told : {S : Type 0} (g : Ghosts S) (old new : Held S) (cuts : Option ℕ) (found : Bool) → found ≡ is_some cuts
+    → (HasCleanDisk (state g new) → TellsPhaseOf g cuts old new) → HasCleanDisk (state g new) → TellsSeason g found old new
+season_told g old new cuts found is told clean = record { cuts = cuts; is = is; told = told clean }
+
 pub none_told : {S : Type 0} (g : Ghosts S) (text : List ℕ) (rows seen : List Row) (old new : Held S) (ended : Result (Unit {0}) Halt) → seen ≡ rows
     → (HasCleanDisk (state g new) → DidAll g (Asks text rows ∷ []) old new) → OnOk ended (seen ≡ []) → HasCleanDisk (state g new) → OnOk ended (DidAll g (Asks text [] ∷ []) old new)
 none_told g text rows seen old new (Err halt) is asked empty clean = tt
@@ -99,13 +131,12 @@ none_told {S} g text rows seen old new (Ok none) is asked empty clean = subst (�
 
 -- one row of the phase
 pub told_one : {S : Type 0} (g : Ghosts S) (old new : Held S) (found : Option ℕ) (ended : Result ℕ Halt) → found ≡ result_ok ended
-    → (HasCleanDisk (state g new) → (rows : List Row) × TellsPhase rows found × DidAll g (Asks phase_query rows ∷ []) old new)
-    → HasCleanDisk (state g new) → IfOk ended (λ made. ToldPhase g made old new)
+    → (HasCleanDisk (state g new) → TellsPhaseOf g found old new) → HasCleanDisk (state g new) → IfOk ended (λ made. ToldPhase g made old new)
 told_one g old new found (Err halt) is told clean = tt
 told_one {S} g old new found (Ok made) is told clean =
-    let it : (rows : List Row) × TellsPhase rows (Some made) × DidAll g (Asks phase_query rows ∷ []) old new = subst (λ (f : Option ℕ). (rows : List Row) × TellsPhase rows f × DidAll g (Asks phase_query rows ∷ []) old new) is (told clean) in
-    let one : TellsPhase it.0 (Some made) = it.1 in
-    record { row = one.0; is = one.2; asked = subst (λ (r : List Row). DidAll g (Asks phase_query r ∷ []) old new) one.1 it.2 }
+    let it : TellsPhaseOf g (Some made) old new = subst (λ (f : Option ℕ). TellsPhaseOf g f old new) is (told clean) in
+    let one : TellsPhase it.rows (Some made) = it.tells in
+    record { row = one.0; is = one.2; asked = subst (λ (r : List Row). DidAll g (Asks phase_query r ∷ []) old new) one.1 it.asked }
 
 -- a statement is made ready, and then its calls are made
 pub ready_then : {S : Type 0} (g : Ghosts S) (text got : List ℕ) (calls : List ℕ → List Call) (old mid new : Held S) (ended : Result (Unit {0}) Halt) → CommitsNothing (state g mid) (state g new)

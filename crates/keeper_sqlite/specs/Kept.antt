@@ -1,9 +1,10 @@
 -- What a put keeps: which statement is run with which values, and that what it makes is committed.
-use Rattle.std.specs.Prelude.{◌≡◌, ◌+◌, ◌≤◌, ℕ, pos, true, List, [], ◌∷◌, ◌++◌, length, map, codes, Option, Ok}
+use Rattle.std.specs.Prelude.{◌≡◌, ◌+◌, ◌≤◌, ◌⊎◌, ℕ, pos, Bool, true, is_some, List, [], ◌∷◌, ◌++◌, length, map, codes, Option, Ok}
 use Rattle.std.specs.List.{AllByRecursion, concat}
 use Rattle.sqlite.specs.Store.{Ghosts}
 use Rattle.sqlite.specs.Order.{Row}
-use Rattle.sqlite.specs.State.{Executes, IsUnchanged, Shown}
+use Rattle.sqlite.specs.State.{Executes, IsUnchanged, Shown, FailsToQuery, IsTooLate, IsRolledBack}
+use Rattle.sqlite.specs.declared.error.Error.{Error}
 use Rattle.sqlite.specs.Held.{Held, state}
 use Rattle.sqlite.specs.Listing.{understood}
 use Rattle.sqlite.specs.Outline.{Outline}
@@ -13,7 +14,7 @@ use Rattle.office_base.specs.StepNumbers.{step_number}
 use Rattle.keeper_mem.specs.declared.rows.AnswerRow.{AnswerRow}
 use Rattle.keeper_mem.specs.declared.rows.AllotRow.{AllotRow}
 use Rattle.keeper_mem.specs.declared.rows.RaiseRow.{RaiseRow}
-use Rattle.keeper_sqlite.specs.Columns.{IsPhaseRow, TellsKey}
+use Rattle.keeper_sqlite.specs.Columns.{IsPhaseRow, TellsPhase, TellsKey}
 use Rattle.keeper_sqlite.specs.Rising.{are_rising}
 use Rattle.keeper_sqlite.specs.declared.rising.Key.{Key}
 use Rattle.keeper_sqlite.specs.Numbers.{choice_number}
@@ -156,6 +157,32 @@ module _ {S : Type 0} (g : Ghosts S) where
     pub short : AllByRecursion (λ part. length part ≤ 65536) parts
     pub done : DidAll (calls parts) old new
 
+  -- the query of this text, without values, was refused
+  abbrev pub IsRefused : List ℕ → Held S → Held S → Type 0
+  IsRefused text old new = (error : Error) × (FailsToQuery text [] (state g old) (state g new) error ⊎ IsTooLate text [] (state g old) (state g new) error)
+
+  -- the phase told of this season, or of none
+  pub record TellsPhaseOf (found : Option ℕ) (old new : Held S) : Type 0 where
+    pub rows : List Row
+    pub tells : TellsPhase rows found
+    pub asked : DidAll (Asks phase_query rows ∷ []) old new
+
+  -- a season is there, exactly where the phase told of one
+  pub record TellsSeason (found : Bool) (old new : Held S) : Type 0 where
+    pub cuts : Option ℕ
+    pub is : found ≡ is_some cuts
+    pub told : TellsPhaseOf cuts old new
+
+  -- the phase told rows that are neither none nor the one of a season
+  pub record TellsNoPhase (old new : Held S) : Type 0 where
+    pub rows : List Row
+    pub none : (found : Option ℕ) → ¬ TellsPhase rows found
+    pub asked : DidAll (Asks phase_query rows ∷ []) old new
+
+  -- the phase was not read: the query was refused, or told rows that are no phase
+  abbrev pub LosesPhase : Held S → Held S → Type 0
+  LosesPhase old new = IsRefused phase_query old new ⊎ TellsNoPhase old new
+
   -- the phase told one row, with the number of the cuts
   pub record ToldPhase (made : ℕ) (old new : Held S) : Type 0 where
     pub row : Row
@@ -193,3 +220,9 @@ module _ {S : Type 0} (g : Ghosts S) where
     pub done : Done (record old { in_transaction = true }) last
     pub shown : (state g new).now ≡ (state g last).now
     pub committed : (state g new).committed ≡ (state g last).now
+
+  -- A transaction began, this was done in it, and it was rolled back.
+  pub record Looks (Done : Held S → Held S → Type 0) (old new : Held S) : Type 0 where
+    pub last : Held S
+    pub done : Done (record old { in_transaction = true }) last
+    pub undone : IsRolledBack (state g last) (state g new)

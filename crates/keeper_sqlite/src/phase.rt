@@ -1,12 +1,11 @@
 // The table of one row that says that a season is there, and how many cuts were made.
-ghost use Rattle.std.specs.Prelude.{◌≡◌, ℕ, List, [], ◌∷◌, IfOk, IfErr, OnOk};
-ghost use Rattle.sqlite.specs.Order.{Row as Values};
+ghost use Rattle.std.specs.Prelude.{◌≡◌, ℕ, Option, [], ◌∷◌, IfOk, IfErr, OnOk};
 ghost use Rattle.sqlite.specs.State.{HasCleanDisk};
 ghost use Rattle.keeper_sqlite.specs.Halts.{WantsMemory};
 ghost use Rattle.keeper_sqlite.specs.Columns.{IsPhaseRow, TellsPhase};
 ghost use Rattle.sqlite.specs.Held.{state};
 ghost use Rattle.keeper_sqlite.specs.Commits.{CommitsNothing};
-ghost use Rattle.keeper_sqlite.specs.Kept.{DidAll, phase_table, phase_query, cuts_text, cuts_values, opening_text, opening_values};
+ghost use Rattle.keeper_sqlite.specs.Kept.{DidAll, TellsPhaseOf, LosesPhase, phase_table, phase_query, cuts_text, cuts_values, opening_text, opening_values};
 ghost use Rattle.keeper_sqlite.specs.Kept.Call.{Runs, Asks};
 
 use crate::calls::{ask, expect_none, run};
@@ -69,8 +68,8 @@ pub(crate) fn upsert<S: Alter>(tx: &mut Transaction<'_, S>, cuts: u16) -> Result
 pub(crate) fn read<S: Alter>(tx: &mut Transaction<'_, S>) -> Result<Option<u16>, Halt>
     ensures same_reference { tx.new.conn.ghost_name ≡ tx.old.conn.ghost_name }
     ensures inside { CommitsNothing (state S.Store tx.old.conn.now) (state S.Store tx.new.conn.now) }
-    ensures told { HasCleanDisk (state S.Store tx.new.conn.now)
-        → IfOk result (λ found. (rows : List Values) × TellsPhase rows found × DidAll S.Store (Asks phase_query rows ∷ []) tx.old.conn.now tx.new.conn.now) }
+    ensures told { HasCleanDisk (state S.Store tx.new.conn.now) → IfOk result (λ found. TellsPhaseOf S.Store found tx.old.conn.now tx.new.conn.now) }
+    ensures lost { HasCleanDisk (state S.Store tx.new.conn.now) → IfErr result (λ halt. ¬ WantsMemory halt → LosesPhase S.Store tx.old.conn.now tx.new.conn.now) }
 {
     phase_of(&ask(tx, "SELECT id, cuts FROM phase ORDER BY id")?)
 }
@@ -78,6 +77,7 @@ pub(crate) fn read<S: Alter>(tx: &mut Transaction<'_, S>) -> Result<Option<u16>,
 /// The number of cuts in the rows of the table.
 fn phase_of(rows: &[Row]) -> Result<Option<u16>, Halt>
     ensures ok { IfOk result (TellsPhase rows.now) }
+    ensures err { IfErr result (λ halt. ¬ WantsMemory halt → (found : Option ℕ) → ¬ TellsPhase rows.now found) }
 {
     match rows {
         [] => Ok(None),

@@ -1,9 +1,10 @@
 // The transactions of a keeper: what each method does to the tables, all of it or nothing.
-ghost use Rattle.std.specs.Prelude.{◌≡◌, ◌+◌, [], ◌∷◌, take, drop, false, Ok, IsTrue, IfOk, OnOk};
+ghost use Rattle.std.specs.Prelude.{◌≡◌, ◌+◌, [], ◌∷◌, take, drop, false, Ok, IsTrue, IfOk, IfErr, OnOk, OnErr, ◌⊎◌};
 ghost use Rattle.sqlite.specs.State.{HasCleanDisk};
 ghost use Rattle.sqlite.specs.Held.{state};
+ghost use Rattle.keeper_sqlite.specs.Halts.{WantsMemory};
 ghost use Rattle.keeper_sqlite.specs.Commits.{CommitsNothing, CommitsShown, CommitsOnce};
-ghost use Rattle.keeper_sqlite.specs.Kept.{Keeps, Makes, MakesCut, ToldPhase, AreAbove, PutsText, DidAll, seat_calls, season_calls, unanswered_calls, any_row_queries, plain_calls, table_texts, season_table, phase_table, answer_table, lift_table, allot_table};
+ghost use Rattle.keeper_sqlite.specs.Kept.{Keeps, Looks, TellsSeason, LosesPhase, Makes, MakesCut, ToldPhase, AreAbove, PutsText, DidAll, seat_calls, season_calls, unanswered_calls, any_row_queries, plain_calls, table_texts, season_table, phase_table, answer_table, lift_table, allot_table};
 
 use crate::halt::Halt;
 use crate::rising::are_rising;
@@ -29,7 +30,8 @@ pub(crate) enum Change<'a> {
 
 /// Tests that nobody else is in a transaction.
 fn expect_free<S: Alter>(connection: &Connection<S>) -> Result<(), Halt>
-    ensures { OnOk result (connection.now.in_transaction ≡ false) }
+    ensures ok { OnOk result (connection.now.in_transaction ≡ false) }
+    ensures err { OnErr result (IsTrue connection.now.in_transaction) }
 {
     if connection.is_autocommit() {
         Ok(())
@@ -109,11 +111,25 @@ fn make_row_tables<S: Alter>(tx: &mut Transaction<'_, S>) -> Result<(), Halt>
 
 /// Whether a season is kept.
 pub(crate) fn has_season<S: Alter>(connection: &mut Connection<S>) -> Result<bool, Halt>
-    ensures { CommitsNothing (state S.Store connection.old) (state S.Store connection.new) }
+    ensures nothing { CommitsNothing (state S.Store connection.old) (state S.Store connection.new) }
+    ensures found { HasCleanDisk (state S.Store connection.new) → IfOk result (λ found. Looks S.Store (TellsSeason S.Store found) connection.old connection.new) }
+    ensures lost { HasCleanDisk (state S.Store connection.new)
+        → IfErr result (λ halt. ¬ WantsMemory halt → IsTrue connection.old.in_transaction ⊎ Looks S.Store (LosesPhase S.Store) connection.old connection.new) }
 {
     expect_free(connection)?;
     let mut tx = connection.transaction();
-    Ok(phase::read(&mut tx)?.is_some())
+    let found = look_for_season(&mut tx);
+    tx.rollback();
+    found
+}
+
+fn look_for_season<S: Alter>(tx: &mut Transaction<'_, S>) -> Result<bool, Halt>
+    ensures same_reference { tx.new.conn.ghost_name ≡ tx.old.conn.ghost_name }
+    ensures inside { CommitsNothing (state S.Store tx.old.conn.now) (state S.Store tx.new.conn.now) }
+    ensures told { HasCleanDisk (state S.Store tx.new.conn.now) → IfOk result (λ found. TellsSeason S.Store found tx.old.conn.now tx.new.conn.now) }
+    ensures lost { HasCleanDisk (state S.Store tx.new.conn.now) → IfErr result (λ halt. ¬ WantsMemory halt → LosesPhase S.Store tx.old.conn.now tx.new.conn.now) }
+{
+    Ok(phase::read(tx)?.is_some())
 }
 
 fn write_season<S: Alter>(tx: &mut Transaction<'_, S>, text: &[u8]) -> Result<(), Halt>
