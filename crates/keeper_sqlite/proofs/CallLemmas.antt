@@ -1,7 +1,8 @@
 -- Calls that follow one another in a transaction.
-use Rattle.std.proofs.Common.{◌≡◌, ◌+◌, ◌<◌, ◌≤◌, ◌∙◌, ap, ℕ, drop, get_or, length, false, List, [], ◌∷◌, ◌++◌, Option, Some, None, Result, Ok, Err, IsTrue, IfOk, IfErr, OnOk, Bool, is_some, sym, subst, refl, inl, inr, arith}
+use Rattle.std.proofs.Common.{◌≡◌, ◌+◌, ◌<◌, ◌≤◌, ◌∙◌, ap, append-nil, append_assoc, ℕ, take, drop, get_or, length, false, List, [], ◌∷◌, ◌++◌, Option, Some, None, Result, Ok, Err, IsTrue, IfOk, IfErr, OnOk, Bool, is_some, sym, subst, refl, inl, inr, arith}
 use Rattle.std.proofs.lemmas.Bool.{cases_Bool}
-use Rattle.std.proofs.lemmas.List.{drop_more}
+use Rattle.std.proofs.lemmas.List.{drop_more, take_more}
+use Rattle.std.specs.List.{AllZip, concat}
 use Rattle.std.specs.Result.{result_ok}
 use Rattle.sqlite.specs.Store.{Ghosts}
 use Rattle.sqlite.specs.Order.{Row}
@@ -11,9 +12,10 @@ use Rattle.sqlite.specs.declared.error.Error.{Error}
 use Rattle.sqlite.specs.declared.error.Error.TheVariants.{SqliteFailure}
 use Rattle.sqlite.specs.declared.error.ErrorCode.TheVariants.{TransactionState}
 use Rattle.keeper_mem.specs.declared.rows.AllotRow.{AllotRow}
-use Rattle.keeper_sqlite.specs.Columns.{IsPhaseRow, TellsPhase}
+use Rattle.keeper_mem.specs.declared.rows.Kept.{Kept}
+use Rattle.keeper_sqlite.specs.Columns.{IsPhaseRow, IsPartRow, IsAnswerRow, IsRaiseRow, IsAllotRow, TellsPhase}
 use Rattle.keeper_sqlite.specs.Commits.{CommitsNothing}
-use Rattle.keeper_sqlite.specs.Kept.{Call, DidAll, TellsPhaseOf, TellsSeason, LosesPhase, MakesCut, ToldPhase, AreAbove, PutsText, seat_calls, allot_calls, allot_values, phase_query, part_text, part_values, part_calls, text_calls, season_calls, unanswered_calls, any_row_queries, opening_text, opening_values}
+use Rattle.keeper_sqlite.specs.Kept.{Call, DidAll, TellsRecords, TellsText, TellsTables, TellsKept, text_query, answers_query, raises_query, allots_query, TellsPhaseOf, TellsSeason, LosesPhase, MakesCut, ToldPhase, AreAbove, PutsText, seat_calls, allot_calls, allot_values, phase_query, part_text, part_values, part_calls, text_calls, season_calls, unanswered_calls, any_row_queries, opening_text, opening_values}
 use Rattle.keeper_sqlite.specs.Kept.Call.{Runs, Asks, Readies}
 use Rattle.keeper_sqlite.specs.Halts.{WantsMemory}
 use Rattle.keeper_sqlite.specs.declared.halt.Halt.{Halt}
@@ -202,3 +204,64 @@ season_put {S} g text old one two new empty put (Ok none) is_empty is_put first 
       done = did_then g (unanswered_calls any_row_queries) (text_calls then.parts ++ Runs opening_text opening_values ∷ []) old one new (rw is_empty at (tested before))
           (did_then g (text_calls then.parts) (Runs opening_text opening_values ∷ []) one two new then.done (opened clean));
     }
+
+-- one more row, and the record that stands in it
+pub zip_push : {A B : Type 0} (R : A → B → Type 0) (xs : List A) (ys : List B) (x : A) (y : B) → AllZip R xs ys → R x y → AllZip R (xs ++ x ∷ []) (ys ++ y ∷ [])
+zip_push R [] [] x y all is = (is, tt)
+zip_push R [] (b ∷ ys) x y all is = absurd all
+zip_push R (a ∷ xs) [] x y all is = absurd all
+zip_push R (a ∷ xs) (b ∷ ys) x y all is = (all.0, zip_push R xs ys x y all.1 is)
+
+pub zip_more : {A B : Type 0} (R : A → B → Type 0) (xs : List A) (ys : List B) (i : ℕ) (x : A) (y : B) → i < length xs → x ≡ get_or xs i x → AllZip R (take i xs) ys → R x y
+    → AllZip R (take (i + 1) xs) (ys ++ y ∷ [])
+zip_more {A} {B} R xs ys i x y within at all is =
+    subst (λ (l : List A). AllZip R l (ys ++ y ∷ [])) (sym (take_more xs i x within)) (zip_push R (take i xs) ys (get_or xs i x) y all (subst (λ (a : A). R a y) at is))
+
+pub concat_push : (parts : List (List ℕ)) (part : List ℕ) → concat (parts ++ part ∷ []) ≡ concat parts ++ part
+concat_push [] part = append-nil part
+concat_push (first ∷ parts) part = ap (λ (l : List ℕ). first ++ l) (concat_push parts part) ∙ sym (append_assoc first (concat parts) part)
+
+pub part_joined : (rows : List Row) (text longer : List ℕ) (i : ℕ) (row : Row) → i < length rows → row ≡ get_or rows i row
+    → (parts : List (List ℕ)) × AllZip IsPartRow (take i rows) parts × (concat parts ≡ text) → (bytes : List ℕ) × IsPartRow row bytes × (longer ≡ text ++ bytes)
+    → (parts : List (List ℕ)) × AllZip IsPartRow (take (i + 1) rows) parts × (concat parts ≡ longer)
+part_joined rows text longer i row within is before next = (
+  before.0 ++ next.0 ∷ [],
+  zip_more IsPartRow rows before.0 i row next.0 within is before.1 next.1,
+  concat_push before.0 next.0 ∙ (ap (λ (l : List ℕ). l ++ next.0) before.2 ∙ sym next.2),
+)
+
+-- the rows that a query told, and what stands in them
+pub records_told : {S R : Type 0} (g : Ghosts S) (stands_in : Row → R → Type 0) (text : List ℕ) (rows seen : List Row) (old new : Held S) (ended : Result (List R) Halt) → seen ≡ rows
+    → (HasCleanDisk (state g new) → DidAll g (Asks text rows ∷ []) old new) → IfOk ended (AllZip stands_in seen)
+    → HasCleanDisk (state g new) → IfOk ended (λ records. TellsRecords g stands_in text records old new)
+records_told g stands_in text rows seen old new (Err halt) is asked stand clean = tt
+records_told g stands_in text rows seen old new (Ok records) is asked stand clean =
+    record { rows = rows; stand = subst (λ (r : List Row). AllZip stands_in r records) is stand; asked = asked clean }
+
+pub text_told : {S : Type 0} (g : Ghosts S) (rows seen : List Row) (old new : Held S) (ended : Result (List ℕ) Halt) → seen ≡ rows
+    → (HasCleanDisk (state g new) → DidAll g (Asks text_query rows ∷ []) old new) → IfOk ended (λ text. (parts : List (List ℕ)) × AllZip IsPartRow seen parts × (concat parts ≡ text))
+    → HasCleanDisk (state g new) → IfOk ended (λ text. TellsText g text old new)
+text_told g rows seen old new (Err halt) is asked stand clean = tt
+text_told g rows seen old new (Ok text) is asked stand clean =
+    record { parts = stand.0; joined = stand.2; told = record { rows = rows; stand = subst (λ (r : List Row). AllZip IsPartRow r stand.0) is stand.1; asked = asked clean } }
+
+-- the four tables in their order
+pub tables_told : {S : Type 0} (g : Ghosts S) (kept : Kept) (old one two three new : Held S) → CommitsNothing (state g one) (state g two) → CommitsNothing (state g two) (state g three)
+    → CommitsNothing (state g three) (state g new) → (HasCleanDisk (state g one) → TellsText g kept.season old one) → (HasCleanDisk (state g two) → TellsRecords g IsAnswerRow answers_query kept.answers one two)
+    → (HasCleanDisk (state g three) → TellsRecords g IsRaiseRow raises_query kept.raises two three) → (HasCleanDisk (state g new) → TellsRecords g IsAllotRow allots_query kept.allots three new)
+    → HasCleanDisk (state g new) → TellsTables g kept old new
+tables_told g kept old one two three new first second third season answers raises allots clean =
+    let later : HasCleanDisk (state g three) = omega (arith, clean, third.clean) in
+    let middle : HasCleanDisk (state g two) = omega (arith, later, second.clean) in
+    let before : HasCleanDisk (state g one) = omega (arith, middle, first.clean) in
+    record { one = one; two = two; three = three; season = season before; answers = answers middle; raises = raises later; allots = allots clean }
+
+-- the phase before them
+pub found_kept : {S : Type 0} (g : Ghosts S) (kept : Kept) (cuts : ℕ) (found : Option ℕ) (old mid new : Held S) → found ≡ Some cuts → kept.cuts ≡ cuts → CommitsNothing (state g mid) (state g new)
+    → (HasCleanDisk (state g mid) → TellsPhaseOf g found old mid) → (HasCleanDisk (state g new) → TellsTables g kept mid new) → HasCleanDisk (state g new) → TellsKept g (Some kept) old new
+found_kept {S} g kept cuts found old mid new is same nothing phase tables clean =
+    let was : HasCleanDisk (state g mid) = omega (arith, clean, nothing.clean) in
+    (mid, subst (λ (f : Option ℕ). TellsPhaseOf g f old mid) (is ∙ ap (λ (n : ℕ). Some n) (sym same)) (phase was), tables clean)
+
+pub none_kept : {S : Type 0} (g : Ghosts S) (found : Option ℕ) (old new : Held S) → found ≡ None → (HasCleanDisk (state g new) → TellsPhaseOf g found old new) → HasCleanDisk (state g new) → TellsKept g None old new
+none_kept {S} g found old new is phase clean = subst (λ (f : Option ℕ). TellsPhaseOf g f old new) is (phase clean)

@@ -1,6 +1,6 @@
 -- What a put keeps: which statement is run with which values, and that what it makes is committed.
-use Rattle.std.specs.Prelude.{◌≡◌, ◌+◌, ◌≤◌, ◌⊎◌, ℕ, pos, Bool, true, is_some, List, [], ◌∷◌, ◌++◌, length, map, codes, Option, Ok}
-use Rattle.std.specs.List.{AllByRecursion, concat}
+use Rattle.std.specs.Prelude.{◌≡◌, ◌+◌, ◌≤◌, ◌⊎◌, ℕ, pos, Bool, true, is_some, List, [], ◌∷◌, ◌++◌, length, map, codes, Option, Some, None, Ok}
+use Rattle.std.specs.List.{AllByRecursion, AllZip, concat}
 use Rattle.sqlite.specs.Store.{Ghosts}
 use Rattle.sqlite.specs.Order.{Row}
 use Rattle.sqlite.specs.State.{Executes, IsUnchanged, Shown, FailsToQuery, IsTooLate, IsRolledBack}
@@ -14,7 +14,8 @@ use Rattle.office_base.specs.StepNumbers.{step_number}
 use Rattle.keeper_mem.specs.declared.rows.AnswerRow.{AnswerRow}
 use Rattle.keeper_mem.specs.declared.rows.AllotRow.{AllotRow}
 use Rattle.keeper_mem.specs.declared.rows.RaiseRow.{RaiseRow}
-use Rattle.keeper_sqlite.specs.Columns.{IsPhaseRow, TellsPhase, TellsKey}
+use Rattle.keeper_mem.specs.declared.rows.Kept.{Kept}
+use Rattle.keeper_sqlite.specs.Columns.{IsPhaseRow, IsPartRow, IsAnswerRow, IsRaiseRow, IsAllotRow, TellsPhase, TellsKey}
 use Rattle.keeper_sqlite.specs.Rising.{are_rising}
 use Rattle.keeper_sqlite.specs.declared.rising.Key.{Key}
 use Rattle.keeper_sqlite.specs.Numbers.{choice_number}
@@ -67,6 +68,19 @@ part_values part bytes = Int (pos part) ∷ Blob bytes ∷ []
 -- whether a row stands, in each of the five tables
 abbrev pub any_row_queries : List (List ℕ)
 any_row_queries = phase_query ∷ codes "SELECT part FROM season LIMIT 1" ∷ codes "SELECT seq FROM answer LIMIT 1" ∷ codes "SELECT seq FROM lift LIMIT 1" ∷ codes "SELECT rnd FROM allot LIMIT 1" ∷ []
+
+-- all parts of the text, answers, raises and published seats, each in their order
+abbrev pub text_query : List ℕ
+text_query = codes "SELECT part, bytes FROM season ORDER BY part"
+
+abbrev pub answers_query : List ℕ
+answers_query = codes "SELECT seq, win, cand, turn, choice FROM answer ORDER BY seq"
+
+abbrev pub raises_query : List ℕ
+raises_query = codes "SELECT seq, win, prog, step, seats FROM lift ORDER BY seq"
+
+abbrev pub allots_query : List ℕ
+allots_query = codes "SELECT rnd, cand, prog, step FROM allot ORDER BY rnd, cand"
 
 -- the last key of the published seats
 abbrev pub key_query : List ℕ
@@ -220,6 +234,33 @@ module _ {S : Type 0} (g : Ghosts S) where
     pub done : Done (record old { in_transaction = true }) last
     pub shown : (state g new).now ≡ (state g last).now
     pub committed : (state g new).committed ≡ (state g last).now
+
+  -- the query told a row for each record, in their order, in which it stands
+  pub record TellsRecords {R : Type 0} (stands_in : Row → R → Type 0) (text : List ℕ) (records : List R) (old new : Held S) : Type 0 where
+    pub rows : List Row
+    pub stand : AllZip stands_in rows records
+    pub asked : DidAll (Asks text rows ∷ []) old new
+
+  -- the query told a row for each part, and the parts joined are the text
+  pub record TellsText (text : List ℕ) (old new : Held S) : Type 0 where
+    pub parts : List (List ℕ)
+    pub joined : concat parts ≡ text
+    pub told : TellsRecords IsPartRow text_query parts old new
+
+  -- the text, the answers, the raises and the published seats were asked in this order, and told these records
+  pub record TellsTables (kept : Kept) (old new : Held S) : Type 0 where
+    pub one : Held S
+    pub two : Held S
+    pub three : Held S
+    pub season : TellsText kept.season old one
+    pub answers : TellsRecords IsAnswerRow answers_query kept.answers one two
+    pub raises : TellsRecords IsRaiseRow raises_query kept.raises two three
+    pub allots : TellsRecords IsAllotRow allots_query kept.allots three new
+
+  -- the phase told of no season, or of the number of cuts of these records, and then the other tables of the rest
+  abbrev pub TellsKept : Option Kept → Held S → Held S → Type 0
+  TellsKept None old new = TellsPhaseOf None old new
+  TellsKept (Some kept) old new = (mid : Held S) × TellsPhaseOf (Some kept.cuts) old mid × TellsTables kept mid new
 
   -- A transaction began, this was done in it, and it was rolled back.
   pub record Looks (Done : Held S → Held S → Type 0) (old new : Held S) : Type 0 where

@@ -3,11 +3,11 @@ ghost use Rattle.std.specs.Prelude.{◌≡◌, List, [], ◌∷◌, codes, IfOk,
 ghost use Rattle.sqlite.specs.Order.{Row as Values};
 ghost use Rattle.sqlite.specs.State.{HasCleanDisk};
 ghost use Rattle.keeper_sqlite.specs.Halts.{WantsMemory};
-ghost use Rattle.keeper_sqlite.specs.Columns.{IsKeyRow, TellsKey};
+ghost use Rattle.keeper_sqlite.specs.Columns.{IsAllotRow, IsKeyRow, TellsKey};
 ghost use Rattle.keeper_sqlite.specs.declared.rising.Key.{Key};
 ghost use Rattle.sqlite.specs.Held.{state};
 ghost use Rattle.keeper_sqlite.specs.Commits.{CommitsNothing};
-ghost use Rattle.keeper_sqlite.specs.Kept.{DidAll, allot_table, allot_text, allot_values, allot_calls, key_query};
+ghost use Rattle.keeper_sqlite.specs.Kept.{DidAll, TellsRecords, allots_query, allot_table, allot_text, allot_values, allot_calls, key_query};
 ghost use Rattle.keeper_sqlite.specs.Kept.Call.{Runs, Asks, Readies};
 
 use crate::calls::{ask, expect_none, make_ready, run, run_ready};
@@ -133,17 +133,16 @@ pub(crate) fn read_all<S: Alter>(
 ) -> Result<AllotRows, Halt>
     ensures same_reference { tx.new.conn.ghost_name ≡ tx.old.conn.ghost_name }
     ensures inside { CommitsNothing (state S.Store tx.old.conn.now) (state S.Store tx.new.conn.now) }
+    ensures told { HasCleanDisk (state S.Store tx.new.conn.now) → IfOk result (λ records. TellsRecords S.Store IsAllotRow allots_query records tx.old.conn.now tx.new.conn.now) }
 {
-    let rows = tx.query_all(
+    let rows = ask(
+        tx,
         "SELECT rnd, cand, prog, step FROM allot ORDER BY rnd, cand",
-        &[],
     )?;
     records_of(alloc, &rows)
 }
 
 impl Record for AllotRow {
-    ghost use Rattle.keeper_sqlite.specs.Columns.{IsAllotRow};
-
     ghost stands_in = { IsAllotRow };
 
     fn from_row(row: &Row) -> Result<AllotRow, Halt> {

@@ -4,7 +4,7 @@ ghost use Rattle.office_base.specs.Memory.{counted};
 ghost use Rattle.sqlite.specs.State.{HasCleanDisk};
 ghost use Rattle.sqlite.specs.Held.{state};
 ghost use Rattle.keeper_sqlite.specs.Commits.{CommitsNothing, CommitsOnce};
-ghost use Rattle.keeper_sqlite.specs.Kept.{Keeps, Looks, TellsSeason, LosesPhase, Makes, MakesCut, PutsText, Ran, DidAll, season_calls, plain_calls, table_texts, answer_text, answer_values, raise_text, raise_values};
+ghost use Rattle.keeper_sqlite.specs.Kept.{Keeps, Looks, TellsSeason, TellsKept, LosesPhase, Makes, MakesCut, PutsText, Ran, DidAll, season_calls, plain_calls, table_texts, answer_text, answer_values, raise_text, raise_values};
 ghost use Rattle.keeper_sqlite.specs.Halts.{keep_fault, faults_after};
 
 use crate::halt::Halt;
@@ -187,7 +187,13 @@ impl<S: Alter> Keeper for SqliteKeeper<S> {
         self.commit(Change::Cut(rows))
     }
 
-    fn load(&mut self, alloc: Global) -> Result<Option<Kept>, KeepFault> {
+    fn load(&mut self, alloc: Global) -> Result<Option<Kept>, KeepFault>
+        ensures count { self.old.faults ≤ self.new.faults }
+        ensures steady { ¬ IsErrOf result KeepFault.Failed → self.new.faults ≡ self.old.faults }
+        ensures counted { IsErrOf result KeepFault.Failed → self.new.faults ≡ counted self.old.faults }
+        ensures nothing { CommitsNothing (state S.Store self.old.connection) (state S.Store self.new.connection) }
+        ensures loaded { HasCleanDisk (state S.Store self.new.connection) → IfOk result (λ found. Looks S.Store (TellsKept S.Store found) self.old.connection self.new.connection) }
+    {
         let done = transactions::load(&mut self.connection, alloc);
         self.settle(done)
     }

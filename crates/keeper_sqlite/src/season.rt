@@ -1,14 +1,15 @@
 // The table of the season's text, in parts.
 ghost use Rattle.std.specs.Prelude.{◌≡◌, ◌+◌, ◌++◌, ℕ, List, [], ◌∷◌, codes, IfOk, OnErr, IfErr, OnOk};
+ghost use Rattle.std.specs.List.{AllZip, concat};
 ghost use Rattle.keeper_sqlite.specs.Halts.{WantsMemory};
 ghost use Rattle.keeper_sqlite.specs.Columns.{IsPartRow};
 ghost use Rattle.sqlite.specs.State.{HasCleanDisk};
 ghost use Rattle.sqlite.specs.Held.{state};
 ghost use Rattle.keeper_sqlite.specs.Commits.{CommitsNothing};
-ghost use Rattle.keeper_sqlite.specs.Kept.{DidAll, PutsText, season_table, text_calls, part_calls, part_values};
+ghost use Rattle.keeper_sqlite.specs.Kept.{DidAll, PutsText, TellsText, season_table, text_calls, part_calls, part_values};
 ghost use Rattle.keeper_sqlite.specs.Kept.Call.{Runs, Asks};
 
-use crate::calls::{expect_none, make_ready, run, run_ready};
+use crate::calls::{ask, expect_none, make_ready, run, run_ready};
 use crate::halt::Halt;
 use office_base::{Listed, Text};
 use sqlite::types::ValueRef;
@@ -93,10 +94,17 @@ fn insert_part<S: Alter>(
 pub(crate) fn read_text<S: Alter>(tx: &mut Transaction<'_, S>, alloc: Global) -> Result<Text, Halt>
     ensures same_reference { tx.new.conn.ghost_name ≡ tx.old.conn.ghost_name }
     ensures inside { CommitsNothing (state S.Store tx.old.conn.now) (state S.Store tx.new.conn.now) }
+    ensures told { HasCleanDisk (state S.Store tx.new.conn.now) → IfOk result (λ text. TellsText S.Store text tx.old.conn.now tx.new.conn.now) }
 {
-    let rows = tx.query_all("SELECT part, bytes FROM season ORDER BY part", &[])?;
+    let rows = ask(tx, "SELECT part, bytes FROM season ORDER BY part")?;
+    text_of(alloc, &rows)
+}
+
+fn text_of(alloc: Global, rows: &[Row]) -> Result<Text, Halt>
+    ensures ok { IfOk result (λ text. (parts : List (List ℕ)) × AllZip IsPartRow rows.now parts × (concat parts ≡ text)) }
+{
     let mut text = Listed::new(alloc);
-    for row in &rows {
+    for row in rows {
         push_part(&mut text, row)?;
     }
     Ok(text)

@@ -4,7 +4,7 @@ ghost use Rattle.sqlite.specs.State.{HasCleanDisk};
 ghost use Rattle.sqlite.specs.Held.{state};
 ghost use Rattle.keeper_sqlite.specs.Halts.{WantsMemory};
 ghost use Rattle.keeper_sqlite.specs.Commits.{CommitsNothing, CommitsShown, CommitsOnce};
-ghost use Rattle.keeper_sqlite.specs.Kept.{Keeps, Looks, TellsSeason, LosesPhase, Makes, MakesCut, ToldPhase, AreAbove, PutsText, DidAll, seat_calls, season_calls, unanswered_calls, any_row_queries, plain_calls, table_texts, season_table, phase_table, answer_table, lift_table, allot_table};
+ghost use Rattle.keeper_sqlite.specs.Kept.{Keeps, Looks, TellsSeason, TellsKept, TellsTables, LosesPhase, Makes, MakesCut, ToldPhase, AreAbove, PutsText, DidAll, seat_calls, season_calls, unanswered_calls, any_row_queries, plain_calls, table_texts, season_table, phase_table, answer_table, lift_table, allot_table};
 
 use crate::halt::Halt;
 use crate::rising::are_rising;
@@ -229,16 +229,20 @@ pub(crate) fn load<S: Alter>(
     connection: &mut Connection<S>,
     alloc: Global,
 ) -> Result<Option<Kept>, Halt>
-    ensures { CommitsNothing (state S.Store connection.old) (state S.Store connection.new) }
+    ensures nothing { CommitsNothing (state S.Store connection.old) (state S.Store connection.new) }
+    ensures loaded { HasCleanDisk (state S.Store connection.new) → IfOk result (λ found. Looks S.Store (TellsKept S.Store found) connection.old connection.new) }
 {
     expect_free(connection)?;
     let mut tx = connection.transaction();
-    read_records(&mut tx, alloc)
+    let found = read_records(&mut tx, alloc);
+    tx.rollback();
+    found
 }
 
 fn read_records<S: Alter>(tx: &mut Transaction<'_, S>, alloc: Global) -> Result<Option<Kept>, Halt>
     ensures same_reference { tx.new.conn.ghost_name ≡ tx.old.conn.ghost_name }
     ensures inside { CommitsNothing (state S.Store tx.old.conn.now) (state S.Store tx.new.conn.now) }
+    ensures told { HasCleanDisk (state S.Store tx.new.conn.now) → IfOk result (λ found. TellsKept S.Store found tx.old.conn.now tx.new.conn.now) }
 {
     match phase::read(tx)? {
         None => Ok(None),
@@ -249,6 +253,8 @@ fn read_records<S: Alter>(tx: &mut Transaction<'_, S>, alloc: Global) -> Result<
 fn read_kept<S: Alter>(tx: &mut Transaction<'_, S>, alloc: Global, cuts: u16) -> Result<Kept, Halt>
     ensures same_reference { tx.new.conn.ghost_name ≡ tx.old.conn.ghost_name }
     ensures inside { CommitsNothing (state S.Store tx.old.conn.now) (state S.Store tx.new.conn.now) }
+    ensures cuts { IfOk result (λ kept. kept.cuts ≡ cuts) }
+    ensures told { HasCleanDisk (state S.Store tx.new.conn.now) → IfOk result (λ kept. TellsTables S.Store kept tx.old.conn.now tx.new.conn.now) }
 {
     Ok(Kept {
         season: season::read_text(tx, alloc)?,
