@@ -1,6 +1,9 @@
 -- Calls that follow one another in a transaction.
-use Rattle.std.proofs.Common.{◌≡◌, ℕ, false, List, [], ◌∷◌, ◌++◌, Result, Ok, Err, IsTrue, OnOk, sym, subst, refl, inl, inr, arith}
+use Rattle.std.proofs.Common.{◌≡◌, ◌+◌, ◌<◌, ◌≤◌, ◌∙◌, ap, append-nil, append_assoc, ℕ, take, drop, get_or, length, false, List, [], ◌∷◌, ◌++◌, Option, Some, None, Result, Ok, Err, IsTrue, IfOk, IfErr, OnOk, Bool, is_some, sym, subst, refl, inl, inr, arith}
 use Rattle.std.proofs.lemmas.Bool.{cases_Bool}
+use Rattle.std.proofs.lemmas.List.{drop_more, take_more}
+use Rattle.std.specs.List.{AllZip, concat}
+use Rattle.std.specs.Result.{result_ok}
 use Rattle.sqlite.specs.Store.{Ghosts}
 use Rattle.sqlite.specs.Order.{Row}
 use Rattle.sqlite.specs.State.{HasCleanDisk, ExecutesInside}
@@ -8,9 +11,13 @@ use Rattle.sqlite.specs.Held.{Held, state}
 use Rattle.sqlite.specs.declared.error.Error.{Error}
 use Rattle.sqlite.specs.declared.error.Error.TheVariants.{SqliteFailure}
 use Rattle.sqlite.specs.declared.error.ErrorCode.TheVariants.{TransactionState}
+use Rattle.keeper_mem.specs.declared.rows.AllotRow.{AllotRow}
+use Rattle.keeper_mem.specs.declared.rows.Kept.{Kept}
+use Rattle.keeper_sqlite.specs.Columns.{IsPhaseRow, IsPartRow, IsAnswerRow, IsRaiseRow, IsAllotRow, TellsPhase}
 use Rattle.keeper_sqlite.specs.Commits.{CommitsNothing}
-use Rattle.keeper_sqlite.specs.Kept.{Call, DidAll}
-use Rattle.keeper_sqlite.specs.Kept.Call.{Runs}
+use Rattle.keeper_sqlite.specs.Kept.{Call, DidAll, TellsRecords, TellsText, TellsTables, TellsKept, text_query, answers_query, raises_query, allots_query, TellsPhaseOf, TellsSeason, LosesPhase, MakesCut, ToldPhase, AreAbove, PutsText, seat_calls, allot_calls, allot_values, phase_query, part_text, part_values, part_calls, text_calls, season_calls, unanswered_calls, any_row_queries, opening_text, opening_values}
+use Rattle.keeper_sqlite.specs.Kept.Call.{Runs, Asks, Readies}
+use Rattle.keeper_sqlite.specs.Halts.{WantsMemory}
 use Rattle.keeper_sqlite.specs.declared.halt.Halt.{Halt}
 
 -- A statement runs only inside a transaction.
@@ -38,3 +45,223 @@ pub both_done : {S : Type 0} (g : Ghosts S) (one two : List Call) (old mid new :
 both_done g one two old mid new first (Err halt) is nothing before after clean = tt
 both_done g one two old mid new first (Ok none) is nothing before after clean =
     let was : HasCleanDisk (state g mid) = omega (arith, nothing.clean) in did_then g one two old mid new (rw is at (before was)) (after clean)
+
+-- Of all calls since the beginning these are left.
+abbrev pub Leaves : {S : Type 0} → Ghosts S → List Call → List Call → Held S → Held S → Type 0
+Leaves {S} g all left old mid = HasCleanDisk (state g mid) → (last : Held S) → DidAll g left mid last → DidAll g all old last
+
+pub leaves_all : {S : Type 0} (g : Ghosts S) (all : List Call) (old : Held S) → Leaves g all all old old
+leaves_all g all old clean last done = done
+
+-- one of them is made
+pub leaves_fewer : {S : Type 0} (g : Ghosts S) (all left : List Call) (call : Call) (old mid next : Held S) → CommitsNothing (state g mid) (state g next)
+    → Leaves g all (call ∷ left) old mid → (HasCleanDisk (state g next) → DidAll g (call ∷ []) mid next) → Leaves g all left old next
+leaves_fewer g all left call old mid next nothing leaves made clean last done =
+    let was : HasCleanDisk (state g mid) = omega (arith, nothing.clean) in
+    leaves was last (did_then g (call ∷ []) left mid next last (made clean) done)
+
+pub leaves_none : {S : Type 0} (g : Ghosts S) (all : List Call) (old mid : Held S) → Leaves g all [] old mid → HasCleanDisk (state g mid) → DidAll g all old mid
+leaves_none g all old mid leaves clean = leaves clean mid refl
+
+-- one more seat is put
+pub seat_put : {S : Type 0} (g : Ghosts S) (text : List ℕ) (rows : List AllotRow) (i : ℕ) (d : AllotRow) (old mid next : Held S) → i < length rows → CommitsNothing (state g mid) (state g next)
+    → Leaves g (allot_calls text rows) (allot_calls text (drop i rows)) old mid → (HasCleanDisk (state g next) → DidAll g (Runs text (allot_values (get_or rows i d)) ∷ []) mid next)
+    → Leaves g (allot_calls text rows) (allot_calls text (drop (i + 1) rows)) old next
+seat_put {S} g text rows i d old mid next within nothing leaves made =
+    leaves_fewer g (allot_calls text rows) (allot_calls text (drop (i + 1) rows)) (Runs text (allot_values (get_or rows i d))) old mid next nothing
+    (subst (λ (left : List AllotRow). Leaves g (allot_calls text rows) (allot_calls text left) old mid) (drop_more rows i d within) leaves) made
+
+-- the test of the phase, the test of the rows and the puts
+pub cut_made : {S : Type 0} (g : Ghosts S) (rows : List AllotRow) (count : ℕ) (old one two new : Held S) (made : Result ℕ Halt) (above ended : Result (Unit {0}) Halt)
+    → made ≡ Ok count → above ≡ Ok tt → CommitsNothing (state g one) (state g two) → CommitsNothing (state g two) (state g new)
+    → (HasCleanDisk (state g one) → IfOk made (λ n. ToldPhase g n old one)) → (HasCleanDisk (state g two) → OnOk above (AreAbove g rows one two))
+    → (HasCleanDisk (state g new) → OnOk ended (DidAll g (seat_calls count rows) two new)) → HasCleanDisk (state g new) → OnOk ended (MakesCut g rows old new)
+cut_made g rows count old one two new made above (Err halt) is_made is_above first next phase keys puts clean = tt
+cut_made g rows count old one two new made above (Ok none) is_made is_above first next phase keys puts clean =
+    let was : HasCleanDisk (state g two) = omega (arith, next.clean) in
+    let before : HasCleanDisk (state g one) = omega (arith, was, first.clean) in
+    record { made = count; asked = one; tested = two; phase = rw is_made at (phase before); above = rw is_above at (keys was); put = puts clean }
+
+-- the same statement with the same values
+pub with_values : {S : Type 0} (g : Ghosts S) (text : List ℕ) (one two : Row) (old new : Held S) (done : Result (Unit {0}) Halt) → (HasCleanDisk (state g new) → OnOk done (DidAll g (Runs text one ∷ []) old new))
+    → one ≡ two → HasCleanDisk (state g new) → OnOk done (DidAll g (Runs text two ∷ []) old new)
+with_values g text one two old new (Err halt) ran is clean = tt
+with_values {S} g text one two old new (Ok none) ran is clean = subst (λ (values : Row). DidAll g (Runs text values ∷ []) old new) is (ran clean)
+
+-- what a query told, as it was read
+pub told_as : {S A : Type 0} (g : Ghosts S) (text : List ℕ) (rows seen : List Row) (P : List Row → A → Type 0) (old new : Held S) (ended : Result A Halt) → seen ≡ rows
+    → (HasCleanDisk (state g new) → DidAll g (Asks text rows ∷ []) old new) → IfOk ended (P seen)
+    → HasCleanDisk (state g new) → IfOk ended (λ found. (told : List Row) × P told found × DidAll g (Asks text told ∷ []) old new)
+told_as g text rows seen P old new (Err halt) is asked tells clean = tt
+told_as g text rows seen P old new (Ok found) is asked tells clean = (rows, subst (λ (r : List Row). P r found) is tells, asked clean)
+
+pub phase_told : {S : Type 0} (g : Ghosts S) (rows seen : List Row) (old new : Held S) (ended : Result (Option ℕ) Halt) → seen ≡ rows
+    → (HasCleanDisk (state g new) → DidAll g (Asks phase_query rows ∷ []) old new) → IfOk ended (TellsPhase seen)
+    → HasCleanDisk (state g new) → IfOk ended (λ found. TellsPhaseOf g found old new)
+phase_told g rows seen old new (Err halt) is asked tells clean = tt
+phase_told g rows seen old new (Ok found) is asked tells clean = record { rows = rows; tells = subst (λ (r : List Row). TellsPhase r found) is tells; asked = asked clean }
+
+pub phase_lost : {S : Type 0} (g : Ghosts S) (rows seen : List Row) (old new : Held S) (ended : Result (Option ℕ) Halt) → seen ≡ rows
+    → (HasCleanDisk (state g new) → DidAll g (Asks phase_query rows ∷ []) old new) → IfErr ended (λ halt. ¬ WantsMemory halt → (found : Option ℕ) → ¬ TellsPhase seen found)
+    → HasCleanDisk (state g new) → IfErr ended (λ halt. ¬ WantsMemory halt → LosesPhase g old new)
+phase_lost g rows seen old new (Ok found) is asked none clean = tt
+phase_lost g rows seen old new (Err halt) is asked none clean = λ enough.
+    inr (record { rows = rows; none = subst (λ (r : List Row). (found : Option ℕ) → ¬ TellsPhase r found) is (none enough); asked = asked clean })
+
+pub only_row : (rows : List Row) (row : Row) → 1 ≤ length rows → length rows < 2 → row ≡ get_or rows 0 row → rows ≡ row ∷ []
+only_row [] row least below is = absurd (omega (arith, least))
+only_row (a ∷ []) row least below is = ap (λ (r : Row). r ∷ []) (sym is)
+only_row (a ∷ b ∷ rows) row least below is = absurd (omega (arith, below))
+
+-- One row that is no phase tells of none.
+pub row_amiss : (rows : List Row) (row : Row) → rows ≡ row ∷ [] → ((cuts : ℕ) → ¬ IsPhaseRow row cuts) → (found : Option ℕ) → ¬ TellsPhase rows found
+row_amiss rows row is none None tells = let e : row ∷ [] ≡ [] = sym is ∙ tells in absurd (let f = e in cc)
+row_amiss rows row is none (Some made) tells =
+    let e : row ∷ [] ≡ tells.0 ∷ [] = sym is ∙ tells.1 in
+    let same : tells.0 ≡ row = (let f = e in cc) in
+    none made (subst (λ (r : Row). IsPhaseRow r made) same tells.2)
+
+-- a season is there where one is told
+pub season_told : {S : Type 0} (g : Ghosts S) (old new : Held S) (cuts : Option ℕ) (found : Bool) → found ≡ is_some cuts
+    → (HasCleanDisk (state g new) → TellsPhaseOf g cuts old new) → HasCleanDisk (state g new) → TellsSeason g found old new
+season_told g old new cuts found is told clean = record { cuts = cuts; is = is; told = told clean }
+
+pub none_told : {S : Type 0} (g : Ghosts S) (text : List ℕ) (rows seen : List Row) (old new : Held S) (ended : Result (Unit {0}) Halt) → seen ≡ rows
+    → (HasCleanDisk (state g new) → DidAll g (Asks text rows ∷ []) old new) → OnOk ended (seen ≡ []) → HasCleanDisk (state g new) → OnOk ended (DidAll g (Asks text [] ∷ []) old new)
+none_told g text rows seen old new (Err halt) is asked empty clean = tt
+none_told {S} g text rows seen old new (Ok none) is asked empty clean = subst (λ (r : List Row). DidAll g (Asks text r ∷ []) old new) (sym is ∙ empty) (asked clean)
+
+-- one row of the phase
+pub told_one : {S : Type 0} (g : Ghosts S) (old new : Held S) (found : Option ℕ) (ended : Result ℕ Halt) → found ≡ result_ok ended
+    → (HasCleanDisk (state g new) → TellsPhaseOf g found old new) → HasCleanDisk (state g new) → IfOk ended (λ made. ToldPhase g made old new)
+told_one g old new found (Err halt) is told clean = tt
+told_one {S} g old new found (Ok made) is told clean =
+    let it : TellsPhaseOf g (Some made) old new = subst (λ (f : Option ℕ). TellsPhaseOf g f old new) is (told clean) in
+    let one : TellsPhase it.rows (Some made) = it.tells in
+    record { row = one.0; is = one.2; asked = subst (λ (r : List Row). DidAll g (Asks phase_query r ∷ []) old new) one.1 it.asked }
+
+-- a statement is made ready, and then its calls are made
+pub ready_then : {S : Type 0} (g : Ghosts S) (text got : List ℕ) (calls : List ℕ → List Call) (old mid new : Held S) (ended : Result (Unit {0}) Halt) → CommitsNothing (state g mid) (state g new)
+    → (HasCleanDisk (state g mid) → (got ≡ text) × DidAll g (Readies text ∷ []) old mid) → (HasCleanDisk (state g new) → OnOk ended (DidAll g (calls got) mid new))
+    → HasCleanDisk (state g new) → OnOk ended (DidAll g (Readies text ∷ calls text) old new)
+ready_then g text got calls old mid new (Err halt) nothing ready made clean = tt
+ready_then {S} g text got calls old mid new (Ok none) nothing ready made clean =
+    let was : HasCleanDisk (state g mid) = omega (arith, nothing.clean) in
+    let first = ready was in
+    did_then g (Readies text ∷ []) (calls text) old mid new first.1 (subst (λ (t : List ℕ). DidAll g (calls t) mid new) first.0 (made clean))
+
+-- Of a text that is put in parts, which are numbered on from here, this is left.
+abbrev pub LeavesText : {S : Type 0} → Ghosts S → List ℕ → List ℕ → ℕ → List ℕ → Held S → Held S → Type 0
+LeavesText {S} g insert text number rest old mid =
+    HasCleanDisk (state g mid) → (last : Held S) → PutsText g (part_calls insert number) rest mid last → PutsText g (part_calls insert 0) text old last
+
+pub leaves_text : {S : Type 0} (g : Ghosts S) (insert text : List ℕ) (old : Held S) → LeavesText g insert text 0 text old old
+leaves_text g insert text old clean last put = put
+
+-- one more part is put
+pub part_put : {S : Type 0} (g : Ghosts S) (insert text rest part after : List ℕ) (number next : ℕ) (old mid new : Held S) → rest ≡ part ++ after → length part ≤ 65536 → next ≡ number + 1
+    → CommitsNothing (state g mid) (state g new) → LeavesText g insert text number rest old mid → (HasCleanDisk (state g new) → DidAll g (Runs insert (part_values number part) ∷ []) mid new)
+    → LeavesText g insert text next after old new
+part_put {S} g insert text rest part after number next old mid new cut short is nothing leaves made clean last put =
+    let was : HasCleanDisk (state g mid) = omega (arith, nothing.clean) in
+    let later : DidAll g (part_calls insert (number + 1) put.parts) new last = subst (λ (n : ℕ). DidAll g (part_calls insert n put.parts) new last) is put.done in
+    leaves was last (record {
+      parts = part ∷ put.parts;
+      joined = ap (λ (bytes : List ℕ). part ++ bytes) put.joined ∙ sym cut;
+      short = (short, put.short);
+      done = did_then g (Runs insert (part_values number part) ∷ []) (part_calls insert (number + 1) put.parts) mid new last (made clean) later;
+    })
+
+pub text_put : {S : Type 0} (g : Ghosts S) (insert text rest : List ℕ) (number : ℕ) (old mid : Held S) → rest ≡ [] → LeavesText g insert text number rest old mid → HasCleanDisk (state g mid)
+    → PutsText g (part_calls insert 0) text old mid
+text_put g insert text rest number old mid none leaves clean = leaves clean mid (record { parts = []; joined = sym none; short = tt; done = refl })
+
+-- the statement for the parts is made ready before
+pub text_ready : {S : Type 0} (g : Ghosts S) (got text : List ℕ) (old mid new : Held S) (ended : Result (Unit {0}) Halt) → CommitsNothing (state g mid) (state g new)
+    → (HasCleanDisk (state g mid) → (got ≡ part_text) × DidAll g (Readies part_text ∷ []) old mid) → (HasCleanDisk (state g new) → OnOk ended (PutsText g (part_calls got 0) text mid new))
+    → HasCleanDisk (state g new) → OnOk ended (PutsText g text_calls text old new)
+text_ready g got text old mid new (Err halt) nothing ready put clean = tt
+text_ready {S} g got text old mid new (Ok none) nothing ready put clean =
+    let was : HasCleanDisk (state g mid) = omega (arith, nothing.clean) in
+    let first = ready was in
+    let then : PutsText g (part_calls part_text 0) text mid new = subst (λ (t : List ℕ). PutsText g (part_calls t 0) text mid new) first.0 (put clean) in
+    record { parts = then.parts; joined = then.joined; short = then.short; done = did_then g (Readies part_text ∷ []) (part_calls part_text 0 then.parts) old mid new first.1 then.done }
+
+-- the test of the tables, the parts and the row of the phase
+pub season_put : {S : Type 0} (g : Ghosts S) (text : List ℕ) (old one two new : Held S) (empty put ended : Result (Unit {0}) Halt) → empty ≡ Ok tt → put ≡ Ok tt
+    → CommitsNothing (state g one) (state g two) → CommitsNothing (state g two) (state g new)
+    → (HasCleanDisk (state g one) → OnOk empty (DidAll g (unanswered_calls any_row_queries) old one)) → (HasCleanDisk (state g two) → OnOk put (PutsText g text_calls text one two))
+    → (HasCleanDisk (state g new) → OnOk ended (DidAll g (Runs opening_text opening_values ∷ []) two new)) → HasCleanDisk (state g new) → OnOk ended (PutsText g season_calls text old new)
+season_put g text old one two new empty put (Err halt) is_empty is_put first next tested parts opened clean = tt
+season_put {S} g text old one two new empty put (Ok none) is_empty is_put first next tested parts opened clean =
+    let was : HasCleanDisk (state g two) = omega (arith, next.clean) in
+    let before : HasCleanDisk (state g one) = omega (arith, was, first.clean) in
+    let then : PutsText g text_calls text one two = rw is_put at (parts was) in
+    record {
+      parts = then.parts;
+      joined = then.joined;
+      short = then.short;
+      done = did_then g (unanswered_calls any_row_queries) (text_calls then.parts ++ Runs opening_text opening_values ∷ []) old one new (rw is_empty at (tested before))
+          (did_then g (text_calls then.parts) (Runs opening_text opening_values ∷ []) one two new then.done (opened clean));
+    }
+
+-- one more row, and the record that stands in it
+pub zip_push : {A B : Type 0} (R : A → B → Type 0) (xs : List A) (ys : List B) (x : A) (y : B) → AllZip R xs ys → R x y → AllZip R (xs ++ x ∷ []) (ys ++ y ∷ [])
+zip_push R [] [] x y all is = (is, tt)
+zip_push R [] (b ∷ ys) x y all is = absurd all
+zip_push R (a ∷ xs) [] x y all is = absurd all
+zip_push R (a ∷ xs) (b ∷ ys) x y all is = (all.0, zip_push R xs ys x y all.1 is)
+
+pub zip_more : {A B : Type 0} (R : A → B → Type 0) (xs : List A) (ys : List B) (i : ℕ) (x : A) (y : B) → i < length xs → x ≡ get_or xs i x → AllZip R (take i xs) ys → R x y
+    → AllZip R (take (i + 1) xs) (ys ++ y ∷ [])
+zip_more {A} {B} R xs ys i x y within at all is =
+    subst (λ (l : List A). AllZip R l (ys ++ y ∷ [])) (sym (take_more xs i x within)) (zip_push R (take i xs) ys (get_or xs i x) y all (subst (λ (a : A). R a y) at is))
+
+pub concat_push : (parts : List (List ℕ)) (part : List ℕ) → concat (parts ++ part ∷ []) ≡ concat parts ++ part
+concat_push [] part = append-nil part
+concat_push (first ∷ parts) part = ap (λ (l : List ℕ). first ++ l) (concat_push parts part) ∙ sym (append_assoc first (concat parts) part)
+
+pub part_joined : (rows : List Row) (text longer : List ℕ) (i : ℕ) (row : Row) → i < length rows → row ≡ get_or rows i row
+    → (parts : List (List ℕ)) × AllZip IsPartRow (take i rows) parts × (concat parts ≡ text) → (bytes : List ℕ) × IsPartRow row bytes × (longer ≡ text ++ bytes)
+    → (parts : List (List ℕ)) × AllZip IsPartRow (take (i + 1) rows) parts × (concat parts ≡ longer)
+part_joined rows text longer i row within is before next = (
+  before.0 ++ next.0 ∷ [],
+  zip_more IsPartRow rows before.0 i row next.0 within is before.1 next.1,
+  concat_push before.0 next.0 ∙ (ap (λ (l : List ℕ). l ++ next.0) before.2 ∙ sym next.2),
+)
+
+-- the rows that a query told, and what stands in them
+pub records_told : {S R : Type 0} (g : Ghosts S) (stands_in : Row → R → Type 0) (text : List ℕ) (rows seen : List Row) (old new : Held S) (ended : Result (List R) Halt) → seen ≡ rows
+    → (HasCleanDisk (state g new) → DidAll g (Asks text rows ∷ []) old new) → IfOk ended (AllZip stands_in seen)
+    → HasCleanDisk (state g new) → IfOk ended (λ records. TellsRecords g stands_in text records old new)
+records_told g stands_in text rows seen old new (Err halt) is asked stand clean = tt
+records_told g stands_in text rows seen old new (Ok records) is asked stand clean =
+    record { rows = rows; stand = subst (λ (r : List Row). AllZip stands_in r records) is stand; asked = asked clean }
+
+pub text_told : {S : Type 0} (g : Ghosts S) (rows seen : List Row) (old new : Held S) (ended : Result (List ℕ) Halt) → seen ≡ rows
+    → (HasCleanDisk (state g new) → DidAll g (Asks text_query rows ∷ []) old new) → IfOk ended (λ text. (parts : List (List ℕ)) × AllZip IsPartRow seen parts × (concat parts ≡ text))
+    → HasCleanDisk (state g new) → IfOk ended (λ text. TellsText g text old new)
+text_told g rows seen old new (Err halt) is asked stand clean = tt
+text_told g rows seen old new (Ok text) is asked stand clean =
+    record { parts = stand.0; joined = stand.2; told = record { rows = rows; stand = subst (λ (r : List Row). AllZip IsPartRow r stand.0) is stand.1; asked = asked clean } }
+
+-- the four tables in their order
+pub tables_told : {S : Type 0} (g : Ghosts S) (kept : Kept) (old one two three new : Held S) → CommitsNothing (state g one) (state g two) → CommitsNothing (state g two) (state g three)
+    → CommitsNothing (state g three) (state g new) → (HasCleanDisk (state g one) → TellsText g kept.season old one) → (HasCleanDisk (state g two) → TellsRecords g IsAnswerRow answers_query kept.answers one two)
+    → (HasCleanDisk (state g three) → TellsRecords g IsRaiseRow raises_query kept.raises two three) → (HasCleanDisk (state g new) → TellsRecords g IsAllotRow allots_query kept.allots three new)
+    → HasCleanDisk (state g new) → TellsTables g kept old new
+tables_told g kept old one two three new first second third season answers raises allots clean =
+    let later : HasCleanDisk (state g three) = omega (arith, clean, third.clean) in
+    let middle : HasCleanDisk (state g two) = omega (arith, later, second.clean) in
+    let before : HasCleanDisk (state g one) = omega (arith, middle, first.clean) in
+    record { one = one; two = two; three = three; season = season before; answers = answers middle; raises = raises later; allots = allots clean }
+
+-- the phase before them
+pub found_kept : {S : Type 0} (g : Ghosts S) (kept : Kept) (cuts : ℕ) (found : Option ℕ) (old mid new : Held S) → found ≡ Some cuts → kept.cuts ≡ cuts → CommitsNothing (state g mid) (state g new)
+    → (HasCleanDisk (state g mid) → TellsPhaseOf g found old mid) → (HasCleanDisk (state g new) → TellsTables g kept mid new) → HasCleanDisk (state g new) → TellsKept g (Some kept) old new
+found_kept {S} g kept cuts found old mid new is same nothing phase tables clean =
+    let was : HasCleanDisk (state g mid) = omega (arith, clean, nothing.clean) in
+    (mid, subst (λ (f : Option ℕ). TellsPhaseOf g f old mid) (is ∙ ap (λ (n : ℕ). Some n) (sym same)) (phase was), tables clean)
+
+pub none_kept : {S : Type 0} (g : Ghosts S) (found : Option ℕ) (old new : Held S) → found ≡ None → (HasCleanDisk (state g new) → TellsPhaseOf g found old new) → HasCleanDisk (state g new) → TellsKept g None old new
+none_kept {S} g found old new is phase clean = subst (λ (f : Option ℕ). TellsPhaseOf g f old new) is (phase clean)

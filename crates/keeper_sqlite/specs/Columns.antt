@@ -1,5 +1,5 @@
 -- What a row of an answer stands for.
-use Rattle.std.specs.Prelude.{◌≡◌, ◌<◌, ◌^◌, ℕ, pos, List}
+use Rattle.std.specs.Prelude.{◌≡◌, ◌<◌, ◌^◌, ℕ, pos, List, [], ◌∷◌, slice_get, Option, Some, None}
 use Rattle.sqlite.specs.Order.{Row, column}
 use Rattle.sqlite.specs.declared.types.Value.TheVariants.{Int, Blob}
 use Rattle.office_base.specs.StepNumbers.{step_number}
@@ -59,6 +59,16 @@ pub record IsKeyRow (row : Row) (key : Key) : Type 0 where
 pub record IsPhaseRow (row : Row) (made : ℕ) : Type 0 where
   pub id : column row 0 ≡ Int (pos 1)
   pub cuts : Holds row 16 1 made
+
+-- no row tells of no season, and one row of the number of its cuts
+abbrev pub TellsPhase : List Row → Option ℕ → Type 0
+TellsPhase rows None = rows ≡ []
+TellsPhase rows (Some made) = (row : Row) × (rows ≡ row ∷ []) × IsPhaseRow row made
+
+-- no row tells of no key, and the first row of the last key
+abbrev pub TellsKey : List Row → Option Key → Type 0
+TellsKey rows None = rows ≡ []
+TellsKey rows (Some key) = (row : Row) × (slice_get rows 0 ≡ Some row) × IsKeyRow row key
 
 -- part, from 0, and bytes
 pub record IsPartRow (row : Row) (text : List ℕ) : Type 0 where

@@ -1,22 +1,23 @@
 // The table of published seats.
-ghost use Rattle.std.specs.Prelude.{◌≡◌, [], ◌∷◌, IfOk, IfErr, OnOk};
+ghost use Rattle.std.specs.Prelude.{◌≡◌, List, [], ◌∷◌, codes, IfOk, IfErr, OnOk};
+ghost use Rattle.sqlite.specs.Order.{Row as Values};
 ghost use Rattle.sqlite.specs.State.{HasCleanDisk};
 ghost use Rattle.keeper_sqlite.specs.Halts.{WantsMemory};
-ghost use Rattle.keeper_sqlite.specs.Columns.{IsKeyRow};
+ghost use Rattle.keeper_sqlite.specs.Columns.{IsAllotRow, IsKeyRow, TellsKey};
 ghost use Rattle.keeper_sqlite.specs.declared.rising.Key.{Key};
 ghost use Rattle.sqlite.specs.Held.{state};
 ghost use Rattle.keeper_sqlite.specs.Commits.{CommitsNothing};
-ghost use Rattle.keeper_sqlite.specs.Kept.{DidAll, allot_table};
-ghost use Rattle.keeper_sqlite.specs.Kept.Call.{Runs};
+ghost use Rattle.keeper_sqlite.specs.Kept.{DidAll, TellsRecords, allots_query, allot_table, allot_text, allot_values, allot_calls, key_query};
+ghost use Rattle.keeper_sqlite.specs.Kept.Call.{Runs, Asks, Readies};
 
-use crate::calls::run;
+use crate::calls::{ask, expect_none, make_ready, run, run_ready};
 use crate::columns::{number_at, small_number_at, step_at};
 use crate::halt::Halt;
-use crate::records::{Record, expect_none, records_of};
+use crate::records::{Record, records_of};
 use crate::rising::Key;
 use keeper_mem::{AllotRow, AllotRows};
 use office_base::{CandId, ProgId, step_number};
-use sqlite::{Alter, Row, Transaction, params};
+use sqlite::{Alter, Row, Statement, Transaction, params};
 use std::alloc::Global;
 
 /// Makes the table where it is not there.
@@ -36,42 +37,79 @@ pub(crate) fn create<S: Alter>(tx: &mut Transaction<'_, S>) -> Result<(), Halt>
 pub(crate) fn expect_empty<S: Alter>(tx: &mut Transaction<'_, S>) -> Result<(), Halt>
     ensures same_reference { tx.new.conn.ghost_name ≡ tx.old.conn.ghost_name }
     ensures inside { CommitsNothing (state S.Store tx.old.conn.now) (state S.Store tx.new.conn.now) }
+    ensures told { HasCleanDisk (state S.Store tx.new.conn.now) → OnOk result (DidAll S.Store (Asks (codes "SELECT rnd FROM allot LIMIT 1") [] ∷ []) tx.old.conn.now tx.new.conn.now) }
 {
-    expect_none(&tx.query_all("SELECT rnd FROM allot LIMIT 1", &[])?)
+    expect_none(tx, "SELECT rnd FROM allot LIMIT 1")
 }
 
-/// Puts rows, by one statement that is prepared once.
+/// Puts rows, by one statement that is made ready once.
 pub(crate) fn insert_all<S: Alter>(
     tx: &mut Transaction<'_, S>,
     rows: &[AllotRow],
 ) -> Result<(), Halt>
     ensures same_reference { tx.new.conn.ghost_name ≡ tx.old.conn.ghost_name }
     ensures inside { CommitsNothing (state S.Store tx.old.conn.now) (state S.Store tx.new.conn.now) }
+    ensures ran { HasCleanDisk (state S.Store tx.new.conn.now) → OnOk result (DidAll S.Store (Readies allot_text ∷ allot_calls allot_text rows.now) tx.old.conn.now tx.new.conn.now) }
 {
-    let insert = tx.prepare("INSERT INTO allot (rnd, cand, prog, step) VALUES (?1, ?2, ?3, ?4)")?;
+    let insert = make_ready(
+        tx,
+        "INSERT INTO allot (rnd, cand, prog, step) VALUES (?1, ?2, ?3, ?4)",
+    )?;
+    insert_each(tx, &insert, rows)
+}
+
+fn insert_each<S: Alter>(
+    tx: &mut Transaction<'_, S>,
+    insert: &Statement,
+    rows: &[AllotRow],
+) -> Result<(), Halt>
+    ensures same_reference { tx.new.conn.ghost_name ≡ tx.old.conn.ghost_name }
+    ensures inside { CommitsNothing (state S.Store tx.old.conn.now) (state S.Store tx.new.conn.now) }
+    ensures ran { HasCleanDisk (state S.Store tx.new.conn.now) → OnOk result (DidAll S.Store (allot_calls insert.now.text rows.now) tx.old.conn.now tx.new.conn.now) }
+{
     for row in rows {
-        tx.execute_prepared(
-            &insert,
-            params![
-                u32::from(row.round),
-                row.cand.0,
-                u32::from(row.prog.0),
-                u32::from(step_number(row.step))
-            ],
-        )?;
+        insert_one(tx, insert, *row)?;
     }
     Ok(())
+}
+
+fn insert_one<S: Alter>(
+    tx: &mut Transaction<'_, S>,
+    insert: &Statement,
+    row: AllotRow,
+) -> Result<(), Halt>
+    ensures same_reference { tx.new.conn.ghost_name ≡ tx.old.conn.ghost_name }
+    ensures inside { CommitsNothing (state S.Store tx.old.conn.now) (state S.Store tx.new.conn.now) }
+    ensures ran { HasCleanDisk (state S.Store tx.new.conn.now) → OnOk result (DidAll S.Store (Runs insert.now.text (allot_values row) ∷ []) tx.old.conn.now tx.new.conn.now) }
+{
+    run_ready(
+        tx,
+        insert,
+        params![
+            u32::from(row.round),
+            row.cand.0,
+            u32::from(row.prog.0),
+            u32::from(step_number(row.step))
+        ],
+    )
 }
 
 /// The last key by round and candidate, where a row stands.
 pub(crate) fn last_key<S: Alter>(tx: &mut Transaction<'_, S>) -> Result<Option<Key>, Halt>
     ensures same_reference { tx.new.conn.ghost_name ≡ tx.old.conn.ghost_name }
     ensures inside { CommitsNothing (state S.Store tx.old.conn.now) (state S.Store tx.new.conn.now) }
+    ensures told { HasCleanDisk (state S.Store tx.new.conn.now)
+        → IfOk result (λ last. (rows : List Values) × TellsKey rows last × DidAll S.Store (Asks key_query rows ∷ []) tx.old.conn.now tx.new.conn.now) }
 {
-    let rows = tx.query_all(
+    first_key(&ask(
+        tx,
         "SELECT rnd, cand FROM allot ORDER BY rnd DESC, cand DESC LIMIT 1",
-        &[],
-    )?;
+    )?)
+}
+
+fn first_key(rows: &[Row]) -> Result<Option<Key>, Halt>
+    ensures ok { IfOk result (TellsKey rows.now) }
+{
     match rows.first() {
         None => Ok(None),
         Some(row) => Ok(Some(key_of(row)?)),
@@ -95,17 +133,16 @@ pub(crate) fn read_all<S: Alter>(
 ) -> Result<AllotRows, Halt>
     ensures same_reference { tx.new.conn.ghost_name ≡ tx.old.conn.ghost_name }
     ensures inside { CommitsNothing (state S.Store tx.old.conn.now) (state S.Store tx.new.conn.now) }
+    ensures told { HasCleanDisk (state S.Store tx.new.conn.now) → IfOk result (λ records. TellsRecords S.Store IsAllotRow allots_query records tx.old.conn.now tx.new.conn.now) }
 {
-    let rows = tx.query_all(
+    let rows = ask(
+        tx,
         "SELECT rnd, cand, prog, step FROM allot ORDER BY rnd, cand",
-        &[],
     )?;
     records_of(alloc, &rows)
 }
 
 impl Record for AllotRow {
-    ghost use Rattle.keeper_sqlite.specs.Columns.{IsAllotRow};
-
     ghost stands_in = { IsAllotRow };
 
     fn from_row(row: &Row) -> Result<AllotRow, Halt> {

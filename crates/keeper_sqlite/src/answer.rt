@@ -1,16 +1,17 @@
 // The table of answers.
-ghost use Rattle.std.specs.Prelude.{◌≡◌, [], ◌∷◌, IsTrue, OnOk};
+ghost use Rattle.std.specs.Prelude.{◌≡◌, [], ◌∷◌, codes, IsTrue, IfOk, OnOk};
 ghost use Rattle.sqlite.specs.State.{HasCleanDisk};
 ghost use Rattle.sqlite.specs.Held.{state};
+ghost use Rattle.keeper_sqlite.specs.Columns.{IsAnswerRow};
 ghost use Rattle.keeper_sqlite.specs.Commits.{CommitsNothing};
-ghost use Rattle.keeper_sqlite.specs.Kept.{Ran, DidAll, answer_table, answer_text, answer_values};
-ghost use Rattle.keeper_sqlite.specs.Kept.Call.{Runs};
+ghost use Rattle.keeper_sqlite.specs.Kept.{Ran, DidAll, TellsRecords, answers_query, answer_table, answer_text, answer_values};
+ghost use Rattle.keeper_sqlite.specs.Kept.Call.{Runs, Asks};
 
-use crate::calls::run;
+use crate::calls::{ask, expect_none, run};
 use crate::columns::{choice_at, expect_number, number_at, small_number_at};
 use crate::halt::Halt;
 use crate::numbers::number_of_choice;
-use crate::records::{Record, expect_none, records_of};
+use crate::records::{Record, records_of};
 use keeper_mem::{AnswerRow, AnswerRows};
 use office_base::CandId;
 use sqlite::{Alter, Row, Transaction, params};
@@ -33,8 +34,9 @@ pub(crate) fn create<S: Alter>(tx: &mut Transaction<'_, S>) -> Result<(), Halt>
 pub(crate) fn expect_empty<S: Alter>(tx: &mut Transaction<'_, S>) -> Result<(), Halt>
     ensures same_reference { tx.new.conn.ghost_name ≡ tx.old.conn.ghost_name }
     ensures inside { CommitsNothing (state S.Store tx.old.conn.now) (state S.Store tx.new.conn.now) }
+    ensures told { HasCleanDisk (state S.Store tx.new.conn.now) → OnOk result (DidAll S.Store (Asks (codes "SELECT seq FROM answer LIMIT 1") [] ∷ []) tx.old.conn.now tx.new.conn.now) }
 {
-    expect_none(&tx.query_all("SELECT seq FROM answer LIMIT 1", &[])?)
+    expect_none(tx, "SELECT seq FROM answer LIMIT 1")
 }
 
 /// Puts a row after the others.
@@ -63,17 +65,16 @@ pub(crate) fn read_all<S: Alter>(
 ) -> Result<AnswerRows, Halt>
     ensures same_reference { tx.new.conn.ghost_name ≡ tx.old.conn.ghost_name }
     ensures inside { CommitsNothing (state S.Store tx.old.conn.now) (state S.Store tx.new.conn.now) }
+    ensures told { HasCleanDisk (state S.Store tx.new.conn.now) → IfOk result (λ records. TellsRecords S.Store IsAnswerRow answers_query records tx.old.conn.now tx.new.conn.now) }
 {
-    let rows = tx.query_all(
+    let rows = ask(
+        tx,
         "SELECT seq, win, cand, turn, choice FROM answer ORDER BY seq",
-        &[],
     )?;
     records_of(alloc, &rows)
 }
 
 impl Record for AnswerRow {
-    ghost use Rattle.keeper_sqlite.specs.Columns.{IsAnswerRow};
-
     ghost stands_in = { IsAnswerRow };
 
     fn from_row(row: &Row) -> Result<AnswerRow, Halt> {

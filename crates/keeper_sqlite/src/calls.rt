@@ -1,15 +1,15 @@
 // Calls on the database inside a transaction, as contracts name them.
-ghost use Rattle.std.specs.Prelude.{◌≡◌, [], ◌∷◌, OnOk};
+ghost use Rattle.std.specs.Prelude.{◌≡◌, [], ◌∷◌, IfOk, OnOk, OnErr};
 ghost use Rattle.sqlite.specs.Values.{bound};
 ghost use Rattle.sqlite.specs.State.{HasCleanDisk};
 ghost use Rattle.sqlite.specs.Held.{state};
 ghost use Rattle.keeper_sqlite.specs.Commits.{CommitsNothing};
-ghost use Rattle.keeper_sqlite.specs.Kept.{DidAll};
-ghost use Rattle.keeper_sqlite.specs.Kept.Call.{Runs};
+ghost use Rattle.keeper_sqlite.specs.Kept.{DidAll, IsRefused};
+ghost use Rattle.keeper_sqlite.specs.Kept.Call.{Runs, Asks, Readies};
 
 use crate::halt::Halt;
 use sqlite::types::ValueRef;
-use sqlite::{Alter, Transaction};
+use sqlite::{Alter, Row, Statement, Transaction};
 
 /// Runs a statement.
 pub(crate) fn run<S: Alter>(
@@ -22,5 +22,60 @@ pub(crate) fn run<S: Alter>(
     ensures ran { HasCleanDisk (state S.Store tx.new.conn.now) → OnOk result (DidAll S.Store (Runs text.now (bound values.now) ∷ []) tx.old.conn.now tx.new.conn.now) }
 {
     tx.execute(text, values)?;
+    Ok(())
+}
+
+/// Asks a query that takes no values.
+pub(crate) fn ask<S: Alter>(tx: &mut Transaction<'_, S>, text: &str) -> Result<Vec<Row>, Halt>
+    ensures same_reference { tx.new.conn.ghost_name ≡ tx.old.conn.ghost_name }
+    ensures inside { CommitsNothing (state S.Store tx.old.conn.now) (state S.Store tx.new.conn.now) }
+    ensures told { HasCleanDisk (state S.Store tx.new.conn.now) → IfOk result (λ rows. DidAll S.Store (Asks text.now rows.items ∷ []) tx.old.conn.now tx.new.conn.now) }
+    ensures refused { HasCleanDisk (state S.Store tx.new.conn.now) → OnErr result (IsRefused S.Store text.now tx.old.conn.now tx.new.conn.now) }
+{
+    Ok(tx.query_all(text, &[])?)
+}
+
+/// Tests that a query tells no row.
+pub(crate) fn expect_none<S: Alter>(tx: &mut Transaction<'_, S>, text: &str) -> Result<(), Halt>
+    ensures same_reference { tx.new.conn.ghost_name ≡ tx.old.conn.ghost_name }
+    ensures inside { CommitsNothing (state S.Store tx.old.conn.now) (state S.Store tx.new.conn.now) }
+    ensures told { HasCleanDisk (state S.Store tx.new.conn.now) → OnOk result (DidAll S.Store (Asks text.now [] ∷ []) tx.old.conn.now tx.new.conn.now) }
+{
+    expect_empty(&ask(tx, text)?)
+}
+
+fn expect_empty(rows: &[Row]) -> Result<(), Halt>
+    ensures { OnOk result (rows.now ≡ []) }
+{
+    if rows.is_empty() {
+        Ok(())
+    } else {
+        Err(Halt::Unfit)
+    }
+}
+
+/// Makes a statement ready.
+pub(crate) fn make_ready<S: Alter>(
+    tx: &mut Transaction<'_, S>,
+    text: &str,
+) -> Result<Statement, Halt>
+    ensures same_reference { tx.new.conn.ghost_name ≡ tx.old.conn.ghost_name }
+    ensures inside { CommitsNothing (state S.Store tx.old.conn.now) (state S.Store tx.new.conn.now) }
+    ensures made { HasCleanDisk (state S.Store tx.new.conn.now) → IfOk result (λ statement. (statement.text ≡ text.now) × DidAll S.Store (Readies text.now ∷ []) tx.old.conn.now tx.new.conn.now) }
+{
+    Ok(tx.prepare(text)?)
+}
+
+/// Runs a statement that was made ready.
+pub(crate) fn run_ready<S: Alter>(
+    tx: &mut Transaction<'_, S>,
+    statement: &Statement,
+    values: &[ValueRef<'_>],
+) -> Result<(), Halt>
+    ensures same_reference { tx.new.conn.ghost_name ≡ tx.old.conn.ghost_name }
+    ensures inside { CommitsNothing (state S.Store tx.old.conn.now) (state S.Store tx.new.conn.now) }
+    ensures ran { HasCleanDisk (state S.Store tx.new.conn.now) → OnOk result (DidAll S.Store (Runs statement.now.text (bound values.now) ∷ []) tx.old.conn.now tx.new.conn.now) }
+{
+    tx.execute_prepared(statement, values)?;
     Ok(())
 }

@@ -1,10 +1,10 @@
 // The keeper over a connection.
-ghost use Rattle.std.specs.Prelude.{◌≡◌, ◌≤◌, IsErrOf, IfOk, IfErr, OnOk};
+ghost use Rattle.std.specs.Prelude.{◌≡◌, ◌≤◌, ◌⊎◌, IsErrOf, IsErrAnd, IsTrue, IfOk, IfErr, OnOk};
 ghost use Rattle.office_base.specs.Memory.{counted};
 ghost use Rattle.sqlite.specs.State.{HasCleanDisk};
 ghost use Rattle.sqlite.specs.Held.{state};
-ghost use Rattle.keeper_sqlite.specs.Commits.{CommitsOnce};
-ghost use Rattle.keeper_sqlite.specs.Kept.{Keeps, Makes, Ran, DidAll, plain_calls, table_texts, answer_text, answer_values, raise_text, raise_values};
+ghost use Rattle.keeper_sqlite.specs.Commits.{CommitsNothing, CommitsOnce};
+ghost use Rattle.keeper_sqlite.specs.Kept.{Keeps, Looks, TellsSeason, TellsKept, LosesPhase, Makes, MakesCut, PutsText, Ran, DidAll, season_calls, plain_calls, table_texts, answer_text, answer_values, raise_text, raise_values};
 ghost use Rattle.keeper_sqlite.specs.Halts.{keep_fault, faults_after};
 
 use crate::halt::Halt;
@@ -89,7 +89,7 @@ impl<S: Alter> SqliteKeeper<S> {
     /// What a method answers.
     fn settle<T>(&mut self, done: Result<T, Halt>) -> Result<T, KeepFault>
         ensures ok { IfOk result (λ value. done ≡ Ok value) }
-        ensures err { IfErr result (λ fault. IfErr done (λ halt. fault ≡ keep_fault halt)) }
+        ensures err { IfErr result (λ fault. IsErrAnd done (λ halt. fault ≡ keep_fault halt)) }
         ensures count { self.old.faults ≤ self.new.faults }
         ensures steady { ¬ IsErrOf result KeepFault.Failed → self.new ≡ self.old }
         ensures counted { IsErrOf result KeepFault.Failed → self.new ≡ record self.old { faults = counted self.old.faults } }
@@ -130,12 +130,26 @@ impl<S: Alter> Keeper for SqliteKeeper<S> {
 
     ghost spare = { λ _. 0 };
 
-    fn has_season(&mut self) -> Result<bool, KeepFault> {
+    fn has_season(&mut self) -> Result<bool, KeepFault>
+        ensures count { self.old.faults ≤ self.new.faults }
+        ensures steady { ¬ IsErrOf result KeepFault.Failed → self.new.faults ≡ self.old.faults }
+        ensures counted { IsErrOf result KeepFault.Failed → self.new.faults ≡ counted self.old.faults }
+        ensures nothing { CommitsNothing (state S.Store self.old.connection) (state S.Store self.new.connection) }
+        ensures found { HasCleanDisk (state S.Store self.new.connection) → IfOk result (λ found. Looks S.Store (TellsSeason S.Store found) self.old.connection self.new.connection) }
+        ensures lost { HasCleanDisk (state S.Store self.new.connection) → IsErrOf result KeepFault.Failed
+            → IsTrue self.old.connection.in_transaction ⊎ Looks S.Store (LosesPhase S.Store) self.old.connection self.new.connection }
+    {
         let done = transactions::has_season(&mut self.connection);
         self.settle(done)
     }
 
-    fn put_season(&mut self, text: &[u8]) -> Result<(), KeepFault> {
+    fn put_season(&mut self, text: &[u8]) -> Result<(), KeepFault>
+        ensures count { self.old.faults ≤ self.new.faults }
+        ensures steady { ¬ IsErrOf result KeepFault.Failed → self.new.faults ≡ self.old.faults }
+        ensures counted { IsErrOf result KeepFault.Failed → self.new.faults ≡ counted self.old.faults }
+        ensures once { CommitsOnce (state S.Store self.old.connection) (state S.Store self.new.connection) }
+        ensures kept { HasCleanDisk (state S.Store self.new.connection) → OnOk result (Keeps S.Store (PutsText S.Store season_calls text.now) self.old.connection self.new.connection) }
+    {
         self.commit(Change::Season(text))
     }
 
@@ -163,11 +177,23 @@ impl<S: Alter> Keeper for SqliteKeeper<S> {
         self.commit(Change::Raise(row))
     }
 
-    fn put_cut(&mut self, rows: &[AllotRow]) -> Result<(), KeepFault> {
+    fn put_cut(&mut self, rows: &[AllotRow]) -> Result<(), KeepFault>
+        ensures count { self.old.faults ≤ self.new.faults }
+        ensures steady { ¬ IsErrOf result KeepFault.Failed → self.new.faults ≡ self.old.faults }
+        ensures counted { IsErrOf result KeepFault.Failed → self.new.faults ≡ counted self.old.faults }
+        ensures once { CommitsOnce (state S.Store self.old.connection) (state S.Store self.new.connection) }
+        ensures kept { HasCleanDisk (state S.Store self.new.connection) → OnOk result (Keeps S.Store (MakesCut S.Store rows.now) self.old.connection self.new.connection) }
+    {
         self.commit(Change::Cut(rows))
     }
 
-    fn load(&mut self, alloc: Global) -> Result<Option<Kept>, KeepFault> {
+    fn load(&mut self, alloc: Global) -> Result<Option<Kept>, KeepFault>
+        ensures count { self.old.faults ≤ self.new.faults }
+        ensures steady { ¬ IsErrOf result KeepFault.Failed → self.new.faults ≡ self.old.faults }
+        ensures counted { IsErrOf result KeepFault.Failed → self.new.faults ≡ counted self.old.faults }
+        ensures nothing { CommitsNothing (state S.Store self.old.connection) (state S.Store self.new.connection) }
+        ensures loaded { HasCleanDisk (state S.Store self.new.connection) → IfOk result (λ found. Looks S.Store (TellsKept S.Store found) self.old.connection self.new.connection) }
+    {
         let done = transactions::load(&mut self.connection, alloc);
         self.settle(done)
     }

@@ -1,15 +1,16 @@
 // The table of raises.
-ghost use Rattle.std.specs.Prelude.{◌≡◌, [], ◌∷◌, IsTrue, OnOk};
+ghost use Rattle.std.specs.Prelude.{◌≡◌, [], ◌∷◌, codes, IsTrue, IfOk, OnOk};
 ghost use Rattle.sqlite.specs.State.{HasCleanDisk};
 ghost use Rattle.sqlite.specs.Held.{state};
+ghost use Rattle.keeper_sqlite.specs.Columns.{IsRaiseRow};
 ghost use Rattle.keeper_sqlite.specs.Commits.{CommitsNothing};
-ghost use Rattle.keeper_sqlite.specs.Kept.{Ran, DidAll, lift_table, raise_text, raise_values};
-ghost use Rattle.keeper_sqlite.specs.Kept.Call.{Runs};
+ghost use Rattle.keeper_sqlite.specs.Kept.{Ran, DidAll, TellsRecords, raises_query, lift_table, raise_text, raise_values};
+ghost use Rattle.keeper_sqlite.specs.Kept.Call.{Runs, Asks};
 
-use crate::calls::run;
+use crate::calls::{ask, expect_none, run};
 use crate::columns::{expect_number, small_number_at, step_at};
 use crate::halt::Halt;
-use crate::records::{Record, expect_none, records_of};
+use crate::records::{Record, records_of};
 use keeper_mem::{RaiseRow, RaiseRows};
 use office_base::{ProgId, step_number};
 use sqlite::{Alter, Row, Transaction, params};
@@ -32,8 +33,9 @@ pub(crate) fn create<S: Alter>(tx: &mut Transaction<'_, S>) -> Result<(), Halt>
 pub(crate) fn expect_empty<S: Alter>(tx: &mut Transaction<'_, S>) -> Result<(), Halt>
     ensures same_reference { tx.new.conn.ghost_name ≡ tx.old.conn.ghost_name }
     ensures inside { CommitsNothing (state S.Store tx.old.conn.now) (state S.Store tx.new.conn.now) }
+    ensures told { HasCleanDisk (state S.Store tx.new.conn.now) → OnOk result (DidAll S.Store (Asks (codes "SELECT seq FROM lift LIMIT 1") [] ∷ []) tx.old.conn.now tx.new.conn.now) }
 {
-    expect_none(&tx.query_all("SELECT seq FROM lift LIMIT 1", &[])?)
+    expect_none(tx, "SELECT seq FROM lift LIMIT 1")
 }
 
 /// Puts a row after the others.
@@ -62,17 +64,16 @@ pub(crate) fn read_all<S: Alter>(
 ) -> Result<RaiseRows, Halt>
     ensures same_reference { tx.new.conn.ghost_name ≡ tx.old.conn.ghost_name }
     ensures inside { CommitsNothing (state S.Store tx.old.conn.now) (state S.Store tx.new.conn.now) }
+    ensures told { HasCleanDisk (state S.Store tx.new.conn.now) → IfOk result (λ records. TellsRecords S.Store IsRaiseRow raises_query records tx.old.conn.now tx.new.conn.now) }
 {
-    let rows = tx.query_all(
+    let rows = ask(
+        tx,
         "SELECT seq, win, prog, step, seats FROM lift ORDER BY seq",
-        &[],
     )?;
     records_of(alloc, &rows)
 }
 
 impl Record for RaiseRow {
-    ghost use Rattle.keeper_sqlite.specs.Columns.{IsRaiseRow};
-
     ghost stands_in = { IsRaiseRow };
 
     fn from_row(row: &Row) -> Result<RaiseRow, Halt> {

@@ -1,14 +1,14 @@
 // The table of one row that says that a season is there, and how many cuts were made.
-ghost use Rattle.std.specs.Prelude.{◌≡◌, ℕ, [], ◌∷◌, IfOk, IfErr, OnOk};
+ghost use Rattle.std.specs.Prelude.{◌≡◌, ℕ, Option, [], ◌∷◌, IfOk, IfErr, OnOk};
 ghost use Rattle.sqlite.specs.State.{HasCleanDisk};
 ghost use Rattle.keeper_sqlite.specs.Halts.{WantsMemory};
-ghost use Rattle.keeper_sqlite.specs.Columns.{IsPhaseRow};
+ghost use Rattle.keeper_sqlite.specs.Columns.{IsPhaseRow, TellsPhase};
 ghost use Rattle.sqlite.specs.Held.{state};
 ghost use Rattle.keeper_sqlite.specs.Commits.{CommitsNothing};
-ghost use Rattle.keeper_sqlite.specs.Kept.{DidAll, phase_table};
-ghost use Rattle.keeper_sqlite.specs.Kept.Call.{Runs};
+ghost use Rattle.keeper_sqlite.specs.Kept.{DidAll, TellsPhaseOf, LosesPhase, phase_table, phase_query, cuts_text, cuts_values, opening_text, opening_values};
+ghost use Rattle.keeper_sqlite.specs.Kept.Call.{Runs, Asks};
 
-use crate::calls::run;
+use crate::calls::{ask, expect_none, run};
 use crate::columns::{number_at, small_number_at};
 use crate::halt::Halt;
 use sqlite::{Alter, Row, Transaction, params};
@@ -29,34 +29,57 @@ pub(crate) fn create<S: Alter>(tx: &mut Transaction<'_, S>) -> Result<(), Halt>
     )
 }
 
+/// Tests that no row is there.
+pub(crate) fn expect_empty<S: Alter>(tx: &mut Transaction<'_, S>) -> Result<(), Halt>
+    ensures same_reference { tx.new.conn.ghost_name ≡ tx.old.conn.ghost_name }
+    ensures inside { CommitsNothing (state S.Store tx.old.conn.now) (state S.Store tx.new.conn.now) }
+    ensures told { HasCleanDisk (state S.Store tx.new.conn.now) → OnOk result (DidAll S.Store (Asks phase_query [] ∷ []) tx.old.conn.now tx.new.conn.now) }
+{
+    expect_none(tx, "SELECT id, cuts FROM phase ORDER BY id")
+}
+
 /// Puts the row of a season without cuts.
 pub(crate) fn insert<S: Alter>(tx: &mut Transaction<'_, S>) -> Result<(), Halt>
     ensures same_reference { tx.new.conn.ghost_name ≡ tx.old.conn.ghost_name }
     ensures inside { CommitsNothing (state S.Store tx.old.conn.now) (state S.Store tx.new.conn.now) }
+    ensures ran { HasCleanDisk (state S.Store tx.new.conn.now) → OnOk result (DidAll S.Store (Runs opening_text opening_values ∷ []) tx.old.conn.now tx.new.conn.now) }
 {
-    tx.execute("INSERT INTO phase (id, cuts) VALUES (?1, 0)", params![ID])?;
-    Ok(())
+    run(
+        tx,
+        "INSERT INTO phase (id, cuts) VALUES (?1, 0)",
+        params![ID],
+    )
 }
 
 /// Writes the number of cuts.
 pub(crate) fn upsert<S: Alter>(tx: &mut Transaction<'_, S>, cuts: u16) -> Result<(), Halt>
     ensures same_reference { tx.new.conn.ghost_name ≡ tx.old.conn.ghost_name }
     ensures inside { CommitsNothing (state S.Store tx.old.conn.now) (state S.Store tx.new.conn.now) }
+    ensures ran { HasCleanDisk (state S.Store tx.new.conn.now) → OnOk result (DidAll S.Store (Runs cuts_text (cuts_values cuts) ∷ []) tx.old.conn.now tx.new.conn.now) }
 {
-    tx.execute(
+    run(
+        tx,
         "INSERT INTO phase (id, cuts) VALUES (?1, ?2) ON CONFLICT (id) DO UPDATE SET cuts = excluded.cuts",
         params![ID, u32::from(cuts)],
-    )?;
-    Ok(())
+    )
 }
 
 /// The number of cuts, or None where no season is.
 pub(crate) fn read<S: Alter>(tx: &mut Transaction<'_, S>) -> Result<Option<u16>, Halt>
     ensures same_reference { tx.new.conn.ghost_name ≡ tx.old.conn.ghost_name }
     ensures inside { CommitsNothing (state S.Store tx.old.conn.now) (state S.Store tx.new.conn.now) }
+    ensures told { HasCleanDisk (state S.Store tx.new.conn.now) → IfOk result (λ found. TellsPhaseOf S.Store found tx.old.conn.now tx.new.conn.now) }
+    ensures lost { HasCleanDisk (state S.Store tx.new.conn.now) → IfErr result (λ halt. ¬ WantsMemory halt → LosesPhase S.Store tx.old.conn.now tx.new.conn.now) }
 {
-    let rows = tx.query_all("SELECT id, cuts FROM phase ORDER BY id", &[])?;
-    match rows.as_slice() {
+    phase_of(&ask(tx, "SELECT id, cuts FROM phase ORDER BY id")?)
+}
+
+/// The number of cuts in the rows of the table.
+fn phase_of(rows: &[Row]) -> Result<Option<u16>, Halt>
+    ensures ok { IfOk result (TellsPhase rows.now) }
+    ensures err { IfErr result (λ halt. ¬ WantsMemory halt → (found : Option ℕ) → ¬ TellsPhase rows.now found) }
+{
+    match rows {
         [] => Ok(None),
         [row] => Ok(Some(cuts_of(row)?)),
         _ => Err(Halt::Unfit),

@@ -1,5 +1,6 @@
 // The records that the rows of a table hold.
 ghost use Rattle.std.specs.Prelude.{◌≡◌, IfOk, IfErr};
+ghost use Rattle.std.specs.List.{AllZip};
 ghost use Rattle.sqlite.specs.Order.{Row as Values};
 ghost use Rattle.keeper_sqlite.specs.Halts.{WantsMemory};
 
@@ -20,19 +21,12 @@ pub(crate) trait Record: Drop + Sized {
 }
 
 /// The records of the rows, in their order.
-pub(crate) fn records_of<R: Record>(alloc: Global, rows: &[Row]) -> Result<Listed<R>, Halt> {
+pub(crate) fn records_of<R: Record>(alloc: Global, rows: &[Row]) -> Result<Listed<R>, Halt>
+    ensures ok { IfOk result (AllZip R.Record.stands_in rows.now) }
+{
     let mut records = Listed::with_capacity(alloc, rows.len())?;
     for row in rows {
         records.push(R::from_row(row)?)?;
     }
     Ok(records)
-}
-
-/// Tests that no row is there.
-pub(crate) fn expect_none(rows: &[Row]) -> Result<(), Halt> {
-    if rows.is_empty() {
-        Ok(())
-    } else {
-        Err(Halt::Unfit)
-    }
 }

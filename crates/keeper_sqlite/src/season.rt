@@ -1,19 +1,19 @@
 // The table of the season's text, in parts.
-ghost use Rattle.std.specs.Prelude.{◌≡◌, ◌++◌, ℕ, List, [], ◌∷◌, OnErr, IfErr, OnOk};
+ghost use Rattle.std.specs.Prelude.{◌≡◌, ◌+◌, ◌++◌, ℕ, List, [], ◌∷◌, codes, IfOk, OnErr, IfErr, OnOk};
+ghost use Rattle.std.specs.List.{AllZip, concat};
 ghost use Rattle.keeper_sqlite.specs.Halts.{WantsMemory};
 ghost use Rattle.keeper_sqlite.specs.Columns.{IsPartRow};
 ghost use Rattle.sqlite.specs.State.{HasCleanDisk};
 ghost use Rattle.sqlite.specs.Held.{state};
 ghost use Rattle.keeper_sqlite.specs.Commits.{CommitsNothing};
-ghost use Rattle.keeper_sqlite.specs.Kept.{DidAll, season_table};
-ghost use Rattle.keeper_sqlite.specs.Kept.Call.{Runs};
+ghost use Rattle.keeper_sqlite.specs.Kept.{DidAll, PutsText, TellsText, season_table, text_calls, part_calls, part_values};
+ghost use Rattle.keeper_sqlite.specs.Kept.Call.{Runs, Asks};
 
-use crate::calls::run;
+use crate::calls::{ask, expect_none, make_ready, run, run_ready};
 use crate::halt::Halt;
-use crate::records::expect_none;
 use office_base::{Listed, Text};
 use sqlite::types::ValueRef;
-use sqlite::{Alter, Row, Transaction, params};
+use sqlite::{Alter, Row, Statement, Transaction, params};
 use std::alloc::Global;
 
 /// The most bytes that a part has.
@@ -36,31 +36,75 @@ pub(crate) fn create<S: Alter>(tx: &mut Transaction<'_, S>) -> Result<(), Halt>
 pub(crate) fn expect_empty<S: Alter>(tx: &mut Transaction<'_, S>) -> Result<(), Halt>
     ensures same_reference { tx.new.conn.ghost_name ≡ tx.old.conn.ghost_name }
     ensures inside { CommitsNothing (state S.Store tx.old.conn.now) (state S.Store tx.new.conn.now) }
+    ensures told { HasCleanDisk (state S.Store tx.new.conn.now) → OnOk result (DidAll S.Store (Asks (codes "SELECT part FROM season LIMIT 1") [] ∷ []) tx.old.conn.now tx.new.conn.now) }
 {
-    expect_none(&tx.query_all("SELECT part FROM season LIMIT 1", &[])?)
+    expect_none(tx, "SELECT part FROM season LIMIT 1")
 }
 
-/// Puts a text in parts, from 0, by one statement that is prepared once.
+/// Puts a text in parts, from 0, by one statement that is made ready once.
 pub(crate) fn insert_text<S: Alter>(tx: &mut Transaction<'_, S>, text: &[u8]) -> Result<(), Halt>
     ensures same_reference { tx.new.conn.ghost_name ≡ tx.old.conn.ghost_name }
     ensures inside { CommitsNothing (state S.Store tx.old.conn.now) (state S.Store tx.new.conn.now) }
+    ensures ran { HasCleanDisk (state S.Store tx.new.conn.now) → OnOk result (PutsText S.Store text_calls text.now tx.old.conn.now tx.new.conn.now) }
 {
-    let insert = tx.prepare("INSERT INTO season (part, bytes) VALUES (?1, ?2)")?;
-    for (part, bytes) in text.chunks(PART).enumerate() {
-        let part = i64::try_from(part).map_err(|_| Halt::Unfit)?;
-        tx.execute_prepared(&insert, params![part, bytes])?;
+    let insert = make_ready(tx, "INSERT INTO season (part, bytes) VALUES (?1, ?2)")?;
+    insert_parts(tx, &insert, text)
+}
+
+fn insert_parts<S: Alter>(
+    tx: &mut Transaction<'_, S>,
+    insert: &Statement,
+    text: &[u8],
+) -> Result<(), Halt>
+    ensures same_reference { tx.new.conn.ghost_name ≡ tx.old.conn.ghost_name }
+    ensures inside { CommitsNothing (state S.Store tx.old.conn.now) (state S.Store tx.new.conn.now) }
+    ensures ran { HasCleanDisk (state S.Store tx.new.conn.now) → OnOk result (PutsText S.Store (part_calls insert.now.text 0) text.now tx.old.conn.now tx.new.conn.now) }
+{
+    let mut rest = text;
+    let mut number = 0;
+    'parts: while !rest.is_empty() {
+        let (part, after) = rest.split_at(rest.len().min(PART));
+        insert_part(tx, insert, number, part)?;
+        number = next_number(number)?;
+        rest = after;
     }
     Ok(())
+}
+
+fn next_number(number: u32) -> Result<u32, Halt>
+    ensures ok { IfOk result (λ next. next ≡ number + 1) }
+{
+    number.checked_add(1).ok_or(Halt::Unfit)
+}
+
+fn insert_part<S: Alter>(
+    tx: &mut Transaction<'_, S>,
+    insert: &Statement,
+    number: u32,
+    part: &[u8],
+) -> Result<(), Halt>
+    ensures same_reference { tx.new.conn.ghost_name ≡ tx.old.conn.ghost_name }
+    ensures inside { CommitsNothing (state S.Store tx.old.conn.now) (state S.Store tx.new.conn.now) }
+    ensures ran { HasCleanDisk (state S.Store tx.new.conn.now) → OnOk result (DidAll S.Store (Runs insert.now.text (part_values number part.now) ∷ []) tx.old.conn.now tx.new.conn.now) }
+{
+    run_ready(tx, insert, params![number, part])
 }
 
 /// The parts joined, by rising part.
 pub(crate) fn read_text<S: Alter>(tx: &mut Transaction<'_, S>, alloc: Global) -> Result<Text, Halt>
     ensures same_reference { tx.new.conn.ghost_name ≡ tx.old.conn.ghost_name }
     ensures inside { CommitsNothing (state S.Store tx.old.conn.now) (state S.Store tx.new.conn.now) }
+    ensures told { HasCleanDisk (state S.Store tx.new.conn.now) → IfOk result (λ text. TellsText S.Store text tx.old.conn.now tx.new.conn.now) }
 {
-    let rows = tx.query_all("SELECT part, bytes FROM season ORDER BY part", &[])?;
+    let rows = ask(tx, "SELECT part, bytes FROM season ORDER BY part")?;
+    text_of(alloc, &rows)
+}
+
+fn text_of(alloc: Global, rows: &[Row]) -> Result<Text, Halt>
+    ensures ok { IfOk result (λ text. (parts : List (List ℕ)) × AllZip IsPartRow rows.now parts × (concat parts ≡ text)) }
+{
     let mut text = Listed::new(alloc);
-    for row in &rows {
+    for row in rows {
         push_part(&mut text, row)?;
     }
     Ok(text)

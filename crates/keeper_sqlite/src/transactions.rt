@@ -1,9 +1,10 @@
 // The transactions of a keeper: what each method does to the tables, all of it or nothing.
-ghost use Rattle.std.specs.Prelude.{◌≡◌, [], ◌∷◌, false, Ok, IsTrue, OnOk};
+ghost use Rattle.std.specs.Prelude.{◌≡◌, ◌+◌, [], ◌∷◌, take, drop, false, Ok, IsTrue, IfOk, IfErr, OnOk, OnErr, ◌⊎◌};
 ghost use Rattle.sqlite.specs.State.{HasCleanDisk};
 ghost use Rattle.sqlite.specs.Held.{state};
+ghost use Rattle.keeper_sqlite.specs.Halts.{WantsMemory};
 ghost use Rattle.keeper_sqlite.specs.Commits.{CommitsNothing, CommitsShown, CommitsOnce};
-ghost use Rattle.keeper_sqlite.specs.Kept.{Keeps, Makes, DidAll, plain_calls, table_texts, season_table, phase_table, answer_table, lift_table, allot_table};
+ghost use Rattle.keeper_sqlite.specs.Kept.{Keeps, Looks, TellsSeason, TellsKept, TellsTables, LosesPhase, Makes, MakesCut, ToldPhase, AreAbove, PutsText, DidAll, seat_calls, season_calls, unanswered_calls, any_row_queries, plain_calls, table_texts, season_table, phase_table, answer_table, lift_table, allot_table};
 
 use crate::halt::Halt;
 use crate::rising::are_rising;
@@ -29,7 +30,8 @@ pub(crate) enum Change<'a> {
 
 /// Tests that nobody else is in a transaction.
 fn expect_free<S: Alter>(connection: &Connection<S>) -> Result<(), Halt>
-    ensures { OnOk result (connection.now.in_transaction ≡ false) }
+    ensures ok { OnOk result (connection.now.in_transaction ≡ false) }
+    ensures err { OnErr result (IsTrue connection.now.in_transaction) }
 {
     if connection.is_autocommit() {
         Ok(())
@@ -109,45 +111,115 @@ fn make_row_tables<S: Alter>(tx: &mut Transaction<'_, S>) -> Result<(), Halt>
 
 /// Whether a season is kept.
 pub(crate) fn has_season<S: Alter>(connection: &mut Connection<S>) -> Result<bool, Halt>
-    ensures { CommitsNothing (state S.Store connection.old) (state S.Store connection.new) }
+    ensures nothing { CommitsNothing (state S.Store connection.old) (state S.Store connection.new) }
+    ensures found { HasCleanDisk (state S.Store connection.new) → IfOk result (λ found. Looks S.Store (TellsSeason S.Store found) connection.old connection.new) }
+    ensures lost { HasCleanDisk (state S.Store connection.new)
+        → IfErr result (λ halt. ¬ WantsMemory halt → IsTrue connection.old.in_transaction ⊎ Looks S.Store (LosesPhase S.Store) connection.old connection.new) }
 {
     expect_free(connection)?;
     let mut tx = connection.transaction();
-    Ok(phase::read(&mut tx)?.is_some())
+    let found = look_for_season(&mut tx);
+    tx.rollback();
+    found
 }
 
-fn expect_empty<S: Alter>(tx: &mut Transaction<'_, S>) -> Result<(), Halt>
+fn look_for_season<S: Alter>(tx: &mut Transaction<'_, S>) -> Result<bool, Halt>
     ensures same_reference { tx.new.conn.ghost_name ≡ tx.old.conn.ghost_name }
     ensures inside { CommitsNothing (state S.Store tx.old.conn.now) (state S.Store tx.new.conn.now) }
+    ensures told { HasCleanDisk (state S.Store tx.new.conn.now) → IfOk result (λ found. TellsSeason S.Store found tx.old.conn.now tx.new.conn.now) }
+    ensures lost { HasCleanDisk (state S.Store tx.new.conn.now) → IfErr result (λ halt. ¬ WantsMemory halt → LosesPhase S.Store tx.old.conn.now tx.new.conn.now) }
 {
-    if phase::read(tx)?.is_some() {
-        return Err(Halt::Unfit);
-    }
-    season::expect_empty(tx)?;
-    answer::expect_empty(tx)?;
-    lift::expect_empty(tx)?;
-    allot::expect_empty(tx)
+    Ok(phase::read(tx)?.is_some())
 }
 
 fn write_season<S: Alter>(tx: &mut Transaction<'_, S>, text: &[u8]) -> Result<(), Halt>
     ensures same_reference { tx.new.conn.ghost_name ≡ tx.old.conn.ghost_name }
     ensures inside { CommitsNothing (state S.Store tx.old.conn.now) (state S.Store tx.new.conn.now) }
+    ensures made { HasCleanDisk (state S.Store tx.new.conn.now) → OnOk result (PutsText S.Store season_calls text.now tx.old.conn.now tx.new.conn.now) }
 {
     expect_empty(tx)?;
     season::insert_text(tx, text)?;
     phase::insert(tx)
 }
 
+/// Tests that no table has a row.
+fn expect_empty<S: Alter>(tx: &mut Transaction<'_, S>) -> Result<(), Halt>
+    ensures same_reference { tx.new.conn.ghost_name ≡ tx.old.conn.ghost_name }
+    ensures inside { CommitsNothing (state S.Store tx.old.conn.now) (state S.Store tx.new.conn.now) }
+    ensures told { HasCleanDisk (state S.Store tx.new.conn.now) → OnOk result (DidAll S.Store (unanswered_calls any_row_queries) tx.old.conn.now tx.new.conn.now) }
+{
+    expect_no_season(tx)?;
+    expect_no_rows(tx)
+}
+
+fn expect_no_season<S: Alter>(tx: &mut Transaction<'_, S>) -> Result<(), Halt>
+    ensures same_reference { tx.new.conn.ghost_name ≡ tx.old.conn.ghost_name }
+    ensures inside { CommitsNothing (state S.Store tx.old.conn.now) (state S.Store tx.new.conn.now) }
+    ensures told { HasCleanDisk (state S.Store tx.new.conn.now) → OnOk result (DidAll S.Store (unanswered_calls (take 2 any_row_queries)) tx.old.conn.now tx.new.conn.now) }
+{
+    phase::expect_empty(tx)?;
+    season::expect_empty(tx)
+}
+
+fn expect_no_rows<S: Alter>(tx: &mut Transaction<'_, S>) -> Result<(), Halt>
+    ensures same_reference { tx.new.conn.ghost_name ≡ tx.old.conn.ghost_name }
+    ensures inside { CommitsNothing (state S.Store tx.old.conn.now) (state S.Store tx.new.conn.now) }
+    ensures told { HasCleanDisk (state S.Store tx.new.conn.now) → OnOk result (DidAll S.Store (unanswered_calls (drop 2 any_row_queries)) tx.old.conn.now tx.new.conn.now) }
+{
+    answer::expect_empty(tx)?;
+    lift::expect_empty(tx)?;
+    allot::expect_empty(tx)
+}
+
 fn write_cut<S: Alter>(tx: &mut Transaction<'_, S>, rows: &[AllotRow]) -> Result<(), Halt>
     ensures same_reference { tx.new.conn.ghost_name ≡ tx.old.conn.ghost_name }
     ensures inside { CommitsNothing (state S.Store tx.old.conn.now) (state S.Store tx.new.conn.now) }
+    ensures made { HasCleanDisk (state S.Store tx.new.conn.now) → OnOk result (MakesCut S.Store rows.now tx.old.conn.now tx.new.conn.now) }
 {
-    let cuts = phase::read(tx)?
-        .and_then(|cuts| cuts.checked_add(1))
-        .ok_or(Halt::Unfit)?;
-    if !are_rising(allot::last_key(tx)?, rows) {
-        return Err(Halt::Unfit);
+    let made = read_made(tx)?;
+    expect_above(tx, rows)?;
+    put_seats(tx, made, rows)
+}
+
+/// How many cuts were made. The season has to be there.
+fn read_made<S: Alter>(tx: &mut Transaction<'_, S>) -> Result<u16, Halt>
+    ensures same_reference { tx.new.conn.ghost_name ≡ tx.old.conn.ghost_name }
+    ensures inside { CommitsNothing (state S.Store tx.old.conn.now) (state S.Store tx.new.conn.now) }
+    ensures told { HasCleanDisk (state S.Store tx.new.conn.now) → IfOk result (λ made. ToldPhase S.Store made tx.old.conn.now tx.new.conn.now) }
+{
+    phase::read(tx)?.ok_or(Halt::Unfit)
+}
+
+/// Tests that the rows rise above the last that is kept.
+fn expect_above<S: Alter>(tx: &mut Transaction<'_, S>, rows: &[AllotRow]) -> Result<(), Halt>
+    ensures same_reference { tx.new.conn.ghost_name ≡ tx.old.conn.ghost_name }
+    ensures inside { CommitsNothing (state S.Store tx.old.conn.now) (state S.Store tx.new.conn.now) }
+    ensures told { HasCleanDisk (state S.Store tx.new.conn.now) → OnOk result (AreAbove S.Store rows.now tx.old.conn.now tx.new.conn.now) }
+{
+    if are_rising(allot::last_key(tx)?, rows) {
+        Ok(())
+    } else {
+        Err(Halt::Unfit)
     }
+}
+
+fn one_more(made: u16) -> Result<u16, Halt>
+    ensures ok { IfOk result (λ cuts. cuts ≡ made + 1) }
+{
+    made.checked_add(1).ok_or(Halt::Unfit)
+}
+
+/// Puts the rows, and one cut more than were made.
+fn put_seats<S: Alter>(
+    tx: &mut Transaction<'_, S>,
+    made: u16,
+    rows: &[AllotRow],
+) -> Result<(), Halt>
+    ensures same_reference { tx.new.conn.ghost_name ≡ tx.old.conn.ghost_name }
+    ensures inside { CommitsNothing (state S.Store tx.old.conn.now) (state S.Store tx.new.conn.now) }
+    ensures ran { HasCleanDisk (state S.Store tx.new.conn.now) → OnOk result (DidAll S.Store (seat_calls made rows.now) tx.old.conn.now tx.new.conn.now) }
+{
+    let cuts = one_more(made)?;
     allot::insert_all(tx, rows)?;
     phase::upsert(tx, cuts)
 }
@@ -157,16 +229,20 @@ pub(crate) fn load<S: Alter>(
     connection: &mut Connection<S>,
     alloc: Global,
 ) -> Result<Option<Kept>, Halt>
-    ensures { CommitsNothing (state S.Store connection.old) (state S.Store connection.new) }
+    ensures nothing { CommitsNothing (state S.Store connection.old) (state S.Store connection.new) }
+    ensures loaded { HasCleanDisk (state S.Store connection.new) → IfOk result (λ found. Looks S.Store (TellsKept S.Store found) connection.old connection.new) }
 {
     expect_free(connection)?;
     let mut tx = connection.transaction();
-    read_records(&mut tx, alloc)
+    let found = read_records(&mut tx, alloc);
+    tx.rollback();
+    found
 }
 
 fn read_records<S: Alter>(tx: &mut Transaction<'_, S>, alloc: Global) -> Result<Option<Kept>, Halt>
     ensures same_reference { tx.new.conn.ghost_name ≡ tx.old.conn.ghost_name }
     ensures inside { CommitsNothing (state S.Store tx.old.conn.now) (state S.Store tx.new.conn.now) }
+    ensures told { HasCleanDisk (state S.Store tx.new.conn.now) → IfOk result (λ found. TellsKept S.Store found tx.old.conn.now tx.new.conn.now) }
 {
     match phase::read(tx)? {
         None => Ok(None),
@@ -177,6 +253,8 @@ fn read_records<S: Alter>(tx: &mut Transaction<'_, S>, alloc: Global) -> Result<
 fn read_kept<S: Alter>(tx: &mut Transaction<'_, S>, alloc: Global, cuts: u16) -> Result<Kept, Halt>
     ensures same_reference { tx.new.conn.ghost_name ≡ tx.old.conn.ghost_name }
     ensures inside { CommitsNothing (state S.Store tx.old.conn.now) (state S.Store tx.new.conn.now) }
+    ensures cuts { IfOk result (λ kept. kept.cuts ≡ cuts) }
+    ensures told { HasCleanDisk (state S.Store tx.new.conn.now) → IfOk result (λ kept. TellsTables S.Store kept tx.old.conn.now tx.new.conn.now) }
 {
     Ok(Kept {
         season: season::read_text(tx, alloc)?,

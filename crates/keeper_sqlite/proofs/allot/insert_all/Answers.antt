@@ -1,0 +1,7 @@
+use Rattle.keeper_sqlite.specs.Kept.{allot_text, allot_calls}
+use Rattle.keeper_sqlite.proofs.CallLemmas.{ready_then}
+use Rattle.keeper_sqlite.proofs.allot.insert_all.Goals as goal
+
+pub returns-clause-ran : goal.returns-clause-ran
+returns-clause-ran g c =
+    ready_then g.S.Store allot_text _ (λ text. allot_calls text c.args.rows.now) c.args.tx.now.conn.now c.make_ready.new.tx.conn.now c.insert_each.new.tx.conn.now c.insert_each.result c.insert_each.ensures.inside c.in_ok-insert.ensures.made c.insert_each.ensures.ran

@@ -1,0 +1,5 @@
+use Rattle.keeper_sqlite.proofs.CallLemmas.{ran_inside}
+use Rattle.keeper_sqlite.proofs.calls.run_ready.Goals as goal
+
+pub returns-clause-ran : goal.returns-clause-ran
+returns-clause-ran g c = ran_inside g.S.Store _ _ _ _ c.execute_prepared.result _ c.in_ok-execute_prepared.was c.execute_prepared.ensures.ended c.execute_prepared.ensures.runs

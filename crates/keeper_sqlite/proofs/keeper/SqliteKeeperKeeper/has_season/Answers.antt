@@ -1,0 +1,20 @@
+use Rattle.std.proofs.Common.{◌⊎◌, IfOk, IsErrOf, IsTrue, subst}
+use Rattle.sqlite.specs.State.{HasCleanDisk}
+use Rattle.sqlite.specs.Held.{state}
+use Rattle.keeper_mem.specs.declared.keeper.KeepFault.TheVariants.{Failed}
+use Rattle.keeper_sqlite.specs.Kept.{Looks, TellsSeason, LosesPhase}
+use Rattle.keeper_sqlite.specs.Stored.{Stored}
+use Rattle.keeper_sqlite.proofs.CommitLemmas.{value_told, fault_told}
+use Rattle.keeper_sqlite.proofs.keeper.SqliteKeeperKeeper.has_season.Goals as goal
+
+pub returns-clause-found : goal.returns-clause-found
+returns-clause-found g c =
+    let new = c.settle.new.self in
+    let told = value_told {S = g.row.S.Denot} g.S.Store (λ found. Looks g.S.Store (TellsSeason g.S.Store found) c.self.inside.connection) c.has_season-done.result c.settle.result _ _ c.settle.ensures.ok c.settle.ensures.steady c.has_season-done.ensures.found in
+    subst (λ (old : Stored g.row.S.Denot). HasCleanDisk (state g.S.Store new.connection) → IfOk c.settle.result (λ found. Looks g.S.Store (TellsSeason g.S.Store found) old.connection new.connection)) c.self.view_is told
+
+pub returns-clause-lost : goal.returns-clause-lost
+returns-clause-lost g c =
+    let new = c.settle.new.self in
+    let told = fault_told {S = g.row.S.Denot} g.S.Store (λ last. IsTrue c.self.inside.connection.in_transaction ⊎ Looks g.S.Store (LosesPhase g.S.Store) c.self.inside.connection last) c.has_season-done.result c.settle.result _ _ c.settle.ensures.err c.settle.ensures.counted c.has_season-done.ensures.lost in
+    subst (λ (old : Stored g.row.S.Denot). HasCleanDisk (state g.S.Store new.connection) → IsErrOf c.settle.result Failed → IsTrue old.connection.in_transaction ⊎ Looks g.S.Store (LosesPhase g.S.Store) old.connection new.connection) c.self.view_is told

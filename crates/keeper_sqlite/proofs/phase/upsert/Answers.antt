@@ -1,0 +1,8 @@
+use Rattle.std.proofs.Common.{rules}
+use Rattle.keeper_sqlite.specs.Kept.{cuts_text, cuts_values}
+use Rattle.keeper_sqlite.proofs.CallLemmas.{with_values}
+use Rattle.keeper_sqlite.proofs.phase.upsert.Goals as goal
+
+pub returns-clause-ran : goal.returns-clause-ran
+returns-clause-ran g c =
+    with_values g.S.Store cuts_text _ (cuts_values c.args.cuts) c.args.tx.now.conn.now c.run.new.tx.conn.now c.run.result c.run.ensures.ran (search rules)

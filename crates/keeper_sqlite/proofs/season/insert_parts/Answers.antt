@@ -1,0 +1,18 @@
+use Rattle.std.proofs.Common.{◌≡◌, ◌∙◌, length, arith, rules}
+use Rattle.std.proofs.lemmas.List.{nil_from_length}
+use Rattle.keeper_sqlite.proofs.CallLemmas.{part_put, text_put}
+use Rattle.keeper_sqlite.proofs.CommitLemmas.{nothing_then}
+use Rattle.keeper_sqlite.proofs.season.insert_parts.Goals as goal
+
+pub parts-preserved : goal.parts-preserved
+parts-preserved g c = (
+  c.insert_part.ensures.same_reference ∙ c.parts.invariant.0,
+  nothing_then _ _ _ c.parts.invariant.1 c.insert_part.ensures.inside,
+  part_put g.S.Store c.args.insert.now.text c.args.text.now c.parts.rest.now c.split_at.result.0.now c.split_at.result.1.now c.parts.number c.in_ok-number.number c.args.tx.now.conn.now c.parts.tx.conn.now c.insert_part.new.tx.conn.now
+      c.split_at.ensures.by_index.0 (omega (arith, c.split_at.ensures.front_len, c.min.ensures)) c.in_ok-number.ensures.ok c.insert_part.ensures.inside c.parts.invariant.2 c.in_ok-insert_part.ensures.ran,
+)
+
+pub returns-clause-ran : goal.returns-clause-ran
+returns-clause-ran g c =
+    let none : length c.parts.rest.now ≡ 0 = search rules in
+    text_put g.S.Store c.args.insert.now.text c.args.text.now c.parts.rest.now c.parts.number c.args.tx.now.conn.now c.parts.tx.conn.now (nil_from_length c.parts.rest.now none) c.parts.invariant.2

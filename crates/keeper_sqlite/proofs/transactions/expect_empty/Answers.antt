@@ -1,0 +1,9 @@
+use Rattle.std.proofs.Common.{take, drop}
+use Rattle.keeper_sqlite.specs.Kept.{unanswered_calls, any_row_queries}
+use Rattle.keeper_sqlite.proofs.CallLemmas.{both_done}
+use Rattle.keeper_sqlite.proofs.transactions.expect_empty.Goals as goal
+
+pub returns-clause-told : goal.returns-clause-told
+returns-clause-told g c =
+    both_done g.S.Store (unanswered_calls (take 2 any_row_queries)) (unanswered_calls (drop 2 any_row_queries)) c.args.tx.now.conn.now c.expect_no_season.new.tx.conn.now c.expect_no_rows.new.tx.conn.now c.expect_no_season.result c.expect_no_rows.result
+    c.in_ok-expect_no_season.was c.expect_no_rows.ensures.inside c.expect_no_season.ensures.told c.expect_no_rows.ensures.told

@@ -1,0 +1,10 @@
+use Rattle.keeper_sqlite.proofs.CallLemmas.{none_kept, found_kept}
+use Rattle.keeper_sqlite.proofs.transactions.read_records.Goals as goal
+
+pub returns-in-None-clause-told : goal.returns-in-None-clause-told
+returns-in-None-clause-told g c = none_kept g.S.Store c.in_ok-read.field-0 c.args.tx.now.conn.now c.read.new.tx.conn.now c.in-None.is c.in_ok-read.ensures.told
+
+pub returns-in_ok-read_kept-in-Some-clause-told : goal.returns-in_ok-read_kept-in-Some-clause-told
+returns-in_ok-read_kept-in-Some-clause-told g c =
+    found_kept g.S.Store c.in_ok-read_kept-in-Some.field-0 c.in-Some.cuts c.in_ok-read.field-0 c.args.tx.now.conn.now c.read.new.tx.conn.now c.read_kept.new.tx.conn.now
+    c.in-Some.is c.in_ok-read_kept-in-Some.ensures.cuts c.read_kept.ensures.inside c.in_ok-read.ensures.told c.in_ok-read_kept-in-Some.ensures.told
