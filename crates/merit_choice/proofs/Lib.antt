@@ -1,17 +1,18 @@
-mod ByHand
+pub mod ByHand
 mod Exchanged
 mod Filled
 mod Filling
 mod Halves
-mod InMerit
+pub mod InMerit
 mod Joining
 mod Marking
 mod Marks
 pub mod Members
-mod Needed
+pub mod Needed
 mod Offering
-mod OneByOne
+pub mod OneByOne
 mod Places
 mod Raises
 mod Replacing
+mod Sorting
 pub mod StepLaws

@@ -9,7 +9,6 @@ mod Once
 mod Passing
 mod RankedWords
 mod SetLaws
-mod Sorting
 mod Walk
 pub mod Lists
 pub mod ProgrammeLaws

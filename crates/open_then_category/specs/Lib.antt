@@ -1,5 +1,4 @@
 pub mod Laws
-pub mod Order
 pub mod State
 pub mod StepLaws
 pub mod Stepwise

@@ -15,9 +15,8 @@ ghost use Rattle.programme_lists.specs.Programme.{is_of, without, step_with};
 ghost use Rattle.open_then_category.specs.Stepwise.{AreCategorySteps, ShowsLast, empty_after};
 
 use crate::filters::{left_over, members, without};
-use crate::order::in_merit_order;
 use dereserve::{commons, fill, left_unfilled};
-use merit_choice::choose;
+use merit_choice::{choose, in_merit_order};
 use office_base::{
     Category, ListId, OutOfMemory, People, Person, ProgId, Protections, Step, StepKind,
 };

@@ -10,7 +10,6 @@ pub mod choice;
 mod filters;
 pub mod kept_lists;
 pub mod laws;
-mod order;
 pub mod state;
 
 pub use choice::programme_choice;

@@ -7,7 +7,7 @@ ghost use Rattle.rank_lists.specs.Register.{find_person, find_holder, place_of_p
 
 use crate::builder::RegisterBuilder;
 use crate::fault::RankFault;
-use office_base::{CandId, ListId, Person, Place, Token, better};
+use office_base::{CandId, ListId, OutOfMemory, Person, Place, Token, better};
 use section_rows::read_table;
 use std::alloc::Global;
 use std::collections::BTreeMap;
@@ -43,6 +43,17 @@ impl Register {
         let mut builder = RegisterBuilder::new(alloc);
         read_table(alloc, body, &mut builder)?;
         Ok(builder.finish(alloc)?)
+    }
+
+    /// An equal register.
+    pub fn copy(&self, alloc: Global) -> Result<Register, OutOfMemory>
+        ensures { IfOk result (λ register. register ≡ self.now) }
+    {
+        Ok(Register {
+            ids: Vec::from_slice(alloc, self.ids.as_slice())?,
+            people: Vec::from_slice(alloc, self.people.as_slice())?,
+            holders: self.holders.clone()?,
+        })
     }
 
     /// The position of the candidate of this id among all, in rising order of id and counted from 0. None exactly where no row

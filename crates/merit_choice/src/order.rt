@@ -1,11 +1,11 @@
-// Applicants in merit order.
+// People in merit order, from any order.
 ghost use Rattle.std.specs.Prelude.{◌≡◌, IfOk, length, vec_len};
-ghost use Rattle.office_base.specs.Merit.{in_merit};
+ghost use Rattle.office_base.specs.Merit.{CanBeRanked, in_merit};
 ghost use Rattle.office_base.specs.Person.{IsList};
 ghost use Rattle.office_base.specs.StepChoice.{AreRanked};
-ghost use Rattle.open_then_category.specs.Order.{merit_in};
-ghost use Rattle.programme_lists.specs.Chosen.{AreApplicants};
+ghost use Rattle.merit_choice.specs.Order.{merit_in};
 
+use crate::laws::one_merit_order;
 use office_base::{ListId, OutOfMemory, Person};
 use std::alloc::Global;
 
@@ -17,20 +17,20 @@ fn merit(person: &Person, list: ListId) -> u32
     person.place(list).number().unwrap_or(0)
 }
 
-/// The applicants in merit order, the best first.
-pub(crate) fn in_merit_order(
+/// The people in merit order, the best first, in whatever order they come. It fails for want of memory alone.
+pub fn in_merit_order(
     alloc: Global,
-    applicants: &[Person],
+    people: &[Person],
     list: ListId,
 ) -> Result<Vec<Person>, OutOfMemory>
     requires list { IsList list }
-    requires applicants { AreApplicants list applicants.now }
-    ensures order { IfOk result (λ ranked. ranked.items ≡ in_merit list applicants.now) }
+    requires people { CanBeRanked list people.now }
+    ensures order { IfOk result (λ ranked. ranked.items ≡ in_merit list people.now) }
     ensures ranked { IfOk result (λ ranked. AreRanked list ranked.items) }
-    ensures len { IfOk result (λ ranked. vec_len ranked ≡ length applicants.now) }
+    ensures len { IfOk result (λ ranked. vec_len ranked ≡ length people.now) }
 {
-    merit_choice::laws::one_merit_order();
-    let mut ranked = Vec::from_slice(alloc, applicants)?;
+    one_merit_order();
+    let mut ranked = Vec::from_slice(alloc, people)?;
     ranked.sort_by_key(|person| merit(person, list))?;
     Ok(ranked)
 }

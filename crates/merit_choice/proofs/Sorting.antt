@@ -1,4 +1,4 @@
--- Applicants sorted by their places stand in merit order.
+-- People sorted by their places stand in merit order.
 use Rattle.std.proofs.Common.{◌≡◌, ◌≢◌, ◌≤◌, ◌<◌, ◌+◌, ℕ, zero, suc, Bool, true, false, List, [], ◌∷◌, length, get_or, eqb, refl, sym, ap, subst, inl, inr, arith, Option, Some, None}
 use Rattle.std.proofs.lemmas.Bool.{eq-eqb, ne_eqb, cases_eq, both_ways}
 use Rattle.std.proofs.lemmas.List.Sorted.{sum_by-IsPermutation, All-permutation, IsPermutation-sym}
@@ -9,15 +9,14 @@ use Rattle.std.specs.List.Sorted.{IsPermutation, IsNonDecreasingBy}
 use Rattle.office_base.specs.Lists.{AnyByRecursion, Pairwise}
 use Rattle.office_base.specs.Person.{IsTraitSet, IsAhead, IsBetter, number_in}
 use Rattle.office_base.specs.StepChoice.{AreRanked}
-use Rattle.office_base.specs.Merit.{in_merit}
+use Rattle.office_base.specs.Merit.{CanBeRanked, in_merit}
 use Rattle.placements.specs.Ranks.{AreAmong}
 use Rattle.placements.proofs.Ranks.{all_both, among_itself}
 use Rattle.merit_choice.specs.InMerit.{OneMeritOrder}
 use Rattle.office_base.specs.declared.person.CandId.{CandId}
 use Rattle.office_base.specs.declared.person.ListId.{ListId}
 use Rattle.office_base.specs.declared.person.Person.{Person}
-use Rattle.open_then_category.specs.Order.{merit_in}
-use Rattle.programme_lists.specs.Chosen.{AreApplicants}
+use Rattle.merit_choice.specs.Order.{merit_in}
 use Rattle.std.specs.Prelude.{IsSome}
 
 -- 1 for a test that holds
@@ -139,9 +138,9 @@ pub record IsMeritOrder (list : ListId) (people ranked : List Person) : Type 0 w
   pub same : IsPermutation people ranked
   pub in_order : AreRanked list ranked
 
--- who may apply, sorted by their places, stands in merit order
-pub sorted_applicants : (list : ListId) (people others : List Person) → AreApplicants list people → IsPermutation people others → IsNonDecreasingBy (merit_in list) others → IsMeritOrder list people others
-sorted_applicants list people others may same up =
+-- people who can be ranked, sorted by their places, stand in merit order
+pub sorted_people : (list : ListId) (people others : List Person) → CanBeRanked list people → IsPermutation people others → IsNonDecreasingBy (merit_in list) others → IsMeritOrder list people others
+sorted_people list people others may same up =
     let placed = all_permuted (λ person. IsSome (number_in list person)) people others same may.placed in
     let numbers = apart_permuted (merit_in list) people others same
     (pairs_from (λ person. IsSome (number_in list person)) (λ a b. number_in list a ≢ number_in list b) (λ a b. merit_in list a ≢ merit_in list b)
@@ -166,7 +165,7 @@ sorted_applicants list people others may same up =
 pub among_permuted : (people others : List Person) → IsPermutation people others → AreAmong others people
 among_permuted people others same = all_permuted (λ person. AnyByRecursion (λ one. person ≡ one) people) people others same (among_itself people)
 
--- sorted applicants are the people by merit
-pub sorted_in_merit : OneMeritOrder → (list : ListId) (people others : List Person) → AreApplicants list people → IsMeritOrder list people others → others ≡ in_merit list people
+-- sorted people are the people by merit
+pub sorted_in_merit : OneMeritOrder → (list : ListId) (people others : List Person) → CanBeRanked list people → IsMeritOrder list people others → others ≡ in_merit list people
 sorted_in_merit one list people others may order =
     one list people others may order.in_order (among_permuted others people (IsPermutation-sym people others order.same)) (among_permuted people others order.same)

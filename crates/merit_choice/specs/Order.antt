@@ -1,4 +1,4 @@
--- The number by which applicants are sorted.
+-- The number by which people are sorted.
 use Rattle.std.specs.Prelude.{ℕ}
 use Rattle.std.specs.Option.{unwrap_or}
 use Rattle.office_base.specs.Person.{number_in}
