@@ -1,15 +1,24 @@
 """The program held against plain ones outside of it, on inputs that are drawn and not written down: checks/repository runs it."""
+import collections
 import functools
 import itertools
+import os
 import re
 import sqlite3
+import sys
 import tempfile
 
+import plain_scripts
 from cases import READS_STORES, ROOMS, called, first_difference
-from plain_office import MOST_SEATS, Office, Season, lists_of, sheet_text
+from plain_office import MOST_SEATS, TRAITS, Office, Season, lists_of, sheet_text
 
-# how many scripts are drawn for each season, and how many markets: all of them, and where the answer has to come soon
-ALL, FEW = (200, 1000), (3, 40)
+sys.path.append(f"{os.path.dirname(os.path.dirname(os.path.realpath(__file__)))}/bench")
+import generated  # noqa: E402
+
+# how much is drawn: scripts for each season, markets, sheets, programmes, each how-many-th damaged script, and the candidates and seeds of generated texts
+Drawn = collections.namedtuple("Drawn", "scripts markets sheets programmes damaged texts")
+ALL = Drawn(200, 1000, 2000, 1000, 1, ((1, 0), (1, 2**32 - 1), (2, 7), (20, 0), (20, 7), (800, 7), (801, 3), (100_000, 7)))
+FEW = Drawn(3, 40, 40, 20, 100, ((2, 7), (20, 7)))
 REQUESTS = 40
 
 # ---- drawn scripts
@@ -230,25 +239,123 @@ def drawn_markets(count):
     return found, several
 
 
+def fault_of_output(program, label, words, given, told, ends=0):
+    """Why the program does not write what is told and end so, or None."""
+    wrote, status = called(program, words, given.encode(), "/")
+    return None if (wrote, status) == (told.encode(), ends) else f"{label}: {words[0]} ended with status {status}: {first_difference(wrote, told.encode())}"
+
+
 def fault_of_market(program, label, text, told):
     """Why the first round is not the best of all fair allocations, or None."""
-    wrote, status = called(program, ["run", "memory"], f"{text}[requests]\ncut,clerk,0\n".encode(), "/")
-    return None if (wrote, status) == (told.encode(), 0) else f"{label}: ended with status {status}: {first_difference(wrote, told.encode())}"
+    return fault_of_output(program, label, ["run", "memory"], f"{text}[requests]\ncut,clerk,0\n", told)
+
+
+# ---- sheets: at most seven people over six traits
+
+
+def drawn_sheet(draw):
+    """A sheet of up to seven people, most of whom have some of three traits, with the protections within the seats."""
+    seats, left, text = draw.below(6), 0, ""
+    traits = TRAITS[:3] if draw.below(4) else TRAITS
+    text += f"step sheet 1\nseats,{seats}\n"
+    for letter in traits:
+        count = min(draw.below(3), seats - left)
+        left += count
+        text += f"protect,{letter},{count}\n" if count or draw.below(2) else ""
+    for number in range(draw.below(8)):
+        own = "".join(letter for letter in traits if draw.below(5) < 2)
+        text += f"cand,{7 * number % 8 + 1},{own or '-'}\n"
+    return text
+
+
+@functools.lru_cache(maxsize=None)
+def drawn_sheets(count):
+    """So many sheets with the text of the step, and in how many of these one is admitted after another who is not."""
+    draw, found, passed = Draw(1), [], 0
+    for number in range(count):
+        text = drawn_sheet(draw)
+        told = sheet_text(text)
+        admitted = [line.split(" ")[0] for line in told.split("\n")[2:-2]]
+        passed += admitted != re.findall(r"^cand,(\d+)", text, re.M)[: len(admitted)]
+        found.append((f"sheet {number}", ["step"], text, told))
+    return found, passed
+
+
+# ---- programmes: six candidates of all categories, and two programmes with seats of every kind, whose lists are asked after the first round
+
+
+def drawn_programmes_of(draw):
+    """A bundle up to its requests."""
+    text = f"office bundle {draw.below(2) + 1}\n[season]\nrounds,1\nclerk,clerk0001\n[register]\nid,category,traits,token,m1,m2,m3,m4\n"
+    merit = [in_order((1, 2, 3, 4, 5, 6), draw.below(720)) for _ in range(2)]
+    for number, (one, two) in enumerate(zip(*merit), 1):
+        category = ("GEN", "EWS", "OBC", "OBC", "SC", "ST")[draw.below(6)]
+        relaxed = ["R" if category != "GEN" and draw.below(3) == 0 else "" for _ in merit]
+        traits = "".join(letter for letter in "WD" if draw.below(3) == 0) or "-"
+        text += f"{number},{category},{traits},tok0000{number},{one}{relaxed[0]},{two}{relaxed[1]}\n"
+    text += "[matrix]\nprogramme,institute,list,step,seats,W,D,X,S,F,L\n"
+    for code, merit_list in (("A", 1), ("B", 2)):
+        for step, most in (("OPEN", 3), ("EWS", 2), ("OBC", 3), ("SC", 2), ("ST", 2)):
+            seats = draw.below(most)
+            women = min(draw.below(2), seats)
+            disabled = min(draw.below(2), seats - women)
+            text += f"{code},I1,{merit_list},{step},{seats},{women},{disabled}\n"
+    text += "[choices]\ncandidate,programmes\n"
+    return text + "".join(f"{number},{'A,B' if draw.below(2) else 'B,A'}\n" for number in range(1, 7))
+
+
+@functools.lru_cache(maxsize=None)
+def drawn_programmes(count):
+    """So many bundles that ask for the lists of both programmes, with the replies of the plain office, and the steps that admit somebody in any of them."""
+    draw, found, filled = Draw(1), [], set()
+    rows = ("cut,clerk,0", "list,nobody,1,A", "list,nobody,1,B")
+    for number in range(count):
+        text = drawn_programmes_of(draw)
+        office = Office(Season(text))
+        told = "".join(office.reply(row) for row in rows)
+        filled |= set(re.findall(r"^step (\w+) .* admitted [1-9]", told, re.M))
+        found.append((f"programmes {number}", ["run", "memory"], f"{text}[requests]\n" + "".join(f"{row}\n" for row in rows), told))
+    return found, filled
+
+
+# ---- damaged scripts, and generated seasons
+
+
+def fault_of_damaged(program, label, season, script):
+    """Why `check` or `run` does not take a script as the plain reader does, or None."""
+    counts, replies, status = plain_scripts.told(season, script)
+    given = f"{season}[requests]\n{script}"
+    return fault_of_output(program, label, ["check"], given, counts, status) or fault_of_output(program, label, ["run", "memory"], given, replies, status)
+
+
+def fault_of_text(program, count, seed):
+    """Why a generated season is not the text of the plain recipe, or None."""
+    told = "".join(f"{line}\n" for line in generated.generated(count, seed))
+    return fault_of_output(program, f"generate {count} {seed} text", ["generate", str(count), str(seed), "text"], "", told)
 
 
 def trials(program, texts, drawn):
-    """What is tried, each a call that gives a fault or None, with so many scripts a season and so many markets. That all replies come, and markets with
-    several fair allocations, is said of all of them."""
-    scripts = drawn_scripts(tuple(texts[it].decode() for it in ("five candidates", "mixed candidates")), drawn[0])
+    """What is tried, each a call that gives a fault or None, of so much that is drawn. That all replies come, markets with several fair allocations, sheets
+    where protections pass over a candidate, and each step with an admitted, is said of all of them."""
+    scripts = drawn_scripts(tuple(texts[it].decode() for it in ("five candidates", "mixed candidates")), drawn.scripts)
+    markets, several = drawn_markets(drawn.markets)
+    sheets, passed = drawn_sheets(drawn.sheets)
+    programmes, filled = drawn_programmes(drawn.programmes)
     if drawn == ALL:
         yield lambda: lacking(scripts)
+        yield lambda: None if several >= 20 else f"drawn markets: {several} have several fair allocations"
+        yield lambda: None if passed >= 200 else f"drawn sheets: in {passed} a candidate is passed over"
+        yield lambda: None if len(filled) == 6 else f"drawn programmes: only {sorted(filled)} admit somebody"
     for script in scripts:
         yield functools.partial(fault_of_script, program, *script)
-    markets, several = drawn_markets(drawn[1])
-    if drawn == ALL:
-        yield lambda: None if several >= 20 else f"drawn markets: {several} have several fair allocations"
     for market in markets:
         yield functools.partial(fault_of_market, program, *market)
+    for told in [*sheets, *programmes]:
+        yield functools.partial(fault_of_output, program, *told)
+    for number, script in itertools.islice(enumerate(plain_scripts.damaged_scripts()), 0, None, drawn.damaged):
+        yield functools.partial(fault_of_damaged, program, f"damaged script {number}", texts["mixed candidates"].decode(), script)
+    for count, seed in drawn.texts:
+        yield functools.partial(fault_of_text, program, count, seed)
     for count, seed in ((2, 1), (40, 7)):
         yield functools.partial(fault_of_summary, program, count, seed)
 
