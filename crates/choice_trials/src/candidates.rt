@@ -8,7 +8,6 @@ ghost use Rattle.programme_lists.specs.Chosen.{AreApplicants};
 use office_base::{
     CandId, Category, ListId, OutOfMemory, People, Person, Place, Protections, Step, TraitSet,
 };
-use plain_choice::is_step;
 use seat_matrix::Matrix;
 use std::alloc::Global;
 
@@ -116,14 +115,6 @@ pub fn may_all_apply(list: ListId, people: &[Person]) -> bool
         return true;
     };
     is_new(list, others, person) && may_all_apply(list, others)
-}
-
-/// Whether the step is sound, so that its people may apply to a programme of its list.
-pub fn may_apply(step: &Step) -> bool
-    ensures { IsTrue result → AreApplicants step.now.list step.now.people }
-{
-    merit_choice::laws::ranked_in_merit();
-    is_step(step)
 }
 
 /// Whether the person is none of these people and has a place of the own in the list, so that a step that holds them may be

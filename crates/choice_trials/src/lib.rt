@@ -1,9 +1,8 @@
-// The choices of a step and of a programme held against plain programs on every small one, and the calls under them on worked cases.
+// The calls under the choices of a step and of a programme on worked cases, and two large programmes.
 //
 // It has tests alone, so nothing stands on it: the layers under it are proved once, without them. Worked sheets and
-// programmes stand in cases/. The plain programs try all placements and all sublists, and the calls of the
-// product are proved by the same definitions; so a difference here would show a definition that does not say what is
-// meant, or a compiler that does not do what was proved.
+// programmes stand in cases/, and checks/plain_trials.py holds the choices that the program makes against plain ones on drawn
+// sheets and programmes. Here stand calls and values that no input of the program shows by itself.
 #![tactic(auto)]
 
 #[cfg(test)]
@@ -18,9 +17,5 @@ mod large_programmes;
 mod matching;
 #[cfg(test)]
 mod programme_states;
-#[cfg(test)]
-mod small_programmes;
-#[cfg(test)]
-mod small_steps;
 #[cfg(test)]
 mod step_states;
