@@ -1,0 +1,179 @@
+"""The program at its edge: input and output that fail, stores that cannot be opened, and little memory. How the program ends there, and what it writes, is held
+against docs/FORMATS.md; the other statuses are those of cases/."""
+import functools
+import os
+import resource
+import shutil
+import sqlite3
+import subprocess
+import tempfile
+import time
+
+from cases import ROOMS, SECONDS
+
+TOP = os.path.dirname(os.path.dirname(os.path.realpath(__file__)))
+NO_STORE = (b"", b"cannot open store\n", 1)
+# what runs as the superuser may write everywhere, so a file that may only be read is tried as nobody
+NOBODY = {"user": 65_534, "group": 65_534, "extra_groups": []} if os.geteuid() == 0 else {}
+
+
+def ended(words, room, **how):
+    """What was written to output and to standard error, where they are looked at, and the status."""
+    how = {"stdout": subprocess.PIPE, "stderr": subprocess.PIPE, **how}
+    if "input" not in how and "stdin" not in how:
+        how["stdin"] = subprocess.DEVNULL
+    ran = subprocess.run(words, cwd=room, timeout=SECONDS, **how)
+    return ran.stdout, ran.stderr, ran.returncode
+
+
+def is_so(label, came, wanted):
+    return None if came == wanted else f"{label}: {came[0] or b''!r:.80}, standard error {came[1] or b''!r:.80} and status {came[2]} came, and not {wanted[0] or b''!r:.80}, {wanted[1] or b''!r:.80} and {wanted[2]}"
+
+
+def in_a_room(trial):
+    """A trial in a folder of its own, in which every user may look."""
+
+    @functools.wraps(trial)
+    def tried(*given):
+        with tempfile.TemporaryDirectory(prefix="edge-", dir=ROOMS) as room:
+            os.chmod(room, 0o755)
+            return trial(room, *given)
+
+    return tried
+
+
+# ---- input and output
+
+
+@in_a_room
+def closed_input(room, program, bundle, words):
+    """The input is closed, and then one of which no byte can be read; where the words name a store, it has a season."""
+    if words[0] == "resume":
+        ended([program, "run", words[1]], room, input=bundle)
+    closed = ended(["sh", "-c", 'exec "$0" "$@" <&-', program, *words], room)
+    with open("/proc/self/mem", "rb") as it:
+        unread = ended([program, *words], room, stdin=it)
+    wanted = (b"fault: read\n", b"", 4)
+    return is_so(f"{words}, with its input closed", closed, wanted) or is_so(f"{words}, with an input that cannot be read", unread, wanted)
+
+
+@in_a_room
+def full_output(room, program, given, words):
+    """The output has no room, and then it is closed."""
+    with open("/dev/full", "wb") as it:
+        full = ended([program, *words], room, input=given, stdout=it)
+    closed = ended(["sh", "-c", 'exec "$0" "$@" >&-', program, *words], room, input=given)
+    return is_so(f"{words}, with a full output", full, (None, b"", 5)) or is_so(f"{words}, with its output closed", closed, (b"", b"", 5))
+
+
+@in_a_room
+def lost_replies(room, program, bundle):
+    """What was kept before the output failed stands: the season goes on, and has what it has where its replies were written."""
+    with open("/dev/full", "wb") as it:
+        lost = ended([program, "run", "lost.db"], room, input=bundle, stdout=it)
+    ended([program, "run", "told.db"], room, input=bundle)
+    first, other = (ended([program, "resume", it], room, input=b"state,nobody\n") for it in ("lost.db", "told.db"))
+    return is_so("run over a file with a full output", lost, (None, b"", 5)) or is_so("resume after it", first, other)
+
+
+# ---- stores
+
+
+@in_a_room
+def not_a_store(room, program, bundle):
+    """A folder, a file in no folder, a file of text, and one that may only be read."""
+    os.mkdir(f"{room}/folder")
+    with open(f"{room}/text", "w", encoding="utf-8") as it:
+        it.write("these are the seats\n" * 500)
+    for name in ("folder", "nowhere/season.db", "text"):
+        for word in ("run", "resume"):
+            fault = is_so(f"{word} {name}", ended([program, word, name], room, input=bundle), NO_STORE)
+            if fault:
+                return fault
+    with open(f"{room}/text", encoding="utf-8") as it:
+        return None if it.read() == "these are the seats\n" * 500 else "run text: the file of text was changed"
+
+
+@in_a_room
+def only_read(room, program, bundle):
+    """A store that may only be read, and whose folder may only be read."""
+    own = f"{room}/program"
+    shutil.copy(program, own)
+    os.chmod(own, 0o755)
+    ended([own, "run", "season.db"], room, input=bundle)
+    os.chmod(f"{room}/season.db", 0o444)
+    os.chmod(room, 0o555)
+    came = ended([own, "resume", "season.db"], room, **NOBODY)
+    os.chmod(room, 0o755)
+    return is_so("resume of a store that may only be read", came, NO_STORE)
+
+
+def with_the_store(room, program):
+    """A running office that has the store of the room, whose requests have not ended."""
+    for _ in range(20):
+        office = subprocess.Popen([program, "resume", "season.db"], cwd=room, stdin=subprocess.PIPE, stdout=subprocess.PIPE)
+        folder = f"/proc/{office.pid}/fd"
+        while office.poll() is None:
+            time.sleep(0.1)
+            if any(os.path.realpath(f"{folder}/{it}").endswith("/season.db") for it in os.listdir(folder)):
+                time.sleep(0.5)
+                return office
+    raise OSError("no office has the store")
+
+
+@in_a_room
+def open_elsewhere(room, program, bundle):
+    """A store that another program has: the office itself, and one that writes; and once they have ended, it goes on."""
+    ended([program, "run", "season.db"], room, input=bundle)
+    words, asks = [program, "resume", "season.db"], {"input": b"state,nobody\n"}
+    told = ended(words, room, **asks)
+    office = with_the_store(room, program)
+    came = ended(words, room, **asks)
+    office.communicate(b"")
+    fault = is_so("resume of a store that another office has", came, NO_STORE)
+    if fault or office.returncode:
+        return fault or f"resume beside another: ended with status {office.returncode}"
+    connection = sqlite3.connect(f"{room}/season.db", isolation_level=None)
+    try:
+        connection.execute("BEGIN EXCLUSIVE")
+        came = ended(words, room, **asks)
+    finally:
+        connection.close()
+    return is_so("resume of a store that is being written", came, NO_STORE) or is_so("resume after that", ended(words, room, **asks), told)
+
+
+# ---- memory and disk
+
+
+@in_a_room
+def little_memory(room, program, bundle):
+    """A bundle for which there is no memory, in the least room in which a small one is read."""
+    for room_for in (1 << power for power in range(24, 29)):
+        limited = functools.partial(resource.setrlimit, resource.RLIMIT_AS, (room_for, room_for))
+        if ended([program, "check"], room, input=bundle, preexec_fn=limited)[2] == 0:
+            large = bundle + b"\n" * (2 * room_for)
+            return is_so("check in little memory", ended([program, "check"], room, input=large, preexec_fn=limited), (b"fault: memory\n", b"", 7))
+    return "check in little memory: a small bundle wants 256 MiB"
+
+
+# ---- the launcher
+
+
+@in_a_room
+def launcher_forms(room, words):
+    """Words of no command: the launcher tells the forms, without any proof."""
+    _, said, status = ended([f"{TOP}/office", *words], room)
+    wants = [b"    ./office run STORE ", b"    ./office try WORDS.. "]
+    return None if status == 2 and all(it in said for it in wants) else f"./office {' '.join(words)}: ended with status {status} and told {said!r:.200}"
+
+
+def trials(program, bundle, sheet):
+    """What is tried, each a call that gives a fault or None."""
+    for words in (["step"], ["check"], ["run", "memory"], ["run", "season.db"], ["resume", "season.db"]):
+        yield functools.partial(closed_input, program, bundle, words)
+    for given, words in ((sheet, ["step"]), (bundle, ["check"]), (bundle, ["run", "memory"]), (b"", ["generate", "2", "1", "text"]), (b"", ["generate", "2", "1", "run"]), (b"", ["nothing"])):
+        yield functools.partial(full_output, program, given, words)
+    for trial in (lost_replies, not_a_store, only_read, open_elsewhere, little_memory):
+        yield functools.partial(trial, program, bundle)
+    for words in ([], ["nothing"], ["run"], ["try"], ["try", "step", "now"]):
+        yield functools.partial(launcher_forms, words)
