@@ -83,11 +83,14 @@ fn is_no_page(alloc: Global, target: &str) -> bool {
         && asked(alloc, "HEAD", target) == none
 }
 
-#[test]
-fn other_paths_are_none(rt: HostRuntime) {
+/// Whether all of them name none.
+fn others_are_none(alloc: Global) -> bool {
     for target in UNKNOWN {
-        assert!(rt; is_no_page(rt.alloc(), target), "{target}");
+        if !is_no_page(alloc, target) {
+            return false;
+        }
     }
+    true
 }
 
 /// Methods and targets of which the page has another method, and that method.
@@ -106,26 +109,27 @@ const OTHERS: [(&str, &str, Method); 12] = [
     ("post", "/v1/raise?", Method::Post),
 ];
 
-#[test]
-fn other_methods_are_refused(rt: HostRuntime) {
+/// Whether the method of the page is told for all of them.
+fn others_are_refused(alloc: Global) -> bool {
     for (method, target, allowed) in OTHERS {
-        let came = asked(rt.alloc(), method, target);
-        assert!(rt;
-            came == Some(refused(405, Some(allowed))),
-            "{method} {target}"
-        );
+        if asked(alloc, method, target) != Some(refused(405, Some(allowed))) {
+            return false;
+        }
     }
+    true
 }
 
 /// Targets that ask for the state.
 const STATES: [&str; 4] = ["/v1/state", "/v1/state?", "/v1/state?x=1", "/v1/state?/?"];
 
-#[test]
-fn the_state_is_asked(rt: HostRuntime) {
+/// Whether all of them do.
+fn the_state_is_asked(alloc: Global) -> bool {
     for target in STATES {
-        let came = asked(rt.alloc(), "GET", target);
-        assert!(rt; came == Some(Judged::Asked(Ask::State)), "{target}");
+        if asked(alloc, "GET", target) != Some(Judged::Asked(Ask::State)) {
+            return false;
+        }
     }
+    true
 }
 
 /// Targets that ask for a candidate's seat, and the candidate.
@@ -135,13 +139,15 @@ const SEATS: [(&str, u32); 3] = [
     ("/v1/seat/70", 70),
 ];
 
-#[test]
-fn seats_are_asked(rt: HostRuntime) {
+/// Whether all of them do.
+fn seats_are_asked(alloc: Global) -> bool {
     for (target, id) in SEATS {
         let seat = Ask::Seat { cand: CandId(id) };
-        let came = asked(rt.alloc(), "GET", target);
-        assert!(rt; came == Some(Judged::Asked(seat)), "{target}");
+        if asked(alloc, "GET", target) != Some(Judged::Asked(seat)) {
+            return false;
+        }
     }
+    true
 }
 
 /// What is asked of a candidate and a programme.
@@ -157,11 +163,10 @@ fn list(round: u16, prog: &[u8]) -> Option<Judged> {
     Some(Judged::Asked(Ask::List { round, prog }))
 }
 
-#[test]
-fn reasons_are_asked(rt: HostRuntime) {
+/// Whether a reason is asked.
+fn reasons_are_asked(alloc: Global) -> bool {
     let expected = why(12, b"A-1");
-    assert!(rt; expected.is_some());
-    assert!(rt; asked(rt.alloc(), "GET", "/v1/why/12/A-1") == expected);
+    expected.is_some() && asked(alloc, "GET", "/v1/why/12/A-1") == expected
 }
 
 /// Targets that ask for the list of a programme with the longest code, and the round.
@@ -170,13 +175,34 @@ const LISTS: [(&str, u16); 2] = [
     ("/v1/list/65535/ABCDEFGHIJKLMNOP", 65_535),
 ];
 
-#[test]
-fn lists_are_asked(rt: HostRuntime) {
+/// Whether all of them do.
+fn lists_are_asked(alloc: Global) -> bool {
     for (target, round) in LISTS {
         let expected = list(round, b"ABCDEFGHIJKLMNOP");
-        let is_right = expected.is_some() && asked(rt.alloc(), "GET", target) == expected;
-        assert!(rt; is_right, "{target}");
+        if expected.is_none() || asked(alloc, "GET", target) != expected {
+            return false;
+        }
     }
+    true
+}
+
+#[test]
+fn pages_and_methods_are_told(rt: HostRuntime) {
+    let alloc = rt.alloc();
+    assert!(rt; others_are_none(alloc) && others_are_refused(alloc));
+}
+
+/// Whether what is asked in the target of a GET is read.
+fn gets_are_read(alloc: Global) -> bool {
+    the_state_is_asked(alloc)
+        && seats_are_asked(alloc)
+        && reasons_are_asked(alloc)
+        && lists_are_asked(alloc)
+}
+
+#[test]
+fn targets_are_read(rt: HostRuntime) {
+    assert!(rt; gets_are_read(rt.alloc()));
 }
 
 /// Bodies of answers, and whether they are read as the answer `float` of candidate 7 at turn 2 of window 1.
@@ -268,18 +294,20 @@ fn answer(is_read: bool) -> Judged {
     })
 }
 
-#[test]
-fn answers_are_read(rt: HostRuntime) {
+/// Whether all of them are read, or not.
+fn answers_are_read(alloc: Global) -> bool {
     for (body, is_read) in ANSWERS {
-        let came = posted(rt.alloc(), "/v1/answer?x", body.as_bytes());
-        assert!(rt; came == Some(answer(is_read)), "{body}");
+        if posted(alloc, "/v1/answer?x", body.as_bytes()) != Some(answer(is_read)) {
+            return false;
+        }
     }
+    true
 }
 
-#[test]
-fn a_body_that_is_no_text_is_refused(rt: HostRuntime) {
+/// Whether a body that is no text is refused.
+fn other_bytes_are_refused(alloc: Global) -> bool {
     let body = b"{\"cand\":7,\"choice\":\"float\",\"turn\":2,\"window\":1,\"a\":\"\xff\"}";
-    assert!(rt; posted(rt.alloc(), "/v1/answer", body) == Some(refused(400, None)));
+    posted(alloc, "/v1/answer", body) == Some(refused(400, None))
 }
 
 /// Bodies of cuts and of raises, and the window that they have, where they are read.
@@ -349,13 +377,15 @@ fn window_asked(target: &str, window: Option<u16>) -> Option<Judged> {
     }))
 }
 
-#[test]
-fn cuts_and_raises_are_read(rt: HostRuntime) {
+/// Whether all of them are read, or not.
+fn cuts_and_raises_are_read(alloc: Global) -> bool {
     for (target, body, window) in OTHER_BODIES {
-        let expected = window_asked(target, window);
-        let came = posted(rt.alloc(), target, body.as_bytes());
-        assert!(rt; came.is_some() && came == expected, "{target} {body}");
+        let came = posted(alloc, target, body.as_bytes());
+        if came.is_none() || came != window_asked(target, window) {
+            return false;
+        }
     }
+    true
 }
 
 /// What a cut with a body of 4,096 bytes comes to.
@@ -368,9 +398,9 @@ fn long_cut(alloc: Global) -> Option<Judged> {
     posted(alloc, "/v1/cut", body.as_slice())
 }
 
-#[test]
-fn the_longest_body_is_read(rt: HostRuntime) {
-    assert!(rt; long_cut(rt.alloc()) == Some(Judged::Asked(Ask::Cut { window: 3 })));
+/// Whether it is read.
+fn the_longest_body_is_read(alloc: Global) -> bool {
+    long_cut(alloc) == Some(Judged::Asked(Ask::Cut { window: 3 }))
 }
 
 /// Messages whose body is not read, and what they come to.
@@ -388,14 +418,28 @@ const UNREAD: [(&str, Judged); 2] = [
     ),
 ];
 
-#[test]
-fn the_body_of_a_get_is_not_read(rt: HostRuntime) {
+/// Whether all of them come to that.
+fn the_body_of_a_get_is_not_read(alloc: Global) -> bool {
     for (bytes, expected) in UNREAD {
-        assert!(rt;
-            comes_to(rt.alloc(), bytes.as_bytes()) == Some(expected),
-            "{bytes}"
-        );
+        if comes_to(alloc, bytes.as_bytes()) != Some(expected) {
+            return false;
+        }
     }
+    true
+}
+
+/// Whether bodies of all kinds come to what they should.
+fn bodies_are_told(alloc: Global) -> bool {
+    answers_are_read(alloc)
+        && other_bytes_are_refused(alloc)
+        && cuts_and_raises_are_read(alloc)
+        && the_longest_body_is_read(alloc)
+        && the_body_of_a_get_is_not_read(alloc)
+}
+
+#[test]
+fn bodies_are_read(rt: HostRuntime) {
+    assert!(rt; bodies_are_told(rt.alloc()));
 }
 
 /// The fields of a message, and the token that it has.
@@ -430,9 +474,17 @@ fn gives_token(alloc: Global, fields: &str, expected: Option<&str>) -> bool {
     }
 }
 
+/// Whether all of them have theirs.
+fn tokens_are_told(alloc: Global) -> bool {
+    for (fields, expected) in TOKENS {
+        if !gives_token(alloc, fields, expected) {
+            return false;
+        }
+    }
+    true
+}
+
 #[test]
 fn the_first_token_counts(rt: HostRuntime) {
-    for (fields, expected) in TOKENS {
-        assert!(rt; gives_token(rt.alloc(), fields, expected), "{fields}");
-    }
+    assert!(rt; tokens_are_told(rt.alloc()));
 }

@@ -309,20 +309,22 @@ fn gets_in_pieces(alloc: Global, bytes: &[u8], replies: &[u8]) -> bool {
         .all(|piece| gets(alloc, bytes, *piece, replies))
 }
 
-#[test]
-fn messages_are_answered_wherever_they_are_cut(rt: HostRuntime) {
+/// Whether all of them are answered wherever they are cut, and in pieces of any length.
+fn exchanges_are_right(alloc: Global) -> bool {
     for (message, point, reply) in EXCHANGES {
-        let is_right = is_answered_from(rt.alloc(), message.as_bytes(), point, reply.as_bytes());
-        assert!(rt; is_right, "{message}");
+        let bytes = message.as_bytes();
+        if !is_answered_from(alloc, bytes, point, reply.as_bytes())
+            || !gets_in_pieces(alloc, bytes, reply.as_bytes())
+        {
+            return false;
+        }
     }
+    true
 }
 
 #[test]
-fn messages_are_answered_in_pieces_of_any_length(rt: HostRuntime) {
-    for (message, _, reply) in EXCHANGES {
-        let is_right = gets_in_pieces(rt.alloc(), message.as_bytes(), reply.as_bytes());
-        assert!(rt; is_right, "{message}");
-    }
+fn messages_are_answered_however_they_come(rt: HostRuntime) {
+    assert!(rt; exchanges_are_right(rt.alloc()));
 }
 
 const TOO_LONG: &str =
@@ -336,22 +338,12 @@ fn long_gets(alloc: Global, bytes: Option<Vec<u8>>, replies: &str) -> bool {
     [1, 7, 64].iter().all(|piece| gets(alloc, bytes.as_slice(), *piece, replies.as_bytes()))
 }
 
-/// The greatest heads.
-#[test]
-fn long_heads_are_answered(rt: HostRuntime) {
-    for (len, reply) in [(8192, STATE), (8193, TOO_LONG)] {
-        let head = long_head(rt.alloc(), len);
-        assert!(rt; long_gets(rt.alloc(), head, reply), "{len}");
-    }
-}
-
-/// The most fields.
-#[test]
-fn many_fields_are_answered(rt: HostRuntime) {
-    for (count, reply) in [(64, STATE), (65, BAD_AND_CLOSED)] {
-        let head = many_fields(rt.alloc(), count);
-        assert!(rt; long_gets(rt.alloc(), head, reply), "{count}");
-    }
+/// Whether the greatest heads and those with the most fields are answered, and refused where they are greater.
+fn limits_are_told(alloc: Global) -> bool {
+    long_gets(alloc, long_head(alloc, 8192), STATE)
+        && long_gets(alloc, long_head(alloc, 8193), TOO_LONG)
+        && long_gets(alloc, many_fields(alloc, 64), STATE)
+        && long_gets(alloc, many_fields(alloc, 65), BAD_AND_CLOSED)
 }
 
 /// Two messages on one connection, of which the second closes it, and a third that is not read.
@@ -370,6 +362,7 @@ fn are_answered(alloc: Global) -> bool {
 }
 
 #[test]
-fn messages_are_answered_in_their_order(rt: HostRuntime) {
-    assert!(rt; are_answered(rt.alloc()));
+fn long_messages_and_several_are_answered(rt: HostRuntime) {
+    let alloc = rt.alloc();
+    assert!(rt; limits_are_told(alloc) && are_answered(alloc));
 }

@@ -131,11 +131,19 @@ fn settles_at(bytes: &[u8], status: u16, point: usize) -> bool {
     comes_to(bytes) == settled(status, point)
 }
 
+/// Whether all of them come to what they should, wherever they are cut.
+fn all_settle() -> bool {
+    for (bytes, status, point) in ANSWERS {
+        if !settles_at(bytes.as_bytes(), status, point) {
+            return false;
+        }
+    }
+    true
+}
+
 #[test]
 fn messages_are_told_wherever_they_are_cut(rt: HostRuntime) {
-    for (bytes, status, point) in ANSWERS {
-        assert!(rt; settles_at(bytes.as_bytes(), status, point), "{bytes}");
-    }
+    assert!(rt; all_settle());
 }
 
 /// Whether each cut comes to what it should, of bytes for which there was memory, with some before them.
@@ -157,29 +165,28 @@ const LONG_HEADS: [(&str, usize, u16); 4] = [
     ("\r\n", 8191, 431),
 ];
 
-#[test]
-fn heads_have_8192_bytes_at_most(rt: HostRuntime) {
+/// Whether a head has at most 8,192 bytes.
+fn long_heads_settle(alloc: Global) -> bool {
     for (first, len, status) in LONG_HEADS {
-        let head = long_head(rt.alloc(), len);
-        let is_right = settles(rt.alloc(), first.as_bytes(), head, status, 8192);
-        assert!(rt; is_right, "{len}");
+        let head = long_head(alloc, len);
+        if !settles(alloc, first.as_bytes(), head, status, 8192) {
+            return false;
+        }
     }
+    true
 }
 
-#[test]
-fn heads_have_64_fields_at_most(rt: HostRuntime) {
-    for (count, status, point) in [(64, 200, 410), (65, 400, 416)] {
-        let head = many_fields(rt.alloc(), count);
-        assert!(rt; settles(rt.alloc(), b"", head, status, point), "{count}");
-    }
+/// Whether a head has at most 64 fields.
+fn many_fields_settle(alloc: Global) -> bool {
+    settles(alloc, b"", many_fields(alloc, 64), 200, 410)
+        && settles(alloc, b"", many_fields(alloc, 65), 400, 416)
 }
 
-/// A body of 4,096 bytes is read whole, and what follows it waits.
-#[test]
-fn the_longest_body_is_read(rt: HostRuntime) {
+/// Whether a body of 4,096 bytes is read whole, and what follows it waits.
+fn the_longest_body_settles(alloc: Global) -> bool {
     let head = b"POST / HTTP/1.1\r\nContent-Length: 4096\r\n\r\n";
-    let bytes = repeated(rt.alloc(), head, b"x", 4100);
-    assert!(rt; settles(rt.alloc(), b"", bytes, 200, 4137));
+    let bytes = repeated(alloc, head, b"x", 4100);
+    settles(alloc, b"", bytes, 200, 4137)
 }
 
 /// A message that follows a head of 8,192 bytes is not looked at.
@@ -204,10 +211,18 @@ fn waits_behind_a_body(alloc: Global) -> bool {
     }
 }
 
+/// Whether the greatest messages come to what they should, also with others behind them.
+fn limits_settle(alloc: Global) -> bool {
+    long_heads_settle(alloc)
+        && many_fields_settle(alloc)
+        && the_longest_body_settles(alloc)
+        && waits_behind_a_head(alloc)
+        && waits_behind_a_body(alloc)
+}
+
 #[test]
-fn a_message_behind_another_waits(rt: HostRuntime) {
-    assert!(rt; waits_behind_a_head(rt.alloc()));
-    assert!(rt; waits_behind_a_body(rt.alloc()));
+fn heads_and_bodies_have_their_limits(rt: HostRuntime) {
+    assert!(rt; limits_settle(rt.alloc()));
 }
 
 /// A message with empty lines before it and bytes behind it, and two fields of one name.
@@ -231,14 +246,13 @@ fn has_fields(message: &HeldMessage<'_>) -> bool {
         && !message.fields.has(b"host")
 }
 
-#[test]
-fn the_parts_of_a_message_are_told(rt: HostRuntime) {
+/// Whether its parts and its fields are told.
+fn is_told() -> bool {
     let mut room = [EMPTY_HEADER_SPAN; 64];
-    let is_told = match held_message(MESSAGE, &mut room) {
+    match held_message(MESSAGE, &mut room) {
         Held::Whole(message) => has_parts(&message) && has_fields(&message),
         _ => false,
-    };
-    assert!(rt; is_told);
+    }
 }
 
 /// The first line and the fields of heads, and whether the connection closes after them.
@@ -270,9 +284,17 @@ fn closes(bytes: &[u8]) -> Option<bool> {
     }
 }
 
-#[test]
-fn closings_are_told(rt: HostRuntime) {
+/// Whether all of them are told to close or not.
+fn closings_are_told() -> bool {
     for (bytes, expected) in CLOSINGS {
-        assert!(rt; closes(bytes.as_bytes()) == Some(expected), "{bytes}");
+        if closes(bytes.as_bytes()) != Some(expected) {
+            return false;
+        }
     }
+    true
+}
+
+#[test]
+fn the_parts_of_a_message_are_told(rt: HostRuntime) {
+    assert!(rt; is_told() && closings_are_told());
 }

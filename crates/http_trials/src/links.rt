@@ -38,11 +38,14 @@ fn is_read_in(alloc: Global, piece: usize) -> bool {
     }
 }
 
-#[test]
-fn pieces_of_any_length_are_read(rt: HostRuntime) {
+/// Whether it gives the text in pieces of some lengths.
+fn is_read_in_pieces(alloc: Global) -> bool {
     for piece in [1, 2, 3, 7, 8, 100] {
-        assert!(rt; is_read_in(rt.alloc(), piece), "{piece}");
+        if !is_read_in(alloc, piece) {
+            return false;
+        }
     }
+    true
 }
 
 /// What a link wrote before the call that fails, and after it went on: a piece that was read and not written is lost.
@@ -68,20 +71,22 @@ fn fails_once(alloc: Global, call: u32, before: &str, after: &str) -> bool {
     }
 }
 
-#[test]
-fn a_link_fails_at_each_of_its_calls(rt: HostRuntime) {
+/// Whether a link fails at each of its calls in turn.
+fn fails_at_each(alloc: Global) -> bool {
     for (call, before, after) in FAILURES {
-        assert!(rt; fails_once(rt.alloc(), call, before, after), "{call}");
+        if !fails_once(alloc, call, before, after) {
+            return false;
+        }
     }
+    true
 }
 
-#[test]
-fn a_link_does_not_fail_at_a_call_that_never_comes(rt: HostRuntime) {
-    let is_echoed = match text_link(rt.alloc(), 3, &[10]) {
+/// Whether a link does not fail at a call that never comes.
+fn never_fails(alloc: Global) -> bool {
+    match text_link(alloc, 3, &[10]) {
         Some(mut link) => echoes(&mut link, Ok(true), TEXT),
         None => false,
-    };
-    assert!(rt; is_echoed);
+    }
 }
 
 /// Whether a link with room for four bytes takes four of six, fails there, takes nothing more and still reads.
@@ -93,13 +98,22 @@ fn fails_without_room(link: &mut MemLink) -> bool {
         && link.read(&mut buffer) == Ok(4)
 }
 
-#[test]
-fn a_link_without_room_fails(rt: HostRuntime) {
-    let is_right = match MemLink::new(rt.alloc(), TEXT.as_bytes(), 4, 4, &[]) {
+/// Whether a link with room for four bytes does so.
+fn has_its_room(alloc: Global) -> bool {
+    match MemLink::new(alloc, TEXT.as_bytes(), 4, 4, &[]) {
         Ok(mut link) => fails_without_room(&mut link),
         Err(_) => false,
-    };
-    assert!(rt; is_right);
+    }
+}
+
+/// Whether links read, write and fail as they should.
+fn links_are_right(alloc: Global) -> bool {
+    is_read_in_pieces(alloc) && fails_at_each(alloc) && never_fails(alloc) && has_its_room(alloc)
+}
+
+#[test]
+fn links_are_read_and_written(rt: HostRuntime) {
+    assert!(rt; links_are_right(rt.alloc()));
 }
 
 /// A door of three links, of which the second accept fails.
@@ -151,13 +165,12 @@ fn gives_and_takes(door: &mut MemDoor) -> bool {
         && have_written(door, &["one", "two", "three"])
 }
 
-#[test]
-fn a_door_gives_its_links_and_takes_them_back(rt: HostRuntime) {
-    let is_right = match door_of_three(rt.alloc()) {
+/// Whether a door of three links does so.
+fn a_door_gives_and_takes(alloc: Global) -> bool {
+    match door_of_three(alloc) {
         Some(mut door) => gives_and_takes(&mut door),
         None => false,
-    };
-    assert!(rt; is_right);
+    }
 }
 
 /// Whether two links that are given, with a failure between them, come back in the other order.
@@ -175,11 +188,16 @@ fn come_back_otherwise(door: &mut MemDoor) -> bool {
     is_failed && is_echoed && have_written(door, &["two", "one"])
 }
 
-#[test]
-fn links_come_back_in_any_order(rt: HostRuntime) {
-    let is_right = match door_of_three(rt.alloc()) {
+/// Whether two of a door of three links do so.
+fn links_come_back_in_any_order(alloc: Global) -> bool {
+    match door_of_three(alloc) {
         Some(mut door) => come_back_otherwise(&mut door),
         None => false,
-    };
-    assert!(rt; is_right);
+    }
+}
+
+#[test]
+fn a_door_gives_its_links_and_takes_them_back(rt: HostRuntime) {
+    let alloc = rt.alloc();
+    assert!(rt; a_door_gives_and_takes(alloc) && links_come_back_in_any_order(alloc));
 }

@@ -94,18 +94,14 @@ fn is_refused(
     refuse(outbox, status, allow, close) && outbox.bytes() == text.as_bytes()
 }
 
-#[test]
-fn messages_are_refused(rt: HostRuntime) {
-    let Ok(mut outbox) = Outbox::new(rt.alloc()) else {
-        panic!(rt; "no memory");
-    };
-    assert!(rt; outbox.bytes().is_empty());
+/// Whether all of them have their bytes.
+fn messages_are_refused(outbox: &mut Outbox) -> bool {
     for (status, allow, close, text) in REFUSALS {
-        assert!(rt;
-            is_refused(&mut outbox, status, allow, close, text),
-            "{text}"
-        );
+        if !is_refused(outbox, status, allow, close, text) {
+            return false;
+        }
     }
+    true
 }
 
 /// Answers: the status, the body, whether the connection closes, and the bytes.
@@ -149,17 +145,14 @@ fn is_replied(outbox: &mut Outbox, status: u16, body: &str, close: bool, text: &
     answer(outbox, status, body.as_bytes(), close) && outbox.bytes() == text.as_bytes()
 }
 
-#[test]
-fn answers_have_a_body(rt: HostRuntime) {
-    let Ok(mut outbox) = Outbox::new(rt.alloc()) else {
-        panic!(rt; "no memory");
-    };
+/// Whether all of them have their bytes.
+fn answers_have_a_body(outbox: &mut Outbox) -> bool {
     for (status, body, close, text) in REPLIES {
-        assert!(rt;
-            is_replied(&mut outbox, status, body, close, text),
-            "{text}"
-        );
+        if !is_replied(outbox, status, body, close, text) {
+            return false;
+        }
     }
+    true
 }
 
 /// The faults, whether the connection closes, and the bytes.
@@ -176,15 +169,33 @@ const FAULTS: [(Fault, bool, &str); 2] = [
     ),
 ];
 
-#[test]
-fn faults_are_told(rt: HostRuntime) {
-    let Ok(mut outbox) = Outbox::new(rt.alloc()) else {
-        panic!(rt; "no memory");
-    };
+/// Whether both have their bytes.
+fn faults_are_told(outbox: &mut Outbox) -> bool {
     for (fault, close, text) in FAULTS {
         outbox.fail(fault, close);
-        assert!(rt; outbox.bytes() == text.as_bytes(), "{text}");
+        if outbox.bytes() != text.as_bytes() {
+            return false;
+        }
     }
+    true
+}
+
+/// Whether one outbox, which is empty at first, has the bytes of all of them in turn.
+fn replies_are_right(alloc: Global) -> bool {
+    match Outbox::new(alloc) {
+        Ok(mut outbox) => {
+            outbox.bytes().is_empty()
+                && messages_are_refused(&mut outbox)
+                && answers_have_a_body(&mut outbox)
+                && faults_are_told(&mut outbox)
+        }
+        Err(_) => false,
+    }
+}
+
+#[test]
+fn replies_have_their_bytes(rt: HostRuntime) {
+    assert!(rt; replies_are_right(rt.alloc()));
 }
 
 /// The heads of replies with a body of 8,192 bytes and one more.
@@ -204,8 +215,13 @@ fn stands(alloc: Global, len: usize, is_inside: bool, head: &[u8], total: usize)
     Some(is_put == is_inside && is_whole && bytes.ends_with(body.as_slice()) == is_inside)
 }
 
+/// Whether the longest body is inside, and one of a byte more is not.
+fn long_bodies_stand(alloc: Global) -> bool {
+    stands(alloc, BODY_ROOM, true, LONGEST, 8_265) == Some(true)
+        && stands(alloc, 8_193, false, LONGER, 73) == Some(true)
+}
+
 #[test]
 fn a_long_body_stays_outside(rt: HostRuntime) {
-    assert!(rt; stands(rt.alloc(), BODY_ROOM, true, LONGEST, 8_265) == Some(true));
-    assert!(rt; stands(rt.alloc(), 8_193, false, LONGER, 73) == Some(true));
+    assert!(rt; long_bodies_stand(rt.alloc()));
 }
