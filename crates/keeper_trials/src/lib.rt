@@ -1,10 +1,8 @@
-// The keeper over a database, held against what it was given: what is put is loaded again, and what may not stand is a fault.
+// The keeper over a database in memory, asked for what the program never asks: what may not stand is a fault, and leaves the records.
 //
-// It has tests alone, so nothing stands on it. The database stands in memory; what no clause says of it is tried here.
+// It has tests alone, so nothing stands on it. What the program puts into a file, loads from it, and takes for a fault is told by cases/stores.txt.
 #![tactic(auto)]
 
-#[cfg(test)]
-mod damage;
 #[cfg(test)]
 mod records;
 #[cfg(test)]

@@ -1,9 +1,9 @@
-// What is put is loaded again.
+// What is refused, and what stands then.
 use crate::stores::{
-    FIRST_TABLES, Put, RECORDS, Records, Store, after, allot, answer, empty, holds, holds_nothing,
-    over, puts, raise, refuses, refuses_load,
+    Put, Records, Store, after, allot, answer, empty, holds, holds_nothing, over, puts, raise,
+    refuses, refuses_load,
 };
-use keeper_mem::{AllotRow, AnswerRow, Keeper, RaiseRow};
+use keeper_mem::{AllotRow, AnswerRow, KeepFault, Keeper, RaiseRow};
 use office_base::{Choice, StepKind};
 use std::alloc::Global;
 use std::test::Fail;
@@ -79,43 +79,6 @@ fn holds_all(
     holds(alloc, keeper, &records)
 }
 
-/// Whether two more cuts, of which one publishes nothing, stand after the first.
-fn cuts_stand(alloc: Global, keeper: &mut Store, season: &[u8]) -> bool {
-    let last = allot(3, 1, 2, StepKind::Open);
-    let [first, second, third] = first_cut();
-    puts(keeper, &[Put::Cut(&[]), Put::Cut(&[last])])
-        && holds_all(alloc, keeper, season, &[first, second, third, last], 3)
-}
-
-#[test]
-fn what_is_put_is_loaded(rt: HostRuntime) -> Result<(), Fail> {
-    let alloc = rt.alloc();
-    assert!(rt; holds_nothing(alloc, &mut empty(alloc)?));
-    let text = text(alloc)?;
-    let mut keeper = empty(alloc)?;
-    assert!(rt; puts_all(&mut keeper, &text));
-    assert!(rt; holds_all(alloc, &mut keeper, &text, &first_cut(), 1));
-    assert!(rt; cuts_stand(alloc, &mut keeper, &text));
-    assert!(rt; keeper.faults() == 0);
-    Ok(())
-}
-
-#[test]
-fn the_empty_text_is_a_season(rt: HostRuntime) -> Result<(), Fail> {
-    let alloc = rt.alloc();
-    let mut keeper = empty(alloc)?;
-    assert!(rt; puts(&mut keeper, &[Put::Season(&[])]));
-    let records = Records {
-        season: &[],
-        answers: &[],
-        raises: &[],
-        allots: &[],
-        cuts: 0,
-    };
-    assert!(rt; holds(alloc, &mut keeper, &records));
-    Ok(())
-}
-
 /// Whether another season, a turn that is used and seats that are published are refused.
 fn refuses_repeats(keeper: &mut Store) -> bool {
     let seats = [
@@ -127,17 +90,22 @@ fn refuses_repeats(keeper: &mut Store) -> bool {
         && refuses(keeper, &Put::Cut(&seats))
 }
 
+/// Whether repeats are refused after all was put and its tables were made once more, and three faults are counted.
+fn is_left(alloc: Global, keeper: &mut Store, text: &[u8]) -> bool {
+    puts_all(keeper, text)
+        && keeper.make_tables().is_ok()
+        && keeper.faults() == 0
+        && refuses_repeats(keeper)
+        && holds_all(alloc, keeper, text, &first_cut(), 1)
+        && keeper.faults() == 3
+}
+
 #[test]
 fn what_is_refused_leaves_the_records(rt: HostRuntime) -> Result<(), Fail> {
     let alloc = rt.alloc();
     let text = text(alloc)?;
     let mut keeper = empty(alloc)?;
-    assert!(rt; puts_all(&mut keeper, &text));
-    keeper.make_tables()?;
-    assert!(rt; keeper.faults() == 0);
-    assert!(rt; refuses_repeats(&mut keeper));
-    assert!(rt; holds_all(alloc, &mut keeper, &text, &first_cut(), 1));
-    assert!(rt; keeper.faults() == 3);
+    assert!(rt; is_left(alloc, &mut keeper, &text));
     Ok(())
 }
 
@@ -157,55 +125,81 @@ fn refuses_disorder(keeper: &mut Store) -> bool {
         && refuses_pair(keeper, allot(1, 6, 0, open), allot(2, 1, 0, open))
 }
 
-#[test]
-fn seats_are_put_in_their_order_alone(rt: HostRuntime) -> Result<(), Fail> {
-    let mut keeper = empty(rt.alloc())?;
-    assert!(rt; puts_all(&mut keeper, b"text"));
-    assert!(rt; refuses_disorder(&mut keeper));
+/// Whether seats after the first cut are put where they rise, and only then.
+fn takes_rising(keeper: &mut Store) -> bool {
     let rising = [
         allot(2, 1, 0, StepKind::Open),
         allot(2, 2, 0, StepKind::Open),
     ];
-    assert!(rt; puts(&mut keeper, &[Put::Cut(&rising)]));
+    puts_all(keeper, b"text") && refuses_disorder(keeper) && puts(keeper, &[Put::Cut(&rising)])
+}
+
+#[test]
+fn seats_are_put_in_their_order_alone(rt: HostRuntime) -> Result<(), Fail> {
+    let mut keeper = empty(rt.alloc())?;
+    assert!(rt; takes_rising(&mut keeper));
     Ok(())
 }
 
-/// Whether it holds the records of the statements with these raises.
-fn holds_with(alloc: Global, keeper: &mut Store, raises: &[RaiseRow]) -> bool {
+/// Whether nothing is found, put and loaded where there are no tables.
+fn is_without_tables(alloc: Global, keeper: &mut Store) -> bool {
+    matches!(keeper.has_season(), Err(KeepFault::Failed))
+        && refuses(keeper, &Put::Season(b"text"))
+        && refuses_load(alloc, keeper)
+}
+
+#[test]
+fn a_database_without_tables_is_a_fault(rt: HostRuntime) -> Result<(), Fail> {
+    let alloc = rt.alloc();
+    let mut keeper = over(alloc, "")?;
+    assert!(rt; is_without_tables(alloc, &mut keeper));
+    Ok(())
+}
+
+/// Whether it holds a season of this text, and nothing more.
+fn holds_season(alloc: Global, keeper: &mut Store, season: &[u8]) -> bool {
     let records = Records {
-        season: b"abc",
-        answers: &[
-            answer(1, 1, 1, Choice::Withdraw),
-            answer(1, 2, 1, Choice::Float),
-        ],
-        raises,
-        allots: &[
-            allot(1, 1, 0, StepKind::Open),
-            allot(1, 2, 1, StepKind::Dereserved),
-        ],
-        cuts: 2,
+        season,
+        answers: &[],
+        raises: &[],
+        allots: &[],
+        cuts: 0,
     };
     holds(alloc, keeper, &records)
 }
 
-#[test]
-fn empty_tables_without_raises_become_tables_with_none(rt: HostRuntime) -> Result<(), Fail> {
-    let alloc = rt.alloc();
-    let mut keeper = over(alloc, FIRST_TABLES)?;
-    keeper.make_tables()?;
-    assert!(rt; holds_nothing(alloc, &mut keeper));
-    Ok(())
+/// Whether a cut is refused where there is no season, and the empty text then becomes one.
+fn takes_empty_text(alloc: Global, keeper: &mut Store) -> bool {
+    holds_nothing(alloc, keeper)
+        && refuses(keeper, &Put::Cut(&[]))
+        && holds_nothing(alloc, keeper)
+        && puts(keeper, &[Put::Season(&[])])
+        && holds_season(alloc, keeper, &[])
 }
 
 #[test]
-fn tables_without_raises_become_tables_with_none(rt: HostRuntime) -> Result<(), Fail> {
+fn a_cut_without_a_season_is_a_fault(rt: HostRuntime) -> Result<(), Fail> {
     let alloc = rt.alloc();
-    let mut keeper = after(over(alloc, FIRST_TABLES)?, RECORDS)?;
-    assert!(rt; refuses_load(alloc, &mut keeper));
-    keeper.make_tables()?;
-    assert!(rt; holds_with(alloc, &mut keeper, &[]));
-    let lifted = raise(2, 1, StepKind::Open, 9);
-    assert!(rt; puts(&mut keeper, &[Put::Raise(lifted)]));
-    assert!(rt; holds_with(alloc, &mut keeper, &[lifted]));
+    let mut keeper = empty(alloc)?;
+    assert!(rt; takes_empty_text(alloc, &mut keeper));
+    Ok(())
+}
+
+/// Whether a season is refused inside a transaction of others, and put after its end.
+fn waits_for_others(alloc: Global) -> Result<bool, Fail> {
+    let mut keeper = after(empty(alloc)?, "BEGIN")?;
+    let is_refused = refuses(&mut keeper, &Put::Season(b"text"));
+    let mut keeper = after(keeper, "COMMIT")?;
+    Ok(
+        is_refused
+            && puts(&mut keeper, &[Put::Season(b"text")])
+            && keeper.faults() == 0
+            && holds_season(alloc, &mut keeper, b"text"),
+    )
+}
+
+#[test]
+fn a_transaction_of_others_is_a_fault(rt: HostRuntime) -> Result<(), Fail> {
+    assert!(rt; waits_for_others(rt.alloc())?);
     Ok(())
 }

@@ -10,14 +10,6 @@ use std::test::Fail;
 /// The keeper of the trials.
 pub type Store = SqliteKeeper<MemStore>;
 
-/// Tables as they were before there were raises.
-pub const FIRST_TABLES: &str =
-    "CREATE TABLE season (part INTEGER PRIMARY KEY, bytes BLOB NOT NULL); CREATE TABLE answer (seq INTEGER PRIMARY KEY, win INTEGER NOT NULL, cand INTEGER NOT NULL, turn INTEGER NOT NULL, choice INTEGER NOT NULL, UNIQUE (win, cand, turn)); CREATE TABLE allot (rnd INTEGER NOT NULL, cand INTEGER NOT NULL, prog INTEGER NOT NULL, step INTEGER NOT NULL, PRIMARY KEY (rnd, cand)); CREATE TABLE phase (id INTEGER PRIMARY KEY, cuts INTEGER NOT NULL)";
-
-/// Records of a season by statements: its text `abc` in two parts, two answers, two seats and two cuts.
-pub const RECORDS: &str =
-    "INSERT INTO season VALUES (1, x'63'), (0, x'6162'); INSERT INTO answer VALUES (7, 1, 2, 1, 1), (3, 1, 1, 1, 3); INSERT INTO allot VALUES (1, 2, 1, 5), (1, 1, 0, 0); INSERT INTO phase VALUES (1, 2)";
-
 /// What is put, or how much room for answers is taken.
 #[derive(Clone, Copy)]
 pub enum Put<'a> {
@@ -82,11 +74,6 @@ pub fn puts(keeper: &mut Store, records: &[Put<'_>]) -> bool {
 /// Whether this is refused as a fault.
 pub fn refuses(keeper: &mut Store, what: &Put<'_>) -> bool {
     matches!(put_one(keeper, what), Err(KeepFault::Failed))
-}
-
-/// Whether all records can be loaded.
-pub fn loads(alloc: Global, keeper: &mut Store) -> bool {
-    keeper.load(alloc).is_ok()
 }
 
 /// Whether a load is refused as a fault.
