@@ -1,34 +1,23 @@
 // The program: it hands the words, standard input, standard output and a keeper over the store that the words name to `allocate` and ends with its
 // status.
 //
-// `allocate` is the one top call of the office: what it writes and how it ends is proved, for the words and the bytes that
+// `allocate`, of `office_commands`, is the one top call of the office: what it writes and how it ends is proved, for the words and the bytes that
 // it was given. The adapters over the real streams and the keeper over a file are the trusted edge: they count their errors and tell no
 // bytes and no tables. Nothing stands on this crate, and it decides nothing of seats itself.
 #![tactic(auto)]
 
-mod generate;
-#[cfg(test)]
-mod generated_runs;
-mod laws;
-mod program;
-#[cfg(test)]
-mod resumes;
-#[cfg(test)]
-mod tests;
-
-use crate::program::allocate;
 use command_answers::{Status, tell_no_memory};
 use command_words::{Command, Store, WordsFault, read_words};
+use file_keepers::{close_keeper, open_keeper};
 use keeper_mem::SureKeeper;
-use keeper_sqlite::SqliteKeeper;
 use office_base::{OutOfMemory, Sink, Text, Words};
-use sqlite::{Connection, File, FileStore};
+use office_commands::allocate;
 use standard_streams::{StandardInput, StandardOutput, tell_unheld};
 use std::alloc::Global;
 use std::io::IsTerminal;
 use std::process::ExitCode;
 use std::rt::Env;
-use std::{env, io, str};
+use std::{env, io};
 
 // How the program ends where the store that its words name cannot be opened.
 const NO_STORE: u8 = 1;
@@ -85,20 +74,11 @@ fn over_file<K: Sink>(
     sink: &mut K,
     name: &Text,
 ) -> Option<Status> {
-    let keeper = open_store(rt, name)?;
+    let keeper = open_keeper(rt, name)?;
     let mut source = StandardInput::new(rt.stdin());
     let (status, keeper) = allocate(alloc, words, &mut source, sink, keeper);
-    let _ = keeper.into_connection().close();
+    close_keeper(keeper);
     Some(status)
-}
-
-// A keeper over the file of this name, with the tables made that are not there.
-fn open_store(rt: &HostRuntime, name: &Text) -> Option<SqliteKeeper<FileStore<File>>> {
-    let path = str::from_utf8(name.as_slice()).ok()?;
-    let connection = Connection::open(rt, path).ok()?;
-    let mut keeper = SqliteKeeper::new(connection);
-    keeper.make_tables().ok()?;
-    Some(keeper)
 }
 
 // The words after the program's name. Where the system tells none, or one of them is no text, there are none: they spell

@@ -13,3 +13,4 @@ mod programmes;
 mod seating;
 
 pub use engine::{plain_round, round};
+pub use rounds::{Programmes, Round, Seats, Seeks};

@@ -1,3 +1,4 @@
 pub mod Answers
+pub mod Blames
 pub mod Status
 pub mod Writes

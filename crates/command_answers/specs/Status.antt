@@ -1,7 +1,7 @@
 -- The exit status of each way in which a run ends.
 use Rattle.std.specs.Prelude.{ℕ}
 use Rattle.command_answers.specs.declared.status.Status.{Status}
-use Rattle.command_answers.specs.declared.status.Status.TheVariants.{Ok, Usage, BadInput, ReadFault, WriteFault, KeeperFault, OutOfMemory, Differs}
+use Rattle.command_answers.specs.declared.status.Status.TheVariants.{Ok, Usage, BadInput, ReadFault, WriteFault, KeeperFault, OutOfMemory, DoorFault, Differs, Broken}
 
 abbrev pub code_of : Status → ℕ
 code_of Ok = 0
@@ -11,4 +11,6 @@ code_of ReadFault = 4
 code_of WriteFault = 5
 code_of KeeperFault = 6
 code_of OutOfMemory = 7
+code_of DoorFault = 8
 code_of Differs = 9
+code_of Broken = 10

@@ -1,12 +1,16 @@
 -- What is written with a status: a text of it whole, or a prefix.
-use Rattle.std.specs.Prelude.{◌≡◌, ◌⊎◌, ℕ, List, Option, Result, Ok, Err, take}
+use Rattle.std.specs.Prelude.{◌≡◌, ◌⊎◌, ℕ, List, Option, Result, Ok, Err, codes, take}
 use Rattle.office_base.specs.FaultLines.{memory_line, read_line}
 use Rattle.office_base.specs.Outside.{Appends}
 use Rattle.command_answers.specs.Answers.{Answers, HasLeft}
 use Rattle.command_answers.specs.declared.failure.Failure.{Failure}
 use Rattle.command_answers.specs.declared.failure.Failure.TheVariants.{Read, Bad, NoMemory}
 use Rattle.command_answers.specs.declared.status.Status.{Status}
-use Rattle.command_answers.specs.declared.status.Status.TheVariants.{Ok as Done, Usage, BadInput, ReadFault, WriteFault, KeeperFault, OutOfMemory, Differs}
+use Rattle.command_answers.specs.declared.status.Status.TheVariants.{Ok as Done, BadInput, ReadFault, WriteFault, OutOfMemory}
+
+-- the line of a keeper that failed
+abbrev pub keeper_line : List ℕ
+keeper_line = codes "fault: keeper\n"
 
 -- The whole text of the status is written; or the sink failed, and a prefix of the text of some status is.
 abbrev pub Writes : (Status → List ℕ → Type 0) → Status → List ℕ → Type 0
@@ -20,13 +24,10 @@ IsTold status text before after failed result = ((result ≡ status) × Appends 
 -- the whole text that goes with each status of a command that answers with one text, for the bytes that its source had left
 abbrev pub IsTextOf : Answers → Option (List ℕ) → Status → List ℕ → Type 0
 IsTextOf answers left Done text = HasLeft answers.IsOutput left text
-IsTextOf answers left Usage text = ⊥
 IsTextOf answers left BadInput text = HasLeft answers.IsFaultLine left text
 IsTextOf answers left ReadFault text = text ≡ read_line
-IsTextOf answers left WriteFault text = ⊥
-IsTextOf answers left KeeperFault text = ⊥
 IsTextOf answers left OutOfMemory text = text ≡ memory_line
-IsTextOf answers left Differs text = ⊥
+IsTextOf answers left other text = ⊥
 
 -- the status of a command's answer, and the text that goes with it
 abbrev pub status_of : Result (List ℕ) Failure → Status

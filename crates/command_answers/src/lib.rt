@@ -10,4 +10,4 @@ mod telling;
 
 pub use failure::Failure;
 pub use status::Status;
-pub use telling::{finish, tell_failure, tell_no_memory, write_answer};
+pub use telling::{finish, tell_failure, tell_keeper_fault, tell_no_memory, write_answer};

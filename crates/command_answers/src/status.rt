@@ -19,8 +19,12 @@ pub enum Status {
     KeeperFault = 6,
     /// There was no memory. It is the one answer that no cause is claimed for.
     OutOfMemory = 7,
+    /// The listener of a served office failed: its count of faults rose.
+    DoorFault = 8,
     /// The records of the keeper do not replay: the line written names the first row, or the first seat that differs.
     Differs = 9,
+    /// Published lists are not what the rules give: the line written names the first clause that does not hold. The input was read to its end.
+    Broken = 10,
 }
 
 impl Status {

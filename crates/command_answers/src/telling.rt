@@ -2,18 +2,26 @@
 ghost use Rattle.std.specs.Prelude.{◌≡◌, ◌≢◌, Err};
 ghost use Rattle.office_base.specs.Outside.{Rose};
 ghost use Rattle.office_base.specs.FaultLines.{memory_line};
-ghost use Rattle.command_answers.specs.Writes.{IsTold, status_of, text_of};
+ghost use Rattle.command_answers.specs.Writes.{IsTold, keeper_line, status_of, text_of};
 
 use crate::failure::Failure;
 use crate::status::Status;
 use office_base::{Sink, Text, write_whole};
 
-/// Writes that a word of the command line found no memory, as every want of memory is told.
+/// Writes that there was no memory, as every want of memory is told.
 pub fn tell_no_memory<K: Sink>(sink: &mut K) -> Status
     ensures told { IsTold Status.OutOfMemory memory_line (K.written sink.old) (K.written sink.new) (Rose (K.faults sink.old) (K.faults sink.new)) result }
     ensures steady { result ≢ Status.WriteFault → K.faults sink.new ≡ K.faults sink.old }
 {
     write_answer(sink, b"fault: memory\n", Status::OutOfMemory)
+}
+
+/// Writes that the keeper failed, as every fault of a keeper is told.
+pub fn tell_keeper_fault<K: Sink>(sink: &mut K) -> Status
+    ensures told { IsTold Status.KeeperFault keeper_line (K.written sink.old) (K.written sink.new) (Rose (K.faults sink.old) (K.faults sink.new)) result }
+    ensures steady { result ≢ Status.WriteFault → K.faults sink.new ≡ K.faults sink.old }
+{
+    write_answer(sink, b"fault: keeper\n", Status::KeeperFault)
 }
 
 /// Writes the answer of a command, or why there is none, and gives its status.
@@ -35,7 +43,7 @@ pub fn tell_failure<K: Sink>(sink: &mut K, failure: Failure) -> Status
     match failure {
         Failure::Bad(line) => write_answer(sink, line.as_slice(), Status::BadInput),
         Failure::Read => write_answer(sink, b"fault: read\n", Status::ReadFault),
-        Failure::NoMemory => write_answer(sink, b"fault: memory\n", Status::OutOfMemory),
+        Failure::NoMemory => tell_no_memory(sink),
     }
 }
 

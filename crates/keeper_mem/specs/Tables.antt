@@ -59,3 +59,15 @@ abbrev pub IsLoaded : Tables → Kept → Type 0
 IsLoaded Untold kept = Unit {0}
 IsLoaded NoSeason kept = ⊥
 IsLoaded (Records told) kept = told ≡ kept
+
+-- something is told
+abbrev pub IsTold : Tables → Type 0
+IsTold Untold = ⊥
+IsTold NoSeason = Unit {0}
+IsTold (Records kept) = Unit {0}
+
+-- what was told before, where something is told after; else nothing
+abbrev pub still : Tables → Tables → Tables
+still before Untold = Untold
+still before NoSeason = before
+still before (Records kept) = before

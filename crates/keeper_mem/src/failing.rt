@@ -5,7 +5,7 @@ ghost use Rattle.office_base.specs.Outside.{Rose};
 ghost use Rattle.keeper_mem.specs.Tables.{NoSeason, Records, with_season, with_answer, with_raise, with_cut, AreTold, IsFound, IsLoaded};
 
 use crate::memory::Memory;
-use crate::{AllotRow, AnswerRow, KeepFault, Keeper, Kept, RaiseRow};
+use crate::{AllotRow, AnswerRow, KeepFault, Keeper, Kept, RaiseRow, Teller};
 use office_base::{OutOfMemory, fails_at};
 use std::alloc::Global;
 use std::marker::Model;
@@ -87,7 +87,7 @@ impl Keeper for MemKeeper {
     ghost spare = { λ k. k.memory.spare };
 
     fn has_season(&mut self) -> Result<bool, KeepFault>
-        ensures ok { IfOk result (λ found. IsFound found self.old.memory.tables) }
+        ensures ok { IfOk result (λ found. IsFound found self.new.memory.tables) }
         ensures told { AreTold self.old.memory.tables self.new.memory.tables }
         ensures spare { OnOk result (self.new.memory.spare ≡ self.old.memory.spare) }
         ensures spare_err { OnErr result (self.old.memory.spare ≤ self.new.memory.spare) }
@@ -210,7 +210,7 @@ impl Keeper for MemKeeper {
     }
 
     fn load(&mut self, alloc: Global) -> Result<Option<Kept>, KeepFault>
-        ensures ok { IfOk result (λ found. MatchOption found (IsFound false self.old.memory.tables) (IsLoaded self.old.memory.tables)) }
+        ensures ok { IfOk result (λ found. MatchOption found (IsFound false self.new.memory.tables) (IsLoaded self.new.memory.tables)) }
         ensures told { AreTold self.old.memory.tables self.new.memory.tables }
         ensures spare { OnOk result (self.new.memory.spare ≡ self.old.memory.spare) }
         ensures spare_err { OnErr result (self.old.memory.spare ≤ self.new.memory.spare) }
@@ -226,5 +226,11 @@ impl Keeper for MemKeeper {
     {
         self.begin_call()?;
         Ok(self.memory.load(alloc)?)
+    }
+}
+
+impl Teller for MemKeeper {
+    fn tells(&self) {
+        let _ = self.memory.has_season();
     }
 }

@@ -2,7 +2,7 @@
 ghost use Rattle.std.specs.Prelude.{◌≡◌, ◌≤◌, ◌-◌, ℕ, Bool, true, false, List, OnOk, OnErr, IsErrOf, IfOk, MatchOption};
 ghost use Rattle.office_base.specs.Outside.{Rose};
 ghost use Rattle.keeper_mem.specs.declared.keeper.KeepFault.TheVariants.{OutOfMemory as NoMemory};
-ghost use Rattle.keeper_mem.specs.Tables.{Tables, with_season, with_answer, with_raise, with_cut, AreTold, IsFound, IsLoaded};
+ghost use Rattle.keeper_mem.specs.Tables.{Tables, with_season, with_answer, with_raise, with_cut, AreTold, IsFound, IsLoaded, IsTold};
 
 use crate::{AllotRow, AnswerRow, Kept, RaiseRow};
 use office_base::OutOfMemory;
@@ -39,9 +39,9 @@ pub trait Keeper {
     /// How many answers can be put without memory.
     ghost spare: { Self → ℕ };
 
-    /// Whether a season is kept.
+    /// Whether a season is kept, by the tables as this call leaves them: a keeper may stop telling within it.
     fn has_season(&mut self) -> Result<bool, KeepFault>
-        ensures ok { IfOk result (λ found. IsFound found (tables self.old)) }
+        ensures ok { IfOk result (λ found. IsFound found (tables self.new)) }
         ensures told { AreTold (tables self.old) (tables self.new) }
         ensures spare { OnOk result (spare self.new ≡ spare self.old) }
         ensures spare_err { OnErr result (spare self.old ≤ spare self.new) }
@@ -109,9 +109,9 @@ pub trait Keeper {
         ensures cause { IsErrOf result KeepFault.Failed → Rose (faults self.old) (faults self.new) }
         ensures room { holds_room self.new ≡ holds_room self.old };
 
-    /// All that is kept, or None where no season is.
+    /// All that is kept, or None where no season is, by the tables as this call leaves them.
     fn load(&mut self, alloc: Global) -> Result<Option<Kept>, KeepFault>
-        ensures ok { IfOk result (λ found. MatchOption found (IsFound false (tables self.old)) (IsLoaded (tables self.old))) }
+        ensures ok { IfOk result (λ found. MatchOption found (IsFound false (tables self.new)) (IsLoaded (tables self.new))) }
         ensures told { AreTold (tables self.old) (tables self.new) }
         ensures spare { OnOk result (spare self.new ≡ spare self.old) }
         ensures spare_err { OnErr result (spare self.old ≤ spare self.new) }
@@ -119,4 +119,13 @@ pub trait Keeper {
         ensures count { faults self.old ≤ faults self.new }
         ensures cause { IsErrOf result KeepFault.Failed → Rose (faults self.old) (faults self.new) }
         ensures room { holds_room self.new ≡ holds_room self.old };
+}
+
+/// A keeper that always tells its tables and holds room in advance. Both keepers in memory are such; without this a keeper that keeps nothing and
+/// tells nothing meets every clause of `Keeper`.
+pub trait Teller: Keeper {
+    /// It tells its tables, and room can be taken in advance. Nothing is done.
+    fn tells(&self)
+        ensures told { IsTold (Self.tables self.now) }
+        ensures room { Self.holds_room self.now ≡ true };
 }

@@ -1,7 +1,7 @@
 // What keeps the records of a season: its text, the answers, the raises, the published seats and the number of cuts.
 //
 // The office keeps each accepted request here before it answers, and goes on from what is kept. `specs/Tables` says what a keeper tells of
-// its tables and what each call does to them. Two keepers stand in memory; one over a database stands in a crate of its own. No function here
+// its tables and what each call does to them. Two keepers stand in memory, which always tell; one over a database stands in a crate of its own. No function here
 // knows what a row means.
 #![tactic(auto)]
 
@@ -12,6 +12,6 @@ mod rows;
 mod sure;
 
 pub use failing::MemKeeper;
-pub use keeper::{KeepFault, Keeper};
+pub use keeper::{KeepFault, Keeper, Teller};
 pub use rows::{AllotRow, AllotRows, AnswerRow, AnswerRows, Kept, RaiseRow, RaiseRows};
 pub use sure::SureKeeper;

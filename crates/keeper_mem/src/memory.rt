@@ -1,6 +1,6 @@
 // The tables in memory, which both keepers in memory hold.
 ghost use Rattle.std.specs.Prelude.{◌≡◌, ◌≤◌, ◌-◌, ◌+◌, ℕ, Bool, true, false, List, OnOk, OnErr, IfOk, IsTrue, MatchOption};
-ghost use Rattle.keeper_mem.specs.Tables.{Tables, NoSeason, Records, with_season, with_answer, with_raise, with_cut, IsFound, IsLoaded};
+ghost use Rattle.keeper_mem.specs.Tables.{Tables, NoSeason, Records, with_season, with_answer, with_raise, with_cut, IsFound, IsLoaded, IsTold};
 
 use crate::{AllotRow, AnswerRow, Kept, RaiseRow};
 use office_base::{Listed, OutOfMemory, Text};
@@ -66,7 +66,8 @@ impl Memory {
 
     /// Whether a season is kept.
     pub fn has_season(&self) -> bool
-        ensures { IsFound result self.now.tables }
+        ensures found { IsFound result self.now.tables }
+        ensures told { IsTold self.now.tables }
     {
         self.season.is_some()
     }

@@ -3,7 +3,7 @@ ghost use Rattle.std.specs.Prelude.{◌≡◌, ◌≤◌, ◌-◌, ℕ, Bool, tr
 ghost use Rattle.keeper_mem.specs.Tables.{NoSeason};
 
 use crate::memory::Memory;
-use crate::{AllotRow, AnswerRow, KeepFault, Keeper, Kept, RaiseRow};
+use crate::{AllotRow, AnswerRow, KeepFault, Keeper, Kept, RaiseRow, Teller};
 use std::alloc::Global;
 use std::marker::Model;
 
@@ -74,5 +74,11 @@ impl Keeper for SureKeeper {
 
     fn load(&mut self, alloc: Global) -> Result<Option<Kept>, KeepFault> {
         Ok(self.memory.load(alloc)?)
+    }
+}
+
+impl Teller for SureKeeper {
+    fn tells(&self) {
+        let _ = self.memory.has_season();
     }
 }

@@ -1,4 +1,7 @@
 // What the office accepts, and what it replies.
+ghost use Rattle.std.specs.Prelude.{◌≡◌};
+ghost use Rattle.office_moves.specs.Moves.{noted, raised_reply};
+
 use crate::refusal::Refusal;
 use keeper_mem::{AnswerRow, RaiseRow};
 use office_base::{CandId, Choice, ProgId, Seat, StepKind};
@@ -78,4 +81,30 @@ pub enum Reply {
     },
     /// The request is refused, and changes nothing.
     Refused(Refusal),
+}
+
+impl Reply {
+    /// The receipt of an answer.
+    pub fn of_answer(row: AnswerRow) -> Reply
+        ensures { result ≡ noted row }
+    {
+        Reply::Noted {
+            cand: row.cand,
+            window: row.window,
+            turn: row.turn,
+            choice: row.choice,
+        }
+    }
+
+    /// The receipt of a raise.
+    pub fn of_raise(row: RaiseRow) -> Reply
+        ensures { result ≡ raised_reply row }
+    {
+        Reply::Raised {
+            window: row.window,
+            prog: row.prog,
+            step: row.step,
+            seats: row.seats,
+        }
+    }
 }

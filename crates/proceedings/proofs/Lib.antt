@@ -10,6 +10,5 @@ pub mod Positions
 pub mod Published
 pub mod Replies
 pub mod Seated
-pub mod Six
 pub mod Sums
 pub mod Taken

@@ -127,4 +127,12 @@ impl Proceedings {
     {
         &self.matrix
     }
+
+    /// The season, handed back.
+    pub fn into_season(self) -> Season
+        ensures { facts_of result ≡ self.season }
+    {
+        let Proceedings { season, .. } = self;
+        season
+    }
 }

@@ -23,18 +23,8 @@ impl Proceedings {
     {
         match decision {
             Decision::Refuse(refusal) => Reply::Refused(refusal),
-            Decision::NotedAgain(row) => Reply::Noted {
-                cand: row.cand,
-                window: row.window,
-                turn: row.turn,
-                choice: row.choice,
-            },
-            Decision::RaisedAgain(row) => Reply::Raised {
-                window: row.window,
-                prog: row.prog,
-                step: row.step,
-                seats: row.seats,
-            },
+            Decision::NotedAgain(row) => Reply::of_answer(row),
+            Decision::RaisedAgain(row) => Reply::of_raise(row),
             Decision::CutAgain { window } => self.receipt(window),
             Decision::TellSeat { cand } => self.seat_reply(cand),
             Decision::TellWhy { cand, prog } => self.why_reply(cand, prog),

@@ -6,3 +6,4 @@ pub mod Later
 pub mod Laws
 pub mod Replay
 pub mod Steps
+pub mod Unreplayed

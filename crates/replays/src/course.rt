@@ -1,5 +1,5 @@
 // Kept records are replayed, window after window.
-ghost use Rattle.std.specs.Prelude.{◌≡◌, ◌<◌, ◌+◌, ℕ, None, IfOk, IfErr, OnOk, length};
+ghost use Rattle.std.specs.Prelude.{◌≡◌, ◌<◌, ◌+◌, ℕ, [], None, IfOk, IfErr, OnOk, length};
 ghost use Rattle.office_moves.specs.Season.{facts_of};
 ghost use Rattle.office_moves.specs.Stands.{AreRecordsOf, published_seat, seat_in_finals};
 ghost use Rattle.office_moves.specs.State.{opening, seat_in};
@@ -9,10 +9,11 @@ ghost use Rattle.replays.specs.Differences.{seat_along};
 ghost use Rattle.replays.specs.Faults.{IsFaultOfWindow, IsReplayFault, StopsInWindow};
 ghost use Rattle.replays.specs.Replay.{AreAllotsOf, IsReplayed, Pass, WindowPasses};
 ghost use Rattle.replays.specs.Steps.{IsDifference};
+ghost use Rattle.replays.specs.Unreplayed.{IsUnreplayed};
 
 use crate::compare::{compare, seats_in};
 use crate::cut::replay_cut;
-use crate::fault::ReplayFault;
+use crate::fault::{ReplayFault, Unreplayed};
 use crate::later::{later_round, later_window};
 use crate::rows::replay_rows;
 use keeper_mem::Kept;
@@ -168,19 +169,35 @@ fn check_later(alloc: Global, book: &mut Proceedings, kept: &Kept) -> Result<(),
     Ok(())
 }
 
+/// All of the records is replayed, from the beginning.
+fn replay_all(alloc: Global, book: &mut Proceedings, kept: &Kept) -> Result<(), ReplayFault>
+    requires state { book.old.state ≡ opening }
+    requires entries { book.old.entries ≡ [] }
+    ensures season { book.new.season ≡ book.old.season }
+    ensures replayed { OnOk result (IsReplayed book.old.season kept.now book.new.state) }
+    ensures entries { OnOk result (book.new.entries ≡ counted (kept_acts kept.now)) }
+    ensures fault { IfErr result (λ fault. IsReplayFault book.old.season kept.now fault) }
+{
+    replay_windows(alloc, book, kept)?;
+    check_later(alloc, book, kept)?;
+    Ok(())
+}
+
 /// The proceedings to which kept records of a season lead, or the first fault of the records. The entries are what is kept, window after window its
 /// raises, its answers and its cut, and are numbered 1, 2, 3 and so on.
-pub fn replay(alloc: Global, season: Season, kept: &Kept) -> Result<Proceedings, ReplayFault>
+#[tactic(auto, using(crate::proofs::HandedBack::is_unreplayed))]
+pub fn replay(alloc: Global, season: Season, kept: &Kept) -> Result<Proceedings, Unreplayed>
     ensures season { IfOk result (λ book. book.season ≡ facts_of season) }
     ensures replayed { IfOk result (λ book. IsReplayed (facts_of season) kept.now book.state) }
     ensures entries { IfOk result (λ book. book.entries ≡ counted (kept_acts kept.now)) }
     ensures counted { IfOk result (λ book. AreCounted book.entries) }
     ensures stands { IfOk result (λ book. kept.now.season ≡ (facts_of season).text → AreRecordsOf (facts_of season) book.state kept.now) }
-    ensures fault { IfErr result (λ fault. IsReplayFault (facts_of season) kept.now fault) }
+    ensures fault { IfErr result (λ fault. IsUnreplayed (facts_of season) kept.now fault) }
 {
     says_what_is_sound(&season);
     let mut book = Proceedings::begin(alloc, season)?;
-    replay_windows(alloc, &mut book, kept)?;
-    check_later(alloc, &mut book, kept)?;
-    Ok(book)
+    match replay_all(alloc, &mut book, kept) {
+        Ok(()) => Ok(book),
+        Err(fault) => Err(Unreplayed::of(fault, book.into_season())),
+    }
 }

@@ -1,6 +1,5 @@
 // The cut of the open window.
-ghost use Rattle.std.specs.Prelude.{◌≡◌, ◌<◌, ◌+◌, ◌∷◌, [], IfOk, IfErr, OnOk};
-ghost use Rattle.office_moves.specs.Moves.{IsNextRound};
+ghost use Rattle.std.specs.Prelude.{◌≡◌, ◌<◌, ◌+◌, ◌∷◌, [], IfErr, OnOk};
 ghost use Rattle.office_moves.specs.declared.moves.Act.TheVariants.{Cut};
 ghost use Rattle.proceedings.specs.Proceeding.{last_of};
 ghost use Rattle.replays.specs.Counted.{Follow};
@@ -9,25 +8,10 @@ ghost use Rattle.replays.specs.Steps.{IsRefusedCut};
 
 use crate::fault::ReplayFault;
 use crate::rows::next_entry;
-use apply_engine::plain_round;
+use next_rounds::next_round;
 use office_base::OutOfMemory;
 use proceedings::Proceedings;
-use rounds::Round;
 use std::alloc::Global;
-
-/// The round that the next cut publishes, made from what the candidates seek after the cuts so far. The only error is want of memory.
-pub fn next_round(alloc: Global, book: &Proceedings) -> Result<Round, OutOfMemory>
-    requires { book.now.state.now < book.now.season.rounds }
-    ensures { IfOk result (λ round. IsNextRound book.now.season book.now.state round) }
-{
-    let seeks = book.seeks(alloc)?;
-    let season = book.season();
-    let number = book.now();
-    if number >= season.rounds {
-        unreachable!("there is a round left")
-    }
-    plain_round(alloc, season, book.matrix(), number + 1, seeks)
-}
 
 /// The cut publishes the next round, as entry of this number.
 fn publish(alloc: Global, book: &mut Proceedings, number: u64) -> Result<(), OutOfMemory>

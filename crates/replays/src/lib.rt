@@ -14,5 +14,4 @@ pub mod laws;
 mod rows;
 
 pub use course::replay;
-pub use cut::next_round;
-pub use fault::ReplayFault;
+pub use fault::{ReplayFault, Unreplayed};

@@ -1,71 +1,104 @@
--- The first fault of records, as the office tells it.
-use Rattle.std.proofs.Common.{false, Option, Some, None}
-use Rattle.keeper_mem.specs.Tables.{Tables}
+-- Why an office does not go on, as its records and its tables have it.
+use Rattle.std.proofs.Common.{◌≡◌, false, refl, sym, subst}
+use Rattle.keeper_mem.specs.Tables.{AreTold, IsFound, IsLoaded, IsTold, Tables, Untold, NoSeason as NoneTold, Records, still}
+use Rattle.keeper_mem.specs.declared.keeper.KeepFault.{KeepFault}
+use Rattle.keeper_mem.specs.declared.keeper.KeepFault.TheVariants.{Failed, OutOfMemory as NoRoom}
 use Rattle.keeper_mem.specs.declared.rows.Kept.{Kept}
 use Rattle.season_file.specs.Season.{IsSeason, IsSeasonFault}
 use Rattle.season_file.specs.declared.fault.SeasonFault.{SeasonFault}
-use Rattle.season_file.specs.declared.fault.SeasonFault.TheVariants.{ReadFault, TooLong, BadFirstLine, Section, BadSeason, Register, Matrix, Choices, NotUtf8, BadRequest, OutOfMemory}
+use Rattle.season_file.specs.declared.fault.SeasonFault.TheVariants as reading
 use Rattle.season_file.specs.declared.season.Season.{Season}
 use Rattle.office_moves.specs.Season.{facts_of}
-use Rattle.replays.specs.Faults.{IsReplayFault}
-use Rattle.replays.specs.declared.fault.ReplayFault.{ReplayFault}
-use Rattle.replays.specs.declared.fault.ReplayFault.TheVariants.{Stray, StrayRaise, Differs, OutOfMemory as NoMemoryToReplay}
-use Rattle.round_cut.specs.Faults.{replay_fault, season_fault}
-use Rattle.round_cut.specs.Resume.{HaveFault, IsFaultOf, IsJudged, IsResumeFault, IsRoomFault}
-use Rattle.round_cut.specs.declared.fault.ResumeFault.{ResumeFault}
-use Rattle.round_cut.specs.declared.fault.ResumeFault.TheVariants.{NoSeason as NoneKept, BadSeason as BadText, Stray as StrayAnswer, StrayRaise as StrayLift, Differs as SeatsDiffer, KeeperFault as KeeperFailed, OutOfMemory as NoMemoryToResume}
+use Rattle.replays.specs.Unreplayed.{IsUnreplayed}
+use Rattle.replays.specs.declared.fault.Unreplayed.{Unreplayed}
+use Rattle.replays.specs.declared.fault.Unreplayed.TheVariants as replay
+use Rattle.round_cut.specs.Resume.{HaveStopped, IsResumeFault, IsUnresumed}
+use Rattle.round_cut.specs.Unresumed.{fault_of, load_fault, replay_fault, season_fault}
+use Rattle.round_cut.specs.declared.fault.ResumeFault.TheVariants as fault
+use Rattle.round_cut.specs.declared.resume.Unresumed.{Unresumed}
+use Rattle.round_cut.specs.declared.resume.Unresumed.TheVariants.{NoSeason, BadSeason, Stray, StrayRaise, Differs, KeeperFault, OutOfMemory}
 
-pub text_fault : (records : Kept) (fault : SeasonFault) → IsSeasonFault false records.season fault → HaveFault records (season_fault fault)
-text_fault records ReadFault is = is
-text_fault records TooLong is = is
-text_fault records BadFirstLine is = is
-text_fault records (Section line) is = is
-text_fault records (BadSeason row) is = is
-text_fault records (Register fault) is = is
-text_fault records (Matrix fault) is = is
-text_fault records (Choices fault) is = is
-text_fault records NotUtf8 is = is
-text_fault records (BadRequest row) is = is
-text_fault records OutOfMemory is = tt
+pub text_fault : (records : Kept) (why : SeasonFault) → IsSeasonFault false records.season why → HaveStopped records (season_fault why)
+text_fault records reading.ReadFault is = is
+text_fault records reading.TooLong is = is
+text_fault records reading.BadFirstLine is = is
+text_fault records (reading.Section line) is = is
+text_fault records (reading.BadSeason row) is = is
+text_fault records (reading.Register why) is = is
+text_fault records (reading.Matrix why) is = is
+text_fault records (reading.Choices why) is = is
+text_fault records reading.NotUtf8 is = is
+text_fault records (reading.BadRequest row) is = is
+text_fault records reading.OutOfMemory is = tt
 
-pub rows_fault : (records : Kept) (season : Season) (fault : ReplayFault) → IsSeason records.season season → IsReplayFault (facts_of season) records fault → HaveFault records (replay_fault fault)
-rows_fault records season (Stray row) read is = (season, read, is)
-rows_fault records season (StrayRaise row) read is = (season, read, is)
-rows_fault records season (Differs round cand one other) read is = (season, read, is)
-rows_fault records season NoMemoryToReplay read is = tt
+pub rows_fault : (records : Kept) (season : Season) (why : Unreplayed) → IsSeason records.season season → IsUnreplayed (facts_of season) records why → HaveStopped records (replay_fault why)
+rows_fault records season (replay.Stray row) read is = (season, read, is)
+rows_fault records season (replay.StrayRaise row) read is = (season, read, is)
+rows_fault records season (replay.Differs round cand one other handed) read is = let (differs, same) = is in (season, read, differs, same)
+rows_fault records season replay.OutOfMemory read is = tt
 
--- what records have, and what there is no room for, are faults of them
-pub have_fault : (records : Kept) (fault : ResumeFault) → HaveFault records fault → IsFaultOf records fault
-have_fault records NoneKept have = have
-have_fault records (BadText fault) have = have
-have_fault records (StrayAnswer row) have = have
-have_fault records (StrayLift row) have = have
-have_fault records (SeatsDiffer round cand one other) have = have
-have_fault records KeeperFailed have = tt
-have_fault records NoMemoryToResume have = tt
+-- neither is a fault of the keeper
+pub text_alone : (why : SeasonFault) → season_fault why ≡ KeeperFault → ⊥
+text_alone reading.ReadFault same = cc
+text_alone reading.TooLong same = cc
+text_alone reading.BadFirstLine same = cc
+text_alone (reading.Section line) same = cc
+text_alone (reading.BadSeason row) same = cc
+text_alone (reading.Register why) same = cc
+text_alone (reading.Matrix why) same = cc
+text_alone (reading.Choices why) same = cc
+text_alone reading.NotUtf8 same = cc
+text_alone (reading.BadRequest row) same = cc
+text_alone reading.OutOfMemory same = cc
 
-pub no_room : (records : Kept) (fault : ResumeFault) → IsRoomFault fault → IsFaultOf records fault
-no_room records NoneKept is = is
-no_room records (BadText fault) is = absurd is
-no_room records (StrayAnswer row) is = absurd is
-no_room records (StrayLift row) is = absurd is
-no_room records (SeatsDiffer round cand one other) is = absurd is
-no_room records KeeperFailed is = tt
-no_room records NoMemoryToResume is = tt
+pub rows_alone : (why : Unreplayed) → replay_fault why ≡ KeeperFault → ⊥
+rows_alone (replay.Stray row) same = cc
+rows_alone (replay.StrayRaise row) same = cc
+rows_alone (replay.Differs round cand one other handed) same = cc
+rows_alone replay.OutOfMemory same = cc
 
--- what was judged is why an office does not go on
-pub judged_fault : (tables : Tables) (records : Option Kept) (fault : ResumeFault) → IsJudged tables records fault → IsResumeFault tables fault
-judged_fault tables None NoneKept is = is
-judged_fault tables None (BadText fault) is = absurd is
-judged_fault tables None (StrayAnswer row) is = absurd is
-judged_fault tables None (StrayLift row) is = absurd is
-judged_fault tables None (SeatsDiffer round cand one other) is = absurd is
-judged_fault tables None KeeperFailed is = tt
-judged_fault tables None NoMemoryToResume is = tt
-judged_fault tables (Some records) NoneKept is = absurd is.1
-judged_fault tables (Some records) (BadText fault) is = (records, is.0, is.1)
-judged_fault tables (Some records) (StrayAnswer row) is = (records, is.0, is.1)
-judged_fault tables (Some records) (StrayLift row) is = (records, is.0, is.1)
-judged_fault tables (Some records) (SeatsDiffer round cand one other) is = (records, is.0, is.1)
-judged_fault tables (Some records) KeeperFailed is = tt
-judged_fault tables (Some records) NoMemoryToResume is = tt
+-- what loaded records have is why an office does not go on, and so is a fault of the keeper's
+pub stopped : (tables : Tables) (records : Kept) (why : Unresumed) → IsLoaded tables records → HaveStopped records why → IsUnresumed tables why
+stopped tables records NoSeason loaded have = absurd have
+stopped tables records (BadSeason reading) loaded have = (records, loaded, have)
+stopped tables records (Stray row) loaded have = (records, loaded, have)
+stopped tables records (StrayRaise row) loaded have = (records, loaded, have)
+stopped tables records (Differs round cand one other season) loaded have = (records, loaded, have)
+stopped tables records KeeperFault loaded have = tt
+stopped tables records OutOfMemory loaded have = tt
+
+pub unloaded : (tables : Tables) (why : KeepFault) → IsUnresumed tables (load_fault why)
+unloaded tables Failed = tt
+unloaded tables NoRoom = tt
+
+-- the same without the season
+pub told_fault : (tables : Tables) (why : Unresumed) → IsUnresumed tables why → IsResumeFault tables (fault_of why)
+told_fault tables NoSeason is = is
+told_fault tables (BadSeason reading) is = is
+told_fault tables (Stray row) is = is
+told_fault tables (StrayRaise row) is = is
+told_fault tables (Differs round cand one other season) is =
+    let (records, loaded, have) = is in
+    let (spelt, read, differs, same) = have in
+    (records, loaded, (spelt, read, differs))
+told_fault tables KeeperFault is = tt
+told_fault tables OutOfMemory is = tt
+
+pub keeper_failed : (why : Unresumed) → fault_of why ≡ fault.KeeperFault → why ≡ KeeperFault
+keeper_failed NoSeason same = absurd cc
+keeper_failed (BadSeason reading) same = absurd cc
+keeper_failed (Stray row) same = absurd cc
+keeper_failed (StrayRaise row) same = absurd cc
+keeper_failed (Differs round cand one other season) same = absurd cc
+keeper_failed KeeperFault same = refl
+keeper_failed OutOfMemory same = absurd cc
+
+pub failed_alone : (why : Unresumed) → (fault_of why ≡ fault.KeeperFault → ⊥) → why ≡ KeeperFault → ⊥
+failed_alone why other same = other (subst (λ (w : Unresumed). fault_of w ≡ fault.KeeperFault) (sym same) refl)
+
+-- ---- what is loaded, and what is told after it
+
+pub loaded_told : (expected told : Tables) (records : Kept) → AreTold expected told → IsLoaded expected records → IsLoaded told records
+loaded_told expected Untold records same is = tt
+loaded_told expected NoneTold records same is = subst (λ t. IsLoaded t records) same is
+loaded_told expected (Records kept) records same is = subst (λ t. IsLoaded t records) same is

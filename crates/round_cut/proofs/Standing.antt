@@ -7,7 +7,8 @@ use Rattle.office_base.specs.Person.{at_person}
 use Rattle.office_base.specs.declared.asks.Seat.{Seat}
 use Rattle.office_base.specs.declared.person.CandId.{CandId}
 use Rattle.office_base.specs.declared.person.Person.{Person}
-use Rattle.keeper_mem.specs.Tables.{AreTold, IsFound, Tables, Untold, NoSeason, Records, opening_records, with_answer, with_raise, with_season}
+use Rattle.keeper_mem.specs.Tables.{AreTold, IsFound, IsTold, Tables, Untold, NoSeason, Records, opening_records, still, with_answer, with_cut, with_raise, with_season}
+use Rattle.keeper_mem.specs.declared.rows.Kept.{Kept}
 use Rattle.keeper_mem.specs.declared.rows.AllotRow.{AllotRow}
 use Rattle.keeper_mem.specs.declared.rows.AnswerRow.{AnswerRow}
 use Rattle.keeper_mem.specs.declared.rows.RaiseRow.{RaiseRow}
@@ -39,6 +40,49 @@ pub told_on : (first second third : Tables) → AreTold first second → AreTold
 told_on first second Untold one two = tt
 told_on first second NoSeason one two = subst (λ t. AreTold first t) two one
 told_on first second (Records kept) one two = subst (λ t. AreTold first t) two one
+
+-- where something is told, something was told before
+pub was_told : (expected told : Tables) → AreTold expected told → IsTold told → IsTold expected
+was_told expected Untold same is = absurd is
+was_told expected NoSeason same is = subst (λ t. IsTold t) (sym same) tt
+was_told expected (Records kept) same is = subst (λ t. IsTold t) (sym same) tt
+
+pub season_was : (text : List ℕ) (tables : Tables) → IsTold (with_season text tables) → IsTold tables
+season_was text Untold is = is
+season_was text NoSeason is = tt
+season_was text (Records kept) is = tt
+
+pub answer_was : (row : AnswerRow) (tables : Tables) → IsTold (with_answer row tables) → IsTold tables
+answer_was row Untold is = is
+answer_was row NoSeason is = tt
+answer_was row (Records kept) is = tt
+
+pub raise_was : (row : RaiseRow) (tables : Tables) → IsTold (with_raise row tables) → IsTold tables
+raise_was row Untold is = is
+raise_was row NoSeason is = tt
+raise_was row (Records kept) is = tt
+
+pub cut_was : (rows : List AllotRow) (tables : Tables) → IsTold (with_cut rows tables) → IsTold tables
+cut_was rows Untold is = is
+cut_was rows NoSeason is = tt
+cut_was rows (Records kept) is = tt
+
+-- a keeper that tells after a season was put held none before
+none_before : (before mid : Tables) → AreTold before mid → IsFound false mid → IsTold mid → IsFound false before
+none_before before Untold told none is = absurd is
+none_before before NoSeason told none is = subst (λ s. IsFound false s) (sym told) none
+none_before before (Records kept) told none is = subst (λ s. IsFound false s) (sym told) none
+
+pub begun_empty : (before mid after : Tables) → AreTold before mid → IsFound false mid → (IsTold after → IsTold mid) → IsFound false (still before after)
+begun_empty before mid Untold told none was = tt
+begun_empty before mid NoSeason told none was = none_before before mid told none (was tt)
+begun_empty before mid (Records kept) told none was = none_before before mid told none (was tt)
+
+-- records stand for the state where something is told
+pub stand_records : (facts : SeasonFacts) (state : State) (tables : Tables) → Stand facts state tables → IsTold tables → (records : Kept) × (tables ≡ Records records) × AreRecordsOf facts state records
+stand_records facts state Untold stands is = absurd is
+stand_records facts state NoSeason stands is = absurd stands
+stand_records facts state (Records kept) stands is = (kept, refl, stands)
 
 -- the same facts and the same state
 pub stand_moved : (facts other : SeasonFacts) (state next : State) (tables : Tables) → other ≡ facts → next ≡ state → Stand facts state tables → Stand other next tables

@@ -1,6 +1,5 @@
 -- An office goes on from what a keeper holds.
-use Rattle.std.specs.Prelude.{◌≡◌, false, List, Option, Some, None}
-use Rattle.office_base.specs.declared.asks.Seat.{Seat}
+use Rattle.std.specs.Prelude.{◌≡◌, false, List}
 use Rattle.season_file.specs.Laws.{HasFault}
 use Rattle.season_file.specs.Season.{IsSeason}
 use Rattle.season_file.specs.declared.season.Season.{Season}
@@ -16,6 +15,9 @@ use Rattle.replays.specs.Faults.{IsReplayFault}
 use Rattle.replays.specs.Replay.{IsReplayed}
 use Rattle.replays.specs.declared.fault.ReplayFault.{ReplayFault}
 use Rattle.replays.specs.declared.fault.ReplayFault.TheVariants.{Stray as StrayAnswer, StrayRaise as StrayLift, Differs as SeatsDiffer}
+use Rattle.round_cut.specs.Unresumed.{fault_of}
+use Rattle.round_cut.specs.declared.resume.Unresumed.{Unresumed}
+use Rattle.round_cut.specs.declared.resume.Unresumed.TheVariants.{NoSeason as NoneKept, Differs as Apart, KeeperFault as KeeperFailed, OutOfMemory as NoMemory}
 use Rattle.round_cut.specs.declared.fault.ResumeFault.{ResumeFault}
 use Rattle.round_cut.specs.declared.fault.ResumeFault.TheVariants.{NoSeason, BadSeason, Stray, StrayRaise, Differs, KeeperFault, OutOfMemory}
 
@@ -48,52 +50,28 @@ HaveFault records (Differs round cand one other) = HaveReplayFault records (Seat
 HaveFault records KeeperFault = ⊥
 HaveFault records OutOfMemory = Unit {0}
 
--- the records of these tables, or any where nothing is told, have this fault first
-abbrev pub IsLoadedFault : Tables → ResumeFault → Type 0
-IsLoadedFault tables fault = (records : Kept) × IsLoaded tables records × HaveFault records fault
-
--- Why an office does not go on from these tables. A fault of the keeper has its own clause.
+-- Why an office does not go on from these tables: there is no season, or the records of the tables, or any where nothing is told, have this fault first. A
+-- fault of the keeper has its own clause.
 abbrev pub IsResumeFault : Tables → ResumeFault → Type 0
 IsResumeFault tables NoSeason = IsFound false tables
-IsResumeFault tables (BadSeason fault) = IsLoadedFault tables (BadSeason fault)
-IsResumeFault tables (Stray row) = IsLoadedFault tables (Stray row)
-IsResumeFault tables (StrayRaise row) = IsLoadedFault tables (StrayRaise row)
-IsResumeFault tables (Differs round cand one other) = IsLoadedFault tables (Differs round cand one other)
 IsResumeFault tables KeeperFault = Unit {0}
 IsResumeFault tables OutOfMemory = Unit {0}
+IsResumeFault tables fault = (records : Kept) × IsLoaded tables records × HaveFault records fault
 
--- the records were not loaded
-abbrev pub IsLoadFault : Tables → ResumeFault → Type 0
-IsLoadFault tables NoSeason = IsFound false tables
-IsLoadFault tables (BadSeason fault) = ⊥
-IsLoadFault tables (Stray row) = ⊥
-IsLoadFault tables (StrayRaise row) = ⊥
-IsLoadFault tables (Differs round cand one other) = ⊥
-IsLoadFault tables KeeperFault = Unit {0}
-IsLoadFault tables OutOfMemory = Unit {0}
+-- ---- with the season that a difference is told by
 
--- there was no room
-abbrev pub IsRoomFault : ResumeFault → Type 0
-IsRoomFault NoSeason = ⊥
-IsRoomFault (BadSeason fault) = ⊥
-IsRoomFault (Stray row) = ⊥
-IsRoomFault (StrayRaise row) = ⊥
-IsRoomFault (Differs round cand one other) = ⊥
-IsRoomFault KeeperFault = Unit {0}
-IsRoomFault OutOfMemory = Unit {0}
+-- the season of a difference is one that the text reads as, and the rows and seats have this fault first
+abbrev pub HaveDifference : Kept → Season → ReplayFault → Type 0
+HaveDifference records season fault = (spelt : Season) × IsSeason records.season spelt × IsReplayFault (facts_of spelt) records fault × (facts_of season ≡ facts_of spelt)
 
--- The fault of records that were loaded, or what may come at any time: the keeper failed, or there was no memory.
-abbrev pub IsFaultOf : Kept → ResumeFault → Type 0
-IsFaultOf records NoSeason = ⊥
-IsFaultOf records (BadSeason fault) = HaveFault records (BadSeason fault)
-IsFaultOf records (Stray row) = HaveFault records (Stray row)
-IsFaultOf records (StrayRaise row) = HaveFault records (StrayRaise row)
-IsFaultOf records (Differs round cand one other) = HaveFault records (Differs round cand one other)
-IsFaultOf records KeeperFault = Unit {0}
-IsFaultOf records OutOfMemory = Unit {0}
+-- the records have this fault first
+abbrev pub HaveStopped : Kept → Unresumed → Type 0
+HaveStopped records (Apart round cand one other season) = HaveDifference records season (SeatsDiffer round cand one other)
+HaveStopped records stopped = HaveFault records (fault_of stopped)
 
--- Why an office does not go on, with the records that were judged: none were loaded; or they are those of these tables, or any where nothing is told, and have
--- this fault first.
-abbrev pub IsJudged : Tables → Option Kept → ResumeFault → Type 0
-IsJudged tables None fault = IsLoadFault tables fault
-IsJudged tables (Some records) fault = IsLoaded tables records × IsFaultOf records fault
+-- why an office does not go on from these tables
+abbrev pub IsUnresumed : Tables → Unresumed → Type 0
+IsUnresumed tables NoneKept = IsFound false tables
+IsUnresumed tables KeeperFailed = Unit {0}
+IsUnresumed tables NoMemory = Unit {0}
+IsUnresumed tables stopped = (records : Kept) × IsLoaded tables records × HaveStopped records stopped

@@ -5,10 +5,10 @@ ghost use Rattle.office_turns.specs.Turns.{no_turns};
 ghost use Rattle.rounds.specs.Round.{seated};
 
 use keeper_mem::AllotRows;
+use next_rounds::next_round;
 use office_base::OutOfMemory;
 use office_turns::TurnTable;
 use proceedings::Proceedings;
-use replays::next_round;
 use rounds::Round;
 use std::alloc::Global;
 

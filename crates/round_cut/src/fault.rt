@@ -1,12 +1,11 @@
 // Why an office does not begin, does not go on, or does not answer.
 ghost use Rattle.std.specs.Prelude.{◌≡◌};
-ghost use Rattle.round_cut.specs.Faults.{begin_fault, load_fault, office_fault, replay_fault, season_fault};
+ghost use Rattle.round_cut.specs.Faults.{begin_fault, office_fault};
 ghost use Rattle.round_cut.specs.declared.fault.BeginFault.TheVariants.{OutOfMemory as NoMemoryToBegin};
 ghost use Rattle.round_cut.specs.declared.fault.OfficeFault.TheVariants.{OutOfMemory as NoMemory};
 
 use keeper_mem::KeepFault;
 use office_base::{CandId, OutOfMemory, Seat};
-use replays::ReplayFault;
 use season_file::SeasonFault;
 
 /// Why an office did not begin.
@@ -88,51 +87,6 @@ impl From<OutOfMemory> for BeginFault {
 
     fn from(_: OutOfMemory) -> Self {
         BeginFault::OutOfMemory
-    }
-}
-
-impl From<KeepFault> for ResumeFault {
-    ghost from_gives = { λ fault made. made ≡ load_fault fault };
-
-    fn from(fault: KeepFault) -> Self {
-        match fault {
-            KeepFault::Failed => ResumeFault::KeeperFault,
-            KeepFault::OutOfMemory => ResumeFault::OutOfMemory,
-        }
-    }
-}
-
-impl From<SeasonFault> for ResumeFault {
-    ghost from_gives = { λ fault made. made ≡ season_fault fault };
-
-    fn from(fault: SeasonFault) -> Self {
-        match fault {
-            SeasonFault::OutOfMemory => ResumeFault::OutOfMemory,
-            fault => ResumeFault::BadSeason(fault),
-        }
-    }
-}
-
-impl From<ReplayFault> for ResumeFault {
-    ghost from_gives = { λ fault made. made ≡ replay_fault fault };
-
-    fn from(fault: ReplayFault) -> Self {
-        match fault {
-            ReplayFault::Stray { row } => ResumeFault::Stray { row },
-            ReplayFault::StrayRaise { row } => ResumeFault::StrayRaise { row },
-            ReplayFault::Differs {
-                round,
-                cand,
-                kept,
-                computed,
-            } => ResumeFault::Differs {
-                round,
-                cand,
-                kept,
-                computed,
-            },
-            ReplayFault::OutOfMemory => ResumeFault::OutOfMemory,
-        }
     }
 }
 

@@ -6,10 +6,12 @@
 
 mod cut;
 pub mod fault;
+pub mod laws;
 mod moves;
 pub mod office;
-mod resume;
+pub mod resume;
 
 pub use fault::{BeginFault, OfficeFault, ResumeFault};
 pub use office::Office;
+pub use office_moves::{Act, Entry, Refusal, Reply};
 pub use resume::Unresumed;

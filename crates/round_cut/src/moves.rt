@@ -1,11 +1,11 @@
 // Requests are answered: what may fail first, then the keeper's put, and then the change, which cannot fail.
 ghost use Rattle.std.specs.Prelude.{◌≡◌, ◌<◌, ◌≤◌, true, Some, IfOk, OnOk, OnErr, IsOk, IsErrOf};
 ghost use Rattle.office_base.specs.Outside.{Rose};
-ghost use Rattle.keeper_mem.specs.Tables.{AreTold};
+ghost use Rattle.keeper_mem.specs.Tables.{AreTold, IsTold};
 ghost use Rattle.office_moves.specs.Decided.{decided};
 ghost use Rattle.office_moves.specs.History.{asked, grown, newly};
 ghost use Rattle.office_moves.specs.Judge.{is_withdraw};
-ghost use Rattle.office_moves.specs.Moves.{Does, IsMove, noted};
+ghost use Rattle.office_moves.specs.Moves.{Does, IsMove};
 ghost use Rattle.office_moves.specs.Promise.{KeepsItsWord};
 ghost use Rattle.office_moves.specs.Stands.{Stand};
 ghost use Rattle.office_moves.specs.declared.decide.Decision.TheVariants.{Finish, Lift, Note, Publish, TellList};
@@ -21,18 +21,6 @@ use keeper_mem::{AnswerRow, Keeper, RaiseRow};
 use office_base::{Choice, ProgId, Request};
 use office_moves::{Decision, Reply};
 use std::alloc::Global;
-
-/// The receipt of an answer.
-fn receipt(row: AnswerRow) -> Reply
-    ensures { result ≡ noted row }
-{
-    Reply::Noted {
-        cand: row.cand,
-        window: row.window,
-        turn: row.turn,
-        choice: row.choice,
-    }
-}
 
 impl<K: Keeper> Office<K> {
     /// Answers a request. What it newly accepts is kept first, and has this number, which has to be above `last_number`. After a fault the office and
@@ -50,6 +38,7 @@ impl<K: Keeper> Office<K> {
         ensures stands { Stand self.new.season self.new.state (K.tables self.new.keeper) }
         ensures err { OnErr result ((self.new.entries ≡ self.old.entries) × (self.new.state ≡ self.old.state)) }
         ensures told { OnErr result (AreTold (K.tables self.old.keeper) (K.tables self.new.keeper)) }
+        ensures told_before { IsTold (K.tables self.new.keeper) → IsTold (K.tables self.old.keeper) }
         ensures cause { IsErrOf result OfficeFault.KeeperFault → Rose (K.faults self.old.keeper) (K.faults self.new.keeper) }
         ensures count { K.faults self.old.keeper ≤ K.faults self.new.keeper }
         ensures steady { ¬ IsErrOf result OfficeFault.KeeperFault → K.faults self.new.keeper ≡ K.faults self.old.keeper }
@@ -88,6 +77,7 @@ impl<K: Keeper> Office<K> {
     }
 
     /// Keeps an answer, and accepts it.
+    #[tactic(auto, using(crate::proofs::Standing::was_told, crate::proofs::Standing::answer_was))]
     fn accept_answer(&mut self, number: u64, row: AnswerRow) -> Result<Reply, OfficeFault>
         requires decided { decided self.old.season self.old.state (asked self.old.season (Answer row)) ≡ Note row }
         requires some { 1 ≤ self.old.still }
@@ -98,6 +88,7 @@ impl<K: Keeper> Office<K> {
         ensures stands { Stand self.new.season self.new.state (K.tables self.new.keeper) }
         ensures err { OnErr result ((self.new.entries ≡ self.old.entries) × (self.new.state ≡ self.old.state)) }
         ensures told { OnErr result (AreTold (K.tables self.old.keeper) (K.tables self.new.keeper)) }
+        ensures told_before { IsTold (K.tables self.new.keeper) → IsTold (K.tables self.old.keeper) }
         ensures cause { IsErrOf result OfficeFault.KeeperFault → Rose (K.faults self.old.keeper) (K.faults self.new.keeper) }
         ensures count { K.faults self.old.keeper ≤ K.faults self.new.keeper }
         ensures steady { ¬ IsErrOf result OfficeFault.KeeperFault → K.faults self.new.keeper ≡ K.faults self.old.keeper }
@@ -107,17 +98,18 @@ impl<K: Keeper> Office<K> {
         if row.choice == Choice::Withdraw {
             self.keeper.put_answer(row)?;
             self.book.note(number, row);
-            return Ok(receipt(row));
+            return Ok(Reply::of_answer(row));
         }
         let wanted = room_wanted(&self.book);
         self.book.reserve(wanted)?;
         self.keeper.reserve_answers(wanted)?;
         self.keeper.put_answer(row)?;
         self.book.note(number, row);
-        Ok(receipt(row))
+        Ok(Reply::of_answer(row))
     }
 
     /// Keeps a raise, and accepts it.
+    #[tactic(auto, using(crate::proofs::Standing::was_told, crate::proofs::Standing::raise_was))]
     fn accept_raise(&mut self, number: u64, row: RaiseRow) -> Result<Reply, OfficeFault>
         requires decided { decided self.old.season self.old.state (asked self.old.season (Raise row)) ≡ Lift row }
         requires number { last_of self.old.entries < number }
@@ -127,6 +119,7 @@ impl<K: Keeper> Office<K> {
         ensures stands { Stand self.new.season self.new.state (K.tables self.new.keeper) }
         ensures err { OnErr result ((self.new.entries ≡ self.old.entries) × (self.new.state ≡ self.old.state)) }
         ensures told { OnErr result (AreTold (K.tables self.old.keeper) (K.tables self.new.keeper)) }
+        ensures told_before { IsTold (K.tables self.new.keeper) → IsTold (K.tables self.old.keeper) }
         ensures cause { IsErrOf result OfficeFault.KeeperFault → Rose (K.faults self.old.keeper) (K.faults self.new.keeper) }
         ensures count { K.faults self.old.keeper ≤ K.faults self.new.keeper }
         ensures steady { ¬ IsErrOf result OfficeFault.KeeperFault → K.faults self.new.keeper ≡ K.faults self.old.keeper }
@@ -136,15 +129,11 @@ impl<K: Keeper> Office<K> {
         self.book.reserve(wanted)?;
         self.keeper.put_raise(row)?;
         self.book.lift(number, row);
-        Ok(Reply::Raised {
-            window: row.window,
-            prog: row.prog,
-            step: row.step,
-            seats: row.seats,
-        })
+        Ok(Reply::of_raise(row))
     }
 
     /// Makes the next round, keeps the cut, and publishes it.
+    #[tactic(auto, using(crate::proofs::Standing::was_told, crate::proofs::Standing::cut_was))]
     fn publish_round(&mut self, alloc: Global, number: u64) -> Result<Reply, OfficeFault>
         requires decided { decided self.old.season self.old.state (asked self.old.season (Cut self.old.state.now)) ≡ Publish }
         requires number { last_of self.old.entries < number }
@@ -154,6 +143,7 @@ impl<K: Keeper> Office<K> {
         ensures stands { Stand self.new.season self.new.state (K.tables self.new.keeper) }
         ensures err { OnErr result ((self.new.entries ≡ self.old.entries) × (self.new.state ≡ self.old.state)) }
         ensures told { OnErr result (AreTold (K.tables self.old.keeper) (K.tables self.new.keeper)) }
+        ensures told_before { IsTold (K.tables self.new.keeper) → IsTold (K.tables self.old.keeper) }
         ensures cause { IsErrOf result OfficeFault.KeeperFault → Rose (K.faults self.old.keeper) (K.faults self.new.keeper) }
         ensures count { K.faults self.old.keeper ≤ K.faults self.new.keeper }
         ensures steady { ¬ IsErrOf result OfficeFault.KeeperFault → K.faults self.new.keeper ≡ K.faults self.old.keeper }
@@ -178,6 +168,7 @@ impl<K: Keeper> Office<K> {
     }
 
     /// Makes the final admissions, keeps the last cut, and ends the season.
+    #[tactic(auto, using(crate::proofs::Standing::was_told, crate::proofs::Standing::cut_was))]
     fn finish_season(&mut self, alloc: Global, number: u64) -> Result<Reply, OfficeFault>
         requires decided { decided self.old.season self.old.state (asked self.old.season (Cut self.old.state.now)) ≡ Finish }
         requires number { last_of self.old.entries < number }
@@ -187,6 +178,7 @@ impl<K: Keeper> Office<K> {
         ensures stands { Stand self.new.season self.new.state (K.tables self.new.keeper) }
         ensures err { OnErr result ((self.new.entries ≡ self.old.entries) × (self.new.state ≡ self.old.state)) }
         ensures told { OnErr result (AreTold (K.tables self.old.keeper) (K.tables self.new.keeper)) }
+        ensures told_before { IsTold (K.tables self.new.keeper) → IsTold (K.tables self.old.keeper) }
         ensures cause { IsErrOf result OfficeFault.KeeperFault → Rose (K.faults self.old.keeper) (K.faults self.new.keeper) }
         ensures count { K.faults self.old.keeper ≤ K.faults self.new.keeper }
         ensures steady { ¬ IsErrOf result OfficeFault.KeeperFault → K.faults self.new.keeper ≡ K.faults self.old.keeper }

@@ -3,21 +3,23 @@ ghost use Rattle.std.specs.Prelude.{◌≡◌, ◌≤◌, [], true, false, None,
 ghost use Rattle.office_base.specs.Outside.{Rose};
 ghost use Rattle.office_base.specs.declared.asks.By.TheVariants.{Nobody};
 ghost use Rattle.season_file.specs.Season.{IsSeason};
-ghost use Rattle.keeper_mem.specs.Tables.{AreTold, IsFound};
+ghost use Rattle.keeper_mem.specs.Tables.{AreTold, IsFound, IsTold, still};
 ghost use Rattle.office_moves.specs.History.{IsHistory};
+ghost use Rattle.office_moves.specs.Raised.{matrix_at};
 ghost use Rattle.office_moves.specs.Season.{facts_of};
 ghost use Rattle.office_moves.specs.Stands.{Stand};
 ghost use Rattle.office_moves.specs.State.{opening, round_at};
-ghost use Rattle.proceedings.specs.Proceeding.{last_of};
+ghost use Rattle.proceedings.specs.Proceeding.{last_of, still_of};
 ghost use Rattle.round_cut.specs.Office.{HasRoom, who_by};
 
 use crate::fault::BeginFault;
 use keeper_mem::{AllotRow, Keeper};
-use office_base::By;
+use office_base::{Booked, By};
 use office_moves::Entry;
 use proceedings::Proceedings;
 use rounds::Round;
 use season_file::Season;
+use seat_matrix::Matrix;
 use std::alloc::Global;
 use std::marker::Model;
 
@@ -41,9 +43,8 @@ impl<K: Keeper> Model for Office<K> {
 
 /// Whether no season is kept; if one is, that is the fault.
 fn expect_empty<K: Keeper>(keeper: &mut K) -> Result<(), BeginFault>
-    ensures ok { OnOk result (IsFound false (K.tables keeper.old)) }
-    ensures still_none { OnOk result (IsFound false (K.tables keeper.new)) }
-    ensures not_empty { IsErrOf result BeginFault.NotEmpty → IsFound true (K.tables keeper.old) }
+    ensures ok { OnOk result (IsFound false (K.tables keeper.new)) }
+    ensures not_empty { IsErrOf result BeginFault.NotEmpty → IsFound true (K.tables keeper.new) }
     ensures told { AreTold (K.tables keeper.old) (K.tables keeper.new) }
     ensures cause { IsErrOf result BeginFault.KeeperFault → Rose (K.faults keeper.old) (K.faults keeper.new) }
     ensures count { K.faults keeper.old ≤ K.faults keeper.new }
@@ -57,8 +58,10 @@ fn expect_empty<K: Keeper>(keeper: &mut K) -> Result<(), BeginFault>
 }
 
 /// Takes room for the answers of all who are still in, and keeps the season.
+#[tactic(auto, using(crate::proofs::Standing::was_told, crate::proofs::Standing::season_was))]
 fn keep_season<K: Keeper>(book: &Proceedings, keeper: &mut K) -> Result<(), BeginFault>
     requires { IsFound false (K.tables keeper.old) }
+    ensures told_before { OnOk result (IsTold (K.tables keeper.new) → IsTold (K.tables keeper.old)) }
     ensures stands { OnOk result (Stand book.now.season opening (K.tables keeper.new)) }
     ensures spare { OnOk result (HasRoom (K.holds_room keeper.new) book.now.still (K.spare keeper.new)) }
     ensures err { OnErr result (AreTold (K.tables keeper.old) (K.tables keeper.new)) }
@@ -76,14 +79,17 @@ fn keep_season<K: Keeper>(book: &Proceedings, keeper: &mut K) -> Result<(), Begi
 impl<K: Keeper> Office<K> {
     /// An office over a keeper that holds no season: it keeps this one. The season's text has to read as this season. After a fault the tables of the
     /// keeper, which is handed back, are as before.
+    #[tactic(auto, using(crate::proofs::Standing::begun_empty))]
     pub fn begin(alloc: Global, season: Season, mut keeper: K) -> Result<Office<K>, (K, BeginFault)>
         requires { IsSeason season.text season }
         ensures season { IfOk result (λ office. office.season ≡ facts_of season) }
         ensures entries { IfOk result (λ office. office.entries ≡ []) }
         ensures state { IfOk result (λ office. office.state ≡ opening) }
-        ensures empty { OnOk result (IsFound false (K.tables keeper)) }
-        ensures not_empty { IfErr result (λ e. e.1 ≡ BeginFault.NotEmpty → IsFound true (K.tables keeper)) }
+        ensures still { IfOk result (λ office. office.still ≡ still_of office.season office.state) }
+        ensures empty { IfOk result (λ office. IsFound false (still (K.tables keeper) (K.tables office.keeper))) }
+        ensures not_empty { IfErr result (λ e. e.1 ≡ BeginFault.NotEmpty → IsFound true (K.tables e.0)) }
         ensures stands { IfOk result (λ office. Stand office.season office.state (K.tables office.keeper)) }
+        ensures spare { IfOk result (λ office. HasRoom (K.holds_room office.keeper) office.still (K.spare office.keeper)) }
         ensures err { IfErr result (λ e. AreTold (K.tables keeper) (K.tables e.0)) }
         ensures cause { IfErr result (λ e. e.1 ≡ BeginFault.KeeperFault → Rose (K.faults keeper) (K.faults e.0)) }
         ensures count { IfOk result (λ office. K.faults keeper ≤ K.faults office.keeper) }
@@ -102,6 +108,7 @@ impl<K: Keeper> Office<K> {
         if let Err(fault) = keep_season(&book, &mut keeper) {
             return Err((keeper, fault));
         }
+        let _still = book.still_in();
         Ok(Office { book, keeper })
     }
 
@@ -177,10 +184,41 @@ impl<K: Keeper> Office<K> {
         self.book.season()
     }
 
+    /// The matrix with all raises so far, by which the next round is made.
+    pub fn matrix(&self) -> &Matrix
+        ensures same { result.now ≡ matrix_at self.now.season self.now.state }
+        ensures programmes { (matrix_at self.now.season self.now.state).programmes ≡ self.now.season.matrix.programmes }
+    {
+        self.book.matrix()
+    }
+
     /// The number of the last entry; 0 where there is none.
     pub fn last_number(&self) -> u64
         ensures { result ≡ last_of self.now.entries }
     {
+        self.book.last_number()
+    }
+}
+
+/// An office is a book of what it accepted: it stands on its season and on whether its keeper holds room in advance, and counts the faults of the keeper.
+impl<K: Keeper> Booked for Office<K> {
+    type Item = Entry;
+
+    ghost use Rattle.std.specs.Prelude.{Bool};
+    ghost use Rattle.office_moves.specs.Facts.{SeasonFacts};
+
+    ghost Basis = { SeasonFacts × Bool };
+
+    ghost basis = { λ office. (office.season, K.holds_room office.keeper) };
+
+    ghost entries = { λ office. office.entries };
+
+    ghost number = { λ entry. entry.number };
+
+    ghost count = { λ office. K.faults office.keeper };
+
+    fn last_number(&self) -> u64 {
+        let _entries = self.book.entries();
         self.book.last_number()
     }
 }

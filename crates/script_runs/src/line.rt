@@ -1,31 +1,27 @@
 // The text of a reply of an office.
 ghost use Rattle.std.specs.Prelude.{◌≡◌, IfOk, option_copied};
-ghost use Rattle.histories.specs.Orderly.{IsOrderly};
-ghost use Rattle.script_runs.specs.Runs.{CameOf, reply_bytes, round_shown, rows_shown};
+ghost use Rattle.script_runs.specs.Runs.{CanBeShown, reply_bytes, round_shown, rows_shown};
 
-use crate::laws::replies_can_be_shown;
 use keeper_mem::{AllotRow, Keeper};
 use office_base::{OutOfMemory, Text};
-use office_moves::{Reply, says_what_is_sound};
+use office_moves::Reply;
 use reply_texts::reply_text;
 use round_cut::Office;
 use rounds::Round;
 use std::alloc::Global;
 
-/// The text of the reply that led to the office's state, in which all has to be in order: the text of a cut shows what it published.
+/// The text of a reply that can be shown in the office's state: its programmes are of the matrix, the round of a cut that published one is there, and so
+/// are the programmes of the final rows. The text of a cut shows what it published.
 #[tactic(auto, unfolding(crate::specs::Runs::reply_bytes, crate::specs::Runs::CanBeShown))]
 pub fn reply_line<P: Keeper>(
     alloc: Global,
     office: &Office<P>,
     reply: &Reply,
 ) -> Result<Text, OutOfMemory>
-    requires came { CameOf office.now.season office.now.state reply.now }
-    requires orderly { IsOrderly office.now.season office.now.state }
+    requires { CanBeShown office.now.season office.now.state reply.now }
     ensures { IfOk result (λ text. text ≡ reply_bytes office.now.season office.now.state reply.now) }
 {
-    replies_can_be_shown();
     let season = office.season();
-    says_what_is_sound(season);
     let round = shown_round(office, reply);
     let rows = shown_rows(office);
     reply_text(

@@ -2,12 +2,14 @@
 ghost use Rattle.std.specs.Prelude.{◌≡◌, ◌≢◌, ◌≤◌, ◌⊎◌, ℕ, IfOk, OnOk, OnErr, IsErrOf, length, take};
 ghost use Rattle.office_base.specs.Outside.{Rose};
 ghost use Rattle.histories.specs.Orderly.{IsOrderly};
+ghost use Rattle.keeper_mem.specs.Tables.{IsTold};
 ghost use Rattle.office_moves.specs.History.{IsHistory};
 ghost use Rattle.office_moves.specs.Moves.{IsMove};
 ghost use Rattle.office_moves.specs.Stands.{Stand};
-ghost use Rattle.script_runs.specs.Runs.{Accepts, EndsBefore, EndsCut, EndsShort, EndsWell};
+ghost use Rattle.script_runs.specs.Runs.{Accepts, CameOf, CanBeShown, EndsBefore, EndsCut, EndsShort, EndsWell};
 ghost use Rattle.script_runs.specs.Steps.{HasAccepted, IsAnswered, IsAnsweredInPart, IsUnanswered};
 
+use crate::laws::replies_can_be_shown;
 use crate::line::reply_line;
 use keeper_mem::Keeper;
 use office_base::{Request, Sink, write_whole};
@@ -50,6 +52,7 @@ pub fn answer_all<P: Keeper, K: Sink>(
     ensures season { office.new.season ≡ office.old.season }
     ensures history { IsHistory office.new.season office.new.entries office.new.state }
     ensures stands { Stand office.new.season office.new.state (P.tables office.new.keeper) }
+    ensures told_before { IsTold (P.tables office.new.keeper) → IsTold (P.tables office.old.keeper) }
     ensures keeper_cause { result ≡ RunEnd.KeeperFault → Rose (P.faults office.old.keeper) (P.faults office.new.keeper) }
     ensures keeper_count { P.faults office.old.keeper ≤ P.faults office.new.keeper }
     ensures keeper_steady { result ≢ RunEnd.KeeperFault → P.faults office.new.keeper ≡ P.faults office.old.keeper }
@@ -96,6 +99,7 @@ fn answer_one<P: Keeper, K: Sink>(
     ensures history { IsHistory office.new.season office.new.entries office.new.state }
     ensures orderly { IsOrderly office.new.season office.new.state }
     ensures stands { Stand office.new.season office.new.state (P.tables office.new.keeper) }
+    ensures told_before { IsTold (P.tables office.new.keeper) → IsTold (P.tables office.old.keeper) }
     ensures keeper_cause { result ≡ RunEnd.KeeperFault → Rose (P.faults office.old.keeper) (P.faults office.new.keeper) }
     ensures keeper_count { P.faults office.old.keeper ≤ P.faults office.new.keeper }
     ensures keeper_steady { result ≢ RunEnd.KeeperFault → P.faults office.new.keeper ≡ P.faults office.old.keeper }
@@ -108,6 +112,7 @@ fn answer_one<P: Keeper, K: Sink>(
         Err(OfficeFault::KeeperFault) => return RunEnd::KeeperFault,
         Err(OfficeFault::OutOfMemory) => return RunEnd::OutOfMemory,
     };
+    show_reply(office, &reply);
     let Ok(text) = reply_line(alloc, office, &reply) else {
         return RunEnd::OutOfMemory;
     };
@@ -115,6 +120,17 @@ fn answer_one<P: Keeper, K: Sink>(
         Ok(()) => RunEnd::Done,
         Err(_) => RunEnd::WriteFault,
     }
+}
+
+/// The reply that led to the office's state, in which all has to be in order, can be shown. It takes no memory.
+fn show_reply<P: Keeper>(office: &Office<P>, reply: &Reply)
+    requires came { CameOf office.now.season office.now.state reply.now }
+    requires orderly { IsOrderly office.now.season office.now.state }
+    ensures { CanBeShown office.now.season office.now.state reply.now }
+{
+    replies_can_be_shown();
+    says_what_is_sound(office.season());
+    let _reply = reply;
 }
 
 /// The reply to a request under the number after the last one. Where that number would not fit, it is told as want of memory.
@@ -132,6 +148,7 @@ pub(crate) fn next_reply<P: Keeper>(
     ensures history { IsHistory office.new.season office.new.entries office.new.state }
     ensures orderly { IsOrderly office.new.season office.new.state }
     ensures stands { Stand office.new.season office.new.state (P.tables office.new.keeper) }
+    ensures told_before { IsTold (P.tables office.new.keeper) → IsTold (P.tables office.old.keeper) }
     ensures cause { IsErrOf result OfficeFault.KeeperFault → Rose (P.faults office.old.keeper) (P.faults office.new.keeper) }
     ensures count { P.faults office.old.keeper ≤ P.faults office.new.keeper }
     ensures steady { OnOk result (P.faults office.new.keeper ≡ P.faults office.old.keeper) }

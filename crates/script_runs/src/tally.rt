@@ -2,6 +2,7 @@
 ghost use Rattle.std.specs.Prelude.{◌≡◌, ◌<◌, ◌≤◌, ◌+◌, ◌^◌, cond, IfOk, OnOk, OnErr, IsErrOf};
 ghost use Rattle.office_base.specs.Outside.{Rose};
 ghost use Rattle.histories.specs.Orderly.{IsOrderly};
+ghost use Rattle.keeper_mem.specs.Tables.{IsTold};
 ghost use Rattle.office_moves.specs.History.{IsHistory};
 ghost use Rattle.office_moves.specs.Stands.{Stand};
 ghost use Rattle.script_runs.specs.Tally.{CountsAll, IsCounted, StopsWithin, is_answer, is_receipt, is_refusal, is_refused_answer};
@@ -35,6 +36,7 @@ pub fn count_all<P: Keeper>(
     ensures season { office.new.season ≡ office.old.season }
     ensures history { IsHistory office.new.season office.new.entries office.new.state }
     ensures stands { Stand office.new.season office.new.state (P.tables office.new.keeper) }
+    ensures told_before { IsTold (P.tables office.new.keeper) → IsTold (P.tables office.old.keeper) }
     ensures cause { IsErrOf result OfficeFault.KeeperFault → Rose (P.faults office.old.keeper) (P.faults office.new.keeper) }
     ensures count { P.faults office.old.keeper ≤ P.faults office.new.keeper }
     ensures steady { OnOk result (P.faults office.new.keeper ≡ P.faults office.old.keeper) }
@@ -71,6 +73,7 @@ fn count_one<P: Keeper>(
     ensures history { IsHistory office.new.season office.new.entries office.new.state }
     ensures orderly { IsOrderly office.new.season office.new.state }
     ensures stands { Stand office.new.season office.new.state (P.tables office.new.keeper) }
+    ensures told_before { IsTold (P.tables office.new.keeper) → IsTold (P.tables office.old.keeper) }
     ensures cause { IsErrOf result OfficeFault.KeeperFault → Rose (P.faults office.old.keeper) (P.faults office.new.keeper) }
     ensures count { P.faults office.old.keeper ≤ P.faults office.new.keeper }
     ensures steady { OnOk result (P.faults office.new.keeper ≡ P.faults office.old.keeper) }

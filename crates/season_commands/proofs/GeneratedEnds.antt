@@ -6,7 +6,7 @@ use Rattle.office_base.specs.Outside.{Appends, Rose}
 use Rattle.office_base.specs.declared.asks.Request.{Request}
 use Rattle.season_file.specs.Season.{IsSeasonWith, content_of}
 use Rattle.season_file.specs.declared.season.Season.{Season}
-use Rattle.keeper_mem.specs.Tables.{Tables, AreTold, IsFound}
+use Rattle.keeper_mem.specs.Tables.{Tables, AreTold, IsFound, still}
 use Rattle.rounds.specs.declared.round.Round.{Round}
 use Rattle.office_moves.specs.Facts.{SeasonFacts}
 use Rattle.office_moves.specs.Season.{facts_of}
@@ -25,6 +25,7 @@ use Rattle.command_answers.specs.declared.failure.Failure.{Failure}
 use Rattle.command_answers.specs.declared.failure.Failure.TheVariants.{Read, Bad, NoMemory as NoMemoryToRead}
 use Rattle.command_answers.specs.declared.status.Status.{Status}
 use Rattle.command_answers.specs.declared.status.Status.TheVariants.{Ok as Done, BadInput, ReadFault, WriteFault, KeeperFault, OutOfMemory}
+use Rattle.season_commands.proofs.Still.{still_from}
 use Rattle.command_answers.proofs.Ended.{fault_is_refused, input_is_answered, left_failed, told_is_written}
 use Rattle.season_commands.specs.Check.{IsBundle, IsBundleFaultLine, IsFaultyBundle, IsLeftBundle, check_answers}
 use Rattle.season_commands.specs.Generated.{EndsGeneratedRun, EndsMade, IsCountedText, IsSummed, IsUnmadeText, StandsForAll, StandsForFirst, summary_of, summed_status, summed_text}
@@ -92,10 +93,11 @@ made_ends n seed before after season script shown written now status is same end
 
 -- no office began
 pub unbegun_made : (n seed : ℕ) (season : Season) (script : List Request) (before after : Tables) (fault : BeginFault) (written now : Option (List ℕ)) (broke : Type 0) (result : Status)
-    → (fault ≡ NotEmpty → IsFound true before) → AreTold before after → IsTold (begin_status fault) (begin_text fault) written now broke result
+    → (fault ≡ NotEmpty → IsFound true after) → AreTold before after → IsTold (begin_status fault) (begin_text fault) written now broke result
     → (output : List ℕ) × Appends output written now × EndsMade n seed season script before after result output
 unbegun_made n seed season script before after fault written now broke result held told is =
-    let (output, appends, writes) = told_is_written (IsUnbegunText before) (begin_status fault) result (begin_text fault) written now broke (text_of_begin before fault held) is in
+    let (output, appends, writes) = told_is_written (IsUnbegunText (still before after)) (begin_status fault) result (begin_text fault) written now broke
+    (text_of_begin (still before after) fault (λ same. still_from (λ t. IsFound true t) before after told (held same))) is in
     (output, appends, inl (writes, told))
 
 -- ---- requests are answered and counted
@@ -137,7 +139,7 @@ counted_handed n seed facts script tables handed written now result same end =
 
 -- an office began, and answered the requests of the season
 pub counted_made : (n seed : ℕ) (season : Season) (script : List Request) (facts : SeasonFacts) (before after : Tables) (written now : Option (List ℕ)) (result : Status) → facts ≡ facts_of season
-    → IsFound false before → (output : List ℕ) × Appends output written now × Writes (IsCountedText n seed facts script after) result output
+    → IsFound false (still before after) → (output : List ℕ) × Appends output written now × Writes (IsCountedText n seed facts script after) result output
     → (output : List ℕ) × Appends output written now × EndsMade n seed season script before after result output
 counted_made n seed season script facts before after written now result of none end =
     (end.0, end.1, inr (none, subst (λ (f : SeasonFacts). Writes (IsCountedText n seed f script after) result end.0) of end.2))

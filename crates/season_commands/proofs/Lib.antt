@@ -5,3 +5,4 @@ mod OneAnswer
 mod Requests
 mod ResumeEnds
 mod RunEnds
+mod Still

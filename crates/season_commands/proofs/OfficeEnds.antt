@@ -6,9 +6,9 @@ use Rattle.keeper_mem.specs.Tables.{Tables}
 use Rattle.office_moves.specs.Facts.{SeasonFacts}
 use Rattle.office_moves.specs.State.{State}
 use Rattle.script_runs.specs.Runs.{Ended, EndsBefore, EndsShort, EndsWithin}
-use Rattle.season_commands.specs.Office.{EndsOffice, FollowsOneMore, FollowsSome, keeper_line}
+use Rattle.season_commands.specs.Office.{EndsOffice, FollowsOneMore, FollowsSome}
 use Rattle.office_base.specs.FaultLines.{memory_line}
-use Rattle.command_answers.specs.Writes.{IsTold}
+use Rattle.command_answers.specs.Writes.{IsTold, keeper_line}
 use Rattle.command_answers.specs.declared.status.Status.{Status}
 use Rattle.command_answers.specs.declared.status.Status.TheVariants.{WriteFault, KeeperFault, OutOfMemory}
 

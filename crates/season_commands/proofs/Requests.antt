@@ -5,6 +5,7 @@ use Rattle.std.proofs.lemmas.Bool.{cases_Bool, cases_lt}
 use Rattle.std.proofs.lemmas.Str.{IsUtf8-from_is_utf8, is_utf8-from_IsUtf8}
 use Rattle.office_base.specs.Limits.{most_bundle_bytes}
 use Rattle.office_base.specs.declared.asks.Request.{Request}
+use Rattle.office_text.specs.Lines.{skip_mark}
 use Rattle.section_rows.specs.Rows.{rows_of}
 use Rattle.request_rows.specs.Requests.{script_of}
 use Rattle.season_file.specs.Script.{GaveScript, IsScriptFault}
@@ -67,7 +68,7 @@ requests_apart bytes script OutOfMemory are has = has
 abbrev pub IsKnown : List ℕ → SeasonFault → Type 0
 IsKnown bytes fault = ((most_bundle_bytes < length bytes) × (fault ≡ TooLong))
     ⊎ (((length bytes ≤ most_bundle_bytes) × (IsUtf8 bytes → ⊥) × (fault ≡ NotUtf8))
-    ⊎ (IsText bytes × ((row : ℕ) × (script_of (rows_of bytes) ≡ Err row) × (fault ≡ BadRequest row))))
+    ⊎ (IsText bytes × ((row : ℕ) × (script_of (rows_of (skip_mark bytes)) ≡ Err row) × (fault ≡ BadRequest row))))
 
 known : (bytes : List ℕ) (fault : SeasonFault) → HaveRequestFault bytes fault → IsKnown bytes fault
 known bytes ReadFault has = absurd has
@@ -93,7 +94,7 @@ same_known bytes fault other (inr (inr a)) (inl b) = absurd (omega (arith, b.0, 
 same_known bytes fault other (inr (inr a)) (inr (inl b)) = absurd (b.1 a.0.utf8)
 same_known bytes fault other (inr (inr a)) (inr (inr b)) = (let one : a.1.0 ≡ b.1.0 = cc (a.1.1, b.1.1) in a.1.2 ∙ ap BadRequest one ∙ sym b.1.2)
 
-some_rows : (bytes : List ℕ) → IsText bytes → (r : Result (List Request) ℕ) → script_of (rows_of bytes) ≡ r → IsScript bytes ⊎ IsFaultyScript bytes
+some_rows : (bytes : List ℕ) → IsText bytes → (r : Result (List Request) ℕ) → script_of (rows_of (skip_mark bytes)) ≡ r → IsScript bytes ⊎ IsFaultyScript bytes
 some_rows bytes text (Ok script) is = inl (script, (text, is))
 some_rows bytes text (Err row) is = inr (BadRequest row, (text, is))
 
@@ -101,7 +102,7 @@ some_requests : (bytes : List ℕ) → IsScript bytes ⊎ IsFaultyScript bytes
 some_requests bytes = elim (cases_lt most_bundle_bytes (length bytes)) [
   | inl long ↦ inr (TooLong, long)
   | inr short ↦ elim (cases_Bool (is_utf8 bytes)) [
-    | inl e ↦ some_rows bytes (record { short = short; utf8 = IsUtf8-from_is_utf8 bytes e }) (script_of (rows_of bytes)) refl
+    | inl e ↦ some_rows bytes (record { short = short; utf8 = IsUtf8-from_is_utf8 bytes e }) (script_of (rows_of (skip_mark bytes))) refl
     | inr e ↦ inr (NotUtf8, (short, λ utf8. cc (e, is_utf8-from_IsUtf8 bytes utf8)))
   ]
 ]

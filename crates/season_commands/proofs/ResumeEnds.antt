@@ -5,13 +5,13 @@ use Rattle.office_base.specs.declared.asks.Seat.{Seat}
 use Rattle.office_base.specs.declared.person.CandId.{CandId}
 use Rattle.office_base.specs.Outside.{Appends}
 use Rattle.office_base.specs.declared.asks.Request.{Request}
-use Rattle.keeper_mem.specs.Tables.{Tables, Untold, NoSeason, Records, AreTold, IsFound, IsLoaded}
+use Rattle.keeper_mem.specs.Tables.{Tables, Untold, NoSeason, Records, AreTold, IsFound, IsLoaded, IsTold as IsTablesTold, still}
 use Rattle.keeper_mem.specs.declared.rows.Kept.{Kept}
 use Rattle.office_moves.specs.Facts.{IsSound, SeasonFacts}
 use Rattle.office_moves.specs.State.{State}
-use Rattle.round_cut.specs.Resume.{IsFaultOf, IsJudged, IsLoadFault, IsResumed}
-use Rattle.round_cut.specs.declared.fault.ResumeFault.{ResumeFault}
-use Rattle.round_cut.specs.declared.fault.ResumeFault.TheVariants.{NoSeason as NoneKept, BadSeason, Stray, StrayRaise, Differs, KeeperFault, OutOfMemory as NoMemoryToResume}
+use Rattle.round_cut.specs.Resume.{HaveStopped, IsResumed, IsUnresumed}
+use Rattle.round_cut.specs.declared.resume.Unresumed.{Unresumed}
+use Rattle.round_cut.specs.declared.resume.Unresumed.TheVariants.{NoSeason as NoneKept, BadSeason, Stray, StrayRaise, Differs, KeeperFault, OutOfMemory as NoMemoryToResume}
 use Rattle.replays.specs.Faults.{IsReplayFault}
 use Rattle.replays.specs.Laws.{HaveOneEnd}
 use Rattle.replays.specs.declared.fault.ReplayFault.TheVariants.{Stray as StrayAnswer, StrayRaise as StrayLift, Differs as SeatsDiffer, OutOfMemory as NoMemoryToReplay}
@@ -22,109 +22,86 @@ use Rattle.season_file.specs.declared.season.Season.{Season}
 use Rattle.season_texts.specs.Texts.{fault_line}
 use Rattle.command_answers.specs.Answers.{IsFailureOf, Tells}
 use Rattle.office_base.specs.FaultLines.{memory_line}
-use Rattle.command_answers.specs.Writes.{IsTold, Writes, status_of, text_of}
+use Rattle.command_answers.specs.Writes.{IsTold, Writes, keeper_line, status_of, text_of}
 use Rattle.command_answers.specs.declared.failure.Failure.{Failure}
 use Rattle.command_answers.specs.declared.failure.Failure.TheVariants.{Read, Bad, NoMemory}
 use Rattle.command_answers.specs.declared.status.Status.{Status}
 use Rattle.command_answers.specs.declared.status.Status.TheVariants.{Ok as Done, BadInput, ReadFault, WriteFault, KeeperFault as KeeperFailed, OutOfMemory, Differs as StatusDiffers}
 use Rattle.command_answers.proofs.Ended.{told_is_written}
-use Rattle.season_commands.specs.Office.{EndsOffice, keeper_line}
-use Rattle.season_commands.specs.Resume.{AreLeftRequests, EndsAsked, EndsResume, HaveNoFault, IsScript, IsFaultyScript, IsUnaskedText, IsUnresumedLine, IsUnresumedText, HaveRowFault, HaveTextFault, TellsNoOffice, TellsRowFault, TellsSound, TellsTextFault, no_season_line, script_answers, unresumed_status}
+use Rattle.season_commands.proofs.Still.{still_from, still_resumed, still_to}
+use Rattle.seat_matrix.specs.Matrix.{SeatTable}
+use Rattle.season_commands.specs.Office.{EndsOffice}
+use Rattle.season_commands.specs.Resume.{AreLeftRequests, EndsAsked, EndsResume, HaveNoFault, IsScript, IsFaultyScript, IsUnaskedText, IsUnresumedText, HaveRowFault, HaveTextFault, TellsNoOffice, TellsRowFault, TellsSound, TellsTextFault, made_status, made_text, no_season_line, script_answers, unresumed_status}
 use Rattle.season_commands.specs.Run.{TellsNoSeason}
-use Rattle.season_commands.specs.Stray.{differs_line, raise_line_of, replay_line, stray_line}
+use Rattle.season_commands.specs.Stray.{differs_line, raise_line_of, stray_line}
 
--- ---- the lines of faults
-
--- A text that is no bundle.
-pub text_line : (records : Option Kept) (fault : SeasonFault) (line : List ℕ) → line ≡ fault_line fault → IsUnresumedLine records (BadSeason fault) line
-text_line None fault line is tables judged = absurd judged
-text_line (Some records) fault line is tables judged = inr (records, judged.0, (fault, judged.1, is))
-
--- A stray answer.
-pub answer_line : (records : Option Kept) (row : ℕ) (line : List ℕ) → ((season : Season) → line ≡ replay_line season.matrix (StrayAnswer row)) → IsUnresumedLine records (Stray row) line
-answer_line None row line is tables judged = absurd judged
-answer_line (Some records) row line is tables judged =
-    let (season, read, fault) = judged.1 in
-    (records, judged.0, (season, StrayAnswer row, season, read, fault, (λ same. cc same), read, is season))
-
--- A stray raise.
-pub raise_line : (records : Option Kept) (row : ℕ) (line : List ℕ) → ((season : Season) → line ≡ replay_line season.matrix (StrayLift row)) → IsUnresumedLine records (StrayRaise row) line
-raise_line None row line is tables judged = absurd judged
-raise_line (Some records) row line is tables judged =
-    let (season, read, fault) = judged.1 in
-    (records, judged.0, (season, StrayLift row, season, read, fault, (λ same. cc same), read, is season))
-
--- The line of a difference of records whose text was read again.
-pub difference_line : (records : Option Kept) (round : ℕ) (cand : CandId) (one other : Option Seat) (line : List ℕ)
-    → ((held : Kept) → records ≡ Some held → (season : Season) × IsSeason held.season season × (line ≡ differs_line season.matrix round cand.0 one other))
-    → IsUnresumedLine records (Differs round cand one other) line
-difference_line None round cand one other line told tables judged = absurd judged
-difference_line (Some records) round cand one other line told tables judged =
-    let (season, read, fault) = judged.1 in
-    let (again, known, is) = told records refl in
-    (records, judged.0, (season, SeatsDiffer round cand one other, again, read, fault, (λ same. cc same), known, is))
+-- ---- no office goes on
 
 -- what holds of a text that was made
 ok_map : {E : Type 0} (P Q : List ℕ → Type 0) (result : Result (List ℕ) E) → ((text : List ℕ) → P text → Q text) → IfOk result P → IfOk result Q
 ok_map P Q (Ok text) go holds = go text holds
 ok_map P Q (Err e) go holds = tt
 
--- The same of texts that were made, where there was memory.
-pub text_told : {E : Type 0} (records : Option Kept) (fault : SeasonFault) (result : Result (List ℕ) E) → IfOk result (λ text. text ≡ fault_line fault)
-    → IfOk result (IsUnresumedLine records (BadSeason fault))
-text_told records fault result is = ok_map (λ text. text ≡ fault_line fault) (IsUnresumedLine records (BadSeason fault)) result (λ text. text_line records fault text) is
+-- The texts that go with their statuses, where there was memory: a text that is no bundle,
+pub text_told : {E : Type 0} (tables : Tables) (fault : SeasonFault) (made : Result (List ℕ) E) → IfOk made (λ text. text ≡ fault_line fault) → IsUnresumed tables (BadSeason fault)
+    → IfOk made (IsUnresumedText tables BadInput)
+text_told tables fault made is stopped =
+    let (records, loaded, has) = stopped in
+    ok_map (λ text. text ≡ fault_line fault) (IsUnresumedText tables BadInput) made (λ text same. inr (records, loaded, (fault, has, same))) is
 
-pub answer_told : {E : Type 0} (records : Option Kept) (row : ℕ) (result : Result (List ℕ) E) → IfOk result (λ text. text ≡ stray_line row)
-    → IfOk result (IsUnresumedLine records (Stray row))
-answer_told records row result is = ok_map (λ text. text ≡ stray_line row) (IsUnresumedLine records (Stray row)) result (λ text is. answer_line records row text (λ season. is)) is
+-- a stray answer, a stray raise,
+pub answer_told : {E : Type 0} (tables : Tables) (row : ℕ) (made : Result (List ℕ) E) → IfOk made (λ text. text ≡ stray_line row) → IsUnresumed tables (Stray row)
+    → IfOk made (IsUnresumedText tables StatusDiffers)
+answer_told tables row made is stopped =
+    let (records, loaded, has) = stopped in
+    let (season, read, fault) = has in
+    ok_map (λ text. text ≡ stray_line row) (IsUnresumedText tables StatusDiffers) made (λ text same. (records, loaded, (season, StrayAnswer row, read, fault, (λ none. cc none), same))) is
 
-pub raise_told : {E : Type 0} (records : Option Kept) (row : ℕ) (result : Result (List ℕ) E) → IfOk result (λ text. text ≡ raise_line_of row)
-    → IfOk result (IsUnresumedLine records (StrayRaise row))
-raise_told records row result is = ok_map (λ text. text ≡ raise_line_of row) (IsUnresumedLine records (StrayRaise row)) result (λ text is. raise_line records row text (λ season. is)) is
+pub raise_told : {E : Type 0} (tables : Tables) (row : ℕ) (made : Result (List ℕ) E) → IfOk made (λ text. text ≡ raise_line_of row) → IsUnresumed tables (StrayRaise row)
+    → IfOk made (IsUnresumedText tables StatusDiffers)
+raise_told tables row made is stopped =
+    let (records, loaded, has) = stopped in
+    let (season, read, fault) = has in
+    ok_map (λ text. text ≡ raise_line_of row) (IsUnresumedText tables StatusDiffers) made (λ text same. (records, loaded, (season, StrayLift row, read, fault, (λ none. cc none), same))) is
 
-pub difference_made : {E : Type 0} (records : Kept) (round : ℕ) (cand : CandId) (one other : Option Seat) (result : Result (List ℕ) E)
-    → IfOk result (λ line. (season : Season) × IsSeason records.season season × (line ≡ differs_line season.matrix round cand.0 one other))
-    → IfOk result (IsUnresumedLine (Some records) (Differs round cand one other))
-difference_made records round cand one other result is =
-    ok_map (λ line. (season : Season) × IsSeason records.season season × (line ≡ differs_line season.matrix round cand.0 one other)) (IsUnresumedLine (Some records) (Differs round cand one other)) result
-    (λ line told. difference_line (Some records) round cand one other line (λ held same. let alike : records ≡ held = cc same in subst (λ (k : Kept). (season : Season) × IsSeason k.season season × (line ≡ differs_line season.matrix round cand.0 one other)) alike told)) is
+-- and a difference, by the codes of the season that was handed over.
+pub difference_told : {E : Type 0} (tables : Tables) (round : ℕ) (cand : CandId) (one other : Option Seat) (season : Season) (made : Result (List ℕ) E)
+    → IfOk made (λ line. line ≡ differs_line season.matrix round cand.0 one other) → IsUnresumed tables (Differs round cand one other season) → IfOk made (IsUnresumedText tables StatusDiffers)
+difference_told tables round cand one other season made is stopped =
+    let (records, loaded, has) = stopped in
+    let (spelt, read, fault, same) = has in
+    let codes : season.matrix ≡ spelt.matrix = ap (λ (f : SeasonFacts). f.matrix) same in
+    ok_map (λ line. line ≡ differs_line season.matrix round cand.0 one other) (IsUnresumedText tables StatusDiffers) made
+    (λ line told. (records, loaded, (spelt, SeatsDiffer round cand one other, read, fault, (λ none. cc none), told ∙ ap (λ (t : SeatTable). differs_line t round cand.0 one other) codes))) is
 
-pub difference_told : {E : Type 0} (text : List ℕ) (round : ℕ) (cand : ℕ) (one other : Option Seat) (season : Season) (result : Result (List ℕ) E) → IsSeason text season
-    → IfOk result (λ line. line ≡ differs_line season.matrix round cand one other)
-    → IfOk result (λ line. (again : Season) × IsSeason text again × (line ≡ differs_line again.matrix round cand one other))
-difference_told text round cand one other season result read is =
-    ok_map (λ line. line ≡ differs_line season.matrix round cand one other) (λ line. (again : Season) × IsSeason text again × (line ≡ differs_line again.matrix round cand one other)) result
-    (λ line same. (season, read, same)) is
+-- It is told, or there was no memory for the line.
+pub made_is_written : {E : Type 0} (tables : Tables) (want : Status) (made : Result (List ℕ) E) (result : Status) (before after : Option (List ℕ)) (broke : Type 0) → IfOk made (IsUnresumedText tables want)
+    → IsTold (made_status want made) (made_text made) before after broke result → (output : List ℕ) × Appends output before after × Writes (IsUnresumedText tables) result output
+made_is_written tables want (Ok line) result before after broke is told = told_is_written (IsUnresumedText tables) want result line before after broke is told
+made_is_written tables want (Err none) result before after broke is told = told_is_written (IsUnresumedText tables) OutOfMemory result memory_line before after broke refl told
 
--- ---- no office goes on
-
--- It is told.
-pub unresumed_is_written : (records : Option Kept) (fault : ResumeFault) (line shown : List ℕ) (status result : Status) (before after : Option (List ℕ)) (broke : Type 0) (tables : Tables)
-    → IsUnresumedLine records fault line → shown ≡ line → status ≡ unresumed_status fault → IsTold status shown before after broke result → IsJudged tables records fault
-    → (output : List ℕ) × Appends output before after × Writes (IsUnresumedText tables) result output
-unresumed_is_written records fault line shown status result before after broke tables is same known told judged =
-    told_is_written (IsUnresumedText tables) status result shown before after broke
-    (subst (λ (s : Status). IsUnresumedText tables s shown) (sym known) (subst (λ (l : List ℕ). IsUnresumedText tables (unresumed_status fault) l) (sym same) (is tables judged))) told
-
--- There was no memory for the line.
+-- There was no memory.
 pub unlined_is_written : (result : Status) (before after : Option (List ℕ)) (broke : Type 0) (tables : Tables) → IsTold OutOfMemory memory_line before after broke result
     → (output : List ℕ) × Appends output before after × Writes (IsUnresumedText tables) result output
 unlined_is_written result before after broke tables told = told_is_written (IsUnresumedText tables) OutOfMemory result memory_line before after broke refl told
 
 -- No season was found, in a line of its own.
-pub none_is_written : (records : Option Kept) (fault : ResumeFault) (result : Status) (before after : Option (List ℕ)) (broke : Type 0) (tables : Tables) → fault ≡ NoneKept
-    → IsTold BadInput no_season_line before after broke result → IsJudged tables records fault → (output : List ℕ) × Appends output before after × Writes (IsUnresumedText tables) result output
-none_is_written records fault result before after broke tables same told judged =
-    told_is_written (IsUnresumedText tables) BadInput result no_season_line before after broke (inl (none_found records (subst (λ (f : ResumeFault). IsJudged tables records f) same judged), refl)) told
-  where
-    none_found : (records : Option Kept) → IsJudged tables records NoneKept → IsFound false tables
-    none_found None judged = judged
-    none_found (Some kept) judged = absurd judged.1
+pub none_is_written : (result : Status) (before after : Option (List ℕ)) (broke : Type 0) (tables : Tables) → IsTold BadInput no_season_line before after broke result → IsFound false tables
+    → (output : List ℕ) × Appends output before after × Writes (IsUnresumedText tables) result output
+none_is_written result before after broke tables told none = told_is_written (IsUnresumedText tables) BadInput result no_season_line before after broke (inl (none, refl)) told
 
 -- The keeper failed, in a line of its own.
 pub failed_is_written : (result : Status) (before after : Option (List ℕ)) (broke : Type 0) (tables : Tables) → IsTold KeeperFailed keeper_line before after broke result
     → (output : List ℕ) × Appends output before after × Writes (IsUnresumedText tables) result output
 failed_is_written result before after broke tables told = told_is_written (IsUnresumedText tables) KeeperFailed result keeper_line before after broke refl told
+
+-- What was written where no office goes on, by what was told before and after.
+pub unresumed_ends : (left : Option (List ℕ)) (before after : Tables) (why : Unresumed) (written now : Option (List ℕ)) (status : Status) → AreTold before after → IsUnresumed after why
+    → ((tables : Tables) → IsUnresumed tables why → (output : List ℕ) × Appends output written now × Writes (IsUnresumedText tables) status output)
+    → (output : List ℕ) × Appends output written now × EndsResume left before after status output
+unresumed_ends left before after why written now status told stopped writes =
+    let (output, appends, is) = writes (still before after) (still_from (λ t. IsUnresumed t why) before after told stopped) in
+    (output, appends, inl (is, told))
 
 -- ---- no requests are read
 
@@ -164,58 +141,66 @@ told_on first second (Records kept) one other = subst (λ (t : Tables). AreTold 
 
 -- An office went on from the records.
 pub resumed_ends : (facts : SeasonFacts) (start : State) (left : Option (List ℕ)) (before held after : Tables) (written now : Option (List ℕ)) (status : Status)
-    → IsResumed before facts start → AreTold before held → (output : List ℕ) × Appends output written now × EndsAsked facts start left held after status output
+    → IsResumed held facts start → AreTold before held → (IsTablesTold after → IsTablesTold held) → (output : List ℕ) × Appends output written now × EndsAsked facts start left held after status output
     → (output : List ℕ) × Appends output written now × EndsResume left before after status output
-resumed_ends facts start left before held after written now status resumed told end =
-    (end.0, end.1, inr (facts, start, resumed, elim end.2 [ inl unasked ↦ inl (unasked.0, told_on before held after told unasked.1) | inr asked ↦ inr asked ]))
+resumed_ends facts start left before held after written now status resumed told was end = (
+  end.0,
+  end.1,
+  inr (
+    facts,
+    start,
+    still_resumed before held after facts start told was resumed,
+    elim end.2 [ inl unasked ↦ inl (unasked.0, told_on before held after told unasked.1) | inr asked ↦ inr asked ],
+  ),
+)
 
 -- ---- records without a fault
 
 -- the fault of sound records is the keeper's, or want of memory
-sound_fault : (records : Kept) (fault : ResumeFault) → HaveNoFault records → IsFaultOf records fault → (fault ≡ KeeperFault) ⊎ (fault ≡ NoMemoryToResume)
+sound_fault : (records : Kept) (why : Unresumed) → HaveNoFault records → HaveStopped records why → (why ≡ KeeperFault) ⊎ (why ≡ NoMemoryToResume)
 sound_fault records NoneKept sound is = absurd is
 sound_fault records (BadSeason fault) sound is = absurd (sound.text fault is)
 sound_fault records (Stray row) sound is = let (season, read, fault) = is in let same : StrayAnswer row ≡ NoMemoryToReplay = sound.rows season (StrayAnswer row) read fault in absurd (cc same)
 sound_fault records (StrayRaise row) sound is = let (season, read, fault) = is in let same : StrayLift row ≡ NoMemoryToReplay = sound.rows season (StrayLift row) read fault in absurd (cc same)
-sound_fault records (Differs round cand one other) sound is =
-    let (season, read, fault) = is in let same : SeatsDiffer round cand one other ≡ NoMemoryToReplay = sound.rows season (SeatsDiffer round cand one other) read fault in absurd (cc same)
+sound_fault records (Differs round cand one other handed) sound is =
+    let (season, read, fault, known) = is in let same : SeatsDiffer round cand one other ≡ NoMemoryToReplay = sound.rows season (SeatsDiffer round cand one other) read fault in absurd (cc same)
 sound_fault records KeeperFault sound is = inl refl
 sound_fault records NoMemoryToResume sound is = inr refl
 
--- the same where nothing was loaded
-unloaded_fault : (records : Kept) (fault : ResumeFault) → IsLoadFault (Records records) fault → (fault ≡ KeeperFault) ⊎ (fault ≡ NoMemoryToResume)
-unloaded_fault records NoneKept is = absurd (cc is)
-unloaded_fault records (BadSeason fault) is = absurd is
-unloaded_fault records (Stray row) is = absurd is
-unloaded_fault records (StrayRaise row) is = absurd is
-unloaded_fault records (Differs round cand one other) is = absurd is
-unloaded_fault records KeeperFault is = inl refl
-unloaded_fault records NoMemoryToResume is = inr refl
+-- what stops an office from going on from records that are told is of them, or the keeper failed, or there was no memory
+of_records : (kept : Kept) (why : Unresumed) (P : Unresumed → Type 0) → IsUnresumed (Records kept) why → (HaveStopped kept why → P why) → P KeeperFault → P NoMemoryToResume → P why
+of_records kept NoneKept P is have failed short = absurd (cc is)
+of_records kept (BadSeason fault) P is have failed short = let (records, loaded, has) = is in have (subst (λ (k : Kept). HaveStopped k (BadSeason fault)) (sym loaded) has)
+of_records kept (Stray row) P is have failed short = let (records, loaded, has) = is in have (subst (λ (k : Kept). HaveStopped k (Stray row)) (sym loaded) has)
+of_records kept (StrayRaise row) P is have failed short = let (records, loaded, has) = is in have (subst (λ (k : Kept). HaveStopped k (StrayRaise row)) (sym loaded) has)
+of_records kept (Differs round cand one other season) P is have failed short =
+    let (records, loaded, has) = is in have (subst (λ (k : Kept). HaveStopped k (Differs round cand one other season)) (sym loaded) has)
+of_records kept KeeperFault P is have failed short = failed
+of_records kept NoMemoryToResume P is have failed short = short
 
-told_sound : (tables : Tables) (records : Option Kept) (fault : ResumeFault) → TellsSound tables → IsJudged tables records fault → (fault ≡ KeeperFault) ⊎ (fault ≡ NoMemoryToResume)
-told_sound Untold records fault sound judged = absurd sound
-told_sound NoSeason records fault sound judged = absurd sound
-told_sound (Records kept) None fault sound judged = unloaded_fault kept fault judged
-told_sound (Records kept) (Some loaded) fault sound judged = sound_fault loaded fault (subst (λ (k : Kept). HaveNoFault k) judged.0 sound) judged.1
+told_sound : (tables : Tables) (why : Unresumed) → TellsSound tables → IsUnresumed tables why → (why ≡ KeeperFault) ⊎ (why ≡ NoMemoryToResume)
+told_sound Untold why sound is = absurd sound
+told_sound NoSeason why sound is = absurd sound
+told_sound (Records kept) why sound is = of_records kept why (λ w. (w ≡ KeeperFault) ⊎ (w ≡ NoMemoryToResume)) is (λ has. sound_fault kept why sound has) (inl refl) (inr refl)
 
 -- Where the records are sound, and neither the keeper nor the sink failed, only want of memory stops an office from going on.
-pub sound_stops : (tables : Tables) (records : Option Kept) (fault : ResumeFault) (result : Status) (rose broke : Type 0) → TellsSound tables → IsJudged tables records fault
+pub sound_stops : (before tables : Tables) (fault : Unresumed) (result : Status) (rose broke : Type 0) → AreTold before tables → TellsSound (still before tables) → IsUnresumed tables fault
     → (fault ≡ KeeperFault → rose) → (rose → ⊥) → (result ≡ unresumed_status fault) ⊎ ((result ≡ OutOfMemory) ⊎ (result ≡ WriteFault)) → (result ≡ WriteFault → broke) → (broke → ⊥)
     → result ≡ OutOfMemory
-sound_stops tables records fault result rose broke sound judged cause held status wrote kept =
+sound_stops before tables fault result rose broke same sound judged cause held status wrote kept =
     elim status [
-      | inl told ↦ elim (told_sound tables records fault sound judged) [ inl failed ↦ absurd (held (cause failed)) | inr short ↦ told ∙ ap unresumed_status short ]
+      | inl told ↦ elim (told_sound tables fault (still_to (λ t. TellsSound t) before tables same sound) judged) [ inl failed ↦ absurd (held (cause failed)) | inr short ↦ told ∙ ap unresumed_status short ]
       | inr other ↦ elim other [ inl short ↦ short | inr failed ↦ absurd (kept (wrote failed)) ]
     ]
 
 -- ---- records with a fault
 
 -- why no office goes on: what has this status, or what may come at any time
-abbrev IsStop : Status → ResumeFault → Type 0
+abbrev IsStop : Status → Unresumed → Type 0
 IsStop want fault = (unresumed_status fault ≡ want) ⊎ ((fault ≡ KeeperFault) ⊎ (fault ≡ NoMemoryToResume))
 
 -- Where neither the keeper nor the sink failed, that is the status, or there was no memory.
-stops : (want : Status) (fault : ResumeFault) (result : Status) (rose broke : Type 0) → IsStop want fault → (fault ≡ KeeperFault → rose) → (rose → ⊥)
+stops : (want : Status) (fault : Unresumed) (result : Status) (rose broke : Type 0) → IsStop want fault → (fault ≡ KeeperFault → rose) → (rose → ⊥)
     → (result ≡ unresumed_status fault) ⊎ ((result ≡ OutOfMemory) ⊎ (result ≡ WriteFault)) → (result ≡ WriteFault → broke) → (broke → ⊥) → (result ≡ want) ⊎ (result ≡ OutOfMemory)
 stops want fault result rose broke stop cause held status wrote kept =
     elim status [
@@ -238,27 +223,45 @@ none_goes_on_from_no_bundle NoSeason facts start reading resumed tells = tells
 none_goes_on_from_no_bundle (Records kept) facts start reading (records, loaded, lead) tells =
     spells_none records lead.season (reading false records.season) (subst (λ (k : Kept). HaveTextFault k) loaded tells) lead.read
 
-text_fault : (records : Kept) (fault : ResumeFault) → HaveOneReading false records.season → HaveTextFault records → IsFaultOf records fault → IsStop BadInput fault
+text_fault : (records : Kept) (fault : Unresumed) → HaveOneReading false records.season → HaveTextFault records → HaveStopped records fault → IsStop BadInput fault
 text_fault records NoneKept reading have is = absurd is
 text_fault records (BadSeason fault) reading have is = inl refl
-text_fault records (Stray row) reading have is = absurd (spells_none records is.0 reading have is.1)
-text_fault records (StrayRaise row) reading have is = absurd (spells_none records is.0 reading have is.1)
-text_fault records (Differs round cand one other) reading have is = absurd (spells_none records is.0 reading have is.1)
+text_fault records (Stray row) reading have is = let (season, read, fault) = is in absurd (spells_none records season reading have read)
+text_fault records (StrayRaise row) reading have is = let (season, read, fault) = is in absurd (spells_none records season reading have read)
+text_fault records (Differs round cand one other handed) reading have is = let (season, read, fault, known) = is in absurd (spells_none records season reading have read)
 text_fault records KeeperFault reading have is = inr (inl refl)
 text_fault records NoMemoryToResume reading have is = inr (inr refl)
 
-told_text_fault : (tables : Tables) (records : Option Kept) (fault : ResumeFault) → ((requests : Bool) (bytes : List ℕ) → HaveOneReading requests bytes) → TellsTextFault tables
-    → IsJudged tables records fault → IsStop BadInput fault
-told_text_fault Untold records fault reading tells judged = absurd tells
-told_text_fault NoSeason records fault reading tells judged = absurd tells
-told_text_fault (Records kept) None fault reading tells judged = inr (unloaded_fault kept fault judged)
-told_text_fault (Records kept) (Some loaded) fault reading tells judged = text_fault loaded fault (reading false loaded.season) (subst (λ (k : Kept). HaveTextFault k) judged.0 tells) judged.1
+told_text_fault : (tables : Tables) (fault : Unresumed) → ((requests : Bool) (bytes : List ℕ) → HaveOneReading requests bytes) → TellsTextFault tables → IsUnresumed tables fault → IsStop BadInput fault
+told_text_fault Untold fault reading tells judged = absurd tells
+told_text_fault NoSeason fault reading tells judged = absurd tells
+told_text_fault (Records kept) fault reading tells judged =
+    of_records kept fault (IsStop BadInput) judged (λ has. text_fault kept fault (reading false kept.season) tells has) (inr (inl refl)) (inr (inr refl))
 
 -- Where the text is no bundle, and neither the keeper nor the sink failed, that is told, or there was no memory.
-pub text_fault_stops : (tables : Tables) (records : Option Kept) (fault : ResumeFault) (result : Status) (rose broke : Type 0) → ((requests : Bool) (bytes : List ℕ) → HaveOneReading requests bytes)
-    → TellsTextFault tables → IsJudged tables records fault → (fault ≡ KeeperFault → rose) → (rose → ⊥) → (result ≡ unresumed_status fault) ⊎ ((result ≡ OutOfMemory) ⊎ (result ≡ WriteFault))
+pub text_fault_stops : (before tables : Tables) (fault : Unresumed) (result : Status) (rose broke : Type 0) → ((requests : Bool) (bytes : List ℕ) → HaveOneReading requests bytes)
+    → AreTold before tables → TellsTextFault (still before tables) → IsUnresumed tables fault → (fault ≡ KeeperFault → rose) → (rose → ⊥) → (result ≡ unresumed_status fault) ⊎ ((result ≡ OutOfMemory) ⊎ (result ≡ WriteFault))
     → (result ≡ WriteFault → broke) → (broke → ⊥) → (result ≡ BadInput) ⊎ (result ≡ OutOfMemory)
-text_fault_stops tables records fault result rose broke reading tells judged = stops BadInput fault result rose broke (told_text_fault tables records fault reading tells judged)
+text_fault_stops before tables fault result rose broke reading same tells judged =
+    stops BadInput fault result rose broke (told_text_fault tables fault reading (still_to (λ t. TellsTextFault t) before tables same tells) judged)
+
+-- Where there is no season, and neither the keeper nor the sink failed, that is told, or there was no memory.
+told_none : (tables : Tables) (fault : Unresumed) → TellsNoSeason tables → IsUnresumed tables fault → IsStop BadInput fault
+told_none Untold fault tells is = absurd tells
+told_none NoSeason NoneKept tells is = inl refl
+told_none NoSeason (BadSeason reading) tells is = absurd is.1
+told_none NoSeason (Stray row) tells is = absurd is.1
+told_none NoSeason (StrayRaise row) tells is = absurd is.1
+told_none NoSeason (Differs round cand one other season) tells is = absurd is.1
+told_none NoSeason KeeperFault tells is = inr (inl refl)
+told_none NoSeason NoMemoryToResume tells is = inr (inr refl)
+told_none (Records kept) fault tells is = absurd tells
+
+pub none_stops : (before tables : Tables) (fault : Unresumed) (result : Status) (rose broke : Type 0) → AreTold before tables → TellsNoSeason (still before tables) → IsUnresumed tables fault
+    → (fault ≡ KeeperFault → rose) → (rose → ⊥) → (result ≡ unresumed_status fault) ⊎ ((result ≡ OutOfMemory) ⊎ (result ≡ WriteFault)) → (result ≡ WriteFault → broke) → (broke → ⊥)
+    → (result ≡ BadInput) ⊎ (result ≡ OutOfMemory)
+none_stops before tables fault result rose broke same tells judged =
+    stops BadInput fault result rose broke (told_none tables fault (still_to (λ t. TellsNoSeason t) before tables same tells) judged)
 
 -- An office does not go on from records whose rows or seats have a fault.
 pub none_goes_on : (tables : Tables) (facts : SeasonFacts) (start : State) → ((facts : SeasonFacts) (kept : Kept) → IsSound facts → HaveOneEnd facts kept) → IsSound facts → IsResumed tables facts start
@@ -270,27 +273,27 @@ none_goes_on (Records kept) facts start law sound (records, loaded, lead) tells 
     let (fault, some, is) = there.faulty lead.season lead.read in
     some ((law facts records sound).apart start fault lead.replayed (subst (λ (f : SeasonFacts). IsReplayFault f records fault) (sym lead.same) is))
 
-row_fault : (records : Kept) (fault : ResumeFault) → HaveOneReading false records.season → HaveRowFault records → IsFaultOf records fault → IsStop StatusDiffers fault
+row_fault : (records : Kept) (fault : Unresumed) → HaveOneReading false records.season → HaveRowFault records → HaveStopped records fault → IsStop StatusDiffers fault
 row_fault records NoneKept reading have is = absurd is
 row_fault records (BadSeason fault) reading have is = absurd (spells_none records have.season reading (fault, is) have.read)
 row_fault records (Stray row) reading have is = inl refl
 row_fault records (StrayRaise row) reading have is = inl refl
-row_fault records (Differs round cand one other) reading have is = inl refl
+row_fault records (Differs round cand one other handed) reading have is = inl refl
 row_fault records KeeperFault reading have is = inr (inl refl)
 row_fault records NoMemoryToResume reading have is = inr (inr refl)
 
-told_row_fault : (tables : Tables) (records : Option Kept) (fault : ResumeFault) → ((requests : Bool) (bytes : List ℕ) → HaveOneReading requests bytes) → TellsRowFault tables
-    → IsJudged tables records fault → IsStop StatusDiffers fault
-told_row_fault Untold records fault reading tells judged = absurd tells
-told_row_fault NoSeason records fault reading tells judged = absurd tells
-told_row_fault (Records kept) None fault reading tells judged = inr (unloaded_fault kept fault judged)
-told_row_fault (Records kept) (Some loaded) fault reading tells judged = row_fault loaded fault (reading false loaded.season) (subst (λ (k : Kept). HaveRowFault k) judged.0 tells) judged.1
+told_row_fault : (tables : Tables) (fault : Unresumed) → ((requests : Bool) (bytes : List ℕ) → HaveOneReading requests bytes) → TellsRowFault tables → IsUnresumed tables fault → IsStop StatusDiffers fault
+told_row_fault Untold fault reading tells judged = absurd tells
+told_row_fault NoSeason fault reading tells judged = absurd tells
+told_row_fault (Records kept) fault reading tells judged =
+    of_records kept fault (IsStop StatusDiffers) judged (λ has. row_fault kept fault (reading false kept.season) tells has) (inr (inl refl)) (inr (inr refl))
 
 -- Where a row or a seat has a fault, and neither the keeper nor the sink failed, it is told, or there was no memory.
-pub row_fault_stops : (tables : Tables) (records : Option Kept) (fault : ResumeFault) (result : Status) (rose broke : Type 0) → ((requests : Bool) (bytes : List ℕ) → HaveOneReading requests bytes)
-    → TellsRowFault tables → IsJudged tables records fault → (fault ≡ KeeperFault → rose) → (rose → ⊥) → (result ≡ unresumed_status fault) ⊎ ((result ≡ OutOfMemory) ⊎ (result ≡ WriteFault))
+pub row_fault_stops : (before tables : Tables) (fault : Unresumed) (result : Status) (rose broke : Type 0) → ((requests : Bool) (bytes : List ℕ) → HaveOneReading requests bytes)
+    → AreTold before tables → TellsRowFault (still before tables) → IsUnresumed tables fault → (fault ≡ KeeperFault → rose) → (rose → ⊥) → (result ≡ unresumed_status fault) ⊎ ((result ≡ OutOfMemory) ⊎ (result ≡ WriteFault))
     → (result ≡ WriteFault → broke) → (broke → ⊥) → (result ≡ StatusDiffers) ⊎ (result ≡ OutOfMemory)
-row_fault_stops tables records fault result rose broke reading tells judged = stops StatusDiffers fault result rose broke (told_row_fault tables records fault reading tells judged)
+row_fault_stops before tables fault result rose broke reading same tells judged =
+    stops StatusDiffers fault result rose broke (told_row_fault tables fault reading (still_to (λ t. TellsRowFault t) before tables same tells) judged)
 
 -- ---- before the source is read
 

@@ -1,9 +1,13 @@
 -- How the command `run` ends.
-use Rattle.std.proofs.Common.{◌≡◌, inl, inr, ℕ, true, List, Option, Some, None, Err, refl, subst}
+use Rattle.std.proofs.Common.{◌≡◌, inl, inr, ℕ, true, false, List, Option, Some, None, Err, refl, subst}
 use Rattle.office_base.specs.Outside.{Appends}
 use Rattle.office_base.specs.declared.asks.Request.{Request}
 use Rattle.season_file.specs.declared.season.Season.{Season}
-use Rattle.keeper_mem.specs.Tables.{Tables, AreTold, IsFound}
+use Rattle.keeper_mem.specs.Tables.{Tables, AreTold, IsFound, IsTold as IsTablesTold, still}
+use Rattle.office_moves.specs.Facts.{SeasonFacts}
+use Rattle.office_moves.specs.Season.{facts_of}
+use Rattle.office_moves.specs.State.{State, opening}
+use Rattle.season_commands.specs.Office.{EndsOffice}
 use Rattle.round_cut.specs.declared.fault.BeginFault.{BeginFault}
 use Rattle.round_cut.specs.declared.fault.BeginFault.TheVariants.{NotEmpty, KeeperFault as NoKeeper, OutOfMemory as NoMemory}
 use Rattle.season_file.specs.Season.{content_of}
@@ -16,20 +20,30 @@ use Rattle.command_answers.specs.declared.failure.Failure.{Failure}
 use Rattle.command_answers.specs.declared.failure.Failure.TheVariants.{Read, Bad, NoMemory as NoMemoryToRead}
 use Rattle.command_answers.specs.declared.status.Status.{Status}
 use Rattle.command_answers.proofs.Ended.{told_is_written}
+use Rattle.season_commands.proofs.Still.{still_from, still_none}
 
 -- the text of why no office began goes with its status
-pub text_of_begin : (before : Tables) (fault : BeginFault) → (fault ≡ NotEmpty → IsFound true before) → IsUnbegunText before (begin_status fault) (begin_text fault)
-text_of_begin before NotEmpty held = (held refl, refl)
-text_of_begin before NoKeeper held = refl
-text_of_begin before NoMemory held = refl
+pub text_of_begin : (tables : Tables) (fault : BeginFault) → (fault ≡ NotEmpty → IsFound true tables) → IsUnbegunText tables (begin_status fault) (begin_text fault)
+text_of_begin tables NotEmpty held = (held refl, refl)
+text_of_begin tables NoKeeper held = refl
+text_of_begin tables NoMemory held = refl
 
 -- No office began.
 pub unbegun_ends : (season : Season) (script : List Request) (before after : Tables) (fault : BeginFault) (written now : Option (List ℕ)) (broke : Type 0) (result : Status)
-    → (fault ≡ NotEmpty → IsFound true before) → AreTold before after → IsTold (begin_status fault) (begin_text fault) written now broke result
+    → (fault ≡ NotEmpty → IsFound true after) → AreTold before after → IsTold (begin_status fault) (begin_text fault) written now broke result
     → (output : List ℕ) × Appends output written now × EndsSeason season script before after result output
 unbegun_ends season script before after fault written now broke result held told is =
-    let (output, appends, writes) = told_is_written (IsUnbegunText before) (begin_status fault) result (begin_text fault) written now broke (text_of_begin before fault held) is in
+    let (output, appends, writes) = told_is_written (IsUnbegunText (still before after)) (begin_status fault) result (begin_text fault) written now broke
+    (text_of_begin (still before after) fault (λ same. still_from (λ t. IsFound true t) before after told (held same))) is in
     (output, appends, inl (writes, told))
+
+-- An office began, and answered the requests.
+pub begun_ends : (season : Season) (script : List Request) (facts : SeasonFacts) (start : State) (before mid after : Tables) (written now : Option (List ℕ)) (status : Status)
+    → facts ≡ facts_of season → start ≡ opening → IsFound false (still before mid) → (IsTablesTold after → IsTablesTold mid)
+    → (output : List ℕ) × Appends output written now × EndsOffice facts start script after status output → (output : List ℕ) × Appends output written now × EndsSeason season script before after status output
+begun_ends season script facts start before mid after written now status same from none was end =
+    (end.0, end.1, inr (still_none before mid after was none,
+    subst (λ (f : SeasonFacts). EndsOffice f opening script after status end.0) same (subst (λ (s : State). EndsOffice facts s script after status end.0) from end.2)))
 
 -- the text of why no bundle was read goes with its status
 text_of_failure : (left : Option (List ℕ)) (failed : Type 0) (failure : Failure) → IsFailureOf check_answers left failed failure

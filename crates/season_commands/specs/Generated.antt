@@ -4,7 +4,7 @@ use Rattle.std.specs.Prelude.{◌≡◌, ◌⊎◌, ℕ, true, false, List, Resu
 use Rattle.office_base.specs.declared.asks.Request.{Request}
 use Rattle.season_file.specs.Season.{IsSeasonWith}
 use Rattle.season_file.specs.declared.season.Season.{Season}
-use Rattle.keeper_mem.specs.Tables.{Tables, AreTold, IsFound}
+use Rattle.keeper_mem.specs.Tables.{Tables, AreTold, IsFound, still}
 use Rattle.rounds.specs.Round.{seated}
 use Rattle.office_moves.specs.Facts.{SeasonFacts}
 use Rattle.office_moves.specs.Season.{facts_of}
@@ -18,25 +18,19 @@ use Rattle.season_generator.specs.Bundle.{generated}
 use Rattle.season_generator.specs.Summary.{summary_text}
 use Rattle.season_generator.specs.declared.summary.Summary.{Summary}
 use Rattle.office_base.specs.FaultLines.{memory_line}
-use Rattle.command_answers.specs.Writes.{Writes}
+use Rattle.command_answers.specs.Writes.{Writes, keeper_line}
 use Rattle.command_answers.specs.declared.status.Status.{Status}
-use Rattle.command_answers.specs.declared.status.Status.TheVariants.{Ok as Done, Usage, BadInput, ReadFault, WriteFault, KeeperFault, OutOfMemory, Differs}
+use Rattle.command_answers.specs.declared.status.Status.TheVariants.{Ok as Done, BadInput, KeeperFault, OutOfMemory}
 use Rattle.season_commands.specs.Check.{IsBundleFaultLine}
-use Rattle.season_commands.specs.Office.{keeper_line}
 use Rattle.season_commands.specs.Run.{IsUnbegunText}
 
 -- ---- where no season is read
 
 -- the whole text that goes with each status: the generated bundle has a fault, or there was no memory
 abbrev pub IsUnmadeText : ℕ → ℕ → Status → List ℕ → Type 0
-IsUnmadeText n seed Done text = ⊥
-IsUnmadeText n seed Usage text = ⊥
 IsUnmadeText n seed BadInput text = IsBundleFaultLine (generated n seed) text
-IsUnmadeText n seed ReadFault text = ⊥
-IsUnmadeText n seed WriteFault text = ⊥
-IsUnmadeText n seed KeeperFault text = ⊥
 IsUnmadeText n seed OutOfMemory text = text ≡ memory_line
-IsUnmadeText n seed Differs text = ⊥
+IsUnmadeText n seed other text = ⊥
 
 -- ---- where an office answers the requests
 
@@ -67,20 +61,16 @@ StandsForAll facts script tables = (state : State) × (tally : Tally) × CountsA
 -- the whole text that goes with each status, and what the tables stand for with it
 abbrev pub IsCountedText : ℕ → ℕ → SeasonFacts → List Request → Tables → Status → List ℕ → Type 0
 IsCountedText n seed facts script tables Done text = IsSummed n seed facts script tables text
-IsCountedText n seed facts script tables Usage text = ⊥
-IsCountedText n seed facts script tables BadInput text = ⊥
-IsCountedText n seed facts script tables ReadFault text = ⊥
-IsCountedText n seed facts script tables WriteFault text = ⊥
 IsCountedText n seed facts script tables KeeperFault text = (text ≡ keeper_line) × StandsForFirst facts script tables
 IsCountedText n seed facts script tables OutOfMemory text = (text ≡ memory_line) × (StandsForFirst facts script tables ⊎ StandsForAll facts script tables)
-IsCountedText n seed facts script tables Differs text = ⊥
+IsCountedText n seed facts script tables other text = ⊥
 
 -- ---- all together
 
 -- how a generated season that was read ends: no office begins, and the tables are as before; or the keeper held no season, and an office answers its requests
 abbrev pub EndsMade : ℕ → ℕ → Season → List Request → Tables → Tables → Status → List ℕ → Type 0
-EndsMade n seed season script before after status output = (Writes (IsUnbegunText before) status output × AreTold before after)
-    ⊎ (IsFound false before × Writes (IsCountedText n seed (facts_of season) script after) status output)
+EndsMade n seed season script before after status output = (Writes (IsUnbegunText (still before after)) status output × AreTold before after)
+    ⊎ (IsFound false (still before after) × Writes (IsCountedText n seed (facts_of season) script after) status output)
 
 -- how the command ends: no season is read, and the tables are as before; or the generated bundle has no fault, and its season ends
 abbrev pub EndsGeneratedRun : ℕ → ℕ → Tables → Tables → Status → List ℕ → Type 0

@@ -1,5 +1,5 @@
 -- How requests end that are answered over an office, each reply written before the next request is handled.
-use Rattle.std.specs.Prelude.{◌≡◌, ◌<◌, ◌⊎◌, ℕ, List, ◌++◌, codes, length, take}
+use Rattle.std.specs.Prelude.{◌≡◌, ◌<◌, ◌⊎◌, ℕ, List, ◌++◌, length, take}
 use Rattle.office_base.specs.declared.asks.Request.{Request}
 use Rattle.keeper_mem.specs.Tables.{Tables}
 use Rattle.office_moves.specs.Facts.{SeasonFacts}
@@ -7,11 +7,9 @@ use Rattle.office_moves.specs.State.{State}
 use Rattle.office_moves.specs.declared.moves.Reply.{Reply}
 use Rattle.script_runs.specs.Runs.{AfterOneMore, AfterSome, reply_bytes}
 use Rattle.office_base.specs.FaultLines.{memory_line}
+use Rattle.command_answers.specs.Writes.{keeper_line}
 use Rattle.command_answers.specs.declared.status.Status.{Status}
-use Rattle.command_answers.specs.declared.status.Status.TheVariants.{Ok as Done, Usage, BadInput, ReadFault, WriteFault, KeeperFault, OutOfMemory, Differs}
-
-abbrev pub keeper_line : List ℕ
-keeper_line = codes "fault: keeper\n"
+use Rattle.command_answers.specs.declared.status.Status.TheVariants.{Ok as Done, WriteFault, KeeperFault, OutOfMemory}
 
 -- The first j requests are answered, and this text follows their output: a history leads to the state, in which the office keeps its word, and the tables
 -- stand for it.
@@ -50,10 +48,7 @@ EndsInLine facts start script tables output = (n : ℕ) × (FollowsSome facts st
 -- how the requests end that are answered from a state, by the status: what is written, and what the tables stand for
 abbrev pub EndsOffice : SeasonFacts → State → List Request → Tables → Status → List ℕ → Type 0
 EndsOffice facts start script tables Done output = (state : State) × AfterSome facts start script (length script) output state tables
-EndsOffice facts start script tables Usage output = ⊥
-EndsOffice facts start script tables BadInput output = ⊥
-EndsOffice facts start script tables ReadFault output = ⊥
 EndsOffice facts start script tables WriteFault output = EndsInReply facts start script tables output ⊎ EndsInLine facts start script tables output
 EndsOffice facts start script tables KeeperFault output = FollowsSome facts start script tables keeper_line output
 EndsOffice facts start script tables OutOfMemory output = FollowsSome facts start script tables memory_line output ⊎ FollowsOneMore facts start script tables memory_line output
-EndsOffice facts start script tables Differs output = ⊥
+EndsOffice facts start script tables other output = ⊥

@@ -1,9 +1,10 @@
 -- The command `resume`: an office goes on from what the keeper holds; its input are requests alone, and its output are the replies to them.
-use Rattle.std.specs.Prelude.{◌≡◌, ◌≢◌, ◌<◌, ◌≤◌, ◌⊎◌, ℕ, false, List, Option, Ok, Err, IsSome, codes, length}
+use Rattle.std.specs.Prelude.{◌≡◌, ◌≢◌, ◌<◌, ◌≤◌, ◌⊎◌, ℕ, false, List, Option, Result, Ok, Err, codes, length}
 use Rattle.std.specs.Str.{IsUtf8}
 use Rattle.office_base.specs.Limits.{most_bundle_bytes}
 use Rattle.office_base.specs.Outside.{AreLeft}
 use Rattle.office_base.specs.declared.asks.Request.{Request}
+use Rattle.office_text.specs.Lines.{skip_mark}
 use Rattle.section_rows.specs.Rows.{rows_of}
 use Rattle.request_rows.specs.Requests.{script_of}
 use Rattle.season_file.specs.Laws.{HasFault}
@@ -12,7 +13,7 @@ use Rattle.season_file.specs.declared.fault.SeasonFault.{SeasonFault}
 use Rattle.season_file.specs.declared.fault.SeasonFault.TheVariants.{TooLong, NotUtf8, BadRequest}
 use Rattle.season_file.specs.declared.season.Season.{Season}
 use Rattle.season_texts.specs.Texts.{fault_line}
-use Rattle.keeper_mem.specs.Tables.{Tables, Untold, NoSeason, Records, AreTold, IsFound, IsLoaded}
+use Rattle.keeper_mem.specs.Tables.{Tables, Untold, NoSeason, Records, AreTold, IsFound, IsLoaded, still}
 use Rattle.keeper_mem.specs.declared.rows.Kept.{Kept}
 use Rattle.office_moves.specs.Facts.{SeasonFacts}
 use Rattle.office_moves.specs.Season.{facts_of}
@@ -20,15 +21,15 @@ use Rattle.office_moves.specs.State.{State}
 use Rattle.replays.specs.Faults.{IsReplayFault}
 use Rattle.replays.specs.declared.fault.ReplayFault.{ReplayFault}
 use Rattle.replays.specs.declared.fault.ReplayFault.TheVariants.{OutOfMemory as NoMemory}
-use Rattle.round_cut.specs.Resume.{IsJudged, IsResumed}
-use Rattle.round_cut.specs.declared.fault.ResumeFault.{ResumeFault}
-use Rattle.round_cut.specs.declared.fault.ResumeFault.TheVariants.{NoSeason as NoneKept, BadSeason, Stray, StrayRaise, Differs as SeatsDiffer, KeeperFault as KeeperFailed, OutOfMemory as NoMemoryToResume}
+use Rattle.round_cut.specs.Resume.{IsResumed}
+use Rattle.round_cut.specs.declared.resume.Unresumed.{Unresumed}
+use Rattle.round_cut.specs.declared.resume.Unresumed.TheVariants.{NoSeason as NoneKept, BadSeason, Stray, StrayRaise, Differs as SeatsDiffer, KeeperFault as KeeperFailed, OutOfMemory as NoMemoryToResume}
 use Rattle.command_answers.specs.Answers.{Answers, HasLeft}
 use Rattle.office_base.specs.FaultLines.{memory_line, read_line}
-use Rattle.command_answers.specs.Writes.{Writes}
+use Rattle.command_answers.specs.Writes.{Writes, keeper_line}
 use Rattle.command_answers.specs.declared.status.Status.{Status}
-use Rattle.command_answers.specs.declared.status.Status.TheVariants.{Ok as Done, Usage, BadInput, ReadFault, WriteFault, KeeperFault, OutOfMemory, Differs}
-use Rattle.season_commands.specs.Office.{EndsOffice, keeper_line}
+use Rattle.command_answers.specs.declared.status.Status.TheVariants.{BadInput, ReadFault, KeeperFault, OutOfMemory, Differs}
+use Rattle.season_commands.specs.Office.{EndsOffice}
 use Rattle.season_commands.specs.Run.{TellsNoSeason}
 use Rattle.season_commands.specs.Stray.{replay_line}
 
@@ -39,7 +40,7 @@ no_season_line = codes "fault: keeper holds no season\n"
 
 -- the bytes are requests without faults
 abbrev pub AreRequests : List ℕ → List Request → Type 0
-AreRequests bytes script = IsText bytes × (script_of (rows_of bytes) ≡ Ok script)
+AreRequests bytes script = IsText bytes × (script_of (rows_of (skip_mark bytes)) ≡ Ok script)
 
 -- the bytes that were left are requests without faults
 abbrev pub AreLeftRequests : Option (List ℕ) → List Request → Type 0
@@ -49,7 +50,7 @@ AreLeftRequests left script = (bytes : List ℕ) × AreLeft bytes left × AreReq
 abbrev pub HaveRequestFault : List ℕ → SeasonFault → Type 0
 HaveRequestFault bytes TooLong = most_bundle_bytes < length bytes
 HaveRequestFault bytes NotUtf8 = (length bytes ≤ most_bundle_bytes) × (IsUtf8 bytes → ⊥)
-HaveRequestFault bytes (BadRequest row) = IsText bytes × (script_of (rows_of bytes) ≡ Err row)
+HaveRequestFault bytes (BadRequest row) = IsText bytes × (script_of (rows_of (skip_mark bytes)) ≡ Err row)
 HaveRequestFault bytes fault = ⊥
 
 -- the bytes have a fault as requests, and this is its line
@@ -75,8 +76,8 @@ IsTextFaultLine records line = (fault : SeasonFault) × HasFault false records.s
 
 -- the records of a season do not replay, and this is the line of their fault
 abbrev pub IsReplayFaultLine : Kept → List ℕ → Type 0
-IsReplayFaultLine records line = (season : Season) × (fault : ReplayFault) × (other : Season) × IsSeason records.season season × IsReplayFault (facts_of season) records fault
-    × (fault ≢ NoMemory) × IsSeason records.season other × (line ≡ replay_line other.matrix fault)
+IsReplayFaultLine records line = (season : Season) × (fault : ReplayFault) × IsSeason records.season season × IsReplayFault (facts_of season) records fault
+    × (fault ≢ NoMemory) × (line ≡ replay_line season.matrix fault)
 
 -- there is no season, or the text that is kept is no bundle, and this is the line of that
 abbrev pub IsKeptFaultLine : Tables → List ℕ → Type 0
@@ -84,37 +85,31 @@ IsKeptFaultLine tables line = (IsFound false tables × (line ≡ no_season_line)
 
 -- ---- how the command ends
 
--- the whole text that goes with each status where no office goes on, by what the tables told before
+-- the whole text that goes with each status where no office goes on, by what the tables told
 abbrev pub IsUnresumedText : Tables → Status → List ℕ → Type 0
-IsUnresumedText before Done text = ⊥
-IsUnresumedText before Usage text = ⊥
-IsUnresumedText before BadInput text = IsKeptFaultLine before text
-IsUnresumedText before ReadFault text = ⊥
-IsUnresumedText before WriteFault text = ⊥
-IsUnresumedText before KeeperFault text = text ≡ keeper_line
-IsUnresumedText before OutOfMemory text = text ≡ memory_line
-IsUnresumedText before Differs text = (records : Kept) × IsLoaded before records × IsReplayFaultLine records text
+IsUnresumedText tables BadInput text = IsKeptFaultLine tables text
+IsUnresumedText tables KeeperFault text = text ≡ keeper_line
+IsUnresumedText tables OutOfMemory text = text ≡ memory_line
+IsUnresumedText tables Differs text = (records : Kept) × IsLoaded tables records × IsReplayFaultLine records text
+IsUnresumedText tables other text = ⊥
 
 -- the whole text that goes with each status where an office goes on and no requests are read, for the bytes that the source had left
 abbrev pub IsUnaskedText : Option (List ℕ) → Status → List ℕ → Type 0
-IsUnaskedText left Done text = ⊥
-IsUnaskedText left Usage text = ⊥
 IsUnaskedText left BadInput text = HasLeft IsRequestFaultLine left text
 IsUnaskedText left ReadFault text = text ≡ read_line
-IsUnaskedText left WriteFault text = ⊥
-IsUnaskedText left KeeperFault text = ⊥
 IsUnaskedText left OutOfMemory text = text ≡ memory_line
-IsUnaskedText left Differs text = ⊥
+IsUnaskedText left other text = ⊥
 
 -- how an office that went on ends: no requests are read, and the tables are as before; or they are answered from its state
 abbrev pub EndsAsked : SeasonFacts → State → Option (List ℕ) → Tables → Tables → Status → List ℕ → Type 0
 EndsAsked facts start left before after status output = (Writes (IsUnaskedText left) status output × AreTold before after)
     ⊎ ((script : List Request) × AreLeftRequests left script × EndsOffice facts start script after status output)
 
--- how `resume` ends: no office goes on, and the tables are as before; or the records lead to the state of a season, and an office goes on from it
+-- how `resume` ends: no office goes on, and the tables are as before; or the records lead to the state of a season, and an office goes on from it. What was
+-- kept is told where the keeper tells both before and after.
 abbrev pub EndsResume : Option (List ℕ) → Tables → Tables → Status → List ℕ → Type 0
-EndsResume left before after status output = (Writes (IsUnresumedText before) status output × AreTold before after)
-    ⊎ ((facts : SeasonFacts) × (start : State) × IsResumed before facts start × EndsAsked facts start left before after status output)
+EndsResume left before after status output = (Writes (IsUnresumedText (still before after)) status output × AreTold before after)
+    ⊎ ((facts : SeasonFacts) × (start : State) × IsResumed (still before after) facts start × EndsAsked facts start left before after status output)
 
 -- the records have no fault: their text is a bundle, and they replay
 pub record HaveNoFault (records : Kept) : Type 0 where
@@ -154,25 +149,20 @@ abbrev pub TellsNoOffice : Tables → Type 0
 TellsNoOffice tables = TellsNoSeason tables ⊎ (TellsTextFault tables ⊎ TellsRowFault tables)
 
 -- the status of why no office goes on
-abbrev pub unresumed_status : ResumeFault → Status
+abbrev pub unresumed_status : Unresumed → Status
 unresumed_status NoneKept = BadInput
 unresumed_status (BadSeason fault) = BadInput
 unresumed_status (Stray row) = Differs
 unresumed_status (StrayRaise row) = Differs
-unresumed_status (SeatsDiffer round cand one other) = Differs
+unresumed_status (SeatsDiffer round cand one other season) = Differs
 unresumed_status KeeperFailed = KeeperFault
 unresumed_status NoMemoryToResume = OutOfMemory
 
--- the records themselves have the fault; where it is a difference, they are there
-abbrev pub IsOfRecords : Option Kept → ResumeFault → Type 0
-IsOfRecords records NoneKept = ⊥
-IsOfRecords records (BadSeason fault) = Unit {0}
-IsOfRecords records (Stray row) = Unit {0}
-IsOfRecords records (StrayRaise row) = Unit {0}
-IsOfRecords records (SeatsDiffer round cand one other) = IsSome records
-IsOfRecords records KeeperFailed = ⊥
-IsOfRecords records NoMemoryToResume = ⊥
+-- a line that was made, with its status, or the line of want of memory
+abbrev pub made_status : {E : Type 0} → Status → Result (List ℕ) E → Status
+made_status status (Ok line) = status
+made_status status (Err none) = OutOfMemory
 
--- the line that tells it is one that goes with its status
-abbrev pub IsUnresumedLine : Option Kept → ResumeFault → List ℕ → Type 0
-IsUnresumedLine records fault line = (tables : Tables) → IsJudged tables records fault → IsUnresumedText tables (unresumed_status fault) line
+abbrev pub made_text : {E : Type 0} → Result (List ℕ) E → List ℕ
+made_text (Ok line) = line
+made_text (Err none) = memory_line

@@ -28,7 +28,7 @@ pub fn read_bundle<S: Source>(alloc: Global, source: &mut S) -> Result<(Season, 
 }
 
 /// The failure that tells why there is no season.
-pub(crate) fn bundle_failure(alloc: Global, fault: SeasonFault) -> Failure
+pub fn bundle_failure(alloc: Global, fault: SeasonFault) -> Failure
     ensures { TellsSeasonFault fault result }
 {
     match fault {

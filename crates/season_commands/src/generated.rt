@@ -3,6 +3,7 @@
 ghost use Rattle.std.specs.Prelude.{◌≡◌, ◌≢◌, ◌≤◌, ◌⊎◌, ℕ, List, true, IfOk, IfErr, IsErrOf, OnOk};
 ghost use Rattle.office_base.specs.Outside.{Rose, Appends};
 ghost use Rattle.season_file.specs.Season.{IsSeason, IsSeasonWith};
+ghost use Rattle.keeper_mem.specs.Tables.{IsTold, still};
 ghost use Rattle.office_moves.specs.History.{IsHistory};
 ghost use Rattle.office_moves.specs.Stands.{Stand};
 ghost use Rattle.office_moves.specs.State.{opening};
@@ -49,11 +50,11 @@ pub fn run_generated<K: Sink, P: Keeper>(
     ensures sink_steady { result.0 ≢ Status.WriteFault → K.faults sink.new ≡ K.faults sink.old }
     ensures keeper_count { P.faults keeper ≤ P.faults result.1 }
     ensures keeper_steady { result.0 ≢ Status.KeeperFault → result.0 ≢ Status.WriteFault → P.faults result.1 ≡ P.faults keeper }
-    ensures complete { IsBundle (generated n seed) → TellsNoSeason (P.tables keeper) → ¬ Rose (K.faults sink.old) (K.faults sink.new) → ¬ Rose (P.faults keeper) (P.faults result.1)
+    ensures complete { IsBundle (generated n seed) → TellsNoSeason (still (P.tables keeper) (P.tables result.1)) → ¬ Rose (K.faults sink.old) (K.faults sink.new) → ¬ Rose (P.faults keeper) (P.faults result.1)
         → (result.0 ≡ Status.Ok) ⊎ (result.0 ≡ Status.OutOfMemory) }
     ensures refused { IsFaultyBundle (generated n seed) → ¬ Rose (K.faults sink.old) (K.faults sink.new)
         → (result.0 ≡ Status.BadInput) ⊎ (result.0 ≡ Status.OutOfMemory) }
-    ensures not_empty { TellsSeason (P.tables keeper) → ¬ Rose (K.faults sink.old) (K.faults sink.new) → ¬ Rose (P.faults keeper) (P.faults result.1)
+    ensures not_empty { TellsSeason (still (P.tables keeper) (P.tables result.1)) → ¬ Rose (K.faults sink.old) (K.faults sink.new) → ¬ Rose (P.faults keeper) (P.faults result.1)
         → (result.0 ≡ Status.BadInput) ⊎ (result.0 ≡ Status.OutOfMemory) }
 {
     one_answer();
@@ -107,9 +108,9 @@ fn run_made<K: Sink, P: Keeper>(
     ensures sink_steady { result.0 ≢ Status.WriteFault → K.faults sink.new ≡ K.faults sink.old }
     ensures keeper_count { P.faults keeper ≤ P.faults result.1 }
     ensures keeper_steady { result.0 ≢ Status.KeeperFault → result.0 ≢ Status.WriteFault → P.faults result.1 ≡ P.faults keeper }
-    ensures complete { TellsNoSeason (P.tables keeper) → ¬ Rose (K.faults sink.old) (K.faults sink.new) → ¬ Rose (P.faults keeper) (P.faults result.1)
+    ensures complete { TellsNoSeason (still (P.tables keeper) (P.tables result.1)) → ¬ Rose (K.faults sink.old) (K.faults sink.new) → ¬ Rose (P.faults keeper) (P.faults result.1)
         → (result.0 ≡ Status.Ok) ⊎ (result.0 ≡ Status.OutOfMemory) }
-    ensures not_empty { TellsSeason (P.tables keeper) → ¬ Rose (K.faults sink.old) (K.faults sink.new) → ¬ Rose (P.faults keeper) (P.faults result.1)
+    ensures not_empty { TellsSeason (still (P.tables keeper) (P.tables result.1)) → ¬ Rose (K.faults sink.old) (K.faults sink.new) → ¬ Rose (P.faults keeper) (P.faults result.1)
         → (result.0 ≡ Status.BadInput) ⊎ (result.0 ≡ Status.OutOfMemory) }
 {
     match Office::begin(alloc, season, keeper) {
@@ -132,6 +133,7 @@ fn count_office<K: Sink, P: Keeper>(
     requires stands { Stand office.season office.state (P.tables office.keeper) }
     ensures written { (output : List ℕ) × Appends output (K.written sink.old) (K.written sink.new)
         × Writes (IsCountedText n seed office.season script.now (P.tables result.1)) result.0 output }
+    ensures told_before { IsTold (P.tables result.1) → IsTold (P.tables office.keeper) }
     ensures no_read_fault { result.0 ≢ Status.ReadFault }
     ensures write_fault { result.0 ≡ Status.WriteFault → Rose (K.faults sink.old) (K.faults sink.new) }
     ensures keeper_fault { result.0 ≡ Status.KeeperFault → Rose (P.faults office.keeper) (P.faults result.1) }
@@ -159,6 +161,7 @@ fn count_script<K: Sink, P: Keeper>(
     requires stands { Stand office.old.season office.old.state (P.tables office.old.keeper) }
     ensures written { (output : List ℕ) × Appends output (K.written sink.old) (K.written sink.new)
         × Writes (IsCountedText n seed office.old.season script.now (P.tables office.new.keeper)) result output }
+    ensures told_before { IsTold (P.tables office.new.keeper) → IsTold (P.tables office.old.keeper) }
     ensures no_read_fault { result ≢ Status.ReadFault }
     ensures write_fault { result ≡ Status.WriteFault → Rose (K.faults sink.old) (K.faults sink.new) }
     ensures keeper_fault { result ≡ Status.KeeperFault → Rose (P.faults office.old.keeper) (P.faults office.new.keeper) }
@@ -187,6 +190,7 @@ fn counted_text<P: Keeper>(
     ensures keeper { IsErrOf result OfficeFault.KeeperFault → StandsForFirst office.old.season script.now (P.tables office.new.keeper) }
     ensures memory { IsErrOf result OfficeFault.OutOfMemory
         → StandsForFirst office.old.season script.now (P.tables office.new.keeper) ⊎ StandsForAll office.old.season script.now (P.tables office.new.keeper) }
+    ensures told_before { IsTold (P.tables office.new.keeper) → IsTold (P.tables office.old.keeper) }
     ensures cause { IsErrOf result OfficeFault.KeeperFault → Rose (P.faults office.old.keeper) (P.faults office.new.keeper) }
     ensures count { P.faults office.old.keeper ≤ P.faults office.new.keeper }
     ensures steady { OnOk result (P.faults office.new.keeper ≡ P.faults office.old.keeper) }

@@ -15,7 +15,8 @@ mod run;
 mod stray;
 mod summed;
 
+pub use bundle::bundle_failure;
 pub use check::check_answer;
 pub use generated::run_generated;
-pub use resume::resume_season;
-pub use run::run_season;
+pub use resume::{resume_season, tell_unresumed};
+pub use run::{run_script, run_season, tell_unbegun};

@@ -1,11 +1,12 @@
 // Requests that are answered over an office, and why they are not all answered.
 ghost use Rattle.std.specs.Prelude.{◌≡◌, ◌≢◌, ◌≤◌, ◌⊎◌, ℕ, List};
 ghost use Rattle.office_base.specs.Outside.{Rose, Appends};
+ghost use Rattle.keeper_mem.specs.Tables.{IsTold};
 ghost use Rattle.office_moves.specs.History.{IsHistory};
 ghost use Rattle.office_moves.specs.Stands.{Stand};
 ghost use Rattle.season_commands.specs.Office.{EndsOffice};
 
-use command_answers::{Status, write_answer};
+use command_answers::{Status, tell_keeper_fault, tell_no_memory};
 use keeper_mem::Keeper;
 use office_base::{Request, Sink};
 use round_cut::Office;
@@ -23,6 +24,7 @@ pub(crate) fn run_office<K: Sink, P: Keeper>(
     requires stands { Stand office.season office.state (P.tables office.keeper) }
     ensures written { (output : List ℕ) × Appends output (K.written sink.old) (K.written sink.new)
         × EndsOffice office.season office.state script.now (P.tables result.1) result.0 output }
+    ensures told_before { IsTold (P.tables result.1) → IsTold (P.tables office.keeper) }
     ensures write_fault { result.0 ≡ Status.WriteFault → Rose (K.faults sink.old) (K.faults sink.new) }
     ensures keeper_fault { result.0 ≡ Status.KeeperFault → Rose (P.faults office.keeper) (P.faults result.1) }
     ensures sink_steady { result.0 ≢ Status.WriteFault → K.faults sink.new ≡ K.faults sink.old }
@@ -46,6 +48,7 @@ fn answer_script<K: Sink, P: Keeper>(
     requires stands { Stand office.old.season office.old.state (P.tables office.old.keeper) }
     ensures written { (output : List ℕ) × Appends output (K.written sink.old) (K.written sink.new)
         × EndsOffice office.old.season office.old.state script.now (P.tables office.new.keeper) result output }
+    ensures told_before { IsTold (P.tables office.new.keeper) → IsTold (P.tables office.old.keeper) }
     ensures write_fault { result ≡ Status.WriteFault → Rose (K.faults sink.old) (K.faults sink.new) }
     ensures keeper_fault { result ≡ Status.KeeperFault → Rose (P.faults office.old.keeper) (P.faults office.new.keeper) }
     ensures sink_steady { result ≢ Status.WriteFault → K.faults sink.new ≡ K.faults sink.old }
@@ -57,7 +60,7 @@ fn answer_script<K: Sink, P: Keeper>(
     match answer_all(alloc, office, script, sink) {
         RunEnd::Done => Status::Ok,
         RunEnd::WriteFault => Status::WriteFault,
-        RunEnd::KeeperFault => write_answer(sink, b"fault: keeper\n", Status::KeeperFault),
-        RunEnd::OutOfMemory => write_answer(sink, b"fault: memory\n", Status::OutOfMemory),
+        RunEnd::KeeperFault => tell_keeper_fault(sink),
+        RunEnd::OutOfMemory => tell_no_memory(sink),
     }
 }

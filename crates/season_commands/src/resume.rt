@@ -1,30 +1,29 @@
 // The command `resume`: an office goes on from what the keeper holds, then the requests that the source gives are read, and answered one after another.
 ghost use Rattle.std.specs.Prelude.{◌≡◌, ◌≢◌, ◌≤◌, ◌⊎◌, ℕ, List, IfOk, IfErr, OnOk, IsErrOf};
 ghost use Rattle.office_base.specs.Outside.{Rose, IsAtEnd, Appends};
-ghost use Rattle.keeper_mem.specs.Tables.{Tables};
+ghost use Rattle.keeper_mem.specs.Tables.{IsTold, Tables, still};
 ghost use Rattle.office_moves.specs.History.{IsHistory};
 ghost use Rattle.office_moves.specs.Stands.{Stand};
-ghost use Rattle.round_cut.specs.Resume.{IsJudged};
+ghost use Rattle.round_cut.specs.Resume.{IsUnresumed};
 ghost use Rattle.command_answers.specs.Answers.{IsFailureOf, Tells};
-ghost use Rattle.command_answers.specs.Writes.{Writes};
-ghost use Rattle.season_commands.specs.Resume.{AreLeftRequests, EndsAsked, EndsResume, IsFaultyScript, IsOfRecords, IsScript, IsUnresumedLine, IsUnresumedText, TellsNoOffice, TellsRowFault, TellsSound, TellsTextFault, script_answers, unresumed_status};
+ghost use Rattle.command_answers.specs.Writes.{IsTold as IsTextTold, Writes};
+ghost use Rattle.season_commands.specs.Resume.{AreLeftRequests, EndsAsked, EndsResume, IsFaultyScript, IsScript, IsUnresumedText, TellsNoOffice, TellsRowFault, TellsSound, TellsTextFault, made_status, made_text, script_answers, unresumed_status};
 ghost use Rattle.season_commands.specs.Run.{TellsNoSeason};
-ghost use Rattle.season_commands.specs.Stray.{differs_line};
-ghost use Rattle.season_file.specs.Season.{IsSeason};
-ghost use Rattle.season_file.specs.declared.season.Season.{Season as AnySeason};
 
 use crate::bundle::bundle_failure;
 use crate::office::run_office;
 use crate::stray::{differs_text, stray_text};
-use command_answers::{Failure, Status, tell_failure, tell_no_memory, write_answer};
-use keeper_mem::{Keeper, Kept};
-use office_base::{CandId, OutOfMemory, Seat, Sink, Source, Text};
+use command_answers::{
+    Failure, Status, tell_failure, tell_keeper_fault, tell_no_memory, write_answer,
+};
+use keeper_mem::Keeper;
+use office_base::{OutOfMemory, Sink, Source, Text};
 use office_moves::says_what_is_sound;
 use replays::laws::one_end;
 use request_rows::Script;
-use round_cut::{Office, ResumeFault, Unresumed};
+use round_cut::{Office, Unresumed};
 use season_file::laws::one_reading;
-use season_file::{Season, read_script};
+use season_file::read_script;
 use season_texts::fault_text;
 use std::alloc::Global;
 
@@ -46,23 +45,23 @@ pub fn resume_season<S: Source, K: Sink, P: Keeper>(
     ensures sink_steady { result.0 ≢ Status.WriteFault → K.faults sink.new ≡ K.faults sink.old }
     ensures keeper_count { P.faults keeper ≤ P.faults result.1 }
     ensures keeper_steady { result.0 ≢ Status.KeeperFault → result.0 ≢ Status.WriteFault → P.faults result.1 ≡ P.faults keeper }
-    ensures complete { Tells IsScript (S.left source.old) → TellsSound (P.tables keeper)
+    ensures complete { Tells IsScript (S.left source.old) → TellsSound (still (P.tables keeper) (P.tables result.1))
         → ¬ Rose (S.faults source.old) (S.faults source.new) → ¬ Rose (K.faults sink.old) (K.faults sink.new) → ¬ Rose (P.faults keeper) (P.faults result.1)
         → (result.0 ≡ Status.Ok) ⊎ (result.0 ≡ Status.OutOfMemory) }
-    ensures refused { Tells IsFaultyScript (S.left source.old) → TellsSound (P.tables keeper)
+    ensures refused { Tells IsFaultyScript (S.left source.old) → TellsSound (still (P.tables keeper) (P.tables result.1))
         → ¬ Rose (S.faults source.old) (S.faults source.new) → ¬ Rose (K.faults sink.old) (K.faults sink.new) → ¬ Rose (P.faults keeper) (P.faults result.1)
         → (result.0 ≡ Status.BadInput) ⊎ (result.0 ≡ Status.OutOfMemory) }
-    ensures none_kept { TellsNoSeason (P.tables keeper) → ¬ Rose (K.faults sink.old) (K.faults sink.new) → ¬ Rose (P.faults keeper) (P.faults result.1)
+    ensures none_kept { TellsNoSeason (still (P.tables keeper) (P.tables result.1)) → ¬ Rose (K.faults sink.old) (K.faults sink.new) → ¬ Rose (P.faults keeper) (P.faults result.1)
         → (result.0 ≡ Status.BadInput) ⊎ (result.0 ≡ Status.OutOfMemory) }
-    ensures kept_text { TellsTextFault (P.tables keeper) → ¬ Rose (K.faults sink.old) (K.faults sink.new) → ¬ Rose (P.faults keeper) (P.faults result.1)
+    ensures kept_text { TellsTextFault (still (P.tables keeper) (P.tables result.1)) → ¬ Rose (K.faults sink.old) (K.faults sink.new) → ¬ Rose (P.faults keeper) (P.faults result.1)
         → (result.0 ≡ Status.BadInput) ⊎ (result.0 ≡ Status.OutOfMemory) }
-    ensures differs { TellsRowFault (P.tables keeper) → ¬ Rose (K.faults sink.old) (K.faults sink.new) → ¬ Rose (P.faults keeper) (P.faults result.1)
+    ensures differs { TellsRowFault (still (P.tables keeper) (P.tables result.1)) → ¬ Rose (K.faults sink.old) (K.faults sink.new) → ¬ Rose (P.faults keeper) (P.faults result.1)
         → (result.0 ≡ Status.Differs) ⊎ (result.0 ≡ Status.OutOfMemory) }
-    ensures unread { (result.0 ≡ Status.Differs) ⊎ TellsNoOffice (P.tables keeper) → source.new ≡ source.old }
+    ensures unread { (result.0 ≡ Status.Differs) ⊎ TellsNoOffice (still (P.tables keeper) (P.tables result.1)) → source.new ≡ source.old }
 {
     one_end();
     one_reading();
-    match Office::resume_or_records(alloc, keeper) {
+    match Office::resume_or_season(alloc, keeper) {
         Ok(office) => {
             says_what_is_sound(office.season());
             go_on(alloc, office, source, sink)
@@ -82,6 +81,7 @@ fn go_on<S: Source, K: Sink, P: Keeper>(
     requires stands { Stand office.season office.state (P.tables office.keeper) }
     ensures written { (output : List ℕ) × Appends output (K.written sink.old) (K.written sink.new)
         × EndsAsked office.season office.state (S.left source.old) (P.tables office.keeper) (P.tables result.1) result.0 output }
+    ensures told_before { IsTold (P.tables result.1) → IsTold (P.tables office.keeper) }
     ensures read_whole { result.0 ≡ Status.Ok → IsAtEnd (S.left source.new) }
     ensures read_fault { result.0 ≡ Status.ReadFault → Rose (S.faults source.old) (S.faults source.new) }
     ensures write_fault { result.0 ≡ Status.WriteFault → Rose (K.faults sink.old) (K.faults sink.new) }
@@ -118,93 +118,57 @@ fn read_requests<S: Source>(alloc: Global, source: &mut S) -> Result<Script, Fai
 }
 
 /// Writes why no office goes on.
-fn tell_unresumed<K: Sink>(alloc: Global, sink: &mut K, stopped: &Unresumed) -> Status
-    requires { (tables : Tables) × IsJudged tables stopped.now.records stopped.now.fault }
-    ensures written { (tables : Tables) → IsJudged tables stopped.now.records stopped.now.fault
+pub fn tell_unresumed<K: Sink>(alloc: Global, sink: &mut K, stopped: &Unresumed) -> Status
+    ensures written { (tables : Tables) → IsUnresumed tables stopped.now
         → (output : List ℕ) × Appends output (K.written sink.old) (K.written sink.new) × Writes (IsUnresumedText tables) result output }
-    ensures status { (result ≡ unresumed_status stopped.now.fault) ⊎ ((result ≡ Status.OutOfMemory) ⊎ (result ≡ Status.WriteFault)) }
-    ensures keeper { stopped.now.fault ≡ ResumeFault.KeeperFault → (result ≡ Status.KeeperFault) ⊎ (result ≡ Status.WriteFault) }
+    ensures status { (result ≡ unresumed_status stopped.now) ⊎ ((result ≡ Status.OutOfMemory) ⊎ (result ≡ Status.WriteFault)) }
+    ensures keeper { stopped.now ≡ Unresumed.KeeperFault → (result ≡ Status.KeeperFault) ⊎ (result ≡ Status.WriteFault) }
     ensures write_fault { result ≡ Status.WriteFault → Rose (K.faults sink.old) (K.faults sink.new) }
     ensures steady { result ≢ Status.WriteFault → K.faults sink.new ≡ K.faults sink.old }
 {
-    match stopped.fault {
-        ResumeFault::NoSeason => {
+    match stopped {
+        Unresumed::NoSeason => {
             write_answer(sink, b"fault: keeper holds no season\n", Status::BadInput)
         }
-        ResumeFault::KeeperFault => write_answer(sink, b"fault: keeper\n", Status::KeeperFault),
-        ResumeFault::OutOfMemory => tell_no_memory(sink),
-        ResumeFault::BadSeason(_)
-        | ResumeFault::Stray { .. }
-        | ResumeFault::StrayRaise { .. }
-        | ResumeFault::Differs { .. } => tell_judged(alloc, sink, stopped),
-    }
-}
-
-/// Writes what is wrong with the records, in a line made for it.
-fn tell_judged<K: Sink>(alloc: Global, sink: &mut K, stopped: &Unresumed) -> Status
-    requires { IsOfRecords stopped.now.records stopped.now.fault }
-    ensures written { (tables : Tables) → IsJudged tables stopped.now.records stopped.now.fault
-        → (output : List ℕ) × Appends output (K.written sink.old) (K.written sink.new) × Writes (IsUnresumedText tables) result output }
-    ensures status { (result ≡ unresumed_status stopped.now.fault) ⊎ ((result ≡ Status.OutOfMemory) ⊎ (result ≡ Status.WriteFault)) }
-    ensures write_fault { result ≡ Status.WriteFault → Rose (K.faults sink.old) (K.faults sink.new) }
-    ensures steady { result ≢ Status.WriteFault → K.faults sink.new ≡ K.faults sink.old }
-{
-    match judged_text(alloc, stopped) {
-        Ok(line) => write_answer(sink, line.as_slice(), unresumed_status(stopped.fault)),
-        Err(OutOfMemory) => tell_no_memory(sink),
-    }
-}
-
-/// The status of why no office goes on.
-fn unresumed_status(fault: ResumeFault) -> Status
-    ensures { result ≡ unresumed_status fault }
-{
-    match fault {
-        ResumeFault::NoSeason | ResumeFault::BadSeason(_) => Status::BadInput,
-        ResumeFault::Stray { .. } | ResumeFault::StrayRaise { .. } | ResumeFault::Differs { .. } =>
-            { Status::Differs }
-        ResumeFault::KeeperFault => Status::KeeperFault,
-        ResumeFault::OutOfMemory => Status::OutOfMemory,
-    }
-}
-
-/// The line that tells what is wrong with the records.
-fn judged_text(alloc: Global, stopped: &Unresumed) -> Result<Text, OutOfMemory>
-    requires { IsOfRecords stopped.now.records stopped.now.fault }
-    ensures { IfOk result (IsUnresumedLine stopped.now.records stopped.now.fault) }
-{
-    match stopped.fault {
-        ResumeFault::BadSeason(fault) => fault_text(alloc, fault),
-        ResumeFault::Stray { row } => stray_text(alloc, b"fault: stray answer ", row),
-        ResumeFault::StrayRaise { row } => stray_text(alloc, b"fault: stray raise ", row),
-        ResumeFault::Differs {
+        Unresumed::BadSeason(fault) => {
+            tell_line(sink, fault_text(alloc, *fault), Status::BadInput)
+        }
+        Unresumed::Stray { row } => tell_line(
+            sink,
+            stray_text(alloc, b"fault: stray answer ", *row),
+            Status::Differs,
+        ),
+        Unresumed::StrayRaise { row } => tell_line(
+            sink,
+            stray_text(alloc, b"fault: stray raise ", *row),
+            Status::Differs,
+        ),
+        Unresumed::Differs {
             round,
             cand,
             kept,
             computed,
-        } => match &stopped.records {
-            Some(records) => difference_text(alloc, records, round, cand, kept, computed),
-            None => unreachable!("a difference is one of records that were loaded"),
-        },
-        ResumeFault::NoSeason | ResumeFault::KeeperFault | ResumeFault::OutOfMemory => {
-            unreachable!("the records have no such fault")
-        }
+            season,
+        } => tell_line(
+            sink,
+            differs_text(alloc, &season.matrix, *round, *cand, *kept, *computed),
+            Status::Differs,
+        ),
+        Unresumed::KeeperFault => tell_keeper_fault(sink),
+        Unresumed::OutOfMemory => tell_no_memory(sink),
     }
 }
 
-/// The line of a difference, with the codes of the season whose text is kept.
-fn difference_text(
-    alloc: Global,
-    records: &Kept,
-    round: u16,
-    cand: CandId,
-    kept: Option<Seat>,
-    computed: Option<Seat>,
-) -> Result<Text, OutOfMemory>
-    ensures { IfOk result (λ line. (season : AnySeason) × IsSeason records.now.season season × (line ≡ differs_line season.matrix round cand.0 kept computed)) }
+/// Writes a line that was made, with its status, or that there was no memory for it.
+fn tell_line<K: Sink>(sink: &mut K, line: Result<Text, OutOfMemory>, status: Status) -> Status
+    requires { status ≢ Status.WriteFault }
+    ensures told { IsTextTold (made_status status line) (made_text line) (K.written sink.old) (K.written sink.new) (Rose (K.faults sink.old) (K.faults sink.new)) result }
+    ensures status { (result ≡ status) ⊎ ((result ≡ Status.OutOfMemory) ⊎ (result ≡ Status.WriteFault)) }
+    ensures write_fault { result ≡ Status.WriteFault → Rose (K.faults sink.old) (K.faults sink.new) }
+    ensures steady { result ≢ Status.WriteFault → K.faults sink.new ≡ K.faults sink.old }
 {
-    match Season::from_text(alloc, records.season.as_slice()) {
-        Ok(season) => differs_text(alloc, &season.matrix, round, cand, kept, computed),
-        Err(_) => Err(OutOfMemory),
+    match line {
+        Ok(line) => write_answer(sink, line.as_slice(), status),
+        Err(OutOfMemory) => tell_no_memory(sink),
     }
 }

@@ -3,7 +3,7 @@
 ghost use Rattle.std.specs.Prelude.{◌≡◌, ◌≢◌, ◌≤◌, ◌⊎◌, ℕ, List, [], true, take, IsErrOf};
 ghost use Rattle.office_base.specs.Outside.{Rose, IsAtEnd, Appends};
 ghost use Rattle.season_file.specs.Season.{IsSeason};
-ghost use Rattle.keeper_mem.specs.Tables.{IsFound};
+ghost use Rattle.keeper_mem.specs.Tables.{still};
 ghost use Rattle.office_moves.specs.Stands.{Stand};
 ghost use Rattle.office_moves.specs.State.{opening};
 ghost use Rattle.command_answers.specs.Answers.{IsFailureOf, Tells};
@@ -14,7 +14,7 @@ ghost use Rattle.command_answers.specs.Writes.{IsTold};
 use crate::bundle::read_bundle;
 use crate::laws::one_answer;
 use crate::office::run_office;
-use command_answers::{Failure, Status, tell_failure, write_answer};
+use command_answers::{Status, tell_failure, tell_keeper_fault, tell_no_memory, write_answer};
 use keeper_mem::Keeper;
 use office_base::{Request, Sink, Source};
 use round_cut::{BeginFault, Office};
@@ -38,13 +38,13 @@ pub fn run_season<S: Source, K: Sink, P: Keeper>(
     ensures sink_steady { result.0 ≢ Status.WriteFault → K.faults sink.new ≡ K.faults sink.old }
     ensures keeper_count { P.faults keeper ≤ P.faults result.1 }
     ensures keeper_steady { result.0 ≢ Status.KeeperFault → result.0 ≢ Status.WriteFault → P.faults result.1 ≡ P.faults keeper }
-    ensures complete { Tells IsBundle (S.left source.old) → TellsNoSeason (P.tables keeper)
+    ensures complete { Tells IsBundle (S.left source.old) → TellsNoSeason (still (P.tables keeper) (P.tables result.1))
         → ¬ Rose (S.faults source.old) (S.faults source.new) → ¬ Rose (K.faults sink.old) (K.faults sink.new) → ¬ Rose (P.faults keeper) (P.faults result.1)
         → (result.0 ≡ Status.Ok) ⊎ (result.0 ≡ Status.OutOfMemory) }
     ensures refused { Tells IsFaultyBundle (S.left source.old)
         → ¬ Rose (S.faults source.old) (S.faults source.new) → ¬ Rose (K.faults sink.old) (K.faults sink.new)
         → (result.0 ≡ Status.BadInput) ⊎ (result.0 ≡ Status.OutOfMemory) }
-    ensures not_empty { TellsSeason (P.tables keeper)
+    ensures not_empty { TellsSeason (still (P.tables keeper) (P.tables result.1))
         → ¬ Rose (S.faults source.old) (S.faults source.new) → ¬ Rose (K.faults sink.old) (K.faults sink.new) → ¬ Rose (P.faults keeper) (P.faults result.1)
         → (result.0 ≡ Status.BadInput) ⊎ (result.0 ≡ Status.OutOfMemory) }
 {
@@ -56,7 +56,7 @@ pub fn run_season<S: Source, K: Sink, P: Keeper>(
 }
 
 /// Answers the requests in the season, which the keeper is to hold from now on.
-fn run_script<K: Sink, P: Keeper>(
+pub fn run_script<K: Sink, P: Keeper>(
     alloc: Global,
     season: Season,
     script: &[Request],
@@ -72,9 +72,9 @@ fn run_script<K: Sink, P: Keeper>(
     ensures sink_steady { result.0 ≢ Status.WriteFault → K.faults sink.new ≡ K.faults sink.old }
     ensures keeper_count { P.faults keeper ≤ P.faults result.1 }
     ensures keeper_steady { result.0 ≢ Status.KeeperFault → result.0 ≢ Status.WriteFault → P.faults result.1 ≡ P.faults keeper }
-    ensures complete { TellsNoSeason (P.tables keeper) → ¬ Rose (K.faults sink.old) (K.faults sink.new) → ¬ Rose (P.faults keeper) (P.faults result.1)
+    ensures complete { TellsNoSeason (still (P.tables keeper) (P.tables result.1)) → ¬ Rose (K.faults sink.old) (K.faults sink.new) → ¬ Rose (P.faults keeper) (P.faults result.1)
         → (result.0 ≡ Status.Ok) ⊎ (result.0 ≡ Status.OutOfMemory) }
-    ensures not_empty { TellsSeason (P.tables keeper) → ¬ Rose (K.faults sink.old) (K.faults sink.new) → ¬ Rose (P.faults keeper) (P.faults result.1)
+    ensures not_empty { TellsSeason (still (P.tables keeper) (P.tables result.1)) → ¬ Rose (K.faults sink.old) (K.faults sink.new) → ¬ Rose (P.faults keeper) (P.faults result.1)
         → (result.0 ≡ Status.BadInput) ⊎ (result.0 ≡ Status.OutOfMemory) }
 {
     match Office::begin(alloc, season, keeper) {
@@ -84,7 +84,7 @@ fn run_script<K: Sink, P: Keeper>(
 }
 
 /// Writes why no office began.
-pub(crate) fn tell_unbegun<K: Sink>(sink: &mut K, fault: BeginFault) -> Status
+pub fn tell_unbegun<K: Sink>(sink: &mut K, fault: BeginFault) -> Status
     ensures told { IsTold (begin_status fault) (begin_text fault) (K.written sink.old) (K.written sink.new) (Rose (K.faults sink.old) (K.faults sink.new)) result }
     ensures steady { result ≢ Status.WriteFault → K.faults sink.new ≡ K.faults sink.old }
 {
@@ -92,7 +92,7 @@ pub(crate) fn tell_unbegun<K: Sink>(sink: &mut K, fault: BeginFault) -> Status
         BeginFault::NotEmpty => {
             write_answer(sink, b"fault: keeper holds a season\n", Status::BadInput)
         }
-        BeginFault::KeeperFault => write_answer(sink, b"fault: keeper\n", Status::KeeperFault),
-        BeginFault::OutOfMemory => write_answer(sink, b"fault: memory\n", Status::OutOfMemory),
+        BeginFault::KeeperFault => tell_keeper_fault(sink),
+        BeginFault::OutOfMemory => tell_no_memory(sink),
     }
 }

@@ -7,7 +7,7 @@ ghost use Rattle.season_generator.specs.Summary.{summary_text};
 ghost use Rattle.command_answers.specs.Writes.{IsTold};
 ghost use Rattle.season_commands.specs.Generated.{summary_of, summed_status, summed_text};
 
-use command_answers::{Status, write_answer};
+use command_answers::{Status, tell_keeper_fault, tell_no_memory, write_answer};
 use keeper_mem::Keeper;
 use office_base::{Listed, OutOfMemory, Sink, Text};
 use round_cut::{Office, OfficeFault};
@@ -70,15 +70,7 @@ pub(crate) fn write_summary<K: Sink>(sink: &mut K, summary: Result<Text, OfficeF
 {
     match summary {
         Ok(text) => write_answer(sink, text.as_slice(), Status::Ok),
-        Err(OfficeFault::KeeperFault) => write_answer(
-            sink,
-            b"fault: keeper\n",
-            Status::KeeperFault,
-        ),
-        Err(OfficeFault::OutOfMemory) => write_answer(
-            sink,
-            b"fault: memory\n",
-            Status::OutOfMemory,
-        ),
+        Err(OfficeFault::KeeperFault) => tell_keeper_fault(sink),
+        Err(OfficeFault::OutOfMemory) => tell_no_memory(sink),
     }
 }

@@ -80,7 +80,7 @@ drop-after : (line other : List ℕ) → drop (suc (length line)) (line ++ 10 �
 drop-after [] other = refl
 drop-after (a ∷ line) other = drop-after line other
 
-after-split : (text line rest other : List ℕ) → IsSplit text line rest → after_line (line ++ 10 ∷ other) ≡ other
+pub after-split : (text line rest other : List ℕ) → IsSplit text line rest → after_line (line ++ 10 ∷ other) ≡ other
 after-split text line rest other split =
     ap (λ (n : ℕ). drop (n + 1) (line ++ 10 ∷ other)) (split.same other) ∙ ap (λ (n : ℕ). drop n (line ++ 10 ∷ other)) (add-one (length line)) ∙ drop-after line other
 
@@ -134,7 +134,7 @@ drop-filled n (first ∷ bytes) x rest e = (first, (bytes, refl))
 drop-filled zero [] x rest e = absurd cc
 drop-filled (suc n) [] x rest e = absurd cc
 
-section_split : (name text : List ℕ) (cut : List ℕ × List ℕ) (rest : List ℕ) → section name text ≡ Ok cut → cut.1 ≡ 91 ∷ rest → (front : List ℕ) × IsSection name text cut.0 cut.1 front
+pub section_split : (name text : List ℕ) (cut : List ℕ × List ℕ) (rest : List ℕ) → section name text ≡ Ok cut → cut.1 ≡ 91 ∷ rest → (front : List ℕ) × IsSection name text cut.0 cut.1 front
 section_split name text cut rest e next =
     let (titled, pair) = section_ok name text cut e in
     let taken : take (body_len true (after_line text)) (after_line text) ≡ cut.0 = ap (λ (c : List ℕ × List ℕ). c.0) pair in

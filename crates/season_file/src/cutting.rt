@@ -3,6 +3,7 @@ ghost use Rattle.std.specs.Prelude.{◌≡◌, ◌≤◌, length, MatchResult, O
 ghost use Rattle.office_base.specs.Limits.{most_bundle_bytes};
 ghost use Rattle.office_text.specs.Lines.{lines_of};
 ghost use Rattle.season_file.specs.Bundle.{after_line, body_len, breaks, bundle_of, fault_line, last_section, line_len, section, sections, skip_empty, title, version_of, with_line};
+ghost use Rattle.season_file.specs.Titles.{begins_title};
 
 use crate::fault::SeasonFault;
 use memchr::memchr;
@@ -11,17 +12,18 @@ use office_text::{drop_cr, next_text_line, skip_mark, trim_commas};
 /// What a bundle is cut into: its version, the bodies of four sections without their section lines, and the section of the
 /// requests from its section line on, which is empty where there is none.
 #[derive(Clone, Copy)]
-pub(crate) struct Pieces<'a> {
-    pub(crate) version: u8,
-    pub(crate) season: &'a [u8],
-    pub(crate) register: &'a [u8],
-    pub(crate) matrix: &'a [u8],
-    pub(crate) choices: &'a [u8],
-    pub(crate) requests: &'a [u8],
+pub struct Pieces<'a> {
+    /// The version of the rules, which is 1 or 2.
+    pub version: u8,
+    pub season: &'a [u8],
+    pub register: &'a [u8],
+    pub matrix: &'a [u8],
+    pub choices: &'a [u8],
+    pub requests: &'a [u8],
 }
 
 /// How many bytes stand before the first LF.
-fn line_len(bytes: &[u8]) -> usize
+pub fn line_len(bytes: &[u8]) -> usize
     ensures value { result ≡ line_len bytes.now }
     ensures within { result ≤ length bytes.now }
 {
@@ -32,14 +34,14 @@ fn line_len(bytes: &[u8]) -> usize
 }
 
 /// The first line without its line end and the commas before it.
-fn title(bytes: &[u8]) -> &[u8]
+pub fn title(bytes: &[u8]) -> &[u8]
     ensures { result.now ≡ title bytes.now }
 {
     trim_commas(drop_cr(&bytes[..line_len(bytes)]))
 }
 
 /// The bytes after the first line.
-pub(crate) fn after_line(bytes: &[u8]) -> &[u8]
+pub fn after_line(bytes: &[u8]) -> &[u8]
     ensures { result.now ≡ after_line bytes.now }
 {
     let end = line_len(bytes);
@@ -51,7 +53,7 @@ pub(crate) fn after_line(bytes: &[u8]) -> &[u8]
 }
 
 /// The bytes from the first line on that is not empty.
-fn skip_empty(bytes: &[u8]) -> &[u8]
+pub fn skip_empty(bytes: &[u8]) -> &[u8]
     ensures { result.now ≡ skip_empty bytes.now }
 {
     let mut rest = bytes;
@@ -65,6 +67,13 @@ fn skip_empty(bytes: &[u8]) -> &[u8]
     }
 }
 
+/// Whether a section line begins here, where a line does.
+fn begins_title(bytes: &[u8]) -> bool
+    ensures { result ≡ begins_title bytes.now }
+{
+    matches!(bytes, [b'[', ..])
+}
+
 /// How many bytes stand before the next line that begins with `[`. The first byte begins a line.
 fn body_len(bytes: &[u8]) -> usize
     ensures value { result ≡ body_len true bytes.now }
@@ -72,20 +81,20 @@ fn body_len(bytes: &[u8]) -> usize
 {
     let mut rest = bytes;
     let mut count = 0;
-    let mut begins = true;
-    'bytes: while let [byte, more @ ..] = rest {
-        if begins && *byte == b'[' {
-            return count;
+    'lines: while !begins_title(rest) {
+        let end = line_len(rest);
+        if end == rest.len() {
+            return count + end;
         }
-        begins = *byte == b'\n';
-        count += 1;
+        let (line, more) = rest.split_at(end + 1);
+        count += line.len();
         rest = more;
     }
     count
 }
 
 /// The body after a section line of this name, and what stands after the body. Where another line begins the text, the text.
-fn section<'a>(text: &'a [u8], name: &[u8]) -> Result<(&'a [u8], &'a [u8]), &'a [u8]>
+pub fn section<'a>(text: &'a [u8], name: &[u8]) -> Result<(&'a [u8], &'a [u8]), &'a [u8]>
     ensures { MatchResult result (λ cut. section name.now text.now ≡ Ok (cut.0.now, cut.1.now)) (λ rest. section name.now text.now ≡ Err rest.now) }
 {
     if title(text) != name {
@@ -152,17 +161,18 @@ fn breaks(text: &[u8]) -> u32
 {
     let mut rest = text;
     let mut count = 0;
-    'bytes: while let [byte, more @ ..] = rest {
-        if *byte == b'\n' {
-            count += 1;
+    'lines: loop {
+        let end = line_len(rest);
+        if end == rest.len() {
+            return count;
         }
-        rest = more;
+        count += 1;
+        (_, rest) = rest.split_at(end + 1);
     }
-    count
 }
 
 /// The line at which the rest of a text begins, or one more than the number of lines where nothing is left.
-fn fault_line(text: &[u8], rest: &[u8]) -> u32
+pub fn fault_line(text: &[u8], rest: &[u8]) -> u32
     requires { length text.now ≤ most_bundle_bytes }
     ensures { result ≡ fault_line text.now rest.now }
 {
@@ -211,4 +221,12 @@ pub(crate) fn cut(bytes: &[u8], requests: bool) -> Result<Pieces<'_>, SeasonFaul
         Some(version) => cut_after(text, version, requests),
         None => Err(SeasonFault::BadFirstLine),
     }
+}
+
+/// What a bundle is cut into with its requests, or the fault of its first line or of its sections.
+pub fn cut_with_requests(bytes: &[u8]) -> Result<Pieces<'_>, SeasonFault>
+    requires { length bytes.now ≤ most_bundle_bytes }
+    ensures { MatchResult result (λ cut. bundle_of true bytes.now ≡ Ok (record { version = cut.version; season = cut.season.now; register = cut.register.now; matrix = cut.matrix.now; choices = cut.choices.now; requests = cut.requests.now })) (λ fault. bundle_of true bytes.now ≡ Err fault) }
+{
+    cut(bytes, true)
 }

@@ -1,7 +1,8 @@
 // What holds of bundles themselves, whoever reads them.
-ghost use Rattle.std.specs.Prelude.{◌≡◌, ℕ, Bool, List, Ok};
+ghost use Rattle.std.specs.Prelude.{◌≡◌, ℕ, Bool, true, List, Ok};
 ghost use Rattle.season_file.specs.Bundle.{Parts, bundle_of};
 ghost use Rattle.season_file.specs.Laws.{HaveOneReading};
+ghost use Rattle.season_file.specs.Replaced.{IsReplaceable};
 ghost use Rattle.season_file.specs.Titles.{IsCutAtTitles};
 
 /// Bytes give one season with its requests or have one first fault, and never both: where requests are read, and where they are
@@ -19,4 +20,9 @@ pub fn one_reading()
 /// back.
 pub fn sections_stand_between_titles()
     ensures { (requests : Bool) (bytes : List ℕ) (parts : Parts) → bundle_of requests bytes ≡ Ok parts → IsCutAtTitles bytes parts }
+{}
+
+/// Another body may stand in the place of the choices: the bytes with it are cut into the same parts with that body.
+pub fn choices_may_be_replaced()
+    ensures { (bytes : List ℕ) (parts : Parts) → bundle_of true bytes ≡ Ok parts → IsReplaceable bytes parts }
 {}

@@ -7,7 +7,7 @@
 #![tactic(auto)]
 
 mod content;
-mod cutting;
+pub mod cutting;
 pub mod fault;
 mod head;
 pub mod laws;
@@ -15,6 +15,7 @@ pub mod script;
 pub mod season;
 
 pub use content::Content;
+pub use cutting::{Pieces, cut_with_requests};
 pub use fault::SeasonFault;
 pub use head::Head;
 pub use script::{Script, read_script};

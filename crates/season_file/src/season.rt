@@ -41,7 +41,7 @@ pub struct Season {
 impl Season {
     ghost use Rattle.std.specs.Prelude.{[], IfOk, IfErr, IsErrOf};
     ghost use Rattle.office_base.specs.Outside.{Rose};
-    ghost use Rattle.season_file.specs.Season.{AreAligned, BundleGives, GaveSeason, IsSeason, IsSeasonFault, IsSourceFault, content_of};
+    ghost use Rattle.season_file.specs.Season.{AreAligned, BundleGives, GaveSeason, IsSeason, IsSeasonFault, IsSeasonWith, IsSourceFault, content_of};
 
     /// The season of a bundle without requests, or its first fault. It never answers `ReadFault` or `BadRequest`.
     pub fn from_text(alloc: Global, bytes: &[u8]) -> Result<Season, SeasonFault>
@@ -69,7 +69,22 @@ impl Season {
         ensures count { S.faults source.old ≤ S.faults source.new }
         ensures steady { ¬ IsErrOf result SeasonFault.ReadFault → S.faults source.new ≡ S.faults source.old }
     {
-        let mut text = read_bytes(alloc, source)?;
+        let text = read_bytes(alloc, source)?;
+        Season::of_text(alloc, text, requests)
+    }
+
+    /// The season and the requests of a bundle, as `read` gives them, or its first fault. The text is taken over: the season keeps
+    /// what stands before the section of the requests. It never answers `ReadFault`.
+    pub fn of_text(
+        alloc: Global,
+        text: Text,
+        requests: bool,
+    ) -> Result<(Season, Script), SeasonFault>
+        ensures value { IfOk result (λ read. IsSeasonWith requests text read.0 read.1) }
+        ensures text { IfOk result (λ read. IsSeason read.0.text read.0) }
+        ensures fault { IfErr result (λ fault. IsSeasonFault requests text fault) }
+    {
+        let mut text = text;
         let Given {
             content,
             script,

@@ -5,15 +5,17 @@ use Rattle.script_runs.proofs.Running.{IsLeft, accepts_before, accepts_within, a
 use Rattle.script_runs.proofs.run.answer_all.Goals as goal
 
 pub requests-init : goal.requests-init
-requests-init g c =
-    begins c.args.office.now.season c.args.office.now.state c.args.script.now c.args.office.now.entries (g.P.Keeper.tables c.args.office.now.keeper) (g.K.Sink.written c.args.sink.now)
-    (g.P.Keeper.faults c.args.office.now.keeper) (g.K.Sink.faults c.args.sink.now) c.requires.history c.check_order.ensures.word c.requires.stands
+requests-init g c = (
+  begins c.args.office.now.season c.args.office.now.state c.args.script.now c.args.office.now.entries (g.P.Keeper.tables c.args.office.now.keeper) (g.K.Sink.written c.args.sink.now)
+      (g.P.Keeper.faults c.args.office.now.keeper) (g.K.Sink.faults c.args.sink.now) c.requires.history c.check_order.ensures.word c.requires.stands,
+  λ told. told,
+)
 
 pub answer_one-requires-clause-history : goal.answer_one-requires-clause-history
-answer_one-requires-clause-history g c = c.requests.invariant.history
+answer_one-requires-clause-history g c = c.requests.invariant.0.history
 
 pub answer_one-requires-clause-stands : goal.answer_one-requires-clause-stands
-answer_one-requires-clause-stands g c = c.requests.invariant.stands
+answer_one-requires-clause-stands g c = c.requests.invariant.0.stands
 
 pub requests-preserved : goal.requests-preserved
 requests-preserved g c =
@@ -23,42 +25,47 @@ requests-preserved g c =
       history = c.in-Done.ensures.history;
       word = c.in-Done.ensures.orderly.word;
       stands = c.in-Done.ensures.stands;
-    } in
-    goes _ _ _ _ _ _ _ _ _ _ _ _ _ _ _ _ _ _ _ _ _ _ _ c.requests.invariant next (c.in-Done.ensures.done refl) left (c.in-Done.ensures.keeper_steady (λ e. cc)) (c.in-Done.ensures.write_steady (λ e. cc))
+    } in (
+      goes _ _ _ _ _ _ _ _ _ _ _ _ _ _ _ _ _ _ _ _ _ _ _ c.requests.invariant.0 next (c.in-Done.ensures.done refl) left (c.in-Done.ensures.keeper_steady (λ e. cc)) (c.in-Done.ensures.write_steady (λ e. cc)),
+      λ told. c.requests.invariant.1 (c.in-Done.ensures.told_before told),
+    )
 
 pub returns-clause-done : goal.returns-clause-done
 returns-clause-done g c = λ e.
     let end = c.requests.auto.request-index-end in
     let over = c.requests-test.false in
-    ends_well _ _ _ _ _ _ _ _ _ _ _ _ _ _ _ c.requests.invariant (omega (arith, end, over))
+    ends_well _ _ _ _ _ _ _ _ _ _ _ _ _ _ _ c.requests.invariant.0 (omega (arith, end, over))
 
 pub returns-clause-entries : goal.returns-clause-entries
-returns-clause-entries g c = (c.requests.request-index, c.requests.invariant.accepted)
+returns-clause-entries g c = (c.requests.request-index, c.requests.invariant.0.accepted)
 
 pub returns-clause-season : goal.returns-clause-season
-returns-clause-season g c = c.requests.invariant.same
+returns-clause-season g c = c.requests.invariant.0.same
 
 pub returns-clause-history : goal.returns-clause-history
-returns-clause-history g c = c.requests.invariant.history
+returns-clause-history g c = c.requests.invariant.0.history
 
 pub returns-clause-stands : goal.returns-clause-stands
-returns-clause-stands g c = c.requests.invariant.stands
+returns-clause-stands g c = c.requests.invariant.0.stands
+
+pub returns-clause-told_before : goal.returns-clause-told_before
+returns-clause-told_before g c = c.requests.invariant.1
 
 pub returns-clause-keeper_count : goal.returns-clause-keeper_count
-returns-clause-keeper_count g c = let same = c.requests.invariant.keeper in omega (arith, same)
+returns-clause-keeper_count g c = let same = c.requests.invariant.0.keeper in omega (arith, same)
 
 pub returns-clause-keeper_steady : goal.returns-clause-keeper_steady
-returns-clause-keeper_steady g c = λ e. c.requests.invariant.keeper
+returns-clause-keeper_steady g c = λ e. c.requests.invariant.0.keeper
 
 pub returns-clause-write_count : goal.returns-clause-write_count
-returns-clause-write_count g c = let same = c.requests.invariant.sink in omega (arith, same)
+returns-clause-write_count g c = let same = c.requests.invariant.0.sink in omega (arith, same)
 
 pub returns-clause-write_steady : goal.returns-clause-write_steady
-returns-clause-write_steady g c = λ e. c.requests.invariant.sink
+returns-clause-write_steady g c = λ e. c.requests.invariant.0.sink
 
 pub returns-in_default : goal.returns-in_default
 returns-in_default g c =
-    let running = c.requests.invariant in
+    let running = c.requests.invariant.0 in
     let next = next_at c.args.script.now c.requests.request-index c.request-item.result c.requests-test.true c.request-item.is in
     let ends = c.answer_one.ensures in
     let left : IsLeft c.requests.office.season c.answer_one.new.office.season c.answer_one.new.office.entries c.answer_one.new.office.state (g.P.Keeper.tables c.answer_one.new.office.keeper) = record {
@@ -85,6 +92,7 @@ returns-in_default g c =
       season = ends.season ∙ running.same;
       history = ends.history;
       stands = ends.stands;
+      told_before = λ told. c.requests.invariant.1 (ends.told_before told);
       keeper_cause = λ e. subst (λ n. Rose n (g.P.Keeper.faults c.answer_one.new.office.keeper)) running.keeper (ends.keeper_cause e);
       keeper_count = (let same = running.keeper in let more = ends.keeper_count in omega (arith, same, more));
       keeper_steady = λ e. ends.keeper_steady e ∙ running.keeper;

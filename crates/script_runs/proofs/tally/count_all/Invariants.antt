@@ -1,8 +1,10 @@
 use Rattle.std.proofs.Common.{◌≤◌}
+use Rattle.keeper_mem.specs.Tables.{IsTold}
 use Rattle.script_runs.proofs.Tallying.{IsCounting}
 use Rattle.script_runs.proofs.tally.count_all.Given as goal
 
 abbrev pub invariant-requests : goal.invariant-requests
 invariant-requests g l =
-    IsCounting l.fn.office.season l.fn.office.state l.script l.request-index l.office.season l.office.entries l.office.state (g.P.Keeper.tables l.office.keeper) l.tally
-    (g.P.Keeper.faults l.fn.office.keeper) (g.P.Keeper.faults l.office.keeper) × (l.tally.noted ≤ l.request-index) × (l.tally.refused ≤ l.request-index)
+    (IsCounting l.fn.office.season l.fn.office.state l.script l.request-index l.office.season l.office.entries l.office.state (g.P.Keeper.tables l.office.keeper) l.tally
+    (g.P.Keeper.faults l.fn.office.keeper) (g.P.Keeper.faults l.office.keeper) × (l.tally.noted ≤ l.request-index) × (l.tally.refused ≤ l.request-index))
+    × (IsTold (g.P.Keeper.tables l.office.keeper) → IsTold (g.P.Keeper.tables l.fn.office.keeper))

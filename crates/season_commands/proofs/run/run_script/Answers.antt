@@ -1,5 +1,10 @@
-use Rattle.season_commands.proofs.RunEnds.{unbegun_ends}
+use Rattle.season_commands.proofs.RunEnds.{begun_ends, unbegun_ends}
 use Rattle.season_commands.proofs.run.run_script.Goals as goal
+
+pub returns-in-Ok-clause-written : goal.returns-in-Ok-clause-written
+returns-in-Ok-clause-written g c =
+    begun_ends c.args.season c.args.script.now c.in-Ok.office.season c.in-Ok.office.state _ _ _ _ _ c.run_office.result.0 c.in-Ok.ensures.season c.in-Ok.ensures.state c.in-Ok.ensures.empty
+    c.run_office.ensures.told_before c.run_office.ensures.written
 
 pub returns-in-Err-clause-written : goal.returns-in-Err-clause-written
 returns-in-Err-clause-written g c =

@@ -2,11 +2,11 @@ use Rattle.std.proofs.Common.{◌≡◌, ◌+◌, true, length}
 use Rattle.season_file.specs.Bundle.{body_len}
 use Rattle.season_file.proofs.cutting.body_len.Given as goal
 
-abbrev pub invariant-bytes : goal.invariant-bytes
-invariant-bytes l = record {
-  value : body_len true l.fn.bytes ≡ l.count + body_len l.begins l.rest;
+abbrev pub invariant-lines : goal.invariant-lines
+invariant-lines l = record {
+  value : body_len true l.fn.bytes ≡ l.count + body_len true l.rest;
   whole : length l.fn.bytes ≡ l.count + length l.rest;
 }
 
-abbrev pub decreases-bytes : goal.decreases-bytes
-decreases-bytes l = length l.rest
+abbrev pub decreases-lines : goal.decreases-lines
+decreases-lines l = length l.rest

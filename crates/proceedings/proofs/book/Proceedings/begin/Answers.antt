@@ -1,4 +1,4 @@
-use Rattle.std.proofs.Common.{◌≡◌, ◌∷◌, ◌++◌, [], List, None, arith, rules, length, sym, ap, ◌∙◌, subst}
+use Rattle.std.proofs.Common.{◌≡◌, ◌∷◌, [], List, None, arith, length, refl, sym, ap, ◌∙◌, subst}
 use Rattle.std.specs.Prelude.{replicate}
 use Rattle.keeper_mem.specs.declared.rows.RaiseRow.{RaiseRow}
 use Rattle.office_turns.specs.Turns.{no_turns}
@@ -16,25 +16,25 @@ pub invariant_of-result : goal.invariant_of-result
 invariant_of-result c =
     let facts : SeasonFacts = facts_of c.args.season in
     let people : length c.people-count.result.now ≡ length facts.people = ap (λ xs. length xs) c.people-count.ensures.same in
-    let rounds = c.in_ok-rounds.ensures.items in
-    let entries = c.in_ok-entries.ensures.items in
-    let raises = c.new-2.ensures.items in
-    let first : c.push.new.self.items ≡ c.in_ok-new.field-0 ∷ [] = c.in_ok-push.ensures.items ∙ ap (λ xs. xs ++ c.in_ok-new.field-0 ∷ []) c.in_ok-turns.ensures.items in
-    let new : State = record { now = 0; rounds = c.in_ok-rounds.rounds.items; finals = None; answers = answers_of c.in_ok-entries.entries.items; raises = c.new-2.result.items } in
-    let same : new ≡ opening = opening_state c.in_ok-rounds.rounds.items c.in_ok-entries.entries.items c.new-2.result.items rounds entries raises in
-    let history = opening_history facts c.in_ok-entries.entries.items new entries same in
-    let T : State → Type 0 = λ s. AreTables facts s c.push.new.self.items in
+    let rounds = c.in_ok-rounds.ensures.rounds in
+    let entries = c.in_ok-rounds.ensures.entries in
+    let raises = c.new.ensures.items in
+    let first = c.in_ok-turns.ensures.first ∙ ap (λ n. no_turns n ∷ []) people in
+    let new : State = record { now = 0; rounds = c.in_ok-rounds.rounds.items; finals = None; answers = answers_of c.in_ok-rounds.entries.items; raises = c.new.result.items } in
+    let same : new ≡ opening = opening_state c.in_ok-rounds.rounds.items c.in_ok-rounds.entries.items c.new.result.items rounds entries raises in
+    let history = opening_history facts c.in_ok-rounds.entries.items new entries same in
+    let T : State → Type 0 = λ s. AreTables facts s c.in_ok-turns.turns.items in
     record {
       sound = c.says_what_is_sound.ensures;
       history = history;
-      orderly = c.orderly.ensures facts c.in_ok-entries.entries.items new c.says_what_is_sound.ensures history.reached;
-      raised = c.in_ok-matrix.ensures ∙ ap (λ (rs : List RaiseRow). raised facts.matrix rs) (sym raises);
-      left = opening_left facts c.in_ok-left.left.items (c.in_ok-left.ensures.items_if_clones_equal (λ y h. search rules) ∙ ap (λ n. replicate n Waiting) people) ∙ ap (left_along facts) (sym same);
-      turns = subst T (sym same) (opening_tables facts c.push.new.self.items c.in_ok-new.field-0 first (c.in_ok-new.ensures ∙ ap no_turns people));
+      orderly = c.orderly.ensures facts c.in_ok-rounds.entries.items new c.says_what_is_sound.ensures history.reached;
+      raised = c.in_ok-matrix.ensures.matrix ∙ ap (λ (rs : List RaiseRow). raised facts.matrix rs) (sym raises);
+      left = opening_left facts c.in_ok-matrix.left.items (c.in_ok-matrix.ensures.left ∙ ap (λ n. replicate n Waiting) people) ∙ ap (left_along facts) (sym same);
+      turns = subst T (sym same) (opening_tables facts c.in_ok-turns.turns.items (no_turns (length facts.people)) first refl);
       still = people ∙ (opening_still facts ∙ ap (still_of facts) (sym same));
-      tables = omega (arith, c.in_ok-push.ensures.len, c.in_ok-turns.ensures.len, c.in_ok-rounds.ensures.len);
+      tables = omega (arith, c.in_ok-turns.ensures.one, c.in_ok-rounds.ensures.no_rounds);
       later = λ window id late. opening_later new window id same;
-      withdrawals = omega (arith, c.in_ok-entries.ensures.len, c.in_ok-entries.ensures.capacity);
-      rounds_room = omega (arith, c.in_ok-rounds.ensures.capacity, c.from-rounds.ensures);
-      tables_room = omega (arith, c.in_ok-turns.ensures.capacity, c.in_ok-push.ensures.capacity, c.from-rounds.ensures);
+      withdrawals = omega (arith, c.in_ok-rounds.ensures.no_entries, c.in_ok-rounds.ensures.entries_room);
+      rounds_room = omega (arith, c.in_ok-rounds.ensures.rounds_room);
+      tables_room = omega (arith, c.in_ok-turns.ensures.room);
     }

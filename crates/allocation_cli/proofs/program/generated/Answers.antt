@@ -1,6 +1,0 @@
-use Rattle.allocation_cli.proofs.GeneratedEnds.{generated_ends}
-use Rattle.allocation_cli.proofs.program.generated.Goals as goal
-
-pub returns-in-Text-clause-written : goal.returns-in-Text-clause-written
-returns-in-Text-clause-written g c left =
-    rw c.in-Text.is (generated_ends c.args.n c.args.seed c.generate_answer.result _ _ _ _ _ c.generate_answer.ensures.output c.generate_answer.ensures.failure c.finish.ensures.told)

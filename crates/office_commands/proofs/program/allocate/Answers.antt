@@ -1,0 +1,56 @@
+use Rattle.std.proofs.Common.{◌≡◌, Err, ap, inl, inr, refl, subst}
+use Rattle.command_words.specs.declared.words.Command.{Command}
+use Rattle.command_words.specs.declared.words.Command.TheVariants.{Resume}
+use Rattle.command_words.specs.declared.words.WordsFault.TheVariants as words_fault
+use Rattle.office_commands.specs.Program.{IsReady, IsUsageText, IsWantText, TellsFault, TellsInput, usage_line}
+use Rattle.keeper_mem.specs.Tables.{still}
+use Rattle.office_base.specs.FaultLines.{memory_line}
+use Rattle.command_answers.specs.declared.status.Status.TheVariants.{OutOfMemory, Usage}
+use Rattle.command_answers.proofs.Ended.{told_is_written}
+use Rattle.office_commands.proofs.program.allocate.Goals as goal
+
+pub returns-in-Err-Usage-clause-written : goal.returns-in-Err-Usage-clause-written
+returns-in-Err-Usage-clause-written g c =
+    let fault : c.in-Err-Usage.field-0 ≡ words_fault.Usage = cc in
+    let (output, appends, writes) = told_is_written IsUsageText Usage c.write_answer.result usage_line _ _ _ refl c.write_answer.ensures.told in
+    (output, appends, inr (inl (c.in-Err-Usage.ensures.usage (ap Err fault), (writes, refl))))
+
+pub returns-in-Err-Usage-clause-not_empty : goal.returns-in-Err-Usage-clause-not_empty
+returns-in-Err-Usage-clause-not_empty g c command spelled begins tells read wrote kept =
+    let fault : c.in-Err-Usage.field-0 ≡ words_fault.Usage = cc in
+    absurd (c.in-Err-Usage.ensures.usage (ap Err fault) command spelled)
+
+pub returns-in-Err-Usage-clause-unasked : goal.returns-in-Err-Usage-clause-unasked
+returns-in-Err-Usage-clause-unasked g c store spelled tells sound read wrote kept =
+    let fault : c.in-Err-Usage.field-0 ≡ words_fault.Usage = cc in
+    absurd (c.in-Err-Usage.ensures.usage (ap Err fault) (Resume store) spelled)
+
+pub returns-in-Err-Usage-clause-none_kept : goal.returns-in-Err-Usage-clause-none_kept
+returns-in-Err-Usage-clause-none_kept g c store spelled none wrote kept =
+    let fault : c.in-Err-Usage.field-0 ≡ words_fault.Usage = cc in
+    absurd (c.in-Err-Usage.ensures.usage (ap Err fault) (Resume store) spelled)
+
+pub returns-in-Err-Usage-clause-kept_text : goal.returns-in-Err-Usage-clause-kept_text
+returns-in-Err-Usage-clause-kept_text g c store spelled tells wrote kept =
+    let fault : c.in-Err-Usage.field-0 ≡ words_fault.Usage = cc in
+    absurd (c.in-Err-Usage.ensures.usage (ap Err fault) (Resume store) spelled)
+
+pub returns-in-Err-Usage-clause-differs : goal.returns-in-Err-Usage-clause-differs
+returns-in-Err-Usage-clause-differs g c store spelled tells wrote kept =
+    let fault : c.in-Err-Usage.field-0 ≡ words_fault.Usage = cc in
+    absurd (c.in-Err-Usage.ensures.usage (ap Err fault) (Resume store) spelled)
+
+pub returns-in-Err-OutOfMemory-clause-written : goal.returns-in-Err-OutOfMemory-clause-written
+returns-in-Err-OutOfMemory-clause-written g c =
+    let (output, appends, writes) = told_is_written IsWantText OutOfMemory c.tell_no_memory.result memory_line _ _ _ refl c.tell_no_memory.ensures.told in
+    (output, appends, inl (writes, refl))
+
+pub returns-in-Ok-clause-complete : goal.returns-in-Ok-clause-complete
+returns-in-Ok-clause-complete g c command spelled tells ready read wrote kept =
+    let same : command ≡ c.in-Ok.command = c.one_spelling.ensures c.args.words.now command c.in-Ok.command spelled c.in-Ok.ensures.command in
+    c.run.ensures.complete (subst (λ (k : Command). TellsInput k (g.S.Source.left c.args.source.now)) same tells) (subst (λ (k : Command). IsReady k (still (g.P.Keeper.tables c.args.keeper) (g.P.Keeper.tables c.run.result.1))) same ready) read wrote kept
+
+pub returns-in-Ok-clause-refused : goal.returns-in-Ok-clause-refused
+returns-in-Ok-clause-refused g c command spelled tells read wrote =
+    let same : command ≡ c.in-Ok.command = c.one_spelling.ensures c.args.words.now command c.in-Ok.command spelled c.in-Ok.ensures.command in
+    c.run.ensures.refused (subst (λ (k : Command). TellsFault k (g.S.Source.left c.args.source.now)) same tells) read wrote

@@ -1,0 +1,175 @@
+// The top call of the office.
+ghost use Rattle.std.specs.Prelude.{◌≡◌, ◌≢◌, ◌≤◌, ◌⊎◌, ℕ, List, Option};
+ghost use Rattle.office_base.specs.Outside.{Rose, IsAtEnd, Appends};
+ghost use Rattle.keeper_mem.specs.Tables.{still};
+ghost use Rattle.office_commands.specs.Program.{BeginsNone, BeginsOffice, Ends, IsReady, IsWritten, ReadsNone, ReadsSource, TellsFault, TellsInput};
+ghost use Rattle.command_answers.specs.Answers.{Tells};
+ghost use Rattle.command_answers.specs.Blames.{Blames};
+ghost use Rattle.season_commands.specs.Resume.{IsFaultyScript, TellsNoOffice, TellsRowFault, TellsSound, TellsTextFault};
+ghost use Rattle.season_commands.specs.Run.{TellsNoSeason, TellsSeason};
+ghost use Rattle.command_words.specs.Words.{IsInRange, Spell, SpellNothing};
+ghost use Rattle.command_words.specs.declared.words.Command.{Command as AnyCommand};
+ghost use Rattle.command_words.specs.declared.words.Command.TheVariants.{Generate, Resume};
+ghost use Rattle.command_words.specs.declared.words.Store.{Store as AnyStore};
+
+use crate::generate::generate_answer;
+use crate::laws::one_answer;
+use command_answers::{Status, finish, tell_no_memory, write_answer};
+use command_words::laws::one_spelling;
+use command_words::{Command, OutKind, WordsFault, read_words};
+use keeper_mem::Keeper;
+use office_base::{Sink, Source, Words};
+use season_commands::{check_answer, resume_season, run_generated, run_season};
+use std::alloc::Global;
+use step_command::step_answer;
+
+/// Runs the command that the words spell, from the bytes of the source to the bytes of the sink, and gives back the keeper.
+///
+/// The command `step` reads a step sheet and writes whom the step admits; `check` reads a season bundle and writes how much it has; `run` reads a season
+/// bundle with its requests, begins an office over the keeper and answers them, each reply written before the next request is handled; `resume` goes on
+/// with the office that the keeper holds, reads requests and answers them in the same way; `generate` makes up a season from a seed and writes its bundle, or
+/// begins an office over the keeper, answers the requests of that season, and then writes what it came to. Where the words name a store, the keeper that is
+/// handed in stands for it, whatever it is.
+pub fn allocate<S: Source, K: Sink, P: Keeper>(
+    alloc: Global,
+    words: &Words,
+    source: &mut S,
+    sink: &mut K,
+    keeper: P,
+) -> (Status, P)
+    // What is written is told by the words and the bytes that the source had left, under `resume` by the tables too, errors included; and under `run` and
+    // `resume` a history of answers, raises and cuts leads to a state in which the office keeps its word, and for which the tables stand.
+    ensures written { (output : List ℕ) × Appends output (K.written sink.old) (K.written sink.new)
+        × IsWritten words.now (S.left source.old) (P.tables keeper) (P.tables result.1) result.0 output }
+    ensures read_whole { (command : AnyCommand) → Spell words.now command → ReadsSource command → result.0 ≡ Status.Ok → IsAtEnd (S.left source.new) }
+
+    // Words that spell no command leave the source as it was, as a command that reads none does; and the keeper, as a command that has no office does.
+    ensures spared { (command : AnyCommand) → Spell words.now command → ReadsNone command → (S.left source.new ≡ S.left source.old) × (S.faults source.new ≡ S.faults source.old) }
+    ensures unread { SpellNothing words.now → (S.left source.new ≡ S.left source.old) × (S.faults source.new ≡ S.faults source.old) }
+    ensures unkept { SpellNothing words.now → result.1 ≡ keeper }
+    ensures untouched { (command : AnyCommand) → Spell words.now command → BeginsNone command → result.1 ≡ keeper }
+
+    // Under `resume` the records come first: where they have a fault, or there are none, the source is as it was.
+    ensures records_first { (store : AnyStore) → Spell words.now (Resume store) → (result.0 ≡ Status.Differs) ⊎ TellsNoOffice (still (P.tables keeper) (P.tables result.1))
+        → (S.left source.new ≡ S.left source.old) × (S.faults source.new ≡ S.faults source.old) }
+
+    // A fault of the outside comes only where that object failed in this call, and is told: without one the object did not fail. A sink's fault alone hides
+    // one of the source or of the keeper.
+    ensures blamed { Blames result.0 (record { source = S.faults source.old; sink = K.faults sink.old; keeper = P.faults keeper })
+        (record { source = S.faults source.new; sink = K.faults sink.new; keeper = P.faults result.1 }) }
+
+    // Where none failed, the answer is the one that the words, the bytes and the tables call for, or want of memory. What was kept is told where the keeper
+    // tells both before and after.
+    ensures usage { SpellNothing words.now → ¬ Rose (K.faults sink.old) (K.faults sink.new) → (result.0 ≡ Status.Usage) ⊎ (result.0 ≡ Status.OutOfMemory) }
+    ensures complete { (command : AnyCommand) → Spell words.now command → TellsInput command (S.left source.old) → IsReady command (still (P.tables keeper) (P.tables result.1))
+        → ¬ Rose (S.faults source.old) (S.faults source.new) → ¬ Rose (K.faults sink.old) (K.faults sink.new) → ¬ Rose (P.faults keeper) (P.faults result.1)
+        → (result.0 ≡ Status.Ok) ⊎ (result.0 ≡ Status.OutOfMemory) }
+    ensures refused { (command : AnyCommand) → Spell words.now command → TellsFault command (S.left source.old)
+        → ¬ Rose (S.faults source.old) (S.faults source.new) → ¬ Rose (K.faults sink.old) (K.faults sink.new)
+        → (result.0 ≡ Status.BadInput) ⊎ (result.0 ≡ Status.OutOfMemory) }
+    ensures not_empty { (command : AnyCommand) → Spell words.now command → BeginsOffice command → TellsSeason (still (P.tables keeper) (P.tables result.1))
+        → ¬ Rose (S.faults source.old) (S.faults source.new) → ¬ Rose (K.faults sink.old) (K.faults sink.new) → ¬ Rose (P.faults keeper) (P.faults result.1)
+        → (result.0 ≡ Status.BadInput) ⊎ (result.0 ≡ Status.OutOfMemory) }
+    ensures unasked { (store : AnyStore) → Spell words.now (Resume store) → Tells IsFaultyScript (S.left source.old) → TellsSound (still (P.tables keeper) (P.tables result.1))
+        → ¬ Rose (S.faults source.old) (S.faults source.new) → ¬ Rose (K.faults sink.old) (K.faults sink.new) → ¬ Rose (P.faults keeper) (P.faults result.1)
+        → (result.0 ≡ Status.BadInput) ⊎ (result.0 ≡ Status.OutOfMemory) }
+    ensures none_kept { (store : AnyStore) → Spell words.now (Resume store) → TellsNoSeason (still (P.tables keeper) (P.tables result.1))
+        → ¬ Rose (K.faults sink.old) (K.faults sink.new) → ¬ Rose (P.faults keeper) (P.faults result.1)
+        → (result.0 ≡ Status.BadInput) ⊎ (result.0 ≡ Status.OutOfMemory) }
+    ensures kept_text { (store : AnyStore) → Spell words.now (Resume store) → TellsTextFault (still (P.tables keeper) (P.tables result.1))
+        → ¬ Rose (K.faults sink.old) (K.faults sink.new) → ¬ Rose (P.faults keeper) (P.faults result.1)
+        → (result.0 ≡ Status.BadInput) ⊎ (result.0 ≡ Status.OutOfMemory) }
+    ensures differs { (store : AnyStore) → Spell words.now (Resume store) → TellsRowFault (still (P.tables keeper) (P.tables result.1))
+        → ¬ Rose (K.faults sink.old) (K.faults sink.new) → ¬ Rose (P.faults keeper) (P.faults result.1)
+        → (result.0 ≡ Status.Differs) ⊎ (result.0 ≡ Status.OutOfMemory) }
+{
+    one_spelling();
+    match read_words(alloc, words) {
+        Ok(command) => run(alloc, command, source, sink, keeper),
+        Err(WordsFault::Usage) => (write_answer(sink, b"fault: usage\n", Status::Usage), keeper),
+        Err(WordsFault::OutOfMemory) => (tell_no_memory(sink), keeper),
+    }
+}
+
+/// Runs a command.
+fn run<S: Source, K: Sink, P: Keeper>(
+    alloc: Global,
+    command: Command,
+    source: &mut S,
+    sink: &mut K,
+    keeper: P,
+) -> (Status, P)
+    requires { IsInRange command }
+    ensures written { (output : List ℕ) × Appends output (K.written sink.old) (K.written sink.new)
+        × Ends command (S.left source.old) (P.tables keeper) (P.tables result.1) result.0 output }
+    ensures read_whole { ReadsSource command → result.0 ≡ Status.Ok → IsAtEnd (S.left source.new) }
+    ensures spared { ReadsNone command → (S.left source.new ≡ S.left source.old) × (S.faults source.new ≡ S.faults source.old) }
+    ensures untouched { BeginsNone command → result.1 ≡ keeper }
+    ensures records_first { (store : AnyStore) → command ≡ Resume store → (result.0 ≡ Status.Differs) ⊎ TellsNoOffice (still (P.tables keeper) (P.tables result.1))
+        → (S.left source.new ≡ S.left source.old) × (S.faults source.new ≡ S.faults source.old) }
+    ensures blamed { Blames result.0 (record { source = S.faults source.old; sink = K.faults sink.old; keeper = P.faults keeper })
+        (record { source = S.faults source.new; sink = K.faults sink.new; keeper = P.faults result.1 }) }
+    ensures complete { TellsInput command (S.left source.old) → IsReady command (still (P.tables keeper) (P.tables result.1))
+        → ¬ Rose (S.faults source.old) (S.faults source.new) → ¬ Rose (K.faults sink.old) (K.faults sink.new) → ¬ Rose (P.faults keeper) (P.faults result.1)
+        → (result.0 ≡ Status.Ok) ⊎ (result.0 ≡ Status.OutOfMemory) }
+    ensures refused { TellsFault command (S.left source.old)
+        → ¬ Rose (S.faults source.old) (S.faults source.new) → ¬ Rose (K.faults sink.old) (K.faults sink.new)
+        → (result.0 ≡ Status.BadInput) ⊎ (result.0 ≡ Status.OutOfMemory) }
+    ensures not_empty { BeginsOffice command → TellsSeason (still (P.tables keeper) (P.tables result.1))
+        → ¬ Rose (S.faults source.old) (S.faults source.new) → ¬ Rose (K.faults sink.old) (K.faults sink.new) → ¬ Rose (P.faults keeper) (P.faults result.1)
+        → (result.0 ≡ Status.BadInput) ⊎ (result.0 ≡ Status.OutOfMemory) }
+    ensures unasked { (store : AnyStore) → command ≡ Resume store → Tells IsFaultyScript (S.left source.old) → TellsSound (still (P.tables keeper) (P.tables result.1))
+        → ¬ Rose (S.faults source.old) (S.faults source.new) → ¬ Rose (K.faults sink.old) (K.faults sink.new) → ¬ Rose (P.faults keeper) (P.faults result.1)
+        → (result.0 ≡ Status.BadInput) ⊎ (result.0 ≡ Status.OutOfMemory) }
+    ensures none_kept { (store : AnyStore) → command ≡ Resume store → TellsNoSeason (still (P.tables keeper) (P.tables result.1))
+        → ¬ Rose (K.faults sink.old) (K.faults sink.new) → ¬ Rose (P.faults keeper) (P.faults result.1)
+        → (result.0 ≡ Status.BadInput) ⊎ (result.0 ≡ Status.OutOfMemory) }
+    ensures kept_text { (store : AnyStore) → command ≡ Resume store → TellsTextFault (still (P.tables keeper) (P.tables result.1))
+        → ¬ Rose (K.faults sink.old) (K.faults sink.new) → ¬ Rose (P.faults keeper) (P.faults result.1)
+        → (result.0 ≡ Status.BadInput) ⊎ (result.0 ≡ Status.OutOfMemory) }
+    ensures differs { (store : AnyStore) → command ≡ Resume store → TellsRowFault (still (P.tables keeper) (P.tables result.1))
+        → ¬ Rose (K.faults sink.old) (K.faults sink.new) → ¬ Rose (P.faults keeper) (P.faults result.1)
+        → (result.0 ≡ Status.Differs) ⊎ (result.0 ≡ Status.OutOfMemory) }
+{
+    one_answer();
+    match command {
+        Command::Step => (finish(sink, step_answer(alloc, source)), keeper),
+        Command::Check => (finish(sink, check_answer(alloc, source)), keeper),
+        Command::Run(_) => run_season(alloc, source, sink, keeper),
+        Command::Resume(_) => resume_season(alloc, source, sink, keeper),
+        Command::Generate { n, seed, out } => generated(alloc, n, seed, out, sink, keeper),
+    }
+}
+
+/// Makes up a season, and writes its bundle, or what it came to over the keeper.
+fn generated<K: Sink, P: Keeper>(
+    alloc: Global,
+    n: u32,
+    seed: u32,
+    out: OutKind,
+    sink: &mut K,
+    keeper: P,
+) -> (Status, P)
+    requires low { 1 ≤ n }
+    requires high { n ≤ 100000 }
+    ensures written { (left : Option (List ℕ)) → (output : List ℕ) × Appends output (K.written sink.old) (K.written sink.new)
+        × Ends (Generate n seed out) left (P.tables keeper) (P.tables result.1) result.0 output }
+    ensures untouched { BeginsNone (Generate n seed out) → result.1 ≡ keeper }
+    ensures no_read_fault { result.0 ≢ Status.ReadFault }
+    ensures write_fault { result.0 ≡ Status.WriteFault → Rose (K.faults sink.old) (K.faults sink.new) }
+    ensures keeper_fault { result.0 ≡ Status.KeeperFault → Rose (P.faults keeper) (P.faults result.1) }
+    ensures sink_steady { result.0 ≢ Status.WriteFault → K.faults sink.new ≡ K.faults sink.old }
+    ensures keeper_count { P.faults keeper ≤ P.faults result.1 }
+    ensures keeper_steady { result.0 ≢ Status.KeeperFault → result.0 ≢ Status.WriteFault → P.faults result.1 ≡ P.faults keeper }
+    ensures complete { IsReady (Generate n seed out) (still (P.tables keeper) (P.tables result.1)) → ¬ Rose (K.faults sink.old) (K.faults sink.new) → ¬ Rose (P.faults keeper) (P.faults result.1)
+        → (result.0 ≡ Status.Ok) ⊎ (result.0 ≡ Status.OutOfMemory) }
+    ensures refused { (left : Option (List ℕ)) → TellsFault (Generate n seed out) left → ¬ Rose (K.faults sink.old) (K.faults sink.new)
+        → (result.0 ≡ Status.BadInput) ⊎ (result.0 ≡ Status.OutOfMemory) }
+    ensures not_empty { BeginsOffice (Generate n seed out) → TellsSeason (still (P.tables keeper) (P.tables result.1)) → ¬ Rose (K.faults sink.old) (K.faults sink.new) → ¬ Rose (P.faults keeper) (P.faults result.1)
+        → (result.0 ≡ Status.BadInput) ⊎ (result.0 ≡ Status.OutOfMemory) }
+{
+    match out {
+        OutKind::Text => (finish(sink, generate_answer(alloc, n, seed)), keeper),
+        OutKind::Run => run_generated(alloc, n, seed, sink, keeper),
+    }
+}

@@ -1,0 +1,48 @@
+-- What a keeper told before a command, where it tells after it.
+use Rattle.std.proofs.Common.{◌≡◌, Bool, true, false, refl, sym, subst}
+use Rattle.keeper_mem.specs.Tables.{Tables, Untold, NoSeason, Records, AreTold, IsFound, IsTold, still}
+use Rattle.office_moves.specs.Facts.{SeasonFacts}
+use Rattle.office_moves.specs.State.{State}
+use Rattle.round_cut.specs.Resume.{IsResumed}
+use Rattle.season_commands.specs.Run.{TellsNoSeason, TellsSeason}
+
+-- where nothing changed, it is what is told after
+pub still_same : (before after : Tables) → AreTold before after → still before after ≡ after
+still_same before Untold told = refl
+still_same before NoSeason told = told
+still_same before (Records kept) told = told
+
+pub still_from : (P : Tables → Type 0) (before after : Tables) → AreTold before after → P after → P (still before after)
+still_from P before after told holds = subst P (sym (still_same before after told)) holds
+
+pub still_to : (P : Tables → Type 0) (before after : Tables) → AreTold before after → P (still before after) → P after
+still_to P before after told holds = subst P (still_same before after told) holds
+
+-- what held of the tables at first holds at the end too, where nothing is told or what was told was the same
+pub still_later : (P : Tables → Type 0) (before mid after : Tables) → (IsTold after → IsTold mid) → P Untold → P (still before mid) → P (still before after)
+still_later P before mid Untold was none holds = none
+still_later P before Untold NoSeason was none holds = absurd (was tt)
+still_later P before NoSeason NoSeason was none holds = holds
+still_later P before (Records kept) NoSeason was none holds = holds
+still_later P before Untold (Records last) was none holds = absurd (was tt)
+still_later P before NoSeason (Records last) was none holds = holds
+still_later P before (Records kept) (Records last) was none holds = holds
+
+pub still_none : (before mid after : Tables) → (IsTold after → IsTold mid) → IsFound false (still before mid) → IsFound false (still before after)
+still_none before mid after was holds = still_later (λ t. IsFound false t) before mid after was tt holds
+
+pub still_resumed : (before mid after : Tables) (facts : SeasonFacts) (state : State) → AreTold before mid → (IsTold after → IsTold mid) → IsResumed mid facts state → IsResumed (still before after) facts state
+still_resumed before mid after facts state told was resumed =
+    let (records, loaded, lead) = resumed in
+    still_later (λ t. IsResumed t facts state) before mid after was (records, tt, lead) (still_from (λ t. IsResumed t facts state) before mid told resumed)
+
+-- a season and none are apart
+pub some_apart : (tables : Tables) → IsFound false tables → TellsSeason tables → ⊥
+some_apart Untold found tells = tells
+some_apart NoSeason found tells = tells
+some_apart (Records kept) found tells = absurd (cc found)
+
+pub none_apart : (tables : Tables) → IsFound true tables → TellsNoSeason tables → ⊥
+none_apart Untold found tells = tells
+none_apart NoSeason found tells = absurd (cc found)
+none_apart (Records kept) found tells = tells
