@@ -1,0 +1,2 @@
+mod InWindows
+mod Replayed

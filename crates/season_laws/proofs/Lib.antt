@@ -1,0 +1,10 @@
+mod Answered
+mod Best
+mod Certificates
+mod Decisions
+mod Looks
+mod NextRounds
+mod ReadAlone
+mod ReadBack
+mod Reasons
+mod Shown

@@ -1,0 +1,4 @@
+pub mod Looks
+pub mod NextRounds
+pub mod ReadBack
+pub mod Reasons

@@ -1,0 +1,78 @@
+// The laws between what is proved of a season. Each is the contract of a function that does nothing.
+ghost use Rattle.office_moves.specs.Facts.{SeasonFacts};
+ghost use Rattle.season_laws.specs.Looks.{ListsLookAtTheRound, RaisesLookAtRaises, StateLooksAtNumbers};
+ghost use Rattle.season_laws.specs.NextRounds.{EveryRequestIsAnswered, NextRoundExists};
+ghost use Rattle.season_laws.specs.ReadBack.{PublishedIsRead, PublishedIsReadAlone};
+ghost use Rattle.season_laws.specs.Reasons.{OfficeReasonsAreJust, ToldReasonsAreJust};
+
+/// The reply to a raise looks at the season, at how many cuts were made and at the accepted raises alone.
+pub fn raises_look_at_raises()
+    ensures { (facts : SeasonFacts) → RaisesLookAtRaises facts }
+{}
+
+/// The reply to who asks for a list looks at the season, at how many rounds are published and at that round alone.
+pub fn lists_look_at_the_round()
+    ensures { (facts : SeasonFacts) → ListsLookAtTheRound facts }
+{}
+
+/// The reply to who asks how far the office is looks at how many cuts were made and how many rounds are published alone.
+pub fn state_looks_at_numbers()
+    ensures { (facts : SeasonFacts) → StateLooksAtNumbers facts }
+{}
+
+/// A reason that the office gives speaks of an applicant of that programme in that round and of the lists by the matrix of that round; each step that it tells
+/// of stands against the person, and whoever is told to be admitted stands on the list of that step.
+pub fn office_reasons_are_just()
+    ensures { (facts : SeasonFacts) → OfficeReasonsAreJust facts }
+{
+    round_laws::laws::choose_well();
+    open_then_category::laws::one_programme_choice();
+    explain::laws::reasons_are_just();
+}
+
+/// So is each reason that a reply of the office tells, by the last published round.
+pub fn told_reasons_are_just()
+    ensures { (facts : SeasonFacts) → ToldReasonsAreJust facts }
+{
+    office_reasons_are_just();
+}
+
+/// A state in which all is in order has a next round, and as `histories` says one alone.
+pub fn next_round_exists()
+    ensures { (facts : SeasonFacts) → NextRoundExists facts }
+{
+    round_laws::laws::choose_well();
+    open_then_category::laws::programme_choice_exists();
+    open_then_category::laws::admitted_once();
+}
+
+/// And every request in such a state has a reply and a next state, so the office never comes to a stop.
+pub fn every_request_is_answered()
+    ensures { (facts : SeasonFacts) → EveryRequestIsAnswered facts }
+{
+    next_round_exists();
+}
+
+/// What is published of a state in which all is in order is read back: each round as its number and its rows, each list, and the final admissions.
+pub fn published_is_read()
+    ensures { (facts : SeasonFacts) → PublishedIsRead facts }
+{
+    round_laws::laws::choose_well();
+    open_then_category::laws::admitted_once();
+    open_then_category::laws::slots_are_traits();
+    merit_choice::laws::in_merit_ranks();
+    publish::laws::rounds_are_read();
+    publish::laws::finals_are_read();
+    publish::laws::lists_are_told();
+    publish::laws::lists_are_read();
+}
+
+/// And it is read as nothing else, where each programme has a code.
+pub fn published_is_read_alone()
+    ensures { (facts : SeasonFacts) → PublishedIsReadAlone facts }
+{
+    published_is_read();
+    publish::laws::rounds_are_one();
+    publish::laws::finals_are_one();
+    publish::laws::lists_are_one();
+}
