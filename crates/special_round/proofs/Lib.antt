@@ -1,0 +1,14 @@
+mod Answer
+mod Finals
+mod Fitting
+mod Holders
+mod Known
+mod Owned
+mod Placing
+mod Searched
+mod Setting
+mod Sums
+mod Totals
+mod Unlisted
+mod Whole
+mod Within
