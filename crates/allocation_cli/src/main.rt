@@ -2,8 +2,8 @@
 // status.
 //
 // `allocate`, of `office_commands`, is the one top call of the office: what it writes and how it ends is proved, for the words and the bytes that
-// it was given. The adapters over the real streams and the keeper over a file are the trusted edge: they count their errors and tell no
-// bytes and no tables. Nothing stands on this crate, and it decides nothing of seats itself.
+// it was given. The adapters over the real streams are the trusted edge: they count their errors and tell no bytes. The keeper over a file tells its
+// tables while nobody else writes it and the disk returns what was written. Nothing stands on this crate, and it decides nothing of seats itself.
 #![tactic(auto)]
 
 use command_answers::{Status, tell_no_memory};
@@ -24,13 +24,16 @@ const NO_STORE: u8 = 1;
 
 fn main(rt: HostRuntime) -> ExitCode {
     let alloc = rt.alloc();
+    let called = called(&rt, alloc);
     let output = rt.stdout();
-    let at_once = output.is_terminal();
+    // what a file keeps is told before more is kept
+    let at_once = output.is_terminal() || matches!(&called, Ok((_, Some(_))));
     let Ok(mut sink) = StandardOutput::new(alloc, output, at_once) else {
         return ExitCode::from(tell_unheld(&mut rt.stdout()).code());
     };
-    let ended = match words_of(&rt, alloc) {
-        Ok(words) => over_store(&rt, alloc, &words, &mut sink),
+    let ended = match called {
+        Ok((words, Some(name))) => over_file(&rt, alloc, &words, &mut sink, &name),
+        Ok((words, None)) => Some(over_memory(&rt, alloc, &words, &mut sink)),
         Err(OutOfMemory) => Some(tell_no_memory(&mut sink)),
     };
     let Some(status) = ended else {
@@ -44,18 +47,23 @@ fn main(rt: HostRuntime) -> ExitCode {
     ExitCode::from(status.code())
 }
 
-// Runs the words over the store that they name, which is memory where they name none. None where it cannot be opened.
-fn over_store<K: Sink>(
-    rt: &HostRuntime,
+// The words, and the name of the file that they name as the store. Where they name memory, or no command, there is none.
+fn called(
+    rt: &(impl Env + AllocGlobal),
     alloc: Global,
-    words: &Words,
-    sink: &mut K,
-) -> Option<Status> {
+) -> Result<(Words, Option<Text>), OutOfMemory> {
+    let words = words_of(rt, alloc)?;
+    let name = file_of(alloc, &words)?;
+    Ok((words, name))
+}
+
+// The name of the file that the words name as the store.
+fn file_of(alloc: Global, words: &Words) -> Result<Option<Text>, OutOfMemory> {
     match read_words(alloc, words) {
-        Ok(Command::Run(Store::File(name))) => over_file(rt, alloc, words, sink, &name),
-        Ok(Command::Resume(Store::File(name))) => over_file(rt, alloc, words, sink, &name),
-        Ok(_) | Err(WordsFault::Usage) => Some(over_memory(rt, alloc, words, sink)),
-        Err(WordsFault::OutOfMemory) => Some(tell_no_memory(sink)),
+        Ok(Command::Run(Store::File(name))) => Ok(Some(name)),
+        Ok(Command::Resume(Store::File(name))) => Ok(Some(name)),
+        Ok(_) | Err(WordsFault::Usage) => Ok(None),
+        Err(WordsFault::OutOfMemory) => Err(OutOfMemory),
     }
 }
 

@@ -1,22 +1,24 @@
 -- Calls that follow one another in a transaction.
-use Rattle.std.proofs.Common.{◌≡◌, ◌+◌, ◌<◌, ◌≤◌, ◌∙◌, ap, append-nil, append_assoc, ℕ, take, drop, get_or, length, false, List, [], ◌∷◌, ◌++◌, Option, Some, None, Result, Ok, Err, IsTrue, IfOk, IfErr, OnOk, Bool, is_some, sym, subst, refl, inl, inr, arith}
+use Rattle.std.proofs.Common.{◌≡◌, ◌+◌, ◌<◌, ◌≤◌, ◌^◌, ◌∙◌, ap, append-nil, append_assoc, ℕ, zero, suc, slice_get, take, drop, get_or, length, false, List, [], ◌∷◌, ◌++◌, Option, Some, None, Result, Ok, Err, IsTrue, IfOk, IfErr, OnOk, Bool, is_some, sym, subst, refl, inl, inr, arith}
 use Rattle.std.proofs.lemmas.Bool.{cases_Bool}
-use Rattle.std.proofs.lemmas.List.{drop_more, take_more}
-use Rattle.std.specs.List.{AllZip, concat}
+use Rattle.std.proofs.lemmas.List.{drop_more, take_more, take_all}
+use Rattle.std.specs.List.{AllByRecursion, AllZip, concat}
+use Rattle.stored_tables.specs.Fits.{AllotFits}
 use Rattle.std.specs.Result.{result_ok}
 use Rattle.sqlite.specs.Store.{Ghosts}
 use Rattle.sqlite.specs.Order.{Row}
-use Rattle.sqlite.specs.State.{HasCleanDisk, ExecutesInside}
+use Rattle.sqlite.specs.State.{HasCleanDisk, Executes, ExecutesInside}
 use Rattle.sqlite.specs.Held.{Held, state}
 use Rattle.sqlite.specs.declared.error.Error.{Error}
 use Rattle.sqlite.specs.declared.error.Error.TheVariants.{SqliteFailure}
 use Rattle.sqlite.specs.declared.error.ErrorCode.TheVariants.{TransactionState}
 use Rattle.keeper_mem.specs.declared.rows.AllotRow.{AllotRow}
 use Rattle.keeper_mem.specs.declared.rows.Kept.{Kept}
-use Rattle.keeper_sqlite.specs.Columns.{IsPhaseRow, IsPartRow, IsAnswerRow, IsRaiseRow, IsAllotRow, TellsPhase}
+use Rattle.keeper_sqlite.specs.declared.rising.Key.{Key}
+use Rattle.keeper_sqlite.specs.Columns.{IsKeyRow, TellsKey, IsPhaseRow, IsPartRow, IsAnswerRow, IsRaiseRow, IsAllotRow, TellsPhase}
 use Rattle.keeper_sqlite.specs.Commits.{CommitsNothing}
 use Rattle.keeper_sqlite.specs.Kept.{Call, DidAll, TellsRecords, TellsText, TellsTables, TellsKept, text_query, answers_query, raises_query, allots_query, TellsPhaseOf, TellsSeason, LosesPhase, MakesCut, ToldPhase, AreAbove, PutsText, seat_calls, allot_calls, allot_values, phase_query, part_text, part_values, part_calls, text_calls, season_calls, unanswered_calls, any_row_queries, opening_text, opening_values}
-use Rattle.keeper_sqlite.specs.Kept.Call.{Runs, Asks, Readies}
+use Rattle.keeper_sqlite.specs.Kept.Call.{Runs, Places, Asks, Readies}
 use Rattle.keeper_sqlite.specs.Halts.{WantsMemory}
 use Rattle.keeper_sqlite.specs.declared.halt.Halt.{Halt}
 
@@ -33,6 +35,25 @@ ran_inside g text values old new (Ok other) count is ended runs clean =
     ] in
     (new, record { count = other; ran = (runs clean inside).0 }, refl)
 
+-- The same of one that is to change one row, and did.
+pub placed_inside : {S : Type 0} (g : Ghosts S) (text : List ℕ) (values : Row) (old new : Held S) (done : Result ℕ Error) (count : ℕ) → done ≡ Ok count → count ≡ 1
+    → ((state g old).in_transaction ≡ false → (done ≡ Err (SqliteFailure TransactionState)) × (new ≡ old))
+    → (HasCleanDisk (state g new) → IsTrue (state g old).in_transaction → ExecutesInside 0 text values (state g old) (state g new) done)
+    → HasCleanDisk (state g new) → DidAll g (Places text values ∷ []) old new
+placed_inside g text values old new (Err e) count is one ended runs clean = absurd (let e = is in cc)
+placed_inside g text values old new (Ok other) count is one ended runs clean =
+    let inside : IsTrue (state g old).in_transaction = elim (cases_Bool (state g old).in_transaction) [
+      | inl holds ↦ holds
+      | inr fails ↦ absurd (let e = (ended fails).0 in cc)
+    ] in
+    let same : other ≡ 1 = (let e = is in let f = one in cc) in
+    (new, subst (λ (n : ℕ). Executes text values (state g old) (state g new) (Ok n)) same (runs clean inside).0, refl)
+
+pub placed_values : {S : Type 0} (g : Ghosts S) (text : List ℕ) (one two : Row) (old new : Held S) (done : Result (Unit {0}) Halt) → (HasCleanDisk (state g new) → OnOk done (DidAll g (Places text one ∷ []) old new))
+    → one ≡ two → HasCleanDisk (state g new) → OnOk done (DidAll g (Places text two ∷ []) old new)
+placed_values g text one two old new (Err halt) ran is clean = tt
+placed_values {S} g text one two old new (Ok none) ran is clean = subst (λ (values : Row). DidAll g (Places text values ∷ []) old new) is (ran clean)
+
 -- one list of calls after another
 pub did_then : {S : Type 0} (g : Ghosts S) (one two : List Call) (old mid new : Held S) → DidAll g one old mid → DidAll g two mid new → DidAll g (one ++ two) old new
 did_then {S} g [] two old mid new first next = subst (λ (h : Held S). DidAll g two h new) (sym first) next
@@ -44,7 +65,7 @@ pub both_done : {S : Type 0} (g : Ghosts S) (one two : List Call) (old mid new :
     → HasCleanDisk (state g new) → OnOk ended (DidAll g (one ++ two) old new)
 both_done g one two old mid new first (Err halt) is nothing before after clean = tt
 both_done g one two old mid new first (Ok none) is nothing before after clean =
-    let was : HasCleanDisk (state g mid) = omega (arith, nothing.clean) in did_then g one two old mid new (rw is at (before was)) (after clean)
+    let was : HasCleanDisk (state g mid) = omega (arith, nothing.survives.clean) in did_then g one two old mid new (rw is at (before was)) (after clean)
 
 -- Of all calls since the beginning these are left.
 abbrev pub Leaves : {S : Type 0} → Ghosts S → List Call → List Call → Held S → Held S → Type 0
@@ -57,7 +78,7 @@ leaves_all g all old clean last done = done
 pub leaves_fewer : {S : Type 0} (g : Ghosts S) (all left : List Call) (call : Call) (old mid next : Held S) → CommitsNothing (state g mid) (state g next)
     → Leaves g all (call ∷ left) old mid → (HasCleanDisk (state g next) → DidAll g (call ∷ []) mid next) → Leaves g all left old next
 leaves_fewer g all left call old mid next nothing leaves made clean last done =
-    let was : HasCleanDisk (state g mid) = omega (arith, nothing.clean) in
+    let was : HasCleanDisk (state g mid) = omega (arith, nothing.survives.clean) in
     leaves was last (did_then g (call ∷ []) left mid next last (made clean) done)
 
 pub leaves_none : {S : Type 0} (g : Ghosts S) (all : List Call) (old mid : Held S) → Leaves g all [] old mid → HasCleanDisk (state g mid) → DidAll g all old mid
@@ -71,16 +92,28 @@ seat_put {S} g text rows i d old mid next within nothing leaves made =
     leaves_fewer g (allot_calls text rows) (allot_calls text (drop (i + 1) rows)) (Runs text (allot_values (get_or rows i d))) old mid next nothing
     (subst (λ (left : List AllotRow). Leaves g (allot_calls text rows) (allot_calls text left) old mid) (drop_more rows i d within) leaves) made
 
+-- one more seat fits
+pub fit_more : (rows : List AllotRow) (i : ℕ) (d : AllotRow) → i < length rows → AllByRecursion AllotFits (take i rows) → AllotFits (get_or rows i d) → AllByRecursion AllotFits (take (i + 1) rows)
+fit_more rows i d within all one = subst (AllByRecursion AllotFits) (sym (take_more rows i d within)) (push (take i rows) all)
+  where
+    push : (some : List AllotRow) → AllByRecursion AllotFits some → AllByRecursion AllotFits (some ++ get_or rows i d ∷ [])
+    push [] h = (one, tt)
+    push (row ∷ some) h = (h.0, push some h.1)
+
+pub fit_all : (rows : List AllotRow) (i : ℕ) → length rows ≤ i → AllByRecursion AllotFits (take i rows) → AllByRecursion AllotFits rows
+fit_all rows i done all = subst (AllByRecursion AllotFits) (take_all i rows done) all
+
 -- the test of the phase, the test of the rows and the puts
 pub cut_made : {S : Type 0} (g : Ghosts S) (rows : List AllotRow) (count : ℕ) (old one two new : Held S) (made : Result ℕ Halt) (above ended : Result (Unit {0}) Halt)
     → made ≡ Ok count → above ≡ Ok tt → CommitsNothing (state g one) (state g two) → CommitsNothing (state g two) (state g new)
     → (HasCleanDisk (state g one) → IfOk made (λ n. ToldPhase g n old one)) → (HasCleanDisk (state g two) → OnOk above (AreAbove g rows one two))
-    → (HasCleanDisk (state g new) → OnOk ended (DidAll g (seat_calls count rows) two new)) → HasCleanDisk (state g new) → OnOk ended (MakesCut g rows old new)
-cut_made g rows count old one two new made above (Err halt) is_made is_above first next phase keys puts clean = tt
-cut_made g rows count old one two new made above (Ok none) is_made is_above first next phase keys puts clean =
-    let was : HasCleanDisk (state g two) = omega (arith, next.clean) in
-    let before : HasCleanDisk (state g one) = omega (arith, was, first.clean) in
-    record { made = count; asked = one; tested = two; phase = rw is_made at (phase before); above = rw is_above at (keys was); put = puts clean }
+    → (HasCleanDisk (state g new) → OnOk ended (DidAll g (seat_calls count rows) two new)) → OnOk ended (AllByRecursion AllotFits rows) → OnOk ended (count + 1 < 2 ^ 16)
+    → HasCleanDisk (state g new) → OnOk ended (MakesCut g rows old new)
+cut_made g rows count old one two new made above (Err halt) is_made is_above first next phase keys puts fit room clean = tt
+cut_made g rows count old one two new made above (Ok none) is_made is_above first next phase keys puts fit room clean =
+    let was : HasCleanDisk (state g two) = omega (arith, next.survives.clean) in
+    let before : HasCleanDisk (state g one) = omega (arith, was, first.survives.clean) in
+    record { made = count; asked = one; tested = two; phase = rw is_made at (phase before); above = rw is_above at (keys was); put = puts clean; fit = fit; room = room }
 
 -- the same statement with the same values
 pub with_values : {S : Type 0} (g : Ghosts S) (text : List ℕ) (one two : Row) (old new : Held S) (done : Result (Unit {0}) Halt) → (HasCleanDisk (state g new) → OnOk done (DidAll g (Runs text one ∷ []) old new))
@@ -146,7 +179,7 @@ pub ready_then : {S : Type 0} (g : Ghosts S) (text got : List ℕ) (calls : List
     → HasCleanDisk (state g new) → OnOk ended (DidAll g (Readies text ∷ calls text) old new)
 ready_then g text got calls old mid new (Err halt) nothing ready made clean = tt
 ready_then {S} g text got calls old mid new (Ok none) nothing ready made clean =
-    let was : HasCleanDisk (state g mid) = omega (arith, nothing.clean) in
+    let was : HasCleanDisk (state g mid) = omega (arith, nothing.survives.clean) in
     let first = ready was in
     did_then g (Readies text ∷ []) (calls text) old mid new first.1 (subst (λ (t : List ℕ). DidAll g (calls t) mid new) first.0 (made clean))
 
@@ -163,7 +196,7 @@ pub part_put : {S : Type 0} (g : Ghosts S) (insert text rest part after : List �
     → CommitsNothing (state g mid) (state g new) → LeavesText g insert text number rest old mid → (HasCleanDisk (state g new) → DidAll g (Runs insert (part_values number part) ∷ []) mid new)
     → LeavesText g insert text next after old new
 part_put {S} g insert text rest part after number next old mid new cut short is nothing leaves made clean last put =
-    let was : HasCleanDisk (state g mid) = omega (arith, nothing.clean) in
+    let was : HasCleanDisk (state g mid) = omega (arith, nothing.survives.clean) in
     let later : DidAll g (part_calls insert (number + 1) put.parts) new last = subst (λ (n : ℕ). DidAll g (part_calls insert n put.parts) new last) is put.done in
     leaves was last (record {
       parts = part ∷ put.parts;
@@ -182,7 +215,7 @@ pub text_ready : {S : Type 0} (g : Ghosts S) (got text : List ℕ) (old mid new 
     → HasCleanDisk (state g new) → OnOk ended (PutsText g text_calls text old new)
 text_ready g got text old mid new (Err halt) nothing ready put clean = tt
 text_ready {S} g got text old mid new (Ok none) nothing ready put clean =
-    let was : HasCleanDisk (state g mid) = omega (arith, nothing.clean) in
+    let was : HasCleanDisk (state g mid) = omega (arith, nothing.survives.clean) in
     let first = ready was in
     let then : PutsText g (part_calls part_text 0) text mid new = subst (λ (t : List ℕ). PutsText g (part_calls t 0) text mid new) first.0 (put clean) in
     record { parts = then.parts; joined = then.joined; short = then.short; done = did_then g (Readies part_text ∷ []) (part_calls part_text 0 then.parts) old mid new first.1 then.done }
@@ -191,18 +224,18 @@ text_ready {S} g got text old mid new (Ok none) nothing ready put clean =
 pub season_put : {S : Type 0} (g : Ghosts S) (text : List ℕ) (old one two new : Held S) (empty put ended : Result (Unit {0}) Halt) → empty ≡ Ok tt → put ≡ Ok tt
     → CommitsNothing (state g one) (state g two) → CommitsNothing (state g two) (state g new)
     → (HasCleanDisk (state g one) → OnOk empty (DidAll g (unanswered_calls any_row_queries) old one)) → (HasCleanDisk (state g two) → OnOk put (PutsText g text_calls text one two))
-    → (HasCleanDisk (state g new) → OnOk ended (DidAll g (Runs opening_text opening_values ∷ []) two new)) → HasCleanDisk (state g new) → OnOk ended (PutsText g season_calls text old new)
+    → (HasCleanDisk (state g new) → OnOk ended (DidAll g (Places opening_text opening_values ∷ []) two new)) → HasCleanDisk (state g new) → OnOk ended (PutsText g season_calls text old new)
 season_put g text old one two new empty put (Err halt) is_empty is_put first next tested parts opened clean = tt
 season_put {S} g text old one two new empty put (Ok none) is_empty is_put first next tested parts opened clean =
-    let was : HasCleanDisk (state g two) = omega (arith, next.clean) in
-    let before : HasCleanDisk (state g one) = omega (arith, was, first.clean) in
+    let was : HasCleanDisk (state g two) = omega (arith, next.survives.clean) in
+    let before : HasCleanDisk (state g one) = omega (arith, was, first.survives.clean) in
     let then : PutsText g text_calls text one two = rw is_put at (parts was) in
     record {
       parts = then.parts;
       joined = then.joined;
       short = then.short;
-      done = did_then g (unanswered_calls any_row_queries) (text_calls then.parts ++ Runs opening_text opening_values ∷ []) old one new (rw is_empty at (tested before))
-          (did_then g (text_calls then.parts) (Runs opening_text opening_values ∷ []) one two new then.done (opened clean));
+      done = did_then g (unanswered_calls any_row_queries) (text_calls then.parts ++ Places opening_text opening_values ∷ []) old one new (rw is_empty at (tested before))
+          (did_then g (text_calls then.parts) (Places opening_text opening_values ∷ []) one two new then.done (opened clean));
     }
 
 -- one more row, and the record that stands in it
@@ -251,17 +284,29 @@ pub tables_told : {S : Type 0} (g : Ghosts S) (kept : Kept) (old one two three n
     → (HasCleanDisk (state g three) → TellsRecords g IsRaiseRow raises_query kept.raises two three) → (HasCleanDisk (state g new) → TellsRecords g IsAllotRow allots_query kept.allots three new)
     → HasCleanDisk (state g new) → TellsTables g kept old new
 tables_told g kept old one two three new first second third season answers raises allots clean =
-    let later : HasCleanDisk (state g three) = omega (arith, clean, third.clean) in
-    let middle : HasCleanDisk (state g two) = omega (arith, later, second.clean) in
-    let before : HasCleanDisk (state g one) = omega (arith, middle, first.clean) in
+    let later : HasCleanDisk (state g three) = omega (arith, clean, third.survives.clean) in
+    let middle : HasCleanDisk (state g two) = omega (arith, later, second.survives.clean) in
+    let before : HasCleanDisk (state g one) = omega (arith, middle, first.survives.clean) in
     record { one = one; two = two; three = three; season = season before; answers = answers middle; raises = raises later; allots = allots clean }
 
 -- the phase before them
 pub found_kept : {S : Type 0} (g : Ghosts S) (kept : Kept) (cuts : ℕ) (found : Option ℕ) (old mid new : Held S) → found ≡ Some cuts → kept.cuts ≡ cuts → CommitsNothing (state g mid) (state g new)
     → (HasCleanDisk (state g mid) → TellsPhaseOf g found old mid) → (HasCleanDisk (state g new) → TellsTables g kept mid new) → HasCleanDisk (state g new) → TellsKept g (Some kept) old new
 found_kept {S} g kept cuts found old mid new is same nothing phase tables clean =
-    let was : HasCleanDisk (state g mid) = omega (arith, clean, nothing.clean) in
+    let was : HasCleanDisk (state g mid) = omega (arith, clean, nothing.survives.clean) in
     (mid, subst (λ (f : Option ℕ). TellsPhaseOf g f old mid) (is ∙ ap (λ (n : ℕ). Some n) (sym same)) (phase was), tables clean)
 
 pub none_kept : {S : Type 0} (g : Ghosts S) (found : Option ℕ) (old new : Held S) → found ≡ None → (HasCleanDisk (state g new) → TellsPhaseOf g found old new) → HasCleanDisk (state g new) → TellsKept g None old new
 none_kept {S} g found old new is phase clean = subst (λ (f : Option ℕ). TellsPhaseOf g f old new) is (phase clean)
+
+-- a first row that is no key tells of none
+pub key_amiss : (rows : List Row) (row : Row) → slice_get rows 0 ≡ Some row → ((key : Key) → ¬ IsKeyRow row key) → (found : Option Key) → ¬ TellsKey rows found
+key_amiss rows row first none None tells = absurd (let e = sym first ∙ ap (λ (r : List Row). slice_get r 0) tells in cc)
+key_amiss rows row first none (Some key) tells = let same : tells.0 ≡ row = (let e = sym tells.1 ∙ first in cc) in none key (subst (λ (r : Row). IsKeyRow r key) same tells.2)
+
+-- a row that is no record stands for none in any list
+pub zip_amiss : {A B : Type 0} (R : A → B → Type 0) (xs : List A) (i : ℕ) (x : A) → i < length xs → x ≡ get_or xs i x → ((y : B) → ¬ R x y) → (ys : List B) → ¬ AllZip R xs ys
+zip_amiss R [] i x within at none ys all = absurd (omega (arith, within))
+zip_amiss R (a ∷ xs) i x within at none [] all = all
+zip_amiss {A} {B} R (a ∷ xs) zero x within at none (b ∷ ys) all = none b (subst (λ (o : A). R o b) (sym at) all.0)
+zip_amiss R (a ∷ xs) (suc i) x within at none (b ∷ ys) all = zip_amiss R xs i x (omega (arith, within)) at none ys all.1

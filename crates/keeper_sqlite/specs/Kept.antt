@@ -1,7 +1,8 @@
 -- What a put keeps: which statement is run with which values, and that what it makes is committed.
-use Rattle.std.specs.Prelude.{◌≡◌, ◌+◌, ◌≤◌, ◌⊎◌, ℕ, pos, Bool, true, is_some, List, [], ◌∷◌, ◌++◌, length, map, codes, Option, Some, None, Ok}
+use Rattle.std.specs.Prelude.{◌≡◌, ◌+◌, ◌≤◌, ◌<◌, ◌^◌, ◌⊎◌, IsTrue, ℕ, pos, Bool, true, is_some, List, [], ◌∷◌, ◌++◌, length, map, codes, Option, Some, None, Ok}
 use Rattle.std.specs.List.{AllByRecursion, AllZip, concat}
 use Rattle.sqlite.specs.Store.{Ghosts}
+use Rattle.sqlite.specs.Tree.{Trees}
 use Rattle.sqlite.specs.Order.{Row}
 use Rattle.sqlite.specs.State.{Executes, IsUnchanged, Shown, FailsToQuery, IsTooLate, IsRolledBack}
 use Rattle.sqlite.specs.declared.error.Error.{Error}
@@ -9,108 +10,31 @@ use Rattle.sqlite.specs.Held.{Held, state}
 use Rattle.sqlite.specs.Listing.{understood}
 use Rattle.sqlite.specs.Outline.{Outline}
 use Rattle.sqlite.specs.Steps.{Outlines}
-use Rattle.sqlite.specs.declared.types.Value.TheVariants.{Int, Blob}
-use Rattle.office_base.specs.StepNumbers.{step_number}
-use Rattle.keeper_mem.specs.declared.rows.AnswerRow.{AnswerRow}
 use Rattle.keeper_mem.specs.declared.rows.AllotRow.{AllotRow}
-use Rattle.keeper_mem.specs.declared.rows.RaiseRow.{RaiseRow}
 use Rattle.keeper_mem.specs.declared.rows.Kept.{Kept}
+pub use Rattle.stored_tables.specs.Texts.{answer_text, answer_values, raise_text, raise_values, allot_text, allot_values, cuts_text, cuts_values, phase_query, opening_text, opening_values, part_text, part_values, text_query, answers_query, raises_query, allots_query, key_query, any_part, any_answer, any_raise, any_allot, season_table, phase_table, answer_table, lift_table, allot_table}
+use Rattle.stored_tables.specs.Fits.{AllotFits}
 use Rattle.keeper_sqlite.specs.Columns.{IsPhaseRow, IsPartRow, IsAnswerRow, IsRaiseRow, IsAllotRow, TellsPhase, TellsKey}
 use Rattle.keeper_sqlite.specs.Rising.{are_rising}
 use Rattle.keeper_sqlite.specs.declared.rising.Key.{Key}
-use Rattle.keeper_sqlite.specs.Numbers.{choice_number}
 use Rattle.keeper_sqlite.specs.declared.transactions.Change.{Change}
 use Rattle.keeper_sqlite.specs.declared.transactions.Change.TheVariants.{Answer, Raise, Tables, Season, Cut}
 
-abbrev pub answer_text : List ℕ
-answer_text = codes "INSERT INTO answer (win, cand, turn, choice) VALUES (?1, ?2, ?3, ?4)"
-
-abbrev pub answer_values : AnswerRow → Row
-answer_values row = Int (pos row.window) ∷ Int (pos row.cand.0) ∷ Int (pos row.turn) ∷ Int (pos (choice_number row.choice)) ∷ []
-
-abbrev pub raise_text : List ℕ
-raise_text = codes "INSERT INTO lift (win, prog, step, seats) VALUES (?1, ?2, ?3, ?4)"
-
-abbrev pub raise_values : RaiseRow → Row
-raise_values row = Int (pos row.window) ∷ Int (pos row.prog.0) ∷ Int (pos (step_number row.step)) ∷ Int (pos row.seats) ∷ []
-
-abbrev pub allot_text : List ℕ
-allot_text = codes "INSERT INTO allot (rnd, cand, prog, step) VALUES (?1, ?2, ?3, ?4)"
-
-abbrev pub allot_values : AllotRow → Row
-allot_values row = Int (pos row.round) ∷ Int (pos row.cand.0) ∷ Int (pos row.prog.0) ∷ Int (pos (step_number row.step)) ∷ []
-
--- the number of cuts is put in place of the one that stands
-abbrev pub cuts_text : List ℕ
-cuts_text = codes "INSERT INTO phase (id, cuts) VALUES (?1, ?2) ON CONFLICT (id) DO UPDATE SET cuts = excluded.cuts"
-
-abbrev pub cuts_values : ℕ → Row
-cuts_values cuts = Int (pos 1) ∷ Int (pos cuts) ∷ []
-
--- whether a season is there, and how many cuts were made
-abbrev pub phase_query : List ℕ
-phase_query = codes "SELECT id, cuts FROM phase ORDER BY id"
-
--- the row of a season without cuts
-abbrev pub opening_text : List ℕ
-opening_text = codes "INSERT INTO phase (id, cuts) VALUES (?1, 0)"
-
-abbrev pub opening_values : Row
-opening_values = Int (pos 1) ∷ []
-
--- a part of the text of a season, with its number
-abbrev pub part_text : List ℕ
-part_text = codes "INSERT INTO season (part, bytes) VALUES (?1, ?2)"
-
-abbrev pub part_values : ℕ → List ℕ → Row
-part_values part bytes = Int (pos part) ∷ Blob bytes ∷ []
-
--- whether a row stands, in each of the five tables
+-- whether a row stands, in each of the four tables beside the phase
 abbrev pub any_row_queries : List (List ℕ)
-any_row_queries = phase_query ∷ codes "SELECT part FROM season LIMIT 1" ∷ codes "SELECT seq FROM answer LIMIT 1" ∷ codes "SELECT seq FROM lift LIMIT 1" ∷ codes "SELECT rnd FROM allot LIMIT 1" ∷ []
+any_row_queries = any_part ∷ any_answer ∷ any_raise ∷ any_allot ∷ []
 
--- all parts of the text, answers, raises and published seats, each in their order
-abbrev pub text_query : List ℕ
-text_query = codes "SELECT part, bytes FROM season ORDER BY part"
-
-abbrev pub answers_query : List ℕ
-answers_query = codes "SELECT seq, win, cand, turn, choice FROM answer ORDER BY seq"
-
-abbrev pub raises_query : List ℕ
-raises_query = codes "SELECT seq, win, prog, step, seats FROM lift ORDER BY seq"
-
-abbrev pub allots_query : List ℕ
-allots_query = codes "SELECT rnd, cand, prog, step FROM allot ORDER BY rnd, cand"
-
--- the last key of the published seats
-abbrev pub key_query : List ℕ
-key_query = codes "SELECT rnd, cand FROM allot ORDER BY rnd DESC, cand DESC LIMIT 1"
-
--- A call on the database inside a transaction: a statement of this text is run with these values; a query of this text, without values, is asked
--- and told these rows; a statement of this text is made ready.
+-- A call on the database inside a transaction: a statement of this text is run with these values; the same, and it changes one row; a query of this
+-- text, without values, is asked and told these rows; a statement of this text is made ready.
 pub data Call : Type 0 where
   Runs : List ℕ → Row → Call
+  Places : List ℕ → Row → Call
   Asks : List ℕ → List Row → Call
   Readies : List ℕ → Call
 
 -- the five tables, each made where it is not there
-abbrev pub season_table : List ℕ
-season_table = codes "CREATE TABLE IF NOT EXISTS season (part INTEGER PRIMARY KEY, bytes BLOB NOT NULL) STRICT"
-
-abbrev pub phase_table : List ℕ
-phase_table = codes "CREATE TABLE IF NOT EXISTS phase (id INTEGER PRIMARY KEY, cuts INTEGER NOT NULL) STRICT"
-
-abbrev pub answer_table : List ℕ
-answer_table = codes "CREATE TABLE IF NOT EXISTS answer (seq INTEGER PRIMARY KEY, win INTEGER NOT NULL, cand INTEGER NOT NULL, turn INTEGER NOT NULL, choice INTEGER NOT NULL, UNIQUE (win, cand, turn)) STRICT"
-
-abbrev pub lift_table : List ℕ
-lift_table = codes "CREATE TABLE IF NOT EXISTS lift (seq INTEGER PRIMARY KEY, win INTEGER NOT NULL, prog INTEGER NOT NULL, step INTEGER NOT NULL, seats INTEGER NOT NULL) STRICT"
-
-abbrev pub allot_table : List ℕ
-allot_table = codes "CREATE TABLE IF NOT EXISTS allot (rnd INTEGER NOT NULL, cand INTEGER NOT NULL, prog INTEGER NOT NULL, step INTEGER NOT NULL, PRIMARY KEY (rnd, cand)) STRICT"
-
 abbrev pub table_texts : List (List ℕ)
-table_texts = season_table ∷ phase_table ∷ answer_table ∷ lift_table ∷ allot_table ∷ []
+table_texts = season_table ∷ answer_table ∷ allot_table ∷ phase_table ∷ lift_table ∷ []
 
 -- each text is run as it is, with no values
 abbrev pub plain_calls : List (List ℕ) → List Call
@@ -129,9 +53,10 @@ part_calls text n (part ∷ parts) = Runs text (part_values n part) ∷ part_cal
 abbrev pub text_calls : List (List ℕ) → List Call
 text_calls parts = Readies part_text ∷ part_calls part_text 0 parts
 
--- no table has a row, the parts are put, numbered from 0, and then the row of a season without cuts
+-- No table beside the phase has a row, the parts are put, numbered from 0, and then the row of a season without cuts, which is placed only where the
+-- phase has no row.
 abbrev pub season_calls : List (List ℕ) → List Call
-season_calls parts = unanswered_calls any_row_queries ++ text_calls parts ++ Runs opening_text opening_values ∷ []
+season_calls parts = unanswered_calls any_row_queries ++ text_calls parts ++ Places opening_text opening_values ∷ []
 
 -- the statement of this text is run once for each seat, in their order
 abbrev pub allot_calls : List ℕ → List AllotRow → List Call
@@ -156,6 +81,7 @@ module _ {S : Type 0} (g : Ghosts S) where
   -- this call was made
   abbrev pub Did : Call → Held S → Held S → Type 0
   Did (Runs text values) old new = Ran text values old new
+  Did (Places text values) old new = Executes text values (state g old) (state g new) (Ok 1)
   Did (Asks text rows) old new = Shown text [] (state g old) (state g new) rows
   Did (Readies text) old new = IsReady text old new
 
@@ -219,6 +145,8 @@ module _ {S : Type 0} (g : Ghosts S) where
     pub phase : ToldPhase made old asked
     pub above : AreAbove rows asked tested
     pub put : DidAll (seat_calls made rows) tested new
+    pub fit : AllByRecursion AllotFits rows
+    pub room : made + 1 < 2 ^ 16
 
   -- what a change runs
   abbrev pub Makes : Change → Held S → Held S → Type 0
@@ -228,12 +156,20 @@ module _ {S : Type 0} (g : Ghosts S) where
   Makes (Cut rows) old new = MakesCut rows.now old new
   Makes (Season text) old new = PutsText season_calls text.now old new
 
+  -- a transaction began, the change was made in it, and these trees are what was made
+  pub record MadeBy (change : Change) (old : Held S) (db : Trees) : Type 0 where
+    pub last : Held S
+    pub done : Makes change (record old { in_transaction = true }) last
+    pub is : db ≡ (state g last).now.trees
+
   -- A transaction began, this was done in it, and what was done is what the database shows and what the last commit left.
   pub record Keeps (Done : Held S → Held S → Type 0) (old new : Held S) : Type 0 where
     pub last : Held S
     pub done : Done (record old { in_transaction = true }) last
     pub shown : (state g new).now ≡ (state g last).now
     pub committed : (state g new).committed ≡ (state g last).now
+    pub last_open : IsTrue (state g last).is_open
+    pub is_open : IsTrue (state g new).is_open
 
   -- the query told a row for each record, in their order, in which it stands
   pub record TellsRecords {R : Type 0} (stands_in : Row → R → Type 0) (text : List ℕ) (records : List R) (old new : Held S) : Type 0 where

@@ -1,11 +1,13 @@
 // The table of published seats.
-ghost use Rattle.std.specs.Prelude.{◌≡◌, List, [], ◌∷◌, codes, IfOk, IfErr, OnOk};
+ghost use Rattle.std.specs.Prelude.{◌≡◌, Option, List, [], ◌∷◌, codes, IfOk, IfErr, OnOk};
 ghost use Rattle.sqlite.specs.Order.{Row as Values};
 ghost use Rattle.sqlite.specs.State.{HasCleanDisk};
 ghost use Rattle.keeper_sqlite.specs.Halts.{WantsMemory};
 ghost use Rattle.keeper_sqlite.specs.Columns.{IsAllotRow, IsKeyRow, TellsKey};
 ghost use Rattle.keeper_sqlite.specs.declared.rising.Key.{Key};
 ghost use Rattle.sqlite.specs.Held.{state};
+ghost use Rattle.std.specs.List.{AllByRecursion};
+ghost use Rattle.stored_tables.specs.Fits.{AllotFits};
 ghost use Rattle.keeper_sqlite.specs.Commits.{CommitsNothing};
 ghost use Rattle.keeper_sqlite.specs.Kept.{DidAll, TellsRecords, allots_query, allot_table, allot_text, allot_values, allot_calls, key_query};
 ghost use Rattle.keeper_sqlite.specs.Kept.Call.{Runs, Asks, Readies};
@@ -50,6 +52,7 @@ pub(crate) fn insert_all<S: Alter>(
     ensures same_reference { tx.new.conn.ghost_name ≡ tx.old.conn.ghost_name }
     ensures inside { CommitsNothing (state S.Store tx.old.conn.now) (state S.Store tx.new.conn.now) }
     ensures ran { HasCleanDisk (state S.Store tx.new.conn.now) → OnOk result (DidAll S.Store (Readies allot_text ∷ allot_calls allot_text rows.now) tx.old.conn.now tx.new.conn.now) }
+    ensures fit { OnOk result (AllByRecursion AllotFits rows.now) }
 {
     let insert = make_ready(
         tx,
@@ -66,6 +69,7 @@ fn insert_each<S: Alter>(
     ensures same_reference { tx.new.conn.ghost_name ≡ tx.old.conn.ghost_name }
     ensures inside { CommitsNothing (state S.Store tx.old.conn.now) (state S.Store tx.new.conn.now) }
     ensures ran { HasCleanDisk (state S.Store tx.new.conn.now) → OnOk result (DidAll S.Store (allot_calls insert.now.text rows.now) tx.old.conn.now tx.new.conn.now) }
+    ensures fit { OnOk result (AllByRecursion AllotFits rows.now) }
 {
     for row in rows {
         insert_one(tx, insert, *row)?;
@@ -81,6 +85,7 @@ fn insert_one<S: Alter>(
     ensures same_reference { tx.new.conn.ghost_name ≡ tx.old.conn.ghost_name }
     ensures inside { CommitsNothing (state S.Store tx.old.conn.now) (state S.Store tx.new.conn.now) }
     ensures ran { HasCleanDisk (state S.Store tx.new.conn.now) → OnOk result (DidAll S.Store (Runs insert.now.text (allot_values row) ∷ []) tx.old.conn.now tx.new.conn.now) }
+    ensures fits { AllotFits row }
 {
     run_ready(
         tx,
@@ -109,6 +114,7 @@ pub(crate) fn last_key<S: Alter>(tx: &mut Transaction<'_, S>) -> Result<Option<K
 
 fn first_key(rows: &[Row]) -> Result<Option<Key>, Halt>
     ensures ok { IfOk result (TellsKey rows.now) }
+    ensures err { IfErr result (λ halt. ¬ WantsMemory halt → (found : Option Key) → ¬ TellsKey rows.now found) }
 {
     match rows.first() {
         None => Ok(None),

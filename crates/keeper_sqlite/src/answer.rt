@@ -1,5 +1,7 @@
 // The table of answers.
-ghost use Rattle.std.specs.Prelude.{◌≡◌, [], ◌∷◌, codes, IsTrue, IfOk, OnOk};
+ghost use Rattle.std.specs.Prelude.{◌≡◌, [], ◌∷◌, codes, IsTrue, IfOk, IfErr, OnOk};
+ghost use Rattle.sqlite.specs.declared.error.Error.{Error};
+ghost use Rattle.keeper_sqlite.specs.declared.halt.Halt.TheVariants.{Refused};
 ghost use Rattle.sqlite.specs.State.{HasCleanDisk};
 ghost use Rattle.sqlite.specs.Held.{state};
 ghost use Rattle.keeper_sqlite.specs.Columns.{IsAnswerRow};
@@ -45,6 +47,7 @@ pub(crate) fn insert<S: Alter>(tx: &mut Transaction<'_, S>, row: AnswerRow) -> R
     ensures inside { CommitsNothing (state S.Store tx.old.conn.now) (state S.Store tx.new.conn.now) }
     ensures ran { HasCleanDisk (state S.Store tx.new.conn.now) → IsTrue tx.old.conn.now.in_transaction
         → OnOk result (Ran S.Store answer_text (answer_values row) tx.old.conn.now tx.new.conn.now) }
+    ensures halts { IfErr result (λ halt. (error : Error) × (halt ≡ Refused error)) }
 {
     tx.execute(
         "INSERT INTO answer (win, cand, turn, choice) VALUES (?1, ?2, ?3, ?4)",

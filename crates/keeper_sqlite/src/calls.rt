@@ -1,11 +1,13 @@
 // Calls on the database inside a transaction, as contracts name them.
-ghost use Rattle.std.specs.Prelude.{◌≡◌, [], ◌∷◌, IfOk, OnOk, OnErr};
+ghost use Rattle.std.specs.Prelude.{◌≡◌, [], ◌∷◌, IfOk, IfErr, OnOk, OnErr};
+ghost use Rattle.sqlite.specs.declared.error.Error.{Error};
+ghost use Rattle.keeper_sqlite.specs.declared.halt.Halt.TheVariants.{Refused};
 ghost use Rattle.sqlite.specs.Values.{bound};
 ghost use Rattle.sqlite.specs.State.{HasCleanDisk};
 ghost use Rattle.sqlite.specs.Held.{state};
 ghost use Rattle.keeper_sqlite.specs.Commits.{CommitsNothing};
 ghost use Rattle.keeper_sqlite.specs.Kept.{DidAll, IsRefused};
-ghost use Rattle.keeper_sqlite.specs.Kept.Call.{Runs, Asks, Readies};
+ghost use Rattle.keeper_sqlite.specs.Kept.Call.{Runs, Places, Asks, Readies};
 
 use crate::halt::Halt;
 use sqlite::types::ValueRef;
@@ -20,9 +22,27 @@ pub(crate) fn run<S: Alter>(
     ensures same_reference { tx.new.conn.ghost_name ≡ tx.old.conn.ghost_name }
     ensures inside { CommitsNothing (state S.Store tx.old.conn.now) (state S.Store tx.new.conn.now) }
     ensures ran { HasCleanDisk (state S.Store tx.new.conn.now) → OnOk result (DidAll S.Store (Runs text.now (bound values.now) ∷ []) tx.old.conn.now tx.new.conn.now) }
+    ensures halts { IfErr result (λ halt. (error : Error) × (halt ≡ Refused error)) }
 {
     tx.execute(text, values)?;
     Ok(())
+}
+
+/// Runs a statement that is to change one row.
+pub(crate) fn place<S: Alter>(
+    tx: &mut Transaction<'_, S>,
+    text: &str,
+    values: &[ValueRef<'_>],
+) -> Result<(), Halt>
+    ensures same_reference { tx.new.conn.ghost_name ≡ tx.old.conn.ghost_name }
+    ensures inside { CommitsNothing (state S.Store tx.old.conn.now) (state S.Store tx.new.conn.now) }
+    ensures ran { HasCleanDisk (state S.Store tx.new.conn.now) → OnOk result (DidAll S.Store (Places text.now (bound values.now) ∷ []) tx.old.conn.now tx.new.conn.now) }
+{
+    if tx.execute(text, values)? == 1 {
+        Ok(())
+    } else {
+        Err(Halt::Unfit)
+    }
 }
 
 /// Asks a query that takes no values.
@@ -30,6 +50,7 @@ pub(crate) fn ask<S: Alter>(tx: &mut Transaction<'_, S>, text: &str) -> Result<V
     ensures same_reference { tx.new.conn.ghost_name ≡ tx.old.conn.ghost_name }
     ensures inside { CommitsNothing (state S.Store tx.old.conn.now) (state S.Store tx.new.conn.now) }
     ensures told { HasCleanDisk (state S.Store tx.new.conn.now) → IfOk result (λ rows. DidAll S.Store (Asks text.now rows.items ∷ []) tx.old.conn.now tx.new.conn.now) }
+    ensures halts { IfErr result (λ halt. (error : Error) × (halt ≡ Refused error)) }
     ensures refused { HasCleanDisk (state S.Store tx.new.conn.now) → OnErr result (IsRefused S.Store text.now tx.old.conn.now tx.new.conn.now) }
 {
     Ok(tx.query_all(text, &[])?)
@@ -62,6 +83,7 @@ pub(crate) fn make_ready<S: Alter>(
     ensures same_reference { tx.new.conn.ghost_name ≡ tx.old.conn.ghost_name }
     ensures inside { CommitsNothing (state S.Store tx.old.conn.now) (state S.Store tx.new.conn.now) }
     ensures made { HasCleanDisk (state S.Store tx.new.conn.now) → IfOk result (λ statement. (statement.text ≡ text.now) × DidAll S.Store (Readies text.now ∷ []) tx.old.conn.now tx.new.conn.now) }
+    ensures halts { IfErr result (λ halt. (error : Error) × (halt ≡ Refused error)) }
 {
     Ok(tx.prepare(text)?)
 }
@@ -75,6 +97,7 @@ pub(crate) fn run_ready<S: Alter>(
     ensures same_reference { tx.new.conn.ghost_name ≡ tx.old.conn.ghost_name }
     ensures inside { CommitsNothing (state S.Store tx.old.conn.now) (state S.Store tx.new.conn.now) }
     ensures ran { HasCleanDisk (state S.Store tx.new.conn.now) → OnOk result (DidAll S.Store (Runs statement.now.text (bound values.now) ∷ []) tx.old.conn.now tx.new.conn.now) }
+    ensures halts { IfErr result (λ halt. (error : Error) × (halt ≡ Refused error)) }
 {
     tx.execute_prepared(statement, values)?;
     Ok(())

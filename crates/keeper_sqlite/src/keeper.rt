@@ -1,11 +1,15 @@
 // The keeper over a connection.
-ghost use Rattle.std.specs.Prelude.{◌≡◌, ◌≤◌, ◌⊎◌, IsErrOf, IsErrAnd, IsTrue, IfOk, IfErr, OnOk};
+ghost use Rattle.std.specs.Prelude.{◌≡◌, ◌≤◌, ◌⊎◌, Bool, true, false, IsErrOf, IsErrAnd, IsTrue, IfOk, IfErr, OnOk, OnErr, MatchOption};
 ghost use Rattle.office_base.specs.Memory.{counted};
-ghost use Rattle.sqlite.specs.State.{HasCleanDisk};
+ghost use Rattle.sqlite.specs.State.{HasCleanDisk, Survives};
+ghost use Rattle.sqlite.specs.Tree.{Trees};
 ghost use Rattle.sqlite.specs.Held.{state};
 ghost use Rattle.keeper_sqlite.specs.Commits.{CommitsNothing, CommitsOnce};
-ghost use Rattle.keeper_sqlite.specs.Kept.{Keeps, Looks, TellsSeason, TellsKept, LosesPhase, Makes, MakesCut, PutsText, Ran, DidAll, season_calls, plain_calls, table_texts, answer_text, answer_values, raise_text, raise_values};
+ghost use Rattle.keeper_sqlite.specs.Kept.{Keeps, MadeBy, Looks, TellsSeason, TellsKept, LosesPhase, Makes, MakesCut, PutsText, Ran, DidAll, season_calls, plain_calls, table_texts, answer_text, answer_values, raise_text, raise_values};
 ghost use Rattle.keeper_sqlite.specs.Halts.{keep_fault, faults_after};
+ghost use Rattle.keeper_mem.specs.Tables.{NoSeason, with_season, with_answer, with_raise, with_cut, AreTold, IsFound, IsLoaded, IsTold};
+ghost use Rattle.stored_tables.specs.Told.{told, tables_in, without_raises};
+ghost use Rattle.stored_tables.specs.Layout.{no_schema, first_four, stored};
 
 use crate::halt::Halt;
 use crate::transactions::{self, Change};
@@ -14,7 +18,7 @@ use sqlite::{Alter, Connection, Error, ErrorCode};
 use std::alloc::Global;
 use std::marker::Model;
 
-/// A keeper over a database. It tells no tables and holds no room in advance. Each method is one transaction; where one answers `Failed`, the
+/// A keeper over a database. It tells the tables that its store tells, and holds no room in advance. Each method is one transaction; where one answers `Failed`, the
 /// database refused or failed, somebody else is in a transaction, or a row stands that is no record or may not stand beside the new ones, and the
 /// count of faults rose by one, up to 2^64 - 1.
 #[derive(Drop)]
@@ -44,6 +48,13 @@ impl<S: Alter> SqliteKeeper<S> {
         }
     }
 
+    /// What it tells is what its store tells. Nothing is done.
+    pub fn tells(&self)
+        ensures { ⟦<SqliteKeeper<S> as Keeper>⟧.tables self.now ≡ told (state S.Store self.now.connection) }
+    {
+        let _ = self.connection.is_autocommit();
+    }
+
     /// How often it has failed, up to 2^64 - 1.
     pub fn faults(&self) -> u64
         ensures { result ≡ self.now.faults }
@@ -63,13 +74,17 @@ impl<S: Alter> SqliteKeeper<S> {
     }
 
     /// Makes the tables that are not there, all or none, and leaves those that are. A database without the table of raises becomes one that has
-    /// none. Where it ends well, the five texts were run in their order and committed.
+    /// none. Where it ends well, the five texts were run in their order and committed: a database without tables tells of no season then, one without
+    /// the table of raises tells what it kept and no raises, and one with all five tells what it kept.
     pub fn make_tables(&mut self) -> Result<(), KeepFault>
         ensures count { self.old.faults ≤ self.new.faults }
         ensures steady { ¬ IsErrOf result KeepFault.Failed → self.new.faults ≡ self.old.faults }
         ensures counted { IsErrOf result KeepFault.Failed → self.new.faults ≡ counted self.old.faults }
         ensures once { CommitsOnce (state S.Store self.old.connection) (state S.Store self.new.connection) }
         ensures kept { HasCleanDisk (state S.Store self.new.connection) → OnOk result (Keeps S.Store (DidAll S.Store (plain_calls table_texts)) self.old.connection self.new.connection) }
+        ensures fresh { HasCleanDisk (state S.Store self.new.connection) → self.old.connection.schema ≡ no_schema → OnOk result (told (state S.Store self.new.connection) ≡ NoSeason) }
+        ensures older { (strict : Bool) → HasCleanDisk (state S.Store self.new.connection) → self.old.connection.schema ≡ first_four strict → OnOk result (told (state S.Store self.new.connection) ≡ tables_in (without_raises (state S.Store self.old.connection).now.trees)) }
+        ensures whole { (strict : Bool) → HasCleanDisk (state S.Store self.new.connection) → self.old.connection.schema ≡ stored strict → OnOk result (told (state S.Store self.new.connection) ≡ tables_in (state S.Store self.old.connection).now.trees) }
     {
         self.commit(Change::Tables)
     }
@@ -80,6 +95,8 @@ impl<S: Alter> SqliteKeeper<S> {
         ensures steady { ¬ IsErrOf result KeepFault.Failed → self.new.faults ≡ self.old.faults }
         ensures counted { IsErrOf result KeepFault.Failed → self.new.faults ≡ counted self.old.faults }
         ensures once { CommitsOnce (state S.Store self.old.connection) (state S.Store self.new.connection) }
+        ensures stays_err { HasCleanDisk (state S.Store self.new.connection) → IsTrue (state S.Store self.new.connection).is_open → OnErr result (told (state S.Store self.new.connection) ≡ told (state S.Store self.old.connection)) }
+        ensures made { Survives (state S.Store self.old.connection) (state S.Store self.new.connection) (MadeBy S.Store change.entry self.old.connection) }
         ensures kept { HasCleanDisk (state S.Store self.new.connection) → OnOk result (Keeps S.Store (Makes S.Store change.entry) self.old.connection self.new.connection) }
     {
         let done = transactions::commit(&mut self.connection, change);
@@ -120,9 +137,9 @@ impl<S: Alter> SqliteKeeper<S> {
 
 impl<S: Alter> Keeper for SqliteKeeper<S> {
     ghost use Rattle.std.specs.Prelude.{false};
-    ghost use Rattle.keeper_mem.specs.Tables.{Untold};
+    ghost use Rattle.stored_tables.specs.Told.{told};
 
-    ghost tables = { λ _. Untold };
+    ghost tables = { λ k. told (state S.Store k.connection) };
 
     ghost faults = { λ k. k.faults };
 
@@ -131,6 +148,9 @@ impl<S: Alter> Keeper for SqliteKeeper<S> {
     ghost spare = { λ _. 0 };
 
     fn has_season(&mut self) -> Result<bool, KeepFault>
+        ensures ok { IfOk result (λ found. IsFound found (told (state S.Store self.new.connection))) }
+        ensures told { AreTold (told (state S.Store self.old.connection)) (told (state S.Store self.new.connection)) }
+        ensures stays { HasCleanDisk (state S.Store self.new.connection) → IsTrue (state S.Store self.new.connection).is_open → told (state S.Store self.new.connection) ≡ told (state S.Store self.old.connection) }
         ensures count { self.old.faults ≤ self.new.faults }
         ensures steady { ¬ IsErrOf result KeepFault.Failed → self.new.faults ≡ self.old.faults }
         ensures counted { IsErrOf result KeepFault.Failed → self.new.faults ≡ counted self.old.faults }
@@ -144,6 +164,12 @@ impl<S: Alter> Keeper for SqliteKeeper<S> {
     }
 
     fn put_season(&mut self, text: &[u8]) -> Result<(), KeepFault>
+        ensures ok { OnOk result (AreTold (with_season text.now (told (state S.Store self.old.connection))) (told (state S.Store self.new.connection))) }
+        ensures err { OnErr result (AreTold (told (state S.Store self.old.connection)) (told (state S.Store self.new.connection))) }
+        ensures stays_err { HasCleanDisk (state S.Store self.new.connection) → IsTrue (state S.Store self.new.connection).is_open → OnErr result (told (state S.Store self.new.connection) ≡ told (state S.Store self.old.connection)) }
+        ensures stays { HasCleanDisk (state S.Store self.new.connection) → OnOk result (told (state S.Store self.new.connection) ≡ with_season text.now (told (state S.Store self.old.connection))) }
+        ensures crash { IsTold (told (state S.Store self.old.connection)) → Survives (state S.Store self.old.connection) (state S.Store self.new.connection) (λ db. tables_in db ≡ with_season text.now (told (state S.Store self.old.connection))) }
+        ensures alone { HasCleanDisk (state S.Store self.new.connection) → OnOk result (IsTold (told (state S.Store self.new.connection)) → (db : Trees) → (state S.Store self.new.connection).may_leave db → tables_in db ≡ told (state S.Store self.new.connection)) }
         ensures count { self.old.faults ≤ self.new.faults }
         ensures steady { ¬ IsErrOf result KeepFault.Failed → self.new.faults ≡ self.old.faults }
         ensures counted { IsErrOf result KeepFault.Failed → self.new.faults ≡ counted self.old.faults }
@@ -158,6 +184,12 @@ impl<S: Alter> Keeper for SqliteKeeper<S> {
     }
 
     fn put_answer(&mut self, row: AnswerRow) -> Result<(), KeepFault>
+        ensures ok { IsFound true (told (state S.Store self.old.connection)) → OnOk result (AreTold (with_answer row (told (state S.Store self.old.connection))) (told (state S.Store self.new.connection))) }
+        ensures err { OnErr result (AreTold (told (state S.Store self.old.connection)) (told (state S.Store self.new.connection))) }
+        ensures stays_err { HasCleanDisk (state S.Store self.new.connection) → IsTrue (state S.Store self.new.connection).is_open → OnErr result (told (state S.Store self.new.connection) ≡ told (state S.Store self.old.connection)) }
+        ensures stays { IsFound true (told (state S.Store self.old.connection)) → HasCleanDisk (state S.Store self.new.connection) → OnOk result (told (state S.Store self.new.connection) ≡ with_answer row (told (state S.Store self.old.connection))) }
+        ensures crash { IsFound true (told (state S.Store self.old.connection)) → IsTold (told (state S.Store self.old.connection)) → Survives (state S.Store self.old.connection) (state S.Store self.new.connection) (λ db. tables_in db ≡ with_answer row (told (state S.Store self.old.connection))) }
+        ensures alone { HasCleanDisk (state S.Store self.new.connection) → OnOk result (IsTold (told (state S.Store self.new.connection)) → (db : Trees) → (state S.Store self.new.connection).may_leave db → tables_in db ≡ told (state S.Store self.new.connection)) }
         ensures count { self.old.faults ≤ self.new.faults }
         ensures steady { ¬ IsErrOf result KeepFault.Failed → self.new.faults ≡ self.old.faults }
         ensures counted { IsErrOf result KeepFault.Failed → self.new.faults ≡ counted self.old.faults }
@@ -168,6 +200,12 @@ impl<S: Alter> Keeper for SqliteKeeper<S> {
     }
 
     fn put_raise(&mut self, row: RaiseRow) -> Result<(), KeepFault>
+        ensures ok { IsFound true (told (state S.Store self.old.connection)) → OnOk result (AreTold (with_raise row (told (state S.Store self.old.connection))) (told (state S.Store self.new.connection))) }
+        ensures err { OnErr result (AreTold (told (state S.Store self.old.connection)) (told (state S.Store self.new.connection))) }
+        ensures stays_err { HasCleanDisk (state S.Store self.new.connection) → IsTrue (state S.Store self.new.connection).is_open → OnErr result (told (state S.Store self.new.connection) ≡ told (state S.Store self.old.connection)) }
+        ensures stays { IsFound true (told (state S.Store self.old.connection)) → HasCleanDisk (state S.Store self.new.connection) → OnOk result (told (state S.Store self.new.connection) ≡ with_raise row (told (state S.Store self.old.connection))) }
+        ensures crash { IsFound true (told (state S.Store self.old.connection)) → IsTold (told (state S.Store self.old.connection)) → Survives (state S.Store self.old.connection) (state S.Store self.new.connection) (λ db. tables_in db ≡ with_raise row (told (state S.Store self.old.connection))) }
+        ensures alone { HasCleanDisk (state S.Store self.new.connection) → OnOk result (IsTold (told (state S.Store self.new.connection)) → (db : Trees) → (state S.Store self.new.connection).may_leave db → tables_in db ≡ told (state S.Store self.new.connection)) }
         ensures count { self.old.faults ≤ self.new.faults }
         ensures steady { ¬ IsErrOf result KeepFault.Failed → self.new.faults ≡ self.old.faults }
         ensures counted { IsErrOf result KeepFault.Failed → self.new.faults ≡ counted self.old.faults }
@@ -178,6 +216,12 @@ impl<S: Alter> Keeper for SqliteKeeper<S> {
     }
 
     fn put_cut(&mut self, rows: &[AllotRow]) -> Result<(), KeepFault>
+        ensures ok { OnOk result (AreTold (with_cut rows.now (told (state S.Store self.old.connection))) (told (state S.Store self.new.connection))) }
+        ensures err { OnErr result (AreTold (told (state S.Store self.old.connection)) (told (state S.Store self.new.connection))) }
+        ensures stays_err { HasCleanDisk (state S.Store self.new.connection) → IsTrue (state S.Store self.new.connection).is_open → OnErr result (told (state S.Store self.new.connection) ≡ told (state S.Store self.old.connection)) }
+        ensures stays { HasCleanDisk (state S.Store self.new.connection) → OnOk result (told (state S.Store self.new.connection) ≡ with_cut rows.now (told (state S.Store self.old.connection))) }
+        ensures crash { IsTold (told (state S.Store self.old.connection)) → Survives (state S.Store self.old.connection) (state S.Store self.new.connection) (λ db. tables_in db ≡ with_cut rows.now (told (state S.Store self.old.connection))) }
+        ensures alone { HasCleanDisk (state S.Store self.new.connection) → OnOk result (IsTold (told (state S.Store self.new.connection)) → (db : Trees) → (state S.Store self.new.connection).may_leave db → tables_in db ≡ told (state S.Store self.new.connection)) }
         ensures count { self.old.faults ≤ self.new.faults }
         ensures steady { ¬ IsErrOf result KeepFault.Failed → self.new.faults ≡ self.old.faults }
         ensures counted { IsErrOf result KeepFault.Failed → self.new.faults ≡ counted self.old.faults }
@@ -188,6 +232,9 @@ impl<S: Alter> Keeper for SqliteKeeper<S> {
     }
 
     fn load(&mut self, alloc: Global) -> Result<Option<Kept>, KeepFault>
+        ensures ok { IfOk result (λ found. MatchOption found (IsFound false (told (state S.Store self.new.connection))) (IsLoaded (told (state S.Store self.new.connection)))) }
+        ensures told { AreTold (told (state S.Store self.old.connection)) (told (state S.Store self.new.connection)) }
+        ensures stays { HasCleanDisk (state S.Store self.new.connection) → IsTrue (state S.Store self.new.connection).is_open → told (state S.Store self.new.connection) ≡ told (state S.Store self.old.connection) }
         ensures count { self.old.faults ≤ self.new.faults }
         ensures steady { ¬ IsErrOf result KeepFault.Failed → self.new.faults ≡ self.old.faults }
         ensures counted { IsErrOf result KeepFault.Failed → self.new.faults ≡ counted self.old.faults }

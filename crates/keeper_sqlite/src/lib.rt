@@ -2,10 +2,9 @@
 //
 // It meets the trait of keepers over a connection to any store, a file or memory. Each method is one transaction, and each statement stands in a
 // function of its own, one module a table. Whatever the database refuses, want of memory apart, is a counted fault, and so are rows that are no
-// records. It tells no tables: what is proved is that a fault comes only with a count that rose, that a put commits one database whole or nothing, that the
-// put which ends well has made the calls that its contract names, with the numbers of its rows, and committed what they left, that a season is found
-// exactly where the phase tells of one, that what is loaded is what the five tables told, record by record, and that tables which were made were made
-// by the five texts in order and committed. What a statement's text makes of the tables is proved of none. No function here knows what the records
+// records. On an open store with its five tables alone it tells the rows as records: what is told after a put is what the put says, or what was told
+// before, and a crash leaves one of the two (`stored_tables` has the layout and the meaning of the texts). Of every store, told or not, is proved that a
+// fault comes only with a count that rose, that a put commits one database whole or nothing, and which calls it made. No function here knows what the records
 // mean to an office.
 #![tactic(auto)]
 

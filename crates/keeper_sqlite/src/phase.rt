@@ -6,9 +6,9 @@ ghost use Rattle.keeper_sqlite.specs.Columns.{IsPhaseRow, TellsPhase};
 ghost use Rattle.sqlite.specs.Held.{state};
 ghost use Rattle.keeper_sqlite.specs.Commits.{CommitsNothing};
 ghost use Rattle.keeper_sqlite.specs.Kept.{DidAll, TellsPhaseOf, LosesPhase, phase_table, phase_query, cuts_text, cuts_values, opening_text, opening_values};
-ghost use Rattle.keeper_sqlite.specs.Kept.Call.{Runs, Asks};
+ghost use Rattle.keeper_sqlite.specs.Kept.Call.{Runs, Places, Asks};
 
-use crate::calls::{ask, expect_none, run};
+use crate::calls::{ask, place, run};
 use crate::columns::{number_at, small_number_at};
 use crate::halt::Halt;
 use sqlite::{Alter, Row, Transaction, params};
@@ -29,24 +29,15 @@ pub(crate) fn create<S: Alter>(tx: &mut Transaction<'_, S>) -> Result<(), Halt>
     )
 }
 
-/// Tests that no row is there.
-pub(crate) fn expect_empty<S: Alter>(tx: &mut Transaction<'_, S>) -> Result<(), Halt>
-    ensures same_reference { tx.new.conn.ghost_name ≡ tx.old.conn.ghost_name }
-    ensures inside { CommitsNothing (state S.Store tx.old.conn.now) (state S.Store tx.new.conn.now) }
-    ensures told { HasCleanDisk (state S.Store tx.new.conn.now) → OnOk result (DidAll S.Store (Asks phase_query [] ∷ []) tx.old.conn.now tx.new.conn.now) }
-{
-    expect_none(tx, "SELECT id, cuts FROM phase ORDER BY id")
-}
-
-/// Puts the row of a season without cuts.
+/// Puts the row of a season without cuts, where no row stands.
 pub(crate) fn insert<S: Alter>(tx: &mut Transaction<'_, S>) -> Result<(), Halt>
     ensures same_reference { tx.new.conn.ghost_name ≡ tx.old.conn.ghost_name }
     ensures inside { CommitsNothing (state S.Store tx.old.conn.now) (state S.Store tx.new.conn.now) }
-    ensures ran { HasCleanDisk (state S.Store tx.new.conn.now) → OnOk result (DidAll S.Store (Runs opening_text opening_values ∷ []) tx.old.conn.now tx.new.conn.now) }
+    ensures ran { HasCleanDisk (state S.Store tx.new.conn.now) → OnOk result (DidAll S.Store (Places opening_text opening_values ∷ []) tx.old.conn.now tx.new.conn.now) }
 {
-    run(
+    place(
         tx,
-        "INSERT INTO phase (id, cuts) VALUES (?1, 0)",
+        "INSERT INTO phase (id, cuts) SELECT ?1, 0 WHERE NOT EXISTS (SELECT id FROM phase)",
         params![ID],
     )
 }

@@ -1,5 +1,5 @@
 // The records that the rows of a table hold.
-ghost use Rattle.std.specs.Prelude.{◌≡◌, IfOk, IfErr};
+ghost use Rattle.std.specs.Prelude.{◌≡◌, List, IfOk, IfErr};
 ghost use Rattle.std.specs.List.{AllZip};
 ghost use Rattle.sqlite.specs.Order.{Row as Values};
 ghost use Rattle.keeper_sqlite.specs.Halts.{WantsMemory};
@@ -23,6 +23,7 @@ pub(crate) trait Record: Drop + Sized {
 /// The records of the rows, in their order.
 pub(crate) fn records_of<R: Record>(alloc: Global, rows: &[Row]) -> Result<Listed<R>, Halt>
     ensures ok { IfOk result (AllZip R.Record.stands_in rows.now) }
+    ensures err { IfErr result (λ halt. ¬ WantsMemory halt → (held : List R) → ¬ AllZip R.Record.stands_in rows.now held) }
 {
     let mut records = Listed::with_capacity(alloc, rows.len())?;
     for row in rows {

@@ -1,10 +1,13 @@
 // The transactions of a keeper: what each method does to the tables, all of it or nothing.
-ghost use Rattle.std.specs.Prelude.{◌≡◌, ◌+◌, [], ◌∷◌, take, drop, false, Ok, IsTrue, IfOk, IfErr, OnOk, OnErr, ◌⊎◌};
-ghost use Rattle.sqlite.specs.State.{HasCleanDisk};
+ghost use Rattle.std.specs.Prelude.{◌≡◌, ◌+◌, ◌<◌, ◌^◌, [], ◌∷◌, drop, false, Ok, IsTrue, IfOk, IfErr, OnOk, OnErr, ◌⊎◌};
+ghost use Rattle.sqlite.specs.State.{HasCleanDisk, IsLive, Survives};
+ghost use Rattle.stored_tables.specs.Told.{told};
 ghost use Rattle.sqlite.specs.Held.{state};
+ghost use Rattle.std.specs.List.{AllByRecursion};
+ghost use Rattle.stored_tables.specs.Fits.{AllotFits};
 ghost use Rattle.keeper_sqlite.specs.Halts.{WantsMemory};
-ghost use Rattle.keeper_sqlite.specs.Commits.{CommitsNothing, CommitsShown, CommitsOnce};
-ghost use Rattle.keeper_sqlite.specs.Kept.{Keeps, Looks, TellsSeason, TellsKept, TellsTables, LosesPhase, Makes, MakesCut, ToldPhase, AreAbove, PutsText, DidAll, seat_calls, season_calls, unanswered_calls, any_row_queries, plain_calls, table_texts, season_table, phase_table, answer_table, lift_table, allot_table};
+ghost use Rattle.keeper_sqlite.specs.Commits.{CommitsNothing, CommitsOnce};
+ghost use Rattle.keeper_sqlite.specs.Kept.{Keeps, MadeBy, Looks, TellsSeason, TellsKept, TellsTables, LosesPhase, Makes, MakesCut, ToldPhase, AreAbove, PutsText, DidAll, seat_calls, season_calls, unanswered_calls, any_row_queries, plain_calls, table_texts, season_table, phase_table, answer_table, lift_table, allot_table};
 
 use crate::halt::Halt;
 use crate::rising::are_rising;
@@ -40,10 +43,24 @@ fn expect_free<S: Alter>(connection: &Connection<S>) -> Result<(), Halt>
     }
 }
 
+/// Outside a transaction a connection that is open shows its last commit, and that obeys its schema. Nothing is done.
+fn at_rest<S: Alter>(connection: &Connection<S>)
+    ensures live { IsLive (state S.Store connection.now) }
+    ensures settled { connection.now.in_transaction ≡ false → IsTrue (state S.Store connection.now).is_open → (state S.Store connection.now).now ≡ (state S.Store connection.now).committed }
+{
+    let _schema = connection.schema();
+    let _free = connection.is_autocommit();
+}
+
 /// Commits what was done, or rolls it back.
 fn settle<S: Alter>(tx: Transaction<'_, S>, done: Result<(), Halt>) -> Result<(), Halt>
-    ensures shown { CommitsShown (state S.Store tx.entry.conn.now) (state S.Store tx.exit.0.now) }
+    ensures shown { Survives (state S.Store tx.entry.conn.now) (state S.Store tx.exit.0.now) (λ db. (done ≡ Ok tt) × (db ≡ (state S.Store tx.entry.conn.now).now.trees)) }
+    ensures nothing { OnErr done (CommitsNothing (state S.Store tx.entry.conn.now) (state S.Store tx.exit.0.now)) }
+    ensures ended { tx.exit.0.now.in_transaction ≡ false }
+    ensures back { HasCleanDisk (state S.Store tx.exit.0.now) → IsTrue (state S.Store tx.exit.0.now).is_open
+        → OnErr result (IsTrue (state S.Store tx.entry.conn.now).is_open × ((state S.Store tx.exit.0.now).committed ≡ (state S.Store tx.entry.conn.now).committed)) }
     ensures done { OnOk result (done ≡ Ok tt) }
+    ensures shows { HasCleanDisk (state S.Store tx.exit.0.now) → OnOk result (IsTrue (state S.Store tx.entry.conn.now).is_open × IsTrue (state S.Store tx.exit.0.now).is_open) }
     ensures now { HasCleanDisk (state S.Store tx.exit.0.now) → OnOk result ((state S.Store tx.exit.0.now).now ≡ (state S.Store tx.entry.conn.now).now) }
     ensures committed { HasCleanDisk (state S.Store tx.exit.0.now) → OnOk result ((state S.Store tx.exit.0.now).committed ≡ (state S.Store tx.entry.conn.now).now) }
 {
@@ -58,12 +75,17 @@ pub(crate) fn commit<S: Alter>(
     change: Change<'_>,
 ) -> Result<(), Halt>
     ensures once { CommitsOnce (state S.Store connection.old) (state S.Store connection.new) }
+    ensures stays_err { HasCleanDisk (state S.Store connection.new) → IsTrue (state S.Store connection.new).is_open → OnErr result (told (state S.Store connection.new) ≡ told (state S.Store connection.old)) }
+    ensures made { Survives (state S.Store connection.old) (state S.Store connection.new) (MadeBy S.Store change.entry connection.old) }
     ensures kept { HasCleanDisk (state S.Store connection.new) → OnOk result (Keeps S.Store (Makes S.Store change.entry) connection.old connection.new) }
 {
     expect_free(connection)?;
+    at_rest(connection);
     let mut tx = connection.transaction();
     let done = write(&mut tx, change);
-    settle(tx, done)
+    let ended = settle(tx, done);
+    at_rest(connection);
+    ended
 }
 
 fn write<S: Alter>(tx: &mut Transaction<'_, S>, change: Change<'_>) -> Result<(), Halt>
@@ -86,40 +108,43 @@ fn write_tables<S: Alter>(tx: &mut Transaction<'_, S>) -> Result<(), Halt>
     ensures inside { CommitsNothing (state S.Store tx.old.conn.now) (state S.Store tx.new.conn.now) }
     ensures ran { HasCleanDisk (state S.Store tx.new.conn.now) → OnOk result (DidAll S.Store (plain_calls table_texts) tx.old.conn.now tx.new.conn.now) }
 {
-    make_season_tables(tx)?;
-    make_row_tables(tx)
+    make_first_tables(tx)?;
+    make_last_tables(tx)
 }
 
-fn make_season_tables<S: Alter>(tx: &mut Transaction<'_, S>) -> Result<(), Halt>
+fn make_first_tables<S: Alter>(tx: &mut Transaction<'_, S>) -> Result<(), Halt>
     ensures same_reference { tx.new.conn.ghost_name ≡ tx.old.conn.ghost_name }
     ensures inside { CommitsNothing (state S.Store tx.old.conn.now) (state S.Store tx.new.conn.now) }
-    ensures ran { HasCleanDisk (state S.Store tx.new.conn.now) → OnOk result (DidAll S.Store (plain_calls (season_table ∷ phase_table ∷ [])) tx.old.conn.now tx.new.conn.now) }
+    ensures ran { HasCleanDisk (state S.Store tx.new.conn.now) → OnOk result (DidAll S.Store (plain_calls (season_table ∷ answer_table ∷ [])) tx.old.conn.now tx.new.conn.now) }
 {
     season::create(tx)?;
-    phase::create(tx)
+    answer::create(tx)
 }
 
-fn make_row_tables<S: Alter>(tx: &mut Transaction<'_, S>) -> Result<(), Halt>
+fn make_last_tables<S: Alter>(tx: &mut Transaction<'_, S>) -> Result<(), Halt>
     ensures same_reference { tx.new.conn.ghost_name ≡ tx.old.conn.ghost_name }
     ensures inside { CommitsNothing (state S.Store tx.old.conn.now) (state S.Store tx.new.conn.now) }
-    ensures ran { HasCleanDisk (state S.Store tx.new.conn.now) → OnOk result (DidAll S.Store (plain_calls (answer_table ∷ lift_table ∷ allot_table ∷ [])) tx.old.conn.now tx.new.conn.now) }
+    ensures ran { HasCleanDisk (state S.Store tx.new.conn.now) → OnOk result (DidAll S.Store (plain_calls (allot_table ∷ phase_table ∷ lift_table ∷ [])) tx.old.conn.now tx.new.conn.now) }
 {
-    answer::create(tx)?;
-    lift::create(tx)?;
-    allot::create(tx)
+    allot::create(tx)?;
+    phase::create(tx)?;
+    lift::create(tx)
 }
 
 /// Whether a season is kept.
 pub(crate) fn has_season<S: Alter>(connection: &mut Connection<S>) -> Result<bool, Halt>
+    ensures stays { HasCleanDisk (state S.Store connection.new) → IsTrue (state S.Store connection.new).is_open → told (state S.Store connection.new) ≡ told (state S.Store connection.old) }
     ensures nothing { CommitsNothing (state S.Store connection.old) (state S.Store connection.new) }
     ensures found { HasCleanDisk (state S.Store connection.new) → IfOk result (λ found. Looks S.Store (TellsSeason S.Store found) connection.old connection.new) }
     ensures lost { HasCleanDisk (state S.Store connection.new)
         → IfErr result (λ halt. ¬ WantsMemory halt → IsTrue connection.old.in_transaction ⊎ Looks S.Store (LosesPhase S.Store) connection.old connection.new) }
 {
     expect_free(connection)?;
+    at_rest(connection);
     let mut tx = connection.transaction();
     let found = look_for_season(&mut tx);
     tx.rollback();
+    at_rest(connection);
     found
 }
 
@@ -142,29 +167,20 @@ fn write_season<S: Alter>(tx: &mut Transaction<'_, S>, text: &[u8]) -> Result<()
     phase::insert(tx)
 }
 
-/// Tests that no table has a row.
+/// Tests that no table beside the phase has a row.
 fn expect_empty<S: Alter>(tx: &mut Transaction<'_, S>) -> Result<(), Halt>
     ensures same_reference { tx.new.conn.ghost_name ≡ tx.old.conn.ghost_name }
     ensures inside { CommitsNothing (state S.Store tx.old.conn.now) (state S.Store tx.new.conn.now) }
     ensures told { HasCleanDisk (state S.Store tx.new.conn.now) → OnOk result (DidAll S.Store (unanswered_calls any_row_queries) tx.old.conn.now tx.new.conn.now) }
 {
-    expect_no_season(tx)?;
+    season::expect_empty(tx)?;
     expect_no_rows(tx)
-}
-
-fn expect_no_season<S: Alter>(tx: &mut Transaction<'_, S>) -> Result<(), Halt>
-    ensures same_reference { tx.new.conn.ghost_name ≡ tx.old.conn.ghost_name }
-    ensures inside { CommitsNothing (state S.Store tx.old.conn.now) (state S.Store tx.new.conn.now) }
-    ensures told { HasCleanDisk (state S.Store tx.new.conn.now) → OnOk result (DidAll S.Store (unanswered_calls (take 2 any_row_queries)) tx.old.conn.now tx.new.conn.now) }
-{
-    phase::expect_empty(tx)?;
-    season::expect_empty(tx)
 }
 
 fn expect_no_rows<S: Alter>(tx: &mut Transaction<'_, S>) -> Result<(), Halt>
     ensures same_reference { tx.new.conn.ghost_name ≡ tx.old.conn.ghost_name }
     ensures inside { CommitsNothing (state S.Store tx.old.conn.now) (state S.Store tx.new.conn.now) }
-    ensures told { HasCleanDisk (state S.Store tx.new.conn.now) → OnOk result (DidAll S.Store (unanswered_calls (drop 2 any_row_queries)) tx.old.conn.now tx.new.conn.now) }
+    ensures told { HasCleanDisk (state S.Store tx.new.conn.now) → OnOk result (DidAll S.Store (unanswered_calls (drop 1 any_row_queries)) tx.old.conn.now tx.new.conn.now) }
 {
     answer::expect_empty(tx)?;
     lift::expect_empty(tx)?;
@@ -204,7 +220,8 @@ fn expect_above<S: Alter>(tx: &mut Transaction<'_, S>, rows: &[AllotRow]) -> Res
 }
 
 fn one_more(made: u16) -> Result<u16, Halt>
-    ensures ok { IfOk result (λ cuts. cuts ≡ made + 1) }
+    ensures ok { IfOk result (λ cuts. (cuts ≡ made + 1) × (made + 1 < 2 ^ 16)) }
+    ensures err { OnErr result (made ≡ 65535) }
 {
     made.checked_add(1).ok_or(Halt::Unfit)
 }
@@ -218,6 +235,8 @@ fn put_seats<S: Alter>(
     ensures same_reference { tx.new.conn.ghost_name ≡ tx.old.conn.ghost_name }
     ensures inside { CommitsNothing (state S.Store tx.old.conn.now) (state S.Store tx.new.conn.now) }
     ensures ran { HasCleanDisk (state S.Store tx.new.conn.now) → OnOk result (DidAll S.Store (seat_calls made rows.now) tx.old.conn.now tx.new.conn.now) }
+    ensures fit { OnOk result (AllByRecursion AllotFits rows.now) }
+    ensures room { OnOk result (made + 1 < 2 ^ 16) }
 {
     let cuts = one_more(made)?;
     allot::insert_all(tx, rows)?;
@@ -229,13 +248,16 @@ pub(crate) fn load<S: Alter>(
     connection: &mut Connection<S>,
     alloc: Global,
 ) -> Result<Option<Kept>, Halt>
+    ensures stays { HasCleanDisk (state S.Store connection.new) → IsTrue (state S.Store connection.new).is_open → told (state S.Store connection.new) ≡ told (state S.Store connection.old) }
     ensures nothing { CommitsNothing (state S.Store connection.old) (state S.Store connection.new) }
     ensures loaded { HasCleanDisk (state S.Store connection.new) → IfOk result (λ found. Looks S.Store (TellsKept S.Store found) connection.old connection.new) }
 {
     expect_free(connection)?;
+    at_rest(connection);
     let mut tx = connection.transaction();
     let found = read_records(&mut tx, alloc);
     tx.rollback();
+    at_rest(connection);
     found
 }
 

@@ -1,5 +1,5 @@
 use Rattle.std.proofs.Common.{◌∙◌}
-use Rattle.keeper_sqlite.proofs.CallLemmas.{seat_put}
+use Rattle.keeper_sqlite.proofs.CallLemmas.{seat_put, fit_more}
 use Rattle.keeper_sqlite.proofs.CommitLemmas.{nothing_then}
 use Rattle.keeper_sqlite.proofs.allot.insert_each.Goals as goal
 
@@ -8,4 +8,5 @@ loop-row-preserved g c = (
   c.insert_one.ensures.same_reference ∙ c.loop-row.invariant.0,
   nothing_then _ _ _ c.loop-row.invariant.1 c.insert_one.ensures.inside,
   seat_put g.S.Store c.args.insert.now.text c.args.rows.now c.loop-row.row-index _ c.args.tx.now.conn.now c.loop-row.tx.conn.now c.insert_one.new.tx.conn.now c.loop-row-test.true c.insert_one.ensures.inside c.loop-row.invariant.2 c.in_ok-insert_one.ensures.ran,
+  fit_more c.args.rows.now c.loop-row.row-index _ c.loop-row-test.true c.loop-row.invariant.3 c.insert_one.ensures.fits,
 )

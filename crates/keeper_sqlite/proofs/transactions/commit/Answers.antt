@@ -1,9 +1,11 @@
-use Rattle.std.proofs.Common.{◌≡◌, OnOk, subst, rules}
-use Rattle.sqlite.specs.State.{HasCleanDisk}
+use Rattle.std.proofs.Common.{◌≡◌, false, sym, OnOk, OnErr, IsTrue, subst, rules, refl, arith}
+use Rattle.sqlite.specs.State.{HasCleanDisk, IsLive, Survives}
 use Rattle.sqlite.specs.Held.{state}
 use Rattle.keeper_sqlite.specs.Commits.{CommitsOnce}
-use Rattle.keeper_sqlite.specs.Kept.{Keeps, Makes}
-use Rattle.keeper_sqlite.proofs.CommitLemmas.{once_same, once_made, kept_made}
+use Rattle.keeper_sqlite.specs.Kept.{Keeps, Makes, MadeBy}
+use Rattle.keeper_sqlite.proofs.CommitLemmas.{once_same, once_made, shown_by, made_same, made_once, kept_made, on_err}
+use Rattle.stored_tables.specs.Told.{told}
+use Rattle.keeper_sqlite.proofs.KeeperLemmas.{put_back}
 use Rattle.keeper_sqlite.proofs.transactions.commit.Goals as goal
 
 pub returns-in_err-expect_free-clause-once : goal.returns-in_err-expect_free-clause-once
@@ -11,14 +13,39 @@ returns-in_err-expect_free-clause-once g c = once_same _
 
 pub returns-clause-once : goal.returns-clause-once
 returns-clause-once g c =
-    let last = c.settle.new.tx.0 in
+    let last = c.settle-ended.new.tx.0 in
     let same : last ≡ c.connection-1.given.0 = search rules in
     subst (λ h. CommitsOnce (state g.S.Store c.args.connection.now) (state g.S.Store h)) same
-    (once_made g.S.Store _ _ c.write-done.new.tx.conn.now last c.transaction-tx.ensures.begun c.write-done.ensures.inside c.settle.ensures.shown)
+    (once_made g.S.Store _ _ c.write-done.new.tx.conn.now last c.transaction-tx.ensures.begun c.write-done.ensures.inside (shown_by g.S.Store c.write-done.result c.write-done.new.tx.conn.now last c.settle-ended.ensures.shown))
+
+pub returns-in_err-expect_free-clause-made : goal.returns-in_err-expect_free-clause-made
+returns-in_err-expect_free-clause-made g c = made_same g.S.Store c.args.change c.args.connection.now
+
+pub returns-clause-made : goal.returns-clause-made
+returns-clause-made g c =
+    let last = c.settle-ended.new.tx.0 in
+    let same : last ≡ c.connection-1.given.0 = search rules in
+    subst (λ h. Survives (state g.S.Store c.args.connection.now) (state g.S.Store h) (MadeBy g.S.Store c.args.change c.args.connection.now)) same
+    (made_once g.S.Store c.args.change c.args.connection.now _ c.write-done.new.tx.conn.now last c.write-done.result c.transaction-tx.ensures.begun c.write-done.ensures.inside c.write-done.ensures.made c.settle-ended.ensures.shown)
 
 pub returns-clause-kept : goal.returns-clause-kept
 returns-clause-kept g c =
-    let last = c.settle.new.tx.0 in
+    let last = c.settle-ended.new.tx.0 in
     let same : last ≡ c.connection-1.given.0 = search rules in
-    subst (λ h. HasCleanDisk (state g.S.Store h) → OnOk c.settle.result (Keeps g.S.Store (Makes g.S.Store c.args.change) c.args.connection.now h)) same
-    (kept_made g.S.Store c.args.change _ _ c.write-done.new.tx.conn.now last c.write-done.result c.settle.result c.transaction-tx.ensures.begun c.write-done.ensures.made c.settle.ensures.shown c.settle.ensures.done c.settle.ensures.now c.settle.ensures.committed)
+    subst (λ h. HasCleanDisk (state g.S.Store h) → OnOk c.settle-ended.result (Keeps g.S.Store (Makes g.S.Store c.args.change) c.args.connection.now h)) same
+    (kept_made g.S.Store c.args.change _ _ c.write-done.new.tx.conn.now last c.write-done.result c.settle-ended.result c.transaction-tx.ensures.begun c.write-done.ensures.made c.settle-ended.ensures.shown c.settle-ended.ensures.done c.settle-ended.ensures.now c.settle-ended.ensures.committed
+    c.settle-ended.ensures.shows)
+
+pub returns-in_err-expect_free-clause-stays_err : goal.returns-in_err-expect_free-clause-stays_err
+returns-in_err-expect_free-clause-stays_err g c = λ clean is_so. on_err _ c.from_residual.result refl
+
+pub returns-clause-stays_err : goal.returns-clause-stays_err
+returns-clause-stays_err g c =
+    let last = c.settle-ended.new.tx.0 in
+    let mid = c.write-done.new.tx.conn.now in
+    let same : last ≡ c.connection-1.given.0 = search rules in
+    subst (λ h. HasCleanDisk (state g.S.Store h) → IsTrue (state g.S.Store h).is_open → OnErr c.settle-ended.result (told (state g.S.Store h) ≡ told (state g.S.Store c.args.connection.now))) same
+    let live = subst (λ h. IsLive (state g.S.Store h)) (sym same) c.at_rest-2.ensures.live in
+    let after = subst (λ h. h.in_transaction ≡ false → IsTrue (state g.S.Store h).is_open → (state g.S.Store h).now ≡ (state g.S.Store h).committed) (sym same) c.at_rest-2.ensures.settled in
+    (put_back g.S.Store c.args.connection.now c.transaction-tx.result.conn.now mid last c.settle-ended.result c.transaction-tx.ensures.begun (g.met.S.Store.settled c.args.connection.now.store) (g.met.S.Store.stays mid.store)
+    c.at_rest.ensures.live live c.write-done.ensures.inside (c.at_rest.ensures.settled (search rules)) (after c.settle-ended.ensures.ended) (λ sound. omega (arith, sound, c.settle-ended.ensures.shown.clean)) c.settle-ended.ensures.back)

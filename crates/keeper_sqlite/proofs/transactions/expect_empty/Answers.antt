@@ -5,5 +5,5 @@ use Rattle.keeper_sqlite.proofs.transactions.expect_empty.Goals as goal
 
 pub returns-clause-told : goal.returns-clause-told
 returns-clause-told g c =
-    both_done g.S.Store (unanswered_calls (take 2 any_row_queries)) (unanswered_calls (drop 2 any_row_queries)) c.args.tx.now.conn.now c.expect_no_season.new.tx.conn.now c.expect_no_rows.new.tx.conn.now c.expect_no_season.result c.expect_no_rows.result
-    c.in_ok-expect_no_season.was c.expect_no_rows.ensures.inside c.expect_no_season.ensures.told c.expect_no_rows.ensures.told
+    both_done g.S.Store (unanswered_calls (take 1 any_row_queries)) (unanswered_calls (drop 1 any_row_queries)) c.args.tx.now.conn.now c.expect_empty.new.tx.conn.now c.expect_no_rows.new.tx.conn.now c.expect_empty.result c.expect_no_rows.result
+    c.in_ok-expect_empty.was c.expect_no_rows.ensures.inside c.expect_empty.ensures.told c.expect_no_rows.ensures.told

@@ -6,7 +6,7 @@ use Rattle.keeper_sqlite.proofs.transactions.expect_no_rows.Goals as goal
 
 pub returns-clause-told : goal.returns-clause-told
 returns-clause-told g c =
-    both_done g.S.Store (unanswered_calls (take 1 (drop 2 any_row_queries))) (unanswered_calls (drop 3 any_row_queries)) c.args.tx.now.conn.now c.expect_empty.new.tx.conn.now c.expect_empty-3.new.tx.conn.now c.expect_empty.result c.expect_empty-3.result c.in_ok-expect_empty.was
+    both_done g.S.Store (unanswered_calls (take 1 (drop 1 any_row_queries))) (unanswered_calls (drop 2 any_row_queries)) c.args.tx.now.conn.now c.expect_empty.new.tx.conn.now c.expect_empty-3.new.tx.conn.now c.expect_empty.result c.expect_empty-3.result c.in_ok-expect_empty.was
     (nothing_then _ _ _ c.expect_empty-2.ensures.inside c.expect_empty-3.ensures.inside) c.expect_empty.ensures.told
-    (both_done g.S.Store (unanswered_calls (take 1 (drop 3 any_row_queries))) (unanswered_calls (drop 4 any_row_queries)) c.expect_empty.new.tx.conn.now c.expect_empty-2.new.tx.conn.now c.expect_empty-3.new.tx.conn.now c.expect_empty-2.result c.expect_empty-3.result
+    (both_done g.S.Store (unanswered_calls (take 1 (drop 2 any_row_queries))) (unanswered_calls (drop 3 any_row_queries)) c.expect_empty.new.tx.conn.now c.expect_empty-2.new.tx.conn.now c.expect_empty-3.new.tx.conn.now c.expect_empty-2.result c.expect_empty-3.result
     c.in_ok-expect_empty-2.was c.expect_empty-3.ensures.inside c.expect_empty-2.ensures.told c.expect_empty-3.ensures.told)

@@ -8,4 +8,4 @@ pub returns-clause-ran : goal.returns-clause-ran
 returns-clause-ran g c =
     let rows = c.args.rows.now in
     both_done g.S.Store (Readies allot_text ∷ allot_calls allot_text rows) (Runs cuts_text (cuts_values (c.args.made + 1)) ∷ []) c.args.tx.now.conn.now c.insert_all.new.tx.conn.now c.upsert.new.tx.conn.now c.insert_all.result c.upsert.result
-    c.in_ok-insert_all.was c.upsert.ensures.inside c.insert_all.ensures.ran (rw c.in_ok-cuts.ensures.ok at c.upsert.ensures.ran)
+    c.in_ok-insert_all.was c.upsert.ensures.inside c.insert_all.ensures.ran (rw c.in_ok-cuts.ensures.ok.0 at c.upsert.ensures.ran)

@@ -5,4 +5,4 @@ use Rattle.keeper_sqlite.proofs.transactions.write_tables.Goals as goal
 
 pub returns-clause-ran : goal.returns-clause-ran
 returns-clause-ran g c =
-    both_done g.S.Store (plain_calls (season_table ∷ phase_table ∷ [])) (plain_calls (answer_table ∷ lift_table ∷ allot_table ∷ [])) _ _ _ c.make_season_tables.result c.make_row_tables.result c.in_ok-make_season_tables.was c.make_row_tables.ensures.inside c.make_season_tables.ensures.ran c.make_row_tables.ensures.ran
+    both_done g.S.Store (plain_calls (season_table ∷ answer_table ∷ [])) (plain_calls (allot_table ∷ phase_table ∷ lift_table ∷ [])) _ _ _ c.make_first_tables.result c.make_last_tables.result c.in_ok-make_first_tables.was c.make_last_tables.ensures.inside c.make_first_tables.ensures.ran c.make_last_tables.ensures.ran

@@ -1,0 +1,29 @@
+use Rattle.std.proofs.Common.{rules, arith}
+use Rattle.sqlite.specs.Held.{state}
+use Rattle.keeper_mem.specs.Tables.{with_raise}
+use Rattle.stored_tables.specs.Told.{told}
+use Rattle.keeper_sqlite.specs.Kept.{Ran, raise_text, raise_values}
+use Rattle.keeper_sqlite.proofs.KeeperLemmas.{ok_told, err_told, raise_stays, raise_crash, alone_kept}
+use Rattle.keeper_sqlite.proofs.keeper.SqliteKeeperKeeper.put_raise.Goals as goal
+
+pub returns-clause-stays : goal.returns-clause-stays
+returns-clause-stays g c = λ found. raise_stays g.S.Store c.args.row c.args.self.now.connection c.commit.new.self.connection c.commit.result (record { window = search rules; prog = search rules; seats = search rules }) found c.commit.ensures.kept
+
+pub returns-clause-ok : goal.returns-clause-ok
+returns-clause-ok g c = λ found.
+    let new = c.commit.new.self.connection in
+    ok_told g.S.Store new (g.met.S.Store.shut_if_dirty new.store) (with_raise c.args.row (told (state g.S.Store c.args.self.now.connection))) c.commit.result
+    (raise_stays g.S.Store c.args.row c.args.self.now.connection new c.commit.result (record { window = search rules; prog = search rules; seats = search rules }) found c.commit.ensures.kept)
+
+pub returns-clause-err : goal.returns-clause-err
+returns-clause-err g c =
+    let new = c.commit.new.self.connection in
+    err_told g.S.Store new (g.met.S.Store.shut_if_dirty new.store) (told (state g.S.Store c.args.self.now.connection)) c.commit.result c.commit.ensures.stays_err
+
+pub returns-clause-crash : goal.returns-clause-crash
+returns-clause-crash g c = λ found. raise_crash g.S.Store c.args.row c.args.self.now.connection c.commit.new.self.connection (record { window = search rules; prog = search rules; seats = search rules }) found c.commit.ensures.made
+
+pub returns-clause-alone : goal.returns-clause-alone
+returns-clause-alone g c =
+    let new = c.commit.new.self.connection in
+    alone_kept g.S.Store (Ran g.S.Store raise_text (raise_values c.args.row)) c.args.self.now.connection new c.commit.result (g.met.S.Store.settled new.store) c.commit.ensures.kept

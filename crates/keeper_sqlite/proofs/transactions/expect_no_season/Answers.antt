@@ -1,9 +1,0 @@
-use Rattle.std.proofs.Common.{take, drop}
-use Rattle.keeper_sqlite.specs.Kept.{unanswered_calls, any_row_queries}
-use Rattle.keeper_sqlite.proofs.CallLemmas.{both_done}
-use Rattle.keeper_sqlite.proofs.transactions.expect_no_season.Goals as goal
-
-pub returns-clause-told : goal.returns-clause-told
-returns-clause-told g c =
-    both_done g.S.Store (unanswered_calls (take 1 any_row_queries)) (unanswered_calls (take 1 (drop 1 any_row_queries))) c.args.tx.now.conn.now c.expect_empty.new.tx.conn.now c.expect_empty-2.new.tx.conn.now c.expect_empty.result c.expect_empty-2.result
-    c.in_ok-expect_empty.was c.expect_empty-2.ensures.inside c.expect_empty.ensures.told c.expect_empty-2.ensures.told

@@ -1,0 +1,45 @@
+-- A record is read back from the row in which it is stored, and a row stands for one record alone.
+use Rattle.std.proofs.Common.{◌≡◌, ◌+◌, ◌<◌, ◌≤◌, ◌^◌, inl, inr, ℕ, ℤ, pos, List, [], ◌∷◌, Bool, true, false, nat_lt, Option, Some, None, option_map, option_and_then, refl, sym, ap, subst, ◌∙◌, arith}
+use Rattle.std.proofs.lemmas.Bool.{ltb-true, lt-ltb}
+use Rattle.sqlite.specs.declared.types.Value.{Value}
+use Rattle.sqlite.specs.declared.types.Value.TheVariants.{Null, Int, Blob}
+use Rattle.sqlite.specs.Order.{Row, column}
+use Rattle.office_base.specs.StepNumbers.{step_number, step_of_number}
+use Rattle.office_base.specs.declared.asks.Choice.{Choice}
+use Rattle.office_base.specs.declared.asks.Choice.TheVariants.{Freeze, Float, Slide, Withdraw}
+use Rattle.office_base.specs.declared.step.StepKind.{StepKind}
+use Rattle.office_base.specs.declared.step.StepKind.TheVariants.{Open, Ews, Obc, Sc, St, Dereserved}
+use Rattle.keeper_mem.specs.declared.rows.AnswerRow.{AnswerRow}
+use Rattle.keeper_mem.specs.declared.rows.AllotRow.{AllotRow}
+use Rattle.keeper_mem.specs.declared.rows.RaiseRow.{RaiseRow}
+use Rattle.stored_tables.specs.Numbers.{choice_number, choice_of}
+use Rattle.stored_tables.specs.Texts.{answer_values, raise_values, allot_values}
+use Rattle.stored_tables.specs.Fits.{AnswerFits, RaiseFits, AllotFits}
+use Rattle.stored_tables.specs.Rows.{number_in, choice_in, step_in, answer_of, raise_of, allot_of, part_of}
+use Rattle.stored_tables.proofs.RowLemmas.{IsNumbered}
+
+pub number_fits : (bits n : ℕ) → n < 2 ^ bits → number_in bits (Int (pos n)) ≡ Some n
+number_fits bits n fits = rw (lt-ltb n (2 ^ bits) fits)
+
+pub choice_stored : (choice : Choice) → choice_in (Int (pos (choice_number choice))) ≡ Some choice
+choice_stored Freeze = refl
+choice_stored Float = refl
+choice_stored Slide = refl
+choice_stored Withdraw = refl
+
+pub step_stored : (step : StepKind) → step_in (Int (pos (step_number step))) ≡ Some step
+step_stored Open = refl
+step_stored Ews = refl
+step_stored Obc = refl
+step_stored Sc = refl
+step_stored St = refl
+step_stored Dereserved = refl
+
+pub answer_stored : (row : AnswerRow) (id : ℤ) (n : ℕ) → AnswerFits row → id ≡ pos n → IsNumbered answer_of (Int id ∷ Null ∷ answer_values row) row n
+answer_stored row id n fits is = record { id = ap Int is; is = rw (number_fits 16 row.window fits.window, number_fits 32 row.cand.0 fits.cand, number_fits 16 row.turn fits.turn, choice_stored row.choice) }
+
+pub raise_stored : (row : RaiseRow) (id : ℤ) (n : ℕ) → RaiseFits row → id ≡ pos n → IsNumbered raise_of (Int id ∷ Null ∷ raise_values row) row n
+raise_stored row id n fits is = record { id = ap Int is; is = rw (number_fits 16 row.window fits.window, number_fits 16 row.prog.0 fits.prog, step_stored row.step, number_fits 16 row.seats fits.seats) }
+
+pub allot_stored : (row : AllotRow) (id : ℤ) (n : ℕ) → AllotFits row → id ≡ pos n → IsNumbered allot_of (Int id ∷ allot_values row) row n
+allot_stored row id n fits is = record { id = ap Int is; is = rw (number_fits 16 row.round fits.round, number_fits 32 row.cand.0 fits.cand, number_fits 16 row.prog.0 fits.prog, step_stored row.step) }

@@ -1,0 +1,14 @@
+pub mod LayoutLemmas
+pub mod RowLemmas
+pub mod TextLemmas
+pub mod PutLemmas
+pub mod ColumnLemmas
+pub mod TableLemmas
+pub mod QueryLemmas
+pub mod StandLemmas
+pub mod PhaseLemmas
+pub mod OrderLemmas
+pub mod ShowLemmas
+pub mod TellLemmas
+pub mod SchemaLemmas
+pub mod CreateLemmas

@@ -1,0 +1,9 @@
+pub mod Columns
+pub mod Fits
+pub mod Layout
+pub mod Numbers
+pub mod Puts
+pub mod Rising
+pub mod Rows
+pub mod Texts
+pub mod Told
