@@ -1,0 +1,14 @@
+mod AheadBy
+mod Among
+mod Equal
+mod Leaving
+mod Needing
+mod OneFault
+mod Parts
+mod Reckoning
+mod SingleExchanges
+mod SoundLists
+mod Standing
+mod Taken
+mod Walks
+mod Worst

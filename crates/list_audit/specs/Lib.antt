@@ -1,0 +1,8 @@
+pub mod Clauses
+pub mod Exchanges
+pub mod Laws
+pub mod Names
+pub mod Outside
+pub mod Reckoning
+pub mod Stand
+pub mod Steps

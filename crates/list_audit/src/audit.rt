@@ -1,0 +1,157 @@
+// The lists of a programme: the first clause that they break.
+ghost use Rattle.std.specs.Prelude.{◌≡◌, ◌<◌, ◌≤◌, List, IfOk, length};
+ghost use Rattle.std.specs.List.{filter};
+ghost use Rattle.office_base.specs.Lists.{IsSublist};
+ghost use Rattle.office_base.specs.Merit.{in_merit};
+ghost use Rattle.office_base.specs.StepChoice.{AreRanked};
+ghost use Rattle.office_base.specs.StepNumbers.{step_number};
+ghost use Rattle.office_base.specs.Version.{IsVersion};
+ghost use Rattle.office_base.specs.declared.person.Category.TheVariants.{Ews as EwsMember, Obc as ObcMember, Sc as ScMember, St as StMember};
+ghost use Rattle.office_base.specs.declared.person.Person.{Person as AnyPerson};
+ghost use Rattle.office_base.specs.declared.step.StepKind.{StepKind as AnyKind};
+ghost use Rattle.office_base.specs.declared.step.StepKind.TheVariants.{Ews as EwsStep, Obc as ObcStep, Sc as ScStep, St as StStep, Dereserved as DereservedStep};
+ghost use Rattle.placements.specs.Ranks.{AreDistinct};
+ghost use Rattle.seat_matrix.specs.Matrix.{list_in, seats_in};
+ghost use Rattle.seat_matrix.specs.Seats.{AreProgrammeSeats};
+ghost use Rattle.programme_lists.specs.Chosen.{AreApplicants};
+ghost use Rattle.programme_lists.specs.Programme.{is_of, without};
+ghost use Rattle.list_audit.specs.Clauses.{IsListFault, audited, list_of, named_by};
+ghost use Rattle.list_audit.specs.Steps.{IsCategoryFault, IsStepFault};
+
+use crate::clause::ListFault;
+use crate::numbers::list_of;
+use crate::stand::{left_over, without};
+use crate::steps::step_fault;
+use merit_choice::in_merit_order;
+use merit_choice::laws::{ranked_in_merit, ranked_part};
+use office_base::{OutOfMemory, Person, ProgId, StepKind};
+use programme_lists::Programme;
+use seat_matrix::{Matrix, ProgrammeSeats};
+use std::alloc::Global;
+
+/// The persons whom the list of a step names.
+fn named(programme: &Programme, kind: StepKind) -> &[Person]
+    ensures { result.now ≡ (list_of programme.now kind).admitted }
+{
+    list_of(programme, kind).admitted.as_slice()
+}
+
+/// The step of a category, by its number among the six.
+fn category_step(number: u8) -> StepKind
+    requires after { 1 ≤ number }
+    requires before { number ≤ 4 }
+    ensures { step_number result ≡ number }
+{
+    match number {
+        1 => StepKind::Ews,
+        2 => StepKind::Obc,
+        3 => StepKind::Sc,
+        _ => StepKind::St,
+    }
+}
+
+/// The first clause that a step of the four categories breaks, from those whom the open step left.
+fn category_fault(
+    alloc: Global,
+    version: u8,
+    seats: &ProgrammeSeats,
+    programme: &Programme,
+    rest: &[Person],
+) -> Result<Option<ListFault>, OutOfMemory>
+    requires seats { AreProgrammeSeats seats.now }
+    requires ranked { AreRanked seats.now.list rest.now }
+    requires once { (kind : AnyKind) → AreDistinct (list_of programme.now kind).admitted }
+    ensures { IfOk result (λ fault. (applicants : List AnyPerson) → rest.now ≡ without (in_merit seats.now.list applicants) (named_by programme.now).open_step
+        → IsCategoryFault version seats.now applicants programme.now fault) }
+{
+    for number in 1..5 {
+        let kind = category_step(number);
+        if let Some(fault) = step_fault(alloc, version, seats, programme, kind, rest)? {
+            return Ok(Some(fault));
+        }
+    }
+    Ok(None)
+}
+
+/// The first clause that the last step breaks, from those whom the open step left. The persons of each category are members among these.
+fn last_fault(
+    alloc: Global,
+    version: u8,
+    seats: &ProgrammeSeats,
+    programme: &Programme,
+    rest: &[Person],
+) -> Result<Option<ListFault>, OutOfMemory>
+    requires seats { AreProgrammeSeats seats.now }
+    requires ranked { AreRanked seats.now.list rest.now }
+    requires once { AreDistinct (list_of programme.now DereservedStep).admitted }
+    requires ews { IsSublist (list_of programme.now EwsStep).admitted (filter (is_of EwsMember) rest.now) }
+    requires obc { IsSublist (list_of programme.now ObcStep).admitted (filter (is_of ObcMember) rest.now) }
+    requires sc { IsSublist (list_of programme.now ScStep).admitted (filter (is_of ScMember) rest.now) }
+    requires st { IsSublist (list_of programme.now StStep).admitted (filter (is_of StMember) rest.now) }
+    ensures { IfOk result (λ fault. (applicants : List AnyPerson) → rest.now ≡ without (in_merit seats.now.list applicants) (named_by programme.now).open_step
+        → IsStepFault (audited version seats.now applicants programme.now DereservedStep) fault) }
+{
+    let left = left_over(
+        alloc,
+        rest,
+        named(programme, StepKind::Ews),
+        named(programme, StepKind::Obc),
+        named(programme, StepKind::Sc),
+        named(programme, StepKind::St),
+    )?;
+    step_fault(
+        alloc,
+        version,
+        seats,
+        programme,
+        StepKind::Dereserved,
+        left.as_slice(),
+    )
+}
+
+/// The first clause that the lists break, from applicants who stand in merit order.
+fn fault_in_order(
+    alloc: Global,
+    version: u8,
+    seats: &ProgrammeSeats,
+    programme: &Programme,
+    ranked: &[Person],
+) -> Result<Option<ListFault>, OutOfMemory>
+    requires seats { AreProgrammeSeats seats.now }
+    requires ranked { AreRanked seats.now.list ranked.now }
+    requires once { (kind : AnyKind) → AreDistinct (list_of programme.now kind).admitted }
+    ensures { IfOk result (λ fault. (applicants : List AnyPerson) → ranked.now ≡ in_merit seats.now.list applicants → IsListFault version seats.now applicants programme.now fault) }
+{
+    ranked_in_merit();
+    ranked_part();
+    if let Some(fault) = step_fault(alloc, version, seats, programme, StepKind::Open, ranked)? {
+        return Ok(Some(fault));
+    }
+    let rest = without(alloc, ranked, named(programme, StepKind::Open))?;
+    if let Some(fault) = category_fault(alloc, version, seats, programme, rest.as_slice())? {
+        return Ok(Some(fault));
+    }
+    last_fault(alloc, version, seats, programme, rest.as_slice())
+}
+
+/// The first clause that the lists of a programme break, from its applicants in any order: steps in their order, and in each the numbers, the people, the
+/// size, the certificate and that nobody is overtaken. The candidate is the one whom the clause names: the first who is no person of the step or stands out of
+/// order, or the best who overtakes somebody. None exactly where no clause is broken. The version is that of the bundle. It fails for want of memory alone.
+pub fn list_fault(
+    alloc: Global,
+    matrix: &Matrix,
+    version: u8,
+    prog: ProgId,
+    applicants: &[Person],
+    programme: &Programme,
+) -> Result<Option<ListFault>, OutOfMemory>
+    requires programme { prog.0 < length matrix.now.programmes }
+    requires version { IsVersion version }
+    requires applicants { AreApplicants (list_in matrix.now prog.0) applicants.now }
+    requires once { (kind : AnyKind) → AreDistinct (list_of programme.now kind).admitted }
+    ensures { IfOk result (λ fault. IsListFault version (seats_in matrix.now prog.0) applicants.now programme.now fault) }
+{
+    let seats = matrix.programme(prog);
+    let ranked = in_merit_order(alloc, applicants, seats.list)?;
+    fault_in_order(alloc, version, &seats, programme, &ranked)
+}

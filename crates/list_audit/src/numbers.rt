@@ -1,0 +1,71 @@
+// The numbers that a list tells: its seats and its candidates.
+ghost use Rattle.std.specs.Prelude.{◌≡◌, ◌↔◌, ◌+◌, IsTrue, length};
+ghost use Rattle.office_base.specs.declared.step.StepKind.TheVariants.{Dereserved as DereservedStep};
+ghost use Rattle.seat_matrix.specs.Seats.{AreProgrammeSeats};
+ghost use Rattle.list_audit.specs.Clauses.{HasSeats, list_of, named_by, seats_held, seats_shared};
+
+use office_base::{StepKind, step_number};
+use programme_lists::{Programme, StepList};
+use seat_matrix::ProgrammeSeats;
+
+/// The list of a step.
+pub(crate) fn list_of(programme: &Programme, kind: StepKind) -> &StepList
+    ensures { result.now ≡ list_of programme.now kind }
+{
+    &programme.steps[usize::from(step_number(kind))]
+}
+
+/// How many persons the lists of a step name.
+fn named_in(programme: &Programme, kind: StepKind) -> usize
+    ensures { result ≡ length (list_of programme.now kind).admitted }
+{
+    list_of(programme, kind).admitted.len()
+}
+
+/// The seats of the categories whose unfilled seats go to the last step.
+fn seats_shared(version: u8, seats: &ProgrammeSeats) -> u128
+    requires { AreProgrammeSeats seats.now }
+    ensures { result ≡ seats_shared version seats.now }
+{
+    let of_obc = u128::from(seats.of(StepKind::Obc).seats);
+    if version == 2 {
+        of_obc + u128::from(seats.of(StepKind::Ews).seats)
+    } else {
+        of_obc
+    }
+}
+
+/// The seats that the last list tells, with the persons whom the lists of those categories name.
+fn seats_told(version: u8, programme: &Programme) -> u128
+    ensures { result ≡ (list_of programme.now DereservedStep).seats + seats_held version (named_by programme.now) }
+{
+    let told = u128::from(list_of(programme, StepKind::Dereserved).seats);
+    let held = told + named_in(programme, StepKind::Obc) as u128;
+    if version == 2 {
+        held + named_in(programme, StepKind::Ews) as u128
+    } else {
+        held
+    }
+}
+
+/// Whether the list of a step tells as many seats as the step has.
+pub(crate) fn has_seats(
+    version: u8,
+    seats: &ProgrammeSeats,
+    programme: &Programme,
+    kind: StepKind,
+) -> bool
+    requires { AreProgrammeSeats seats.now }
+    ensures { IsTrue result ↔ HasSeats version seats.now (named_by programme.now) kind (list_of programme.now kind).seats }
+{
+    let own = u32::from(seats.of(kind).seats);
+    let told = list_of(programme, kind).seats;
+    match kind {
+        StepKind::Open => told == own,
+        StepKind::Ews => told == own,
+        StepKind::Obc => told == own,
+        StepKind::Sc => told == own,
+        StepKind::St => told == own,
+        StepKind::Dereserved => seats_told(version, programme) == seats_shared(version, seats),
+    }
+}
