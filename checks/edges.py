@@ -68,12 +68,17 @@ def full_output(room, program, given, words):
 
 @in_a_room
 def lost_replies(room, program, bundle):
-    """What was kept before the output failed stands: the season goes on, and has what it has where its replies were written."""
+    """Over a file each reply is given on at once: where the output has no room, the first request alone was answered. What it kept stands, and with all
+    requests again the season goes on as where every reply was written."""
     with open("/dev/full", "wb") as it:
         lost = ended([program, "run", "lost.db"], room, input=bundle, stdout=it)
-    ended([program, "run", "told.db"], room, input=bundle)
-    first, other = (ended([program, "resume", it], room, input=b"state,nobody\n") for it in ("lost.db", "told.db"))
-    return is_so("run over a file with a full output", lost, (None, b"", 5)) or is_so("resume after it", first, other)
+    with sqlite3.connect(f"{room}/lost.db") as connection:
+        kept = sum(connection.execute("SELECT (SELECT count(*) FROM answer) + (SELECT count(*) FROM lift) + (SELECT sum(cuts) FROM phase)").fetchone())
+    connection.close()
+    told = ended([program, "run", "told.db"], room, input=bundle)
+    again = ended([program, "resume", "lost.db"], room, input=bundle.partition(b"[requests]\n")[2])
+    several = None if kept <= 1 else f"run over a file with a full output: {kept} requests were kept, and not the first alone"
+    return is_so("run over a file with a full output", lost, (None, b"", 5)) or several or is_so("resume after it, with all requests", again, told)
 
 
 # ---- stores
