@@ -91,10 +91,12 @@ fn is_refused(alloc: Global, request: Request, reply: &str) -> Result<bool, OutO
     };
     let first = answer_all(alloc, &mut office, script.as_slice(), &mut replies);
     let second = answer_all(alloc, &mut office, &[request], &mut replies);
+    let accepted = office.entries().len();
+    let _keeper = office.into_keeper();
     Ok(
         [first, second] == [RunEnd::Done, RunEnd::Done]
             && replies.bytes().ends_with(reply.as_bytes())
-            && office.entries().len() == 1,
+            && accepted == 1,
     )
 }
 
