@@ -10,3 +10,4 @@ mod reply;
 mod words;
 
 pub use reply::reply_text;
+pub use words::{choice_name, standing_name};

@@ -6,7 +6,7 @@ use office_base::Choice;
 use round_options::Standing;
 
 /// The word of a choice.
-pub(crate) fn choice_name(choice: Choice) -> &'static str
+pub fn choice_name(choice: Choice) -> &'static str
     ensures { result.now ≡ choice_name choice }
 {
     match choice {
@@ -18,7 +18,7 @@ pub(crate) fn choice_name(choice: Choice) -> &'static str
 }
 
 /// The word of a standing.
-pub(crate) fn standing_name(standing: Standing) -> &'static str
+pub fn standing_name(standing: Standing) -> &'static str
     ensures { result.now ≡ standing_name standing }
 {
     match standing {

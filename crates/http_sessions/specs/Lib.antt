@@ -1,0 +1,5 @@
+pub mod Doors
+pub mod Exchange
+pub mod Held
+pub mod Sessions
+pub mod Steps

@@ -1,0 +1,226 @@
+// One message of the held bytes, answered.
+ghost use Rattle.std.specs.Prelude.{◌≡◌, ◌+◌, ◌≤◌, ◌<◌, ◌||◌, ◌==◌, ℕ, List, Option, Result, None, Some, [], ◌++◌, length, IfSome, IfNone, OnOk, OnErr, option_copied, take};
+ghost use Rattle.std.specs.Option.{unwrap_or};
+ghost use Rattle.office_base.specs.Outside.{Appends, Rose};
+ghost use Rattle.http_heads.specs.Fields.{closes};
+ghost use Rattle.http_heads.specs.Messages.{IsUnfinished, IsWhole};
+ghost use Rattle.http_heads.specs.Told.{told_message, told_fields};
+ghost use Rattle.http_asks.specs.Verdicts.{token_in};
+ghost use Rattle.http_sessions.specs.Exchange.{Item, Outcome, IsItem, Goes, item_of, reply_to, heard, answered_text, body_text};
+
+use crate::counter::{Answered, Counter};
+use crate::gate::Gate;
+use http_asks::{Judged, Routes, judge, token};
+use http_heads::{Held, HeldMessage, held_message};
+use http_wire::{Fault, Outbox};
+use httparse::spans::{EMPTY_HEADER_SPAN, HeaderSpan};
+use office_base::{Ask, Failed, OutOfMemory, Text};
+use office_links::{Link, write_link};
+use office_moves::Reply;
+use reply_bodies::status_of;
+use round_cut::OfficeFault;
+use std::alloc::Global;
+
+/// What a message is read and answered with: the places of its fields, the routes of the pages, and the room for a reply.
+#[derive(Drop)]
+pub(crate) struct Tools {
+    pub room: [HeaderSpan; 64],
+    pub routes: Routes,
+    pub outbox: Outbox,
+}
+
+impl Tools {
+    pub(crate) fn new(alloc: Global) -> Result<Tools, OutOfMemory> {
+        Ok(Tools {
+            room: [EMPTY_HEADER_SPAN; 64],
+            routes: Routes::new(alloc)?,
+            outbox: Outbox::new(alloc)?,
+        })
+    }
+}
+
+/// Which message it is: the number of the worker from 0, and of the message in its connection from 1.
+#[derive(Clone, Copy)]
+pub(crate) struct At {
+    pub worker: u32,
+    pub message: u32,
+}
+
+/// A reply that is ready: its message took so many of the held bytes, and whether it asks to close. What follows the bytes of the outbox.
+#[derive(Drop)]
+pub(crate) struct Ready {
+    pub len: usize,
+    pub last: bool,
+    pub body: Option<Text>,
+}
+
+/// Asks the counter between the calls of the gate.
+fn ask_at<C: Counter, G: Gate>(
+    alloc: Global,
+    counter: &mut C,
+    token: Option<&[u8]>,
+    ask: &Ask,
+    gate: &G,
+    at: At,
+) -> Result<Answered, OfficeFault>
+    requires { 1 ≤ C.asks_left counter.old }
+    ensures answer { C.answers counter.old (option_copied token.entry) ask.now result counter.new }
+    ensures left { C.asks_left counter.old ≤ C.asks_left counter.new + 1 }
+    ensures same { C.lender counter.new ≡ C.lender counter.old }
+{
+    gate.before(at.worker, at.message);
+    let answer = counter.ask(alloc, token, ask);
+    gate.after(at.worker, at.message);
+    answer
+}
+
+/// Puts the reply to what was asked; the body comes back where it does not fit.
+fn put_answer(
+    outbox: &mut Outbox,
+    answer: Result<Answered, OfficeFault>,
+    close: bool,
+) -> Option<Text>
+    ensures { outbox.new ++ unwrap_or result [] ≡ answered_text close answer }
+{
+    match answer {
+        Err(OfficeFault::KeeperFault) => {
+            outbox.fail(Fault::Keeper, close);
+            None
+        }
+        Err(OfficeFault::OutOfMemory) => {
+            outbox.fail(Fault::Memory, close);
+            None
+        }
+        Ok(Answered { reply, body }) => put_body(outbox, &reply, body, close),
+    }
+}
+
+/// Puts a reply with its body, or that there was no memory for it; the body comes back where it does not fit.
+fn put_body(
+    outbox: &mut Outbox,
+    reply: &Reply,
+    body: Result<Text, OutOfMemory>,
+    close: bool,
+) -> Option<Text>
+    ensures { outbox.new ++ unwrap_or result [] ≡ body_text close reply.now body }
+{
+    match body {
+        Err(OutOfMemory) => {
+            outbox.fail(Fault::Memory, close);
+            None
+        }
+        Ok(text) => {
+            if outbox.reply(status_of(reply), text.as_slice(), close) {
+                return None;
+            }
+            Some(text)
+        }
+    }
+}
+
+/// Whether the connection closes after the reply to the message of this number.
+fn closes_after(message: &HeldMessage<'_>, number: u32) -> bool
+    ensures { result ≡ closes message.now.minor (told_fields message.now.fields) || number == 100 }
+{
+    message.closes() || number == 100
+}
+
+/// Answers a message.
+fn answer_message<C: Counter, G: Gate>(
+    alloc: Global,
+    counter: &mut C,
+    message: &HeldMessage<'_>,
+    routes: &Routes,
+    outbox: &mut Outbox,
+    gate: &G,
+    at: At,
+) -> Option<Text>
+    requires { 1 ≤ C.asks_left counter.old }
+    ensures goes { (outcome : Outcome) × Goes C.answers counter.old (item_of (told_message message.now)) outcome counter.new
+        × (outbox.new ++ unwrap_or result [] ≡ reply_to at.message (item_of (told_message message.now)) outcome) }
+    ensures left { C.asks_left counter.old ≤ C.asks_left counter.new + 1 }
+    ensures same { C.lender counter.new ≡ C.lender counter.old }
+{
+    let close = closes_after(message, at.message);
+    match judge(alloc, routes, message) {
+        Err(OutOfMemory) => {
+            outbox.fail(Fault::Memory, close);
+            None
+        }
+        Ok(Judged::Refused { status, allow }) => {
+            outbox.refuse(status, allow, close);
+            None
+        }
+        Ok(Judged::Asked(ask)) => {
+            let answer = ask_at(alloc, counter, token(&message.fields), &ask, gate, at);
+            put_answer(outbox, answer, close)
+        }
+    }
+}
+
+/// Answers the message that the held bytes begin with. None where more bytes are wanted.
+pub(crate) fn answer_held<C: Counter, G: Gate>(
+    alloc: Global,
+    counter: &mut C,
+    held: &[u8],
+    tools: &mut Tools,
+    gate: &G,
+    at: At,
+) -> Option<Ready>
+    requires { 1 ≤ C.asks_left counter.old }
+    ensures none { IfNone result (IsUnfinished held.now × (counter.new ≡ counter.old)) }
+    ensures some { IfSome result (λ ready. (item : Item) × (outcome : Outcome)
+        × ((more : List ℕ) → IsItem (held.now ++ more) item ready.len) × (ready.last ≡ item.closes) × Goes C.answers counter.old item outcome counter.new
+        × (tools.new.outbox ++ unwrap_or ready.body [] ≡ reply_to at.message item outcome)) }
+    ensures within { IfSome result (λ ready. ready.len ≤ length held.now) }
+    ensures left { C.asks_left counter.old ≤ C.asks_left counter.new + 1 }
+    ensures same { C.lender counter.new ≡ C.lender counter.old }
+{
+    match held_message(held, &mut tools.room) {
+        Held::More => None,
+        Held::Refused(status) => {
+            tools.outbox.refuse(status, None, true);
+            Some(Ready {
+                len: 0,
+                last: true,
+                body: None,
+            })
+        }
+        Held::Whole(message) => {
+            let body = answer_message(
+                alloc,
+                counter,
+                &message,
+                &tools.routes,
+                &mut tools.outbox,
+                gate,
+                at,
+            );
+            Some(Ready {
+                len: message.len,
+                last: message.closes(),
+                body,
+            })
+        }
+    }
+}
+
+/// Writes a reply that is ready.
+pub(crate) fn send<L: Link>(
+    link: &mut L,
+    outbox: &Outbox,
+    body: &Option<Text>,
+) -> Result<(), Failed>
+    ensures ok { OnOk result (Appends (outbox.now ++ unwrap_or body.now []) (L.written link.old) (L.written link.new)) }
+    ensures err { OnErr result ((n : ℕ) × (n < length (outbox.now ++ unwrap_or body.now [])) × Appends (take n (outbox.now ++ unwrap_or body.now [])) (L.written link.old) (L.written link.new)) }
+    ensures apart { L.left link.new ≡ L.left link.old }
+    ensures cause { OnErr result (Rose (L.faults link.old) (L.faults link.new)) }
+    ensures count { L.faults link.old ≤ L.faults link.new }
+    ensures steady { OnOk result (L.faults link.new ≡ L.faults link.old) }
+{
+    write_link(link, outbox.bytes())?;
+    match body {
+        None => Ok(()),
+        Some(text) => write_link(link, text.as_slice()),
+    }
+}

@@ -1,0 +1,42 @@
+// What a session puts its asks to.
+ghost use Rattle.std.specs.Prelude.{◌≡◌, ◌+◌, ◌≤◌, ℕ, List, Option, Result, option_copied};
+ghost use Rattle.std.specs.Borrow.{GName};
+ghost use Rattle.office_base.specs.declared.asks.Ask.{Ask as AnyAsk};
+ghost use Rattle.http_sessions.specs.declared.counter.Answered.{Answered as AnyAnswered};
+ghost use Rattle.round_cut.specs.declared.fault.OfficeFault.{OfficeFault as AnyFault};
+
+use office_base::{Ask, OutOfMemory, Text};
+use office_moves::Reply;
+use round_cut::OfficeFault;
+use std::alloc::Global;
+
+/// A reply of the office, and its body, for which there may have been no memory. What was asked is done either way.
+#[derive(Debug, Drop)]
+pub struct Answered {
+    pub reply: Reply,
+    pub body: Result<Text, OutOfMemory>,
+}
+
+/// What asks are put to.
+pub trait Counter {
+    /// How many asks are left.
+    ghost asks_left: { Self → ℕ };
+
+    /// The name of the reference that it holds, which no call changes.
+    ghost lender: { Self → GName };
+
+    /// The counter before, a token, what is asked with it, the answer, and the counter after.
+    ghost answers: { Self → Option (List ℕ) → AnyAsk → Result AnyAnswered AnyFault → Self → Type 0 };
+
+    /// Puts an ask with its token, and lowers the number of asks left by at most one. `KeeperFault` and `OutOfMemory` are the office's own.
+    fn ask(
+        &mut self,
+        alloc: Global,
+        token: Option<&[u8]>,
+        ask: &Ask,
+    ) -> Result<Answered, OfficeFault>
+        requires { 1 ≤ asks_left self.old }
+        ensures answer { answers self.old (option_copied token.entry) ask.now result self.new }
+        ensures left { asks_left self.old ≤ asks_left self.new + 1 }
+        ensures same { lender self.new ≡ lender self.old };
+}

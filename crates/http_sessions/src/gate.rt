@@ -1,0 +1,21 @@
+// What is called around each message that reaches the counter.
+
+/// It is called around each message that reaches a counter, outside any turn. Workers are numbered from 0, and the messages of a connection from 1, all of
+/// them counted.
+pub trait Gate {
+    /// Before the message is put to the counter.
+    fn before(&self, worker: u32, message: u32);
+
+    /// After the counter answered it.
+    fn after(&self, worker: u32, message: u32);
+}
+
+/// It does nothing.
+#[derive(Clone, Copy, Debug, PartialEq, Eq)]
+pub struct OpenGate;
+
+impl Gate for OpenGate {
+    fn before(&self, _worker: u32, _message: u32) {}
+
+    fn after(&self, _worker: u32, _message: u32) {}
+}

@@ -1,0 +1,38 @@
+-- The status of each reply over HTTP.
+use Rattle.std.specs.Prelude.{ℕ}
+use Rattle.office_moves.specs.declared.moves.Reply.{Reply}
+use Rattle.office_moves.specs.declared.moves.Reply.TheVariants.{Noted, Raised, Published, Final, SeatIs, WhyIs, ListIs, StateIs, Refused}
+use Rattle.office_moves.specs.declared.refusal.Refusal.{Refusal}
+use Rattle.office_moves.specs.declared.refusal.Refusal.TheVariants.{UnknownCandidate, UnknownProgramme, Denied, TurnUsed, Late, Ahead, Gap, Gone, NoSeat, Widening, TooManyTurns, NotChosen, NoSuchRound, LastWindow, StepFixed, Falling, SeatLimit}
+
+-- The status of a refusal: 403 where the one who asks may not; 404 where there is no such thing; 409 where the state of the office stands against it.
+abbrev pub refusal_status : Refusal → ℕ
+refusal_status UnknownCandidate = 404
+refusal_status UnknownProgramme = 404
+refusal_status (Denied rule) = 403
+refusal_status (TurnUsed kept) = 409
+refusal_status (Late window) = 409
+refusal_status (Ahead window) = 409
+refusal_status (Gap last) = 409
+refusal_status (Gone how) = 409
+refusal_status NoSeat = 409
+refusal_status (Widening standing) = 409
+refusal_status TooManyTurns = 409
+refusal_status NotChosen = 404
+refusal_status (NoSuchRound published) = 404
+refusal_status LastWindow = 409
+refusal_status StepFixed = 409
+refusal_status (Falling seats) = 409
+refusal_status (SeatLimit total) = 409
+
+-- The status of a reply: 200 for each but a refusal.
+abbrev pub status_of : Reply → ℕ
+status_of (Noted cand window turn choice) = 200
+status_of (Raised window prog step seats) = 200
+status_of (Published number seated) = 200
+status_of (Final admitted) = 200
+status_of (SeatIs cand number standing seat) = 200
+status_of (WhyIs cand prog answer) = 200
+status_of (ListIs number prog programme) = 200
+status_of (StateIs window rounds published) = 200
+status_of (Refused refusal) = refusal_status refusal

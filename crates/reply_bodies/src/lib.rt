@@ -1,0 +1,14 @@
+// The bodies of the office's replies over HTTP, and the status of each: an object in JSON for each kind of reply, and one for all refusals.
+//
+// The sessions stand on it. `specs/Bodies` says each object as a function of values, its members in the rising order of their keys; the calls give
+// exactly its compact text. Texts of reasons and lists are those that are printed too. The kit's `serde_json` builds the values and writes them. It
+// decides nothing, and must never know how a reply came about, of messages or of links.
+#![tactic(auto)]
+
+mod bodies;
+mod refusals;
+mod status;
+mod texts;
+
+pub use bodies::reply_json;
+pub use status::status_of;

@@ -1,0 +1,32 @@
+// The status of each reply over HTTP.
+ghost use Rattle.std.specs.Prelude.{◌≡◌};
+ghost use Rattle.http.specs.StatusCode.{IsStatusCode};
+ghost use Rattle.reply_bodies.specs.Status.{refusal_status, status_of};
+
+use office_moves::{Refusal, Reply};
+
+/// The status of a reply: 200 for each but a refusal, and 403, 404 or 409 for a refusal.
+pub fn status_of(reply: &Reply) -> u16
+    ensures value { result ≡ status_of reply.now }
+    ensures valid { IsStatusCode result }
+{
+    match reply {
+        Reply::Refused(refusal) => refusal_status(*refusal),
+        _ => 200,
+    }
+}
+
+/// The status of a refusal: 403 where the one who asks may not; 404 where there is no such candidate, programme, choice or round; else 409.
+fn refusal_status(refusal: Refusal) -> u16
+    ensures value { result ≡ refusal_status refusal }
+    ensures valid { IsStatusCode result }
+{
+    match refusal {
+        Refusal::Denied { .. } => 403,
+        Refusal::UnknownCandidate
+        | Refusal::UnknownProgramme
+        | Refusal::NotChosen
+        | Refusal::NoSuchRound { .. } => 404,
+        _ => 409,
+    }
+}
