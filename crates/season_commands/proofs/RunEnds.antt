@@ -41,9 +41,14 @@ unbegun_ends season script before after fault written now broke result held told
 pub begun_ends : (season : Season) (script : List Request) (facts : SeasonFacts) (start : State) (before mid after : Tables) (written now : Option (List ℕ)) (status : Status)
     → facts ≡ facts_of season → start ≡ opening → IsFound false (still before mid) → (IsTablesTold after → IsTablesTold mid)
     → (output : List ℕ) × Appends output written now × EndsOffice facts start script after status output → (output : List ℕ) × Appends output written now × EndsSeason season script before after status output
-begun_ends season script facts start before mid after written now status same from none was end =
-    (end.0, end.1, inr (still_none before mid after was none,
-    subst (λ (f : SeasonFacts). EndsOffice f opening script after status end.0) same (subst (λ (s : State). EndsOffice facts s script after status end.0) from end.2)))
+begun_ends season script facts start before mid after written now status same from none was end = (
+  end.0,
+  end.1,
+  inr (
+    still_none before mid after was none,
+    subst (λ (f : SeasonFacts). EndsOffice f opening script after status end.0) same (subst (λ (s : State). EndsOffice facts s script after status end.0) from end.2),
+  ),
+)
 
 -- the text of why no bundle was read goes with its status
 text_of_failure : (left : Option (List ℕ)) (failed : Type 0) (failure : Failure) → IsFailureOf check_answers left failed failure
