@@ -11,6 +11,7 @@ import tempfile
 import plain_scripts
 from cases import READS_STORES, ROOMS, called, first_difference
 from plain_office import MOST_SEATS, TRAITS, Office, Season, lists_of, sheet_text
+from plain_units import Fault, plain_bundle
 
 sys.path.append(f"{os.path.dirname(os.path.dirname(os.path.realpath(__file__)))}/bench")
 import generated  # noqa: E402
@@ -334,6 +335,45 @@ def fault_of_text(program, count, seed):
     return fault_of_output(program, f"generate {count} {seed} text", ["generate", str(count), str(seed), "text"], "", told)
 
 
+# ---- drawn bundles with units
+
+
+def spelled(draw, field):
+    """A field of a record as it may be spelled; now and then another one."""
+    return draw.of(40, (24, field), (34, f'"{field}"'), (36, f'"{field}\n"'), (37, f"{field} "), (38, f'"[{field}\n[x]"'), (39, f'"{field}""'), (40, f"{field}-OS"))
+
+
+def record(draw, fields):
+    return ",".join(it if draw.below(20) else spelled(draw, it) for it in fields) + draw.of(20, (16, "\n"), (17, "\r\n"), (18, ",,\n"), (19, "\r"), (20, "\n\n"))
+
+
+def drawn_divided(draw, register):
+    """A bundle with units over these candidates; some have a fault in their units, their states or their choices, or are cut wrongly."""
+    codes = [it for it in ("N", "M", "A-1") if draw.below(4)]
+    units = [[it, draw.of(2, (1, "KA"), (2, "TN"))] for it in codes] + [["N", "KA"]] * (draw.below(12) == 0)
+    states = [[str(it), draw.of(3, (1, "KA"), (2, "TN"), (3, "KL"))] for it in range(1, 7) if draw.below(10)] + [["1", "ka"]] * (draw.below(12) == 0)
+    matrix = "".join(f"{it}{end},I1,1,OPEN,1\n" for it in ("N", "M", "A-1") for end in ("-HS", "-OS", ""))
+    named = lambda: draw.of(30, (10, "N"), (20, "M"), (29, "A-1"), (30, "N-HS"))
+    rows = [[str(it), *[named() for _ in range(draw.below(3))]] for it in range(1, 6)]
+    parts = [("[units]", units), ("[states]", states), ("office bundle 1\n[season]", [["rounds", "2"], ["clerk", "clerk0001"]])]
+    parts = [it for it in parts if draw.below(40)]
+    text = draw.of(20, (18, ""), (20, "\ufeff")) + draw.of(30, (29, "office units 1\n"), (30, "office units 2\n"))
+    text += "".join(f"{name}\n{''.join(record(draw, it) for it in body)}" for name, body in parts)
+    text += f"{register}[matrix]\nprogramme,institute,list,step,seats,W,D,X,S,F,L\n{matrix}[choices]\n"
+    text += "candidate,programmes\n" + "".join(record(draw, it) for it in rows)
+    return (text + "[requests]\ncut,clerk,0\n").encode()
+
+
+def fault_of_divided(program, label, given):
+    """Why a bundle with units is not run as the plain bundle that it comes to, or its fault not told, or None."""
+    try:
+        wanted = called(program, ["run", "memory"], plain_bundle(given), "/")
+    except Fault as fault:
+        wanted = f"{fault}\n".encode(), 3
+    wrote = called(program, ["units", "memory"], given, "/")
+    return None if wrote == wanted else f"{label}: ended with status {wrote[1]}: {first_difference(wrote[0], wanted[0])}"
+
+
 def trials(program, texts, drawn):
     """What is tried, each a call that gives a fault or None, of so much that is drawn. That all replies come, markets with several fair allocations, sheets
     where protections pass over a candidate, and each step with an admitted, is said of all of them."""
@@ -356,17 +396,26 @@ def trials(program, texts, drawn):
         yield functools.partial(fault_of_damaged, program, f"damaged script {number}", texts["mixed candidates"].decode(), script)
     for count, seed in drawn.texts:
         yield functools.partial(fault_of_text, program, count, seed)
+    draw, register = Draw(3), texts["register of five"].decode()
+    for number in range(drawn.markets):
+        yield functools.partial(fault_of_divided, program, f"units {number}", drawn_divided(draw, register))
     for count, seed in ((2, 1), (40, 7)):
         yield functools.partial(fault_of_summary, program, count, seed)
 
 
 def plainly(call):
     """What a call without a fault comes to by the plain office: the list of a sheet, or the replies to requests. None where it tells neither."""
-    given = b"".join(call.source).decode(errors="replace")
+    given = b"".join(call.source)
+    if call.words[:1] == ["units"]:
+        try:
+            given = plain_bundle(given).replace(b'"', b"")
+        except Fault as fault:
+            return f"{fault}\n"
+    given = given.decode(errors="replace")
     season, begin, script = given.partition("[requests]\n")
     if call.status == 0 and call.words[:1] == ["step"]:
         return sheet_text(given)
-    if call.status == 0 and call.words[:1] == ["run"] and begin:
+    if call.status == 0 and call.words[:1] in (["run"], ["units"]) and begin:
         office = Office(Season(season))
         return "".join(office.reply(it) for it in script.split("\n") if it)
     return None
