@@ -90,7 +90,11 @@ def choices_of_one(count):
     return "1" + ",A" * count + "\n"
 
 
-LARGE = {it.__name__: it for it in (candidates, programmes, longest_choices, choices_of_one)}
+def empty_lines(count):
+    return "\n" * count
+
+
+LARGE = {it.__name__: it for it in (candidates, programmes, longest_choices, choices_of_one, empty_lines)}
 
 
 # ---- reading

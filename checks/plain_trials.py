@@ -11,6 +11,7 @@ import tempfile
 import plain_scripts
 from cases import READS_STORES, ROOMS, called, first_difference
 from plain_office import MOST_SEATS, TRAITS, Office, Season, lists_of, sheet_text
+from plain_special import drawn_lists, drawn_season, office_after, special_text, wrongs_of
 from plain_units import Fault, plain_bundle
 
 sys.path.append(f"{os.path.dirname(os.path.dirname(os.path.realpath(__file__)))}/bench")
@@ -20,6 +21,7 @@ import generated  # noqa: E402
 Drawn = collections.namedtuple("Drawn", "scripts markets sheets programmes damaged texts")
 ALL = Drawn(200, 1000, 2000, 1000, 1, ((1, 0), (1, 2**32 - 1), (2, 7), (20, 0), (20, 7), (800, 7), (801, 3), (100_000, 7)))
 FEW = Drawn(3, 40, 40, 20, 100, ((2, 7), (20, 7)))
+MOST_INPUT = 134_217_728
 REQUESTS = 40
 
 # ---- drawn scripts
@@ -374,6 +376,35 @@ def fault_of_divided(program, label, given):
     return None if wrote == wanted else f"{label}: ended with status {wrote[1]}: {first_difference(wrote[0], wanted[0])}"
 
 
+# ---- special rounds over drawn seasons that are over
+
+
+@functools.lru_cache(maxsize=None)
+def drawn_specials(count):
+    """So many seasons with their scripts, each with lists for its special round, what comes of it, and whether that is a fault; and how many have final rows of
+    the de-reserved step and seats in the special round."""
+    draw, found, both = Draw(1), [], 0
+    for number in range(count):
+        text = drawn_season(draw, in_order)
+        office = office_after(text)
+        lists = drawn_lists(draw, in_order, office)
+        told, is_fault = special_text(office, lists)
+        both += any(step == "D" for *_, step in office.admitted()) and "allot" in told
+        wrong = wrongs_of(office, lists)
+        found.append((f"special round {number}", text, lists, told, 3 if is_fault else 0, wrong))
+    return found, both
+
+
+def fault_of_special(program, label, text, lists, told, status, wrong):
+    """Why a special round is not the plain one, or the plain one breaks its promises, or None."""
+    if wrong:
+        return f"{label}: the plain office: {wrong[0]}"
+    with tempfile.TemporaryDirectory(prefix="special-", dir=ROOMS) as room:
+        called(program, ["run", "season.db"], text.encode(), room)
+        found = called(program, ["special", "season.db"], lists.encode(), room)
+        return None if found == (told.encode(), status) else f"{label}: ended with status {found[1]}: {first_difference(found[0], told.encode())}"
+
+
 def trials(program, texts, drawn):
     """What is tried, each a call that gives a fault or None, of so much that is drawn. That all replies come, markets with several fair allocations, sheets
     where protections pass over a candidate, and each step with an admitted, is said of all of them."""
@@ -399,12 +430,18 @@ def trials(program, texts, drawn):
     draw, register = Draw(3), texts["register of five"].decode()
     for number in range(drawn.markets):
         yield functools.partial(fault_of_divided, program, f"units {number}", drawn_divided(draw, register))
+    specials, both = drawn_specials(drawn.markets)
+    if drawn == ALL:
+        yield lambda: None if both >= 100 else f"drawn special rounds: {both} have seats beside final rows of the de-reserved step"
+    for special in specials:
+        yield functools.partial(fault_of_special, program, *special)
     for count, seed in ((2, 1), (40, 7)):
         yield functools.partial(fault_of_summary, program, count, seed)
 
 
-def plainly(call):
-    """What a call without a fault comes to by the plain office: the list of a sheet, or the replies to requests. None where it tells neither."""
+def plainly(call, kept):
+    """What a call without a fault comes to by the plain office: the list of a sheet, the replies to requests, or the special round over what a call before it
+    kept. None where it tells none of these."""
     given = b"".join(call.source)
     if call.words[:1] == ["units"]:
         try:
@@ -418,6 +455,8 @@ def plainly(call):
     if call.status == 0 and call.words[:1] in (["run"], ["units"]) and begin:
         office = Office(Season(season))
         return "".join(office.reply(it) for it in script.split("\n") if it)
+    if call.words[:1] == ["special"] and kept and len(given) <= MOST_INPUT:
+        return special_text(office_after(kept), given)[0]
     return None
 
 
@@ -425,8 +464,11 @@ def told_otherwise(found):
     """The cases whose output, as it is written down, is not that of the plain office."""
     said = []
     for case in found:
+        kept = ""
         for call in (it for it in case.steps if not isinstance(it, str)):
-            plain, wanted = plainly(call), b"".join(call.wanted)
+            plain, wanted = plainly(call, kept), b"".join(call.wanted)
+            if call.words[:1] == ["run"] and call.status == 0:
+                kept = b"".join(call.source).decode(errors="replace")
             if plain is not None and plain.encode() != wanted:
                 said.append(f"{case.label}: the plain office tells otherwise: {first_difference(wanted, plain.encode())}")
     return said
