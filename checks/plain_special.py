@@ -152,7 +152,7 @@ def office_after(text):
 def drawn_season(draw, in_order):
     """A bundle with a script to its end: two programmes, in which categories leave seats, with protections, and maybe a raise."""
     rounds, people = draw.below(2) + 1, 7
-    text = f"office bundle {draw.below(2) + 1}\n[season]\nrounds,{rounds}\nclerk,clerk0001\n[register]\nid,category,traits,token,m1,m2\n"
+    text = f"office bundle {draw.below(2) + 1}\n[season]\nrounds,{rounds}\nclerk,clerk0001\n[register]\nid,category,traits,token,m1,m2,m3,m4\n"
     merit = [in_order(tuple(range(1, people + 1)), draw.below(5040)) for _ in range(2)]
     for number, places in enumerate(zip(*merit), 1):
         category, relaxed = draw.of(8, (4, ("GEN", "")), (5, ("OBC", "R")), (6, ("OBC", "")), (7, ("EWS", "")), (8, ("EWS", "R")))
