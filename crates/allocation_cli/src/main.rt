@@ -22,18 +22,25 @@ use std::{env, io};
 // How the program ends where the store that its words name cannot be opened.
 const NO_STORE: u8 = 1;
 
+// What the program is called with: its words, and the name of the file that they name as the store, which is none where they name memory or spell no
+// command.
+#[derive(Drop)]
+struct Call {
+    words: Words,
+    file: Option<Text>,
+}
+
 fn main(rt: HostRuntime) -> ExitCode {
     let alloc = rt.alloc();
-    let called = called(&rt, alloc);
+    let call = call_of(&rt, alloc);
     let output = rt.stdout();
     // what a file keeps is told before more is kept
-    let at_once = output.is_terminal() || matches!(&called, Ok((_, Some(_))));
+    let at_once = output.is_terminal() || keeps_a_file(&call);
     let Ok(mut sink) = StandardOutput::new(alloc, output, at_once) else {
         return ExitCode::from(tell_unheld(&mut rt.stdout()).code());
     };
-    let ended = match called {
-        Ok((words, Some(name))) => over_file(&rt, alloc, &words, &mut sink, &name),
-        Ok((words, None)) => Some(over_memory(&rt, alloc, &words, &mut sink)),
+    let ended = match call {
+        Ok(call) => over_store(&rt, alloc, &call, &mut sink),
         Err(OutOfMemory) => Some(tell_no_memory(&mut sink)),
     };
     let Some(status) = ended else {
@@ -47,14 +54,32 @@ fn main(rt: HostRuntime) -> ExitCode {
     ExitCode::from(status.code())
 }
 
-// The words, and the name of the file that they name as the store. Where they name memory, or no command, there is none.
-fn called(
-    rt: &(impl Env + AllocGlobal),
+// Whether the words name a file as the store.
+fn keeps_a_file(call: &Result<Call, OutOfMemory>) -> bool {
+    match call {
+        Ok(call) => call.file.is_some(),
+        Err(_) => false,
+    }
+}
+
+// Runs the words over the store that they name. None where it cannot be opened.
+fn over_store<K: Sink>(
+    rt: &HostRuntime,
     alloc: Global,
-) -> Result<(Words, Option<Text>), OutOfMemory> {
+    call: &Call,
+    sink: &mut K,
+) -> Option<Status> {
+    match &call.file {
+        Some(name) => over_file(rt, alloc, &call.words, sink, name),
+        None => Some(over_memory(rt, alloc, &call.words, sink)),
+    }
+}
+
+// The words with the file that they name.
+fn call_of(rt: &(impl Env + AllocGlobal), alloc: Global) -> Result<Call, OutOfMemory> {
     let words = words_of(rt, alloc)?;
-    let name = file_of(alloc, &words)?;
-    Ok((words, name))
+    let file = file_of(alloc, &words)?;
+    Ok(Call { words, file })
 }
 
 // The name of the file that the words name as the store.
@@ -62,6 +87,8 @@ fn file_of(alloc: Global, words: &Words) -> Result<Option<Text>, OutOfMemory> {
     match read_words(alloc, words) {
         Ok(Command::Run(Store::File(name))) => Ok(Some(name)),
         Ok(Command::Resume(Store::File(name))) => Ok(Some(name)),
+        Ok(Command::Units(Store::File(name))) => Ok(Some(name)),
+        Ok(Command::Special(Store::File(name))) => Ok(Some(name)),
         Ok(_) | Err(WordsFault::Usage) => Ok(None),
         Err(WordsFault::OutOfMemory) => Err(OutOfMemory),
     }

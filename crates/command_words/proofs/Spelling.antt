@@ -11,7 +11,7 @@ use Rattle.command_words.specs.Parts.{ArePlain, AreParts, is_plain}
 use Rattle.command_words.specs.Words.{IsInRange, IsNamed, Spell, SpellNothing, word_of, word_out, words_of}
 use Rattle.command_words.specs.declared.parts.Parts.{Parts}
 use Rattle.command_words.specs.declared.words.Command.{Command}
-use Rattle.command_words.specs.declared.words.Command.TheVariants.{Step, Check, Run, Resume, Generate}
+use Rattle.command_words.specs.declared.words.Command.TheVariants.{Step, Check, Run, Resume, Units, Special, Generate}
 use Rattle.command_words.specs.declared.words.OutKind.{OutKind}
 use Rattle.command_words.specs.declared.words.OutKind.TheVariants as out_kind
 use Rattle.command_words.specs.declared.words.WordsFault.{WordsFault}
@@ -72,28 +72,54 @@ one_command own Step Step first second same = refl
 one_command own Step Check first second same = absurd cc
 one_command own Step (Run store) first second same = absurd cc
 one_command own Step (Resume store) first second same = absurd cc
+one_command own Step (Units store) first second same = absurd cc
+one_command own Step (Special store) first second same = absurd cc
 one_command own Step (Generate n seed out) first second same = absurd cc
 one_command own Check Step first second same = absurd cc
 one_command own Check Check first second same = refl
 one_command own Check (Run store) first second same = absurd cc
 one_command own Check (Resume store) first second same = absurd cc
+one_command own Check (Units store) first second same = absurd cc
+one_command own Check (Special store) first second same = absurd cc
 one_command own Check (Generate n seed out) first second same = absurd cc
 one_command own (Run store) Step first second same = absurd cc
 one_command own (Run store) Check first second same = absurd cc
 one_command own (Run store) (Run other) first second same =
     let words : word_of store ≡ word_of other = cc in ap Run (one_store store other first second words)
 one_command own (Run store) (Resume other) first second same = absurd cc
+one_command own (Run store) (Units other) first second same = absurd cc
+one_command own (Run store) (Special other) first second same = absurd cc
 one_command own (Run store) (Generate n seed out) first second same = absurd cc
 one_command own (Resume store) Step first second same = absurd cc
 one_command own (Resume store) Check first second same = absurd cc
 one_command own (Resume store) (Run other) first second same = absurd cc
 one_command own (Resume store) (Resume other) first second same =
     let words : word_of store ≡ word_of other = cc in ap Resume (one_store store other first second words)
+one_command own (Resume store) (Units other) first second same = absurd cc
+one_command own (Resume store) (Special other) first second same = absurd cc
 one_command own (Resume store) (Generate n seed out) first second same = absurd cc
+one_command own (Units store) Step first second same = absurd cc
+one_command own (Units store) Check first second same = absurd cc
+one_command own (Units store) (Run other) first second same = absurd cc
+one_command own (Units store) (Resume other) first second same = absurd cc
+one_command own (Units store) (Units other) first second same =
+    let words : word_of store ≡ word_of other = cc in ap Units (one_store store other first second words)
+one_command own (Units store) (Special other) first second same = absurd cc
+one_command own (Units store) (Generate n seed out) first second same = absurd cc
+one_command own (Special store) Step first second same = absurd cc
+one_command own (Special store) Check first second same = absurd cc
+one_command own (Special store) (Run other) first second same = absurd cc
+one_command own (Special store) (Resume other) first second same = absurd cc
+one_command own (Special store) (Units other) first second same = absurd cc
+one_command own (Special store) (Special other) first second same =
+    let words : word_of store ≡ word_of other = cc in ap Special (one_store store other first second words)
+one_command own (Special store) (Generate n seed out) first second same = absurd cc
 one_command own (Generate n seed out) Step first second same = absurd cc
 one_command own (Generate n seed out) Check first second same = absurd cc
 one_command own (Generate n seed out) (Run store) first second same = absurd cc
 one_command own (Generate n seed out) (Resume store) first second same = absurd cc
+one_command own (Generate n seed out) (Units store) first second same = absurd cc
+one_command own (Generate n seed out) (Special store) first second same = absurd cc
 one_command own (Generate m seed out) (Generate n other last) first second same =
     let numbers : decimal m ≡ decimal n = cc in
     let seeds : decimal seed ≡ decimal other = cc in
@@ -118,6 +144,8 @@ plain_command own Step range = refl
 plain_command own Check range = refl
 plain_command own (Run store) range = rw (plain_store store range) refl
 plain_command own (Resume store) range = rw (plain_store store range) refl
+plain_command own (Units store) range = rw (plain_store store range) refl
+plain_command own (Special store) range = rw (plain_store store range) refl
 plain_command own (Generate n seed out_kind.Text) range =
     rw (plain_digits own n (omega (arith, range.1)), plain_digits own seed range.2) refl
 plain_command own (Generate n seed out_kind.Run) range =
@@ -129,6 +157,8 @@ some_words Step = (omega arith, omega arith, λ h. omega (arith, h))
 some_words Check = (omega arith, omega arith, λ h. omega (arith, h))
 some_words (Run store) = (omega arith, omega arith, λ h. omega (arith, h))
 some_words (Resume store) = (omega arith, omega arith, λ h. omega (arith, h))
+some_words (Units store) = (omega arith, omega arith, λ h. omega (arith, h))
+some_words (Special store) = (omega arith, omega arith, λ h. omega (arith, h))
 some_words (Generate n seed out) = (omega arith, omega arith, λ h. omega (arith, h))
 
 -- Words that are not all plain spell no command.

@@ -3,7 +3,7 @@ use Rattle.std.specs.Prelude.{◌≡◌, ◌≢◌, ◌<◌, ◌≤◌, ◌^◌,
 use Rattle.std.specs.Fmt.{decimal}
 use Rattle.command_words.specs.Parts.{is_plain}
 use Rattle.command_words.specs.declared.words.Command.{Command}
-use Rattle.command_words.specs.declared.words.Command.TheVariants.{Step, Check, Run, Resume, Generate}
+use Rattle.command_words.specs.declared.words.Command.TheVariants.{Step, Check, Run, Resume, Units, Special, Generate}
 use Rattle.command_words.specs.declared.words.OutKind.{OutKind}
 use Rattle.command_words.specs.declared.words.OutKind.TheVariants as out_kind
 use Rattle.command_words.specs.declared.words.Store.{Store}
@@ -24,12 +24,15 @@ abbrev pub word_out : OutKind → List ℕ
 word_out out_kind.Text = codes "text"
 word_out out_kind.Run = codes "run"
 
--- the words of a command: its name alone; `run` or `resume`, and where the records are kept; or `generate`, how many candidates, the seed, and what is written
+-- the words of a command: its name alone; `run`, `resume`, `units` or `special`, and where the records are kept; or `generate`, how many candidates, the
+-- seed, and what is written
 abbrev pub words_of : Command → List (List ℕ)
 words_of Step = codes "step" ∷ []
 words_of Check = codes "check" ∷ []
 words_of (Run store) = codes "run" ∷ word_of store ∷ []
 words_of (Resume store) = codes "resume" ∷ word_of store ∷ []
+words_of (Units store) = codes "units" ∷ word_of store ∷ []
+words_of (Special store) = codes "special" ∷ word_of store ∷ []
 words_of (Generate n seed out) = codes "generate" ∷ decimal n ∷ decimal seed ∷ word_out out ∷ []
 
 -- the numbers of a command lie in their ranges, and its file has a name
@@ -38,6 +41,8 @@ IsInRange Step = Unit {0}
 IsInRange Check = Unit {0}
 IsInRange (Run store) = IsNamed store
 IsInRange (Resume store) = IsNamed store
+IsInRange (Units store) = IsNamed store
+IsInRange (Special store) = IsNamed store
 IsInRange (Generate n seed out) = (1 ≤ n) × (n ≤ 100000) × (seed < 2 ^ 32)
 
 -- the words spell the command

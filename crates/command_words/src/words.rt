@@ -25,6 +25,10 @@ pub enum Command {
     Run(Store),
     /// Goes on with the office that a keeper holds, and answers the requests that are read.
     Resume(Store),
+    /// Reads a season bundle with home-state quotas and its requests, and answers them over a keeper.
+    Units(Store),
+    /// Goes on with the office that a keeper holds, reads lists, and gives the seats that its final cut left vacant in a special round.
+    Special(Store),
     /// Generates a season bundle of 1 to 100,000 candidates from a seed, and writes it or runs it.
     Generate { n: u32, seed: u32, out: OutKind },
 }
@@ -80,8 +84,8 @@ impl<T: Drop> From<AllocFailed<T>> for WordsFault {
     }
 }
 
-/// The command that the words spell: its name alone; `run` or `resume` with `memory` or the name of a file; or `generate` with how many candidates, a seed, and
-/// `text` or `run`. `Usage` comes exactly where they spell none, but for want of memory.
+/// The command that the words spell: its name alone; `run`, `resume`, `units` or `special` with `memory` or the name of a file; or `generate` with how many
+/// candidates, a seed, and `text` or `run`. `Usage` comes exactly where they spell none, but for want of memory.
 pub fn read_words(alloc: Global, words: &Words) -> Result<Command, WordsFault>
     ensures command { IfOk result (Spell words.now) }
     ensures usage { IsErrOf result WordsFault.Usage → SpellNothing words.now }
@@ -171,6 +175,8 @@ fn read_store(alloc: Global, name: &str, word: &str) -> Result<Command, WordsFau
     match name {
         "run" => Ok(Command::Run(store_of(alloc, word)?)),
         "resume" => Ok(Command::Resume(store_of(alloc, word)?)),
+        "units" => Ok(Command::Units(store_of(alloc, word)?)),
+        "special" => Ok(Command::Special(store_of(alloc, word)?)),
         _ => Err(WordsFault::Usage),
     }
 }

@@ -6,6 +6,8 @@ use Rattle.season_commands.specs.Check.{IsBundle, IsFaultyBundle, check_answers}
 use Rattle.season_commands.specs.Generated.{EndsGeneratedRun}
 use Rattle.season_commands.specs.Resume.{EndsResume, IsScript, TellsSound}
 use Rattle.season_commands.specs.Run.{EndsRun, TellsNoSeason}
+use Rattle.special_command.specs.Special.{EndsSpecial}
+use Rattle.units_command.specs.Units.{EndsUnits, IsFaultyUnits, IsUnitsInput}
 use Rattle.step_command.specs.Step.{IsFaultySheet, IsSheet, step_answers}
 use Rattle.command_words.specs.Words.{Spell, SpellNothing}
 use Rattle.season_generator.specs.Bundle.{generated}
@@ -14,7 +16,7 @@ use Rattle.command_answers.specs.Writes.{IsTextOf, Writes}
 use Rattle.command_answers.specs.declared.status.Status.{Status}
 use Rattle.command_answers.specs.declared.status.Status.TheVariants.{Ok as Done, Usage, OutOfMemory}
 use Rattle.command_words.specs.declared.words.Command.{Command}
-use Rattle.command_words.specs.declared.words.Command.TheVariants.{Step, Check, Run, Resume, Generate}
+use Rattle.command_words.specs.declared.words.Command.TheVariants.{Step, Check, Run, Resume, Units, Special, Generate}
 use Rattle.command_words.specs.declared.words.OutKind.TheVariants as out_kind
 
 abbrev pub usage_line : List ℕ
@@ -50,6 +52,8 @@ Ends Step left before after = EndsText step_answers left before after
 Ends Check left before after = EndsText check_answers left before after
 Ends (Run store) left before after = EndsRun left before after
 Ends (Resume store) left before after = EndsResume left before after
+Ends (Units store) left before after = EndsUnits left before after
+Ends (Special store) left before after = EndsSpecial left before after
 Ends (Generate n seed out_kind.Text) left before after = EndsGenerated n seed before after
 Ends (Generate n seed out_kind.Run) left before after = EndsGeneratedRun n seed before after
 
@@ -66,31 +70,37 @@ abbrev pub IsWritten : List (List ℕ) → Option (List ℕ) → Tables → Tabl
 IsWritten words left before after status output = EndsUnread before after status output
     ⊎ ((SpellNothing words × EndsUsage before after status output) ⊎ ((command : Command) × Spell words command × Ends command left before after status output))
 
--- the source tells its bytes, and they are the command's input without faults
+-- the source tells its bytes, and they are the command's input without faults; what `special` takes hangs on the tables too, and is told beside them
 abbrev pub TellsInput : Command → Option (List ℕ) → Type 0
 TellsInput Step left = Tells IsSheet left
 TellsInput Check left = Tells IsBundle left
 TellsInput (Run store) left = Tells IsBundle left
 TellsInput (Resume store) left = Tells IsScript left
+TellsInput (Units store) left = Tells IsUnitsInput left
+TellsInput (Special store) left = ⊥
 TellsInput (Generate n seed out) left = Unit {0}
 
--- the source tells its bytes, and they have a fault as the command's input, which is read before all else; under `resume` the records are judged first, and
--- a generated season that is run has its own bundle for the input
+-- the source tells its bytes, and they have a fault as the command's input, which is read before all else; under `resume` and
+-- `special` the records are judged first, and a generated season that is run has its own bundle for the input
 abbrev pub TellsFault : Command → Option (List ℕ) → Type 0
 TellsFault Step left = Tells IsFaultySheet left
 TellsFault Check left = Tells IsFaultyBundle left
 TellsFault (Run store) left = Tells IsFaultyBundle left
 TellsFault (Resume store) left = ⊥
+TellsFault (Units store) left = Tells IsFaultyUnits left
+TellsFault (Special store) left = ⊥
 TellsFault (Generate n seed out_kind.Text) left = ⊥
 TellsFault (Generate n seed out_kind.Run) left = IsFaultyBundle (generated n seed)
 
--- the keeper is as the command needs it: under `run` it tells that it holds no season, under `resume` records without a fault; and a generated season is run
--- where its bundle has no fault
+-- the keeper is as the command needs it: under `run` and `units` it tells that it holds no season, under `resume` and `special` records without a fault; and a
+-- generated season is run where its bundle has no fault
 abbrev pub IsReady : Command → Tables → Type 0
 IsReady Step tables = Unit {0}
 IsReady Check tables = Unit {0}
 IsReady (Run store) tables = TellsNoSeason tables
 IsReady (Resume store) tables = TellsSound tables
+IsReady (Units store) tables = TellsNoSeason tables
+IsReady (Special store) tables = TellsSound tables
 IsReady (Generate n seed out_kind.Text) tables = Unit {0}
 IsReady (Generate n seed out_kind.Run) tables = IsBundle (generated n seed) × TellsNoSeason tables
 
@@ -100,8 +110,20 @@ BeginsOffice Step = ⊥
 BeginsOffice Check = ⊥
 BeginsOffice (Run store) = Unit {0}
 BeginsOffice (Resume store) = ⊥
+BeginsOffice (Units store) = Unit {0}
+BeginsOffice (Special store) = ⊥
 BeginsOffice (Generate n seed out_kind.Text) = ⊥
 BeginsOffice (Generate n seed out_kind.Run) = Unit {0}
+
+-- the command goes on with the office that the keeper holds
+abbrev pub Resumes : Command → Type 0
+Resumes Step = ⊥
+Resumes Check = ⊥
+Resumes (Run store) = ⊥
+Resumes (Resume store) = Unit {0}
+Resumes (Units store) = ⊥
+Resumes (Special store) = Unit {0}
+Resumes (Generate n seed out) = ⊥
 
 -- the command neither begins an office nor goes on with one
 abbrev pub BeginsNone : Command → Type 0
@@ -109,6 +131,8 @@ BeginsNone Step = Unit {0}
 BeginsNone Check = Unit {0}
 BeginsNone (Run store) = ⊥
 BeginsNone (Resume store) = ⊥
+BeginsNone (Units store) = ⊥
+BeginsNone (Special store) = ⊥
 BeginsNone (Generate n seed out_kind.Text) = Unit {0}
 BeginsNone (Generate n seed out_kind.Run) = ⊥
 
@@ -118,6 +142,8 @@ ReadsSource Step = Unit {0}
 ReadsSource Check = Unit {0}
 ReadsSource (Run store) = Unit {0}
 ReadsSource (Resume store) = Unit {0}
+ReadsSource (Units store) = Unit {0}
+ReadsSource (Special store) = Unit {0}
 ReadsSource (Generate n seed out) = ⊥
 
 -- the command reads no source
@@ -126,4 +152,6 @@ ReadsNone Step = ⊥
 ReadsNone Check = ⊥
 ReadsNone (Run store) = ⊥
 ReadsNone (Resume store) = ⊥
+ReadsNone (Units store) = ⊥
+ReadsNone (Special store) = ⊥
 ReadsNone (Generate n seed out) = Unit {0}

@@ -2,14 +2,15 @@
 ghost use Rattle.std.specs.Prelude.{◌≡◌, ◌≢◌, ◌≤◌, ◌⊎◌, ℕ, List, Option};
 ghost use Rattle.office_base.specs.Outside.{Rose, IsAtEnd, Appends};
 ghost use Rattle.keeper_mem.specs.Tables.{still};
-ghost use Rattle.office_commands.specs.Program.{BeginsNone, BeginsOffice, Ends, IsReady, IsWritten, ReadsNone, ReadsSource, TellsFault, TellsInput};
+ghost use Rattle.office_commands.specs.Program.{BeginsNone, BeginsOffice, Ends, IsReady, IsWritten, ReadsNone, ReadsSource, Resumes, TellsFault, TellsInput};
 ghost use Rattle.command_answers.specs.Answers.{Tells};
 ghost use Rattle.command_answers.specs.Blames.{Blames};
 ghost use Rattle.season_commands.specs.Resume.{IsFaultyScript, TellsNoOffice, TellsRowFault, TellsSound, TellsTextFault};
 ghost use Rattle.season_commands.specs.Run.{TellsNoSeason, TellsSeason};
+ghost use Rattle.special_command.specs.Special.{AreFaultyKeptLists, AreKeptLists};
 ghost use Rattle.command_words.specs.Words.{IsInRange, Spell, SpellNothing};
 ghost use Rattle.command_words.specs.declared.words.Command.{Command as AnyCommand};
-ghost use Rattle.command_words.specs.declared.words.Command.TheVariants.{Generate, Resume};
+ghost use Rattle.command_words.specs.declared.words.Command.TheVariants.{Generate, Resume, Special};
 ghost use Rattle.command_words.specs.declared.words.Store.{Store as AnyStore};
 
 use crate::generate::generate_answer;
@@ -20,14 +21,18 @@ use command_words::{Command, OutKind, WordsFault, read_words};
 use keeper_mem::Keeper;
 use office_base::{Sink, Source, Words};
 use season_commands::{check_answer, resume_season, run_generated, run_season};
+use special_command::special_season;
 use std::alloc::Global;
 use step_command::step_answer;
+use units_command::units_season;
 
 /// Runs the command that the words spell, from the bytes of the source to the bytes of the sink, and gives back the keeper.
 ///
 /// The command `step` reads a step sheet and writes whom the step admits; `check` reads a season bundle and writes how much it has; `run` reads a season
 /// bundle with its requests, begins an office over the keeper and answers them, each reply written before the next request is handled; `resume` goes on
-/// with the office that the keeper holds, reads requests and answers them in the same way; `generate` makes up a season from a seed and writes its bundle, or
+/// with the office that the keeper holds, reads requests and answers them in the same way; `units` reads a bundle with home-state quotas and goes on as `run` with
+/// the plain bundle that it comes to; `special` goes on with the office that the keeper holds, reads lists of those without an admission, writes the special round
+/// over them and puts nothing; `generate` makes up a season from a seed and writes its bundle, or
 /// begins an office over the keeper, answers the requests of that season, and then writes what it came to. Where the words name a store, the keeper that is
 /// handed in stands for it, whatever it is.
 pub fn allocate<S: Source, K: Sink, P: Keeper>(
@@ -37,8 +42,8 @@ pub fn allocate<S: Source, K: Sink, P: Keeper>(
     sink: &mut K,
     keeper: P,
 ) -> (Status, P)
-    // What is written is told by the words and the bytes that the source had left, under `resume` by the tables too, errors included; and under `run` and
-    // `resume` a history of answers, raises and cuts leads to a state in which the office keeps its word, and for which the tables stand.
+    // What is written is told by the words and the bytes that the source had left, under `resume` and `special` by the tables too, errors included; and under
+    // `run`, `units` and `resume` a history of answers, raises and cuts leads to a state in which the office keeps its word, and for which the tables stand.
     ensures written { (output : List ℕ) × Appends output (K.written sink.old) (K.written sink.new)
         × IsWritten words.now (S.left source.old) (P.tables keeper) (P.tables result.1) result.0 output }
     ensures read_whole { (command : AnyCommand) → Spell words.now command → ReadsSource command → result.0 ≡ Status.Ok → IsAtEnd (S.left source.new) }
@@ -49,8 +54,8 @@ pub fn allocate<S: Source, K: Sink, P: Keeper>(
     ensures unkept { SpellNothing words.now → result.1 ≡ keeper }
     ensures untouched { (command : AnyCommand) → Spell words.now command → BeginsNone command → result.1 ≡ keeper }
 
-    // Under `resume` the records come first: where they have a fault, or there are none, the source is as it was.
-    ensures records_first { (store : AnyStore) → Spell words.now (Resume store) → (result.0 ≡ Status.Differs) ⊎ TellsNoOffice (still (P.tables keeper) (P.tables result.1))
+    // Where an office goes on the records come first: where they have a fault, or there are none, the source is as it was.
+    ensures records_first { (command : AnyCommand) → Spell words.now command → Resumes command → (result.0 ≡ Status.Differs) ⊎ TellsNoOffice (still (P.tables keeper) (P.tables result.1))
         → (S.left source.new ≡ S.left source.old) × (S.faults source.new ≡ S.faults source.old) }
 
     // A fault of the outside comes only where that object failed in this call, and is told: without one the object did not fail. A sink's fault alone hides
@@ -73,13 +78,19 @@ pub fn allocate<S: Source, K: Sink, P: Keeper>(
     ensures unasked { (store : AnyStore) → Spell words.now (Resume store) → Tells IsFaultyScript (S.left source.old) → TellsSound (still (P.tables keeper) (P.tables result.1))
         → ¬ Rose (S.faults source.old) (S.faults source.new) → ¬ Rose (K.faults sink.old) (K.faults sink.new) → ¬ Rose (P.faults keeper) (P.faults result.1)
         → (result.0 ≡ Status.BadInput) ⊎ (result.0 ≡ Status.OutOfMemory) }
-    ensures none_kept { (store : AnyStore) → Spell words.now (Resume store) → TellsNoSeason (still (P.tables keeper) (P.tables result.1))
+    ensures special_lists { (store : AnyStore) → Spell words.now (Special store) → Tells (AreKeptLists (still (P.tables keeper) (P.tables result.1))) (S.left source.old) → TellsSound (still (P.tables keeper) (P.tables result.1))
+        → ¬ Rose (S.faults source.old) (S.faults source.new) → ¬ Rose (K.faults sink.old) (K.faults sink.new) → ¬ Rose (P.faults keeper) (P.faults result.1)
+        → (result.0 ≡ Status.Ok) ⊎ (result.0 ≡ Status.OutOfMemory) }
+    ensures special_refused { (store : AnyStore) → Spell words.now (Special store) → Tells (AreFaultyKeptLists (still (P.tables keeper) (P.tables result.1))) (S.left source.old) → TellsSound (still (P.tables keeper) (P.tables result.1))
+        → ¬ Rose (S.faults source.old) (S.faults source.new) → ¬ Rose (K.faults sink.old) (K.faults sink.new) → ¬ Rose (P.faults keeper) (P.faults result.1)
+        → (result.0 ≡ Status.BadInput) ⊎ (result.0 ≡ Status.OutOfMemory) }
+    ensures none_kept { (command : AnyCommand) → Spell words.now command → Resumes command → TellsNoSeason (still (P.tables keeper) (P.tables result.1))
         → ¬ Rose (K.faults sink.old) (K.faults sink.new) → ¬ Rose (P.faults keeper) (P.faults result.1)
         → (result.0 ≡ Status.BadInput) ⊎ (result.0 ≡ Status.OutOfMemory) }
-    ensures kept_text { (store : AnyStore) → Spell words.now (Resume store) → TellsTextFault (still (P.tables keeper) (P.tables result.1))
+    ensures kept_text { (command : AnyCommand) → Spell words.now command → Resumes command → TellsTextFault (still (P.tables keeper) (P.tables result.1))
         → ¬ Rose (K.faults sink.old) (K.faults sink.new) → ¬ Rose (P.faults keeper) (P.faults result.1)
         → (result.0 ≡ Status.BadInput) ⊎ (result.0 ≡ Status.OutOfMemory) }
-    ensures differs { (store : AnyStore) → Spell words.now (Resume store) → TellsRowFault (still (P.tables keeper) (P.tables result.1))
+    ensures differs { (command : AnyCommand) → Spell words.now command → Resumes command → TellsRowFault (still (P.tables keeper) (P.tables result.1))
         → ¬ Rose (K.faults sink.old) (K.faults sink.new) → ¬ Rose (P.faults keeper) (P.faults result.1)
         → (result.0 ≡ Status.Differs) ⊎ (result.0 ≡ Status.OutOfMemory) }
 {
@@ -105,7 +116,7 @@ fn run<S: Source, K: Sink, P: Keeper>(
     ensures read_whole { ReadsSource command → result.0 ≡ Status.Ok → IsAtEnd (S.left source.new) }
     ensures spared { ReadsNone command → (S.left source.new ≡ S.left source.old) × (S.faults source.new ≡ S.faults source.old) }
     ensures untouched { BeginsNone command → result.1 ≡ keeper }
-    ensures records_first { (store : AnyStore) → command ≡ Resume store → (result.0 ≡ Status.Differs) ⊎ TellsNoOffice (still (P.tables keeper) (P.tables result.1))
+    ensures records_first { Resumes command → (result.0 ≡ Status.Differs) ⊎ TellsNoOffice (still (P.tables keeper) (P.tables result.1))
         → (S.left source.new ≡ S.left source.old) × (S.faults source.new ≡ S.faults source.old) }
     ensures blamed { Blames result.0 (record { source = S.faults source.old; sink = K.faults sink.old; keeper = P.faults keeper })
         (record { source = S.faults source.new; sink = K.faults sink.new; keeper = P.faults result.1 }) }
@@ -121,13 +132,19 @@ fn run<S: Source, K: Sink, P: Keeper>(
     ensures unasked { (store : AnyStore) → command ≡ Resume store → Tells IsFaultyScript (S.left source.old) → TellsSound (still (P.tables keeper) (P.tables result.1))
         → ¬ Rose (S.faults source.old) (S.faults source.new) → ¬ Rose (K.faults sink.old) (K.faults sink.new) → ¬ Rose (P.faults keeper) (P.faults result.1)
         → (result.0 ≡ Status.BadInput) ⊎ (result.0 ≡ Status.OutOfMemory) }
-    ensures none_kept { (store : AnyStore) → command ≡ Resume store → TellsNoSeason (still (P.tables keeper) (P.tables result.1))
+    ensures special_lists { (store : AnyStore) → command ≡ Special store → Tells (AreKeptLists (still (P.tables keeper) (P.tables result.1))) (S.left source.old) → TellsSound (still (P.tables keeper) (P.tables result.1))
+        → ¬ Rose (S.faults source.old) (S.faults source.new) → ¬ Rose (K.faults sink.old) (K.faults sink.new) → ¬ Rose (P.faults keeper) (P.faults result.1)
+        → (result.0 ≡ Status.Ok) ⊎ (result.0 ≡ Status.OutOfMemory) }
+    ensures special_refused { (store : AnyStore) → command ≡ Special store → Tells (AreFaultyKeptLists (still (P.tables keeper) (P.tables result.1))) (S.left source.old) → TellsSound (still (P.tables keeper) (P.tables result.1))
+        → ¬ Rose (S.faults source.old) (S.faults source.new) → ¬ Rose (K.faults sink.old) (K.faults sink.new) → ¬ Rose (P.faults keeper) (P.faults result.1)
+        → (result.0 ≡ Status.BadInput) ⊎ (result.0 ≡ Status.OutOfMemory) }
+    ensures none_kept { Resumes command → TellsNoSeason (still (P.tables keeper) (P.tables result.1))
         → ¬ Rose (K.faults sink.old) (K.faults sink.new) → ¬ Rose (P.faults keeper) (P.faults result.1)
         → (result.0 ≡ Status.BadInput) ⊎ (result.0 ≡ Status.OutOfMemory) }
-    ensures kept_text { (store : AnyStore) → command ≡ Resume store → TellsTextFault (still (P.tables keeper) (P.tables result.1))
+    ensures kept_text { Resumes command → TellsTextFault (still (P.tables keeper) (P.tables result.1))
         → ¬ Rose (K.faults sink.old) (K.faults sink.new) → ¬ Rose (P.faults keeper) (P.faults result.1)
         → (result.0 ≡ Status.BadInput) ⊎ (result.0 ≡ Status.OutOfMemory) }
-    ensures differs { (store : AnyStore) → command ≡ Resume store → TellsRowFault (still (P.tables keeper) (P.tables result.1))
+    ensures differs { Resumes command → TellsRowFault (still (P.tables keeper) (P.tables result.1))
         → ¬ Rose (K.faults sink.old) (K.faults sink.new) → ¬ Rose (P.faults keeper) (P.faults result.1)
         → (result.0 ≡ Status.Differs) ⊎ (result.0 ≡ Status.OutOfMemory) }
 {
@@ -137,6 +154,8 @@ fn run<S: Source, K: Sink, P: Keeper>(
         Command::Check => (finish(sink, check_answer(alloc, source)), keeper),
         Command::Run(_) => run_season(alloc, source, sink, keeper),
         Command::Resume(_) => resume_season(alloc, source, sink, keeper),
+        Command::Units(_) => units_season(alloc, source, sink, keeper),
+        Command::Special(_) => special_season(alloc, source, sink, keeper),
         Command::Generate { n, seed, out } => generated(alloc, n, seed, out, sink, keeper),
     }
 }

@@ -1,6 +1,6 @@
 use Rattle.std.proofs.Common.{◌≡◌, Err, ap, inl, inr, refl, subst}
 use Rattle.command_words.specs.declared.words.Command.{Command}
-use Rattle.command_words.specs.declared.words.Command.TheVariants.{Resume}
+use Rattle.command_words.specs.declared.words.Command.TheVariants.{Resume, Special}
 use Rattle.command_words.specs.declared.words.WordsFault.TheVariants as words_fault
 use Rattle.office_commands.specs.Program.{IsReady, IsUsageText, IsWantText, TellsFault, TellsInput, usage_line}
 use Rattle.keeper_mem.specs.Tables.{still}
@@ -25,20 +25,30 @@ returns-in-Err-Usage-clause-unasked g c store spelled tells sound read wrote kep
     let fault : c.in-Err-Usage.field-0 ≡ words_fault.Usage = cc in
     absurd (c.in-Err-Usage.ensures.usage (ap Err fault) (Resume store) spelled)
 
-pub returns-in-Err-Usage-clause-none_kept : goal.returns-in-Err-Usage-clause-none_kept
-returns-in-Err-Usage-clause-none_kept g c store spelled none wrote kept =
+pub returns-in-Err-Usage-clause-special_lists : goal.returns-in-Err-Usage-clause-special_lists
+returns-in-Err-Usage-clause-special_lists g c store spelled tells sound read wrote kept =
     let fault : c.in-Err-Usage.field-0 ≡ words_fault.Usage = cc in
-    absurd (c.in-Err-Usage.ensures.usage (ap Err fault) (Resume store) spelled)
+    absurd (c.in-Err-Usage.ensures.usage (ap Err fault) (Special store) spelled)
+
+pub returns-in-Err-Usage-clause-special_refused : goal.returns-in-Err-Usage-clause-special_refused
+returns-in-Err-Usage-clause-special_refused g c store spelled tells sound read wrote kept =
+    let fault : c.in-Err-Usage.field-0 ≡ words_fault.Usage = cc in
+    absurd (c.in-Err-Usage.ensures.usage (ap Err fault) (Special store) spelled)
+
+pub returns-in-Err-Usage-clause-none_kept : goal.returns-in-Err-Usage-clause-none_kept
+returns-in-Err-Usage-clause-none_kept g c command spelled resumes none wrote kept =
+    let fault : c.in-Err-Usage.field-0 ≡ words_fault.Usage = cc in
+    absurd (c.in-Err-Usage.ensures.usage (ap Err fault) command spelled)
 
 pub returns-in-Err-Usage-clause-kept_text : goal.returns-in-Err-Usage-clause-kept_text
-returns-in-Err-Usage-clause-kept_text g c store spelled tells wrote kept =
+returns-in-Err-Usage-clause-kept_text g c command spelled resumes tells wrote kept =
     let fault : c.in-Err-Usage.field-0 ≡ words_fault.Usage = cc in
-    absurd (c.in-Err-Usage.ensures.usage (ap Err fault) (Resume store) spelled)
+    absurd (c.in-Err-Usage.ensures.usage (ap Err fault) command spelled)
 
 pub returns-in-Err-Usage-clause-differs : goal.returns-in-Err-Usage-clause-differs
-returns-in-Err-Usage-clause-differs g c store spelled tells wrote kept =
+returns-in-Err-Usage-clause-differs g c command spelled resumes tells wrote kept =
     let fault : c.in-Err-Usage.field-0 ≡ words_fault.Usage = cc in
-    absurd (c.in-Err-Usage.ensures.usage (ap Err fault) (Resume store) spelled)
+    absurd (c.in-Err-Usage.ensures.usage (ap Err fault) command spelled)
 
 pub returns-in-Err-OutOfMemory-clause-written : goal.returns-in-Err-OutOfMemory-clause-written
 returns-in-Err-OutOfMemory-clause-written g c =

@@ -1,0 +1,3 @@
+mod OneSpecial
+mod SpecialEnds
+mod Unresumed

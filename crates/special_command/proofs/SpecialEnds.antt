@@ -1,0 +1,120 @@
+-- How the command `special` ends.
+use Rattle.std.proofs.Common.{◌≡◌, ◌≢◌, ◌<◌, ◌≤◌, ◌⊎◌, ◌∙◌, inl, inr, ℕ, List, Option, Some, None, Err, length, refl, sym, ap, subst}
+use Rattle.office_base.specs.Limits.{most_bundle_bytes}
+use Rattle.office_base.specs.Outside.{Appends, AreLeft}
+use Rattle.keeper_mem.specs.Tables.{Tables, AreTold, IsTold as IsTablesTold, still}
+use Rattle.office_moves.specs.Facts.{SeasonFacts}
+use Rattle.office_moves.specs.State.{State}
+use Rattle.round_cut.specs.Resume.{IsResumed, IsUnresumed}
+use Rattle.round_cut.specs.declared.resume.Unresumed.{Unresumed}
+use Rattle.special_round.specs.Season.{IsSpecialFault}
+use Rattle.special_round.specs.declared.fault.SpecialFault.{SpecialFault}
+use Rattle.command_answers.specs.Answers.{HasLeft, IsFailureOf, IsInputFailure, Tells, TellsLine}
+use Rattle.command_answers.specs.Writes.{IsTold, Writes, status_of, text_of}
+use Rattle.command_answers.specs.declared.failure.Failure.{Failure}
+use Rattle.command_answers.specs.declared.failure.Failure.TheVariants.{Read, Bad, NoMemory}
+use Rattle.command_answers.specs.declared.status.Status.{Status}
+use Rattle.command_answers.specs.declared.status.Status.TheVariants.{Ok as Done, BadInput, OutOfMemory}
+use Rattle.command_answers.proofs.Ended.{told_is_written}
+use Rattle.special_command.proofs.Unresumed.{still_from, still_resumed}
+use Rattle.season_commands.specs.Resume.{IsUnresumedText}
+use Rattle.special_command.specs.Special.{AreFaultyKeptLists, AreFaultyLists, AreKeptLists, AreSpecialLists, EndsSpecial, HaveOneSpecial, IsListsFaultLine, IsSpecialOutput, IsSpecialText, IsToldFault, special_answers, too_long_line}
+
+-- ---- why there is no special round
+
+-- A failure that tells a fault of short lists has its cause.
+pub fault_failed : (facts : SeasonFacts) (state : State) (bytes : List ℕ) (fault : SpecialFault) (failure : Failure) → length bytes ≤ most_bundle_bytes → IsSpecialFault facts state bytes fault
+    → IsToldFault fault failure → IsInputFailure (special_answers facts state) bytes failure
+fault_failed facts state bytes fault Read short has told = told
+fault_failed facts state bytes fault (Bad line) short has told = inr (fault, (short, has, told.0), told.1)
+fault_failed facts state bytes fault NoMemory short has told = tt
+
+-- So has one that tells of too many bytes.
+pub long_failed : (facts : SeasonFacts) (state : State) (bytes : List ℕ) (failure : Failure) → most_bundle_bytes < length bytes → TellsLine too_long_line failure
+    → IsInputFailure (special_answers facts state) bytes failure
+long_failed facts state bytes Read long told = told
+long_failed facts state bytes (Bad line) long told = inl (long, told)
+long_failed facts state bytes NoMemory long told = tt
+
+-- ---- how the round is told
+
+-- A special round was told.
+pub round_ends : (facts : SeasonFacts) (state : State) (left : Option (List ℕ)) (text shown : List ℕ) (written now : Option (List ℕ)) (broke : Type 0) (result : Status)
+    → HasLeft (IsSpecialOutput facts state) left text → shown ≡ text → IsTold Done shown written now broke result
+    → (output : List ℕ) × Appends output written now × Writes (IsSpecialText facts state left) result output
+round_ends facts state left text shown written now broke result made same told =
+    told_is_written (IsSpecialText facts state left) Done result shown written now broke (subst (HasLeft (IsSpecialOutput facts state) left) (sym same) made) told
+
+-- the text of why there is none goes with its status
+text_of_failure : (facts : SeasonFacts) (state : State) (left : Option (List ℕ)) (failed : Type 0) (failure : Failure) → IsFailureOf (special_answers facts state) left failed failure
+    → IsSpecialText facts state left (status_of (Err failure)) (text_of (Err failure))
+text_of_failure facts state left failed Read cause = refl
+text_of_failure facts state left failed (Bad line) cause = cause
+text_of_failure facts state left failed NoMemory cause = refl
+
+-- It was told why there is none.
+pub none_ends : (facts : SeasonFacts) (state : State) (left : Option (List ℕ)) (failed : Type 0) (failure : Failure) (written now : Option (List ℕ)) (broke : Type 0) (result : Status)
+    → IsFailureOf (special_answers facts state) left failed failure → IsTold (status_of (Err failure)) (text_of (Err failure)) written now broke result
+    → (output : List ℕ) × Appends output written now × Writes (IsSpecialText facts state left) result output
+none_ends facts state left failed failure written now broke result cause told =
+    told_is_written (IsSpecialText facts state left) (status_of (Err failure)) result (text_of (Err failure)) written now broke (text_of_failure facts state left failed failure cause) told
+
+-- ---- which lists are answered
+
+-- No round is told over lists with a fault,
+pub no_round : (facts : SeasonFacts) (state : State) (left : Option (List ℕ)) (text : List ℕ) → ((facts : SeasonFacts) (state : State) (bytes : List ℕ) → HaveOneSpecial facts state bytes)
+    → HasLeft (IsSpecialOutput facts state) left text → Tells (AreFaultyLists facts state) left → ⊥
+no_round facts state None text laws made tells = tells
+no_round facts state (Some bytes) text laws made tells =
+    (laws facts state bytes).apart (subst (AreSpecialLists facts state) made.1 ((laws facts state made.0).of_input text made.2)) tells
+
+-- and no fault of lists without one.
+no_fault : (facts : SeasonFacts) (state : State) (left : Option (List ℕ)) (line : List ℕ) → ((facts : SeasonFacts) (state : State) (bytes : List ℕ) → HaveOneSpecial facts state bytes)
+    → HasLeft (IsListsFaultLine facts state) left line → Tells (AreSpecialLists facts state) left → ⊥
+no_fault facts state None line laws has tells = tells
+no_fault facts state (Some bytes) line laws has tells =
+    (laws facts state bytes).apart tells (subst (AreFaultyLists facts state) has.1 ((laws facts state has.0).of_fault line has.2))
+
+-- where the sink did not fail, the status is that of the text
+status_is : (status result : Status) (text : List ℕ) (written now : Option (List ℕ)) (broke : Type 0) → IsTold status text written now broke result → (broke → ⊥) → result ≡ status
+status_is status result text written now broke told held = elim told [ inl whole ↦ whole.0 | inr cut ↦ absurd (held cut.1) ]
+
+-- Lists without a fault are answered, where neither side failed and there was memory.
+pub lists_are_answered : (facts : SeasonFacts) (state : State) (left : Option (List ℕ)) (failed : Type 0) (failure : Failure) (written now : Option (List ℕ)) (broke : Type 0) (result : Status)
+    → ((facts : SeasonFacts) (state : State) (bytes : List ℕ) → HaveOneSpecial facts state bytes) → IsFailureOf (special_answers facts state) left failed failure
+    → IsTold (status_of (Err failure)) (text_of (Err failure)) written now broke result → Tells (AreSpecialLists facts state) left → (failed → ⊥) → (broke → ⊥)
+    → (result ≡ Done) ⊎ (result ≡ OutOfMemory)
+lists_are_answered facts state left failed Read written now broke result laws cause told tells read wrote = absurd (read cause)
+lists_are_answered facts state left failed (Bad line) written now broke result laws cause told tells read wrote = absurd (no_fault facts state left line laws cause tells)
+lists_are_answered facts state left failed NoMemory written now broke result laws cause told tells read wrote = inr (status_is OutOfMemory result _ written now broke told wrote)
+
+-- ---- all together
+
+-- The records lead to its state by what was told before
+pub still_here : (facts : SeasonFacts) (state : State) (before held after : Tables) → IsResumed held facts state → AreTold before held → after ≡ held → IsResumed (still before after) facts state
+still_here facts state before held after resumed told same =
+    still_resumed before held after facts state told (λ was. subst (λ (t : Tables). IsTablesTold t) same was) resumed
+
+-- An office went on.
+pub resumed_ends : (facts : SeasonFacts) (state : State) (left : Option (List ℕ)) (before held after : Tables) (written now : Option (List ℕ)) (status : Status)
+    → IsResumed held facts state → AreTold before held → after ≡ held → (output : List ℕ) × Appends output written now × Writes (IsSpecialText facts state left) status output
+    → (output : List ℕ) × Appends output written now × EndsSpecial left before after status output
+resumed_ends facts state left before held after written now status resumed told same end = (
+  end.0,
+  end.1,
+  inr (facts, state, still_here facts state before held after resumed told same, end.2, subst (λ (t : Tables). AreTold before t) (sym same) told),
+)
+
+-- No office went on.
+pub unresumed_ends : (left : Option (List ℕ)) (before after : Tables) (why : Unresumed) (written now : Option (List ℕ)) (status : Status) → AreTold before after → IsUnresumed after why
+    → ((tables : Tables) → IsUnresumed tables why → (output : List ℕ) × Appends output written now × Writes (IsUnresumedText tables) status output)
+    → (output : List ℕ) × Appends output written now × EndsSpecial left before after status output
+unresumed_ends left before after why written now status told stopped writes =
+    let (output, appends, is) = writes (still before after) (still_from (λ t. IsUnresumed t why) before after told stopped) in
+    (output, appends, inl (is, told))
+
+-- What is told of the lists over every state is told over this one.
+pub tells_here : (Are : SeasonFacts → State → List ℕ → Type 0) (tables : Tables) (facts : SeasonFacts) (state : State) (left : Option (List ℕ)) → IsResumed tables facts state
+    → Tells (λ bytes. (facts : SeasonFacts) (state : State) → IsResumed tables facts state → Are facts state bytes) left → Tells (Are facts state) left
+tells_here Are tables facts state None resumed tells = tells
+tells_here Are tables facts state (Some bytes) resumed tells = tells facts state resumed

@@ -1,0 +1,92 @@
+-- The command `special`: an office goes on from what the keeper holds, its input are lists of those without an admission, and its output is the special round
+-- over them. Nothing is put into the keeper.
+use Rattle.std.specs.Prelude.{◌≡◌, ◌≢◌, ◌<◌, ◌≤◌, ◌⊎◌, ℕ, List, Option, codes, length}
+use Rattle.office_base.specs.Limits.{most_bundle_bytes}
+use Rattle.keeper_mem.specs.Tables.{Tables, AreTold, still}
+use Rattle.office_moves.specs.Facts.{SeasonFacts}
+use Rattle.office_moves.specs.State.{State}
+use Rattle.round_cut.specs.Resume.{IsResumed}
+use Rattle.special_round.specs.Season.{IsSpecialFault, MayBeHeld}
+use Rattle.special_round.specs.Special.{IsSpecial}
+use Rattle.special_round.specs.declared.fault.SpecialFault.{SpecialFault}
+use Rattle.special_round.specs.declared.fault.SpecialFault.TheVariants.{OutOfMemory as NoMemoryForRound}
+use Rattle.special_round.specs.declared.round_over.Special.{Special}
+use Rattle.special_texts.specs.Texts.{special_fault_line, special_text}
+use Rattle.command_answers.specs.Answers.{Answers}
+use Rattle.command_answers.specs.Writes.{IsTextOf, Writes}
+use Rattle.command_answers.specs.declared.failure.Failure.{Failure}
+use Rattle.command_answers.specs.declared.failure.Failure.TheVariants.{Read, Bad, NoMemory}
+use Rattle.command_answers.specs.declared.status.Status.{Status}
+use Rattle.season_commands.specs.Resume.{IsUnresumedText}
+
+abbrev pub too_long_line : List ℕ
+too_long_line = codes "fault: special TooLong\n"
+
+-- ---- the input, over the state of an office
+
+-- the bytes are lists without faults
+abbrev pub AreSpecialLists : SeasonFacts → State → List ℕ → Type 0
+AreSpecialLists facts state bytes = (length bytes ≤ most_bundle_bytes) × MayBeHeld facts state bytes
+
+-- there is no special round over the bytes, and this is why
+abbrev pub HaveSpecialFault : SeasonFacts → State → List ℕ → SpecialFault → Type 0
+HaveSpecialFault facts state bytes fault = (length bytes ≤ most_bundle_bytes) × IsSpecialFault facts state bytes fault × (fault ≢ NoMemoryForRound)
+
+-- the bytes are too many, or there is no special round over them
+abbrev pub AreFaultyLists : SeasonFacts → State → List ℕ → Type 0
+AreFaultyLists facts state bytes = (most_bundle_bytes < length bytes) ⊎ ((fault : SpecialFault) × HaveSpecialFault facts state bytes fault)
+
+-- the line of that
+abbrev pub IsListsFaultLine : SeasonFacts → State → List ℕ → List ℕ → Type 0
+IsListsFaultLine facts state bytes line = ((most_bundle_bytes < length bytes) × (line ≡ too_long_line))
+    ⊎ ((fault : SpecialFault) × HaveSpecialFault facts state bytes fault × (line ≡ special_fault_line fault))
+
+-- the text of a special round over the bytes
+abbrev pub IsSpecialOutput : SeasonFacts → State → List ℕ → List ℕ → Type 0
+IsSpecialOutput facts state bytes output = (length bytes ≤ most_bundle_bytes) × ((special : Special) × IsSpecial facts state bytes special × (output ≡ special_text special))
+
+-- what the command answers to the bytes over that state
+abbrev pub special_answers : SeasonFacts → State → Answers
+special_answers facts state = record {
+  IsInput = AreSpecialLists facts state;
+  IsFaulty = AreFaultyLists facts state;
+  IsOutput = IsSpecialOutput facts state;
+  IsFaultLine = IsListsFaultLine facts state;
+}
+
+-- Bytes are such lists or have a fault, and never both; they have an output only where they are without faults, a line of a fault only where they have one, and
+-- at most one such line.
+pub record HaveOneSpecial (facts : SeasonFacts) (state : State) (bytes : List ℕ) : Type 0 where
+  pub some : AreSpecialLists facts state bytes ⊎ AreFaultyLists facts state bytes
+  pub apart : AreSpecialLists facts state bytes → AreFaultyLists facts state bytes → ⊥
+  pub of_input : (output : List ℕ) → IsSpecialOutput facts state bytes output → AreSpecialLists facts state bytes
+  pub of_fault : (line : List ℕ) → IsListsFaultLine facts state bytes line → AreFaultyLists facts state bytes
+  pub one_line : (line other : List ℕ) → IsListsFaultLine facts state bytes line → IsListsFaultLine facts state bytes other → line ≡ other
+
+-- The failure tells this fault by its line. Of memory nothing is claimed.
+abbrev pub IsToldFault : SpecialFault → Failure → Type 0
+IsToldFault fault Read = ⊥
+IsToldFault fault (Bad line) = (fault ≢ NoMemoryForRound) × (line ≡ special_fault_line fault)
+IsToldFault fault NoMemory = Unit {0}
+
+-- ---- the input, over the tables of a keeper
+
+-- over every state that the records lead to the bytes are lists without faults
+abbrev pub AreKeptLists : Tables → List ℕ → Type 0
+AreKeptLists tables bytes = (facts : SeasonFacts) (state : State) → IsResumed tables facts state → AreSpecialLists facts state bytes
+
+-- over every state that the records lead to they have a fault
+abbrev pub AreFaultyKeptLists : Tables → List ℕ → Type 0
+AreFaultyKeptLists tables bytes = (facts : SeasonFacts) (state : State) → IsResumed tables facts state → AreFaultyLists facts state bytes
+
+-- ---- how the command ends
+
+-- the whole text that goes with each status where an office goes on, for the bytes that the source had left
+abbrev pub IsSpecialText : SeasonFacts → State → Option (List ℕ) → Status → List ℕ → Type 0
+IsSpecialText facts state left = IsTextOf (special_answers facts state) left
+
+-- how `special` ends: no office goes on; or the records lead to the state of a season, and the special round of that is told, or why there is none. The tables
+-- are as before; what was kept is told where the keeper tells both before and after.
+abbrev pub EndsSpecial : Option (List ℕ) → Tables → Tables → Status → List ℕ → Type 0
+EndsSpecial left before after status output = (Writes (IsUnresumedText (still before after)) status output × AreTold before after)
+    ⊎ ((facts : SeasonFacts) × (state : State) × IsResumed (still before after) facts state × Writes (IsSpecialText facts state left) status output × AreTold before after)

@@ -1,0 +1,3 @@
+mod Living
+mod OneUnits
+mod UnitsEnds

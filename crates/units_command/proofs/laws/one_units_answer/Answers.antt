@@ -1,0 +1,5 @@
+use Rattle.units_command.proofs.OneUnits.{one_units_answer}
+use Rattle.units_command.proofs.laws.one_units_answer.Goals as goal
+
+pub returns : goal.returns
+returns c = one_units_answer c.one_answer.ensures

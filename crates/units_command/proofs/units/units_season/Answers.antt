@@ -1,0 +1,22 @@
+use Rattle.std.proofs.Common.{Err}
+use Rattle.command_answers.proofs.Ended.{input_is_answered}
+use Rattle.units_command.specs.Units.{units_answers}
+use Rattle.units_command.proofs.UnitsEnds.{no_faulty_units, read_ends, unread_ends}
+use Rattle.units_command.proofs.units.units_season.Goals as goal
+
+pub returns-in-Ok-clause-written : goal.returns-in-Ok-clause-written
+returns-in-Ok-clause-written g c =
+    read_ends (g.S.Source.left c.args.source.now) (g.P.Keeper.tables c.args.keeper) (g.P.Keeper.tables c.run_script.result.1) c.in-Ok.season c.in-Ok.script c.as_slice.result.now
+    (g.K.Sink.written c.args.sink.now) (g.K.Sink.written c.run_script.new.sink) c.run_script.result.0 c.in-Ok.ensures.bundle c.as_slice.ensures c.run_script.ensures.written
+
+pub returns-in-Ok-clause-refused : goal.returns-in-Ok-clause-refused
+returns-in-Ok-clause-refused g c tells read wrote =
+    absurd (no_faulty_units _ c.in-Ok.season c.in-Ok.script c.one_units_answer.ensures c.in-Ok.ensures.bundle tells)
+
+pub returns-in-Err-clause-written : goal.returns-in-Err-clause-written
+returns-in-Err-clause-written g c =
+    unread_ends _ _ c.in-Err.failure _ _ _ _ c.tell_failure.result c.in-Err.ensures.failure c.tell_failure.ensures.told
+
+pub returns-in-Err-clause-complete : goal.returns-in-Err-clause-complete
+returns-in-Err-clause-complete g c tells none read wrote kept =
+    input_is_answered units_answers _ _ (Err c.in-Err.failure) c.tell_failure.result _ _ _ c.one_units_answer.ensures c.in-Err.ensures.failure c.tell_failure.ensures.told tells read wrote

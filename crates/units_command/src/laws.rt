@@ -1,0 +1,24 @@
+// What holds of bundles with units, whoever reads them.
+ghost use Rattle.std.specs.Prelude.{◌≡◌, ℕ, true, List};
+ghost use Rattle.office_base.specs.declared.asks.Request.{Request};
+ghost use Rattle.season_file.specs.Season.{IsSeasonWith};
+ghost use Rattle.season_file.specs.declared.season.Season.{Season};
+ghost use Rattle.office_moves.specs.Facts.{IsSound};
+ghost use Rattle.office_moves.specs.Season.{facts_of};
+ghost use Rattle.quota_units.specs.Expansion.{IsExpansion};
+ghost use Rattle.command_answers.specs.Answers.{HaveOneAnswer};
+ghost use Rattle.units_command.specs.Units.{AlwaysLiveRight, units_answers};
+
+/// Bytes come to a plain bundle without faults or have a fault, and never both; and at most one line tells that fault.
+pub fn one_units_answer()
+    ensures { (bytes : List ℕ) → HaveOneAnswer units_answers bytes }
+{
+    season_commands::laws::one_answer();
+}
+
+/// Whoever has a seat in a unit, in whatever round, lives where it is for.
+pub fn seats_right()
+    ensures { (bytes text : List ℕ) (made : IsExpansion bytes text) (season : Season) (script : List Request) → IsSeasonWith true text season script → IsSound (facts_of season) → AlwaysLiveRight made.units made.states (facts_of season) }
+{
+    histories::laws::runs_its_course();
+}
