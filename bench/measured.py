@@ -1,5 +1,6 @@
-"""What the measurements share: a program run over an input, its best wall time and its peak memory."""
+"""What the measurements share: a program run over an input, its best wall time, its peak memory, and how many instructions it takes."""
 import os
+import re
 import subprocess
 import sys
 import time
@@ -31,3 +32,19 @@ def write_lines(path, lines):
     with open(path, "w", encoding="ascii") as out:
         out.writelines(line + "\n" for line in lines)
     return os.path.getsize(path)
+
+
+def built(name, folder):
+    """A plain program of bench/, built."""
+    program = os.path.join(folder, name)
+    subprocess.run(["rustc", "-O", "-o", program, os.path.join(TOP, "bench", name, "main.rs")], check=True)
+    return program
+
+
+def instructions(words, path, folder):
+    """How many instructions a program runs over an input."""
+    out = os.path.join(folder, "callgrind.out")
+    with open(path, "rb") as source:
+        done = subprocess.run(["valgrind", "--tool=callgrind", f"--callgrind-out-file={out}", *words], stdin=source,
+                              stdout=subprocess.DEVNULL, stderr=subprocess.PIPE, text=True, check=True)
+    return int(re.search(r"Collected : (\d+)", done.stderr).group(1))

@@ -6,7 +6,7 @@ const PEOPLE: u32 = 10_000;
 const PLACES: u32 = 20_011;
 
 #[derive(Clone, Copy, PartialEq, Eq)]
-enum Category {
+pub enum Category {
     Gen,
     Ews,
     Obc,
@@ -16,7 +16,7 @@ enum Category {
 
 #[derive(Clone, Copy)]
 #[allow(dead_code)]
-enum Place {
+pub enum Place {
     Absent,
     Common(u32),
     Relaxed(u32),
@@ -32,19 +32,19 @@ impl Place {
 }
 
 #[derive(Clone, Copy)]
-struct Person {
-    id: u32,
-    category: Category,
-    traits: u8,
-    places: [Place; 4],
+pub struct Person {
+    pub id: u32,
+    pub category: Category,
+    pub traits: u8,
+    pub places: [Place; 4],
 }
 
 impl Person {
-    fn place(&self, list: u8) -> Place {
+    pub fn place(&self, list: u8) -> Place {
         self.places[usize::from(list - 1)]
     }
 
-    fn is_common(&self, list: u8) -> bool {
+    pub fn is_common(&self, list: u8) -> bool {
         matches!(self.place(list), Place::Common(_))
     }
 }
@@ -138,11 +138,11 @@ fn place_for(people: &[Person], person: &Person, list: u8) -> usize {
 }
 
 /// The seats of a step, and whom they hold.
-struct StepState {
+pub struct StepState {
     list: u8,
-    seats: usize,
+    pub seats: usize,
     matching: Matching,
-    held: Vec<Person>,
+    pub held: Vec<Person>,
     marks: Vec<bool>,
 }
 
@@ -190,7 +190,7 @@ impl StepState {
     }
 }
 
-enum Offered {
+pub enum Offered {
     Taken,
     /// who has left
     #[allow(dead_code)]
@@ -198,16 +198,20 @@ enum Offered {
     Refused,
 }
 
-/// A programme in version 2 of the bundle, and whom each of its steps admits.
-struct ProgrammeState {
+/// A programme, and whom each of its steps admits: the seats of EWS that stay empty go on only from version 2 of the bundle.
+pub struct ProgrammeState {
     list: u8,
-    open: StepState,
-    ews: StepState,
-    obc: StepState,
-    sc: StepState,
-    st: StepState,
-    dereserved: Vec<Person>,
+    version: u8,
+    pub open: StepState,
+    pub ews: StepState,
+    pub obc: StepState,
+    pub sc: StepState,
+    pub st: StepState,
+    pub dereserved: Vec<Person>,
 }
+
+/// The seats of a step, and how many of them each trait protects.
+pub type Seats = (usize, [u16; 6]);
 
 fn hand_member(step: &mut StepState, category: Category, coming: Option<Person>) -> Option<Person> {
     match coming {
@@ -217,28 +221,26 @@ fn hand_member(step: &mut StepState, category: Category, coming: Option<Person>)
 }
 
 impl ProgrammeState {
-    fn new(list: u8) -> ProgrammeState {
-        let step = |seats, counts| StepState::new(list, seats, counts);
-        ProgrammeState {
-            list,
-            open: step(100, [20, 10, 10, 0, 0, 0]),
-            ews: step(20, [4, 2, 0, 0, 0, 0]),
-            obc: step(50, [10, 5, 5, 0, 0, 0]),
-            sc: step(20, [4, 2, 0, 0, 0, 0]),
-            st: step(10, [2, 0, 0, 0, 0, 0]),
-            dereserved: Vec::with_capacity(71),
-        }
+    pub fn new(list: u8, version: u8, steps: &[Seats; 5]) -> ProgrammeState {
+        let [open, ews, obc, sc, st] = steps.map(|(seats, counts)| StepState::new(list, seats, counts));
+        let dereserved = Vec::with_capacity(ews.seats + obc.seats + 1);
+        ProgrammeState { list, version, open, ews, obc, sc, st, dereserved }
+    }
+
+    /// The seats that the categories leave to all.
+    pub fn empty(&self) -> usize {
+        let of_ews = if self.version == 1 { 0 } else { self.ews.seats - self.ews.held.len() };
+        of_ews + self.obc.seats - self.obc.held.len()
     }
 
     #[inline(never)]
-    fn offer(&mut self, person: &Person) -> Offered {
+    pub fn offer(&mut self, person: &Person) -> Offered {
         let by_open = if person.is_common(self.list) { self.open.hand(person) } else { Some(*person) };
         let by_ews = hand_member(&mut self.ews, Category::Ews, by_open);
         let by_obc = hand_member(&mut self.obc, Category::Obc, by_ews);
         let by_sc = hand_member(&mut self.sc, Category::Sc, by_obc);
         let by_st = hand_member(&mut self.st, Category::St, by_sc);
-        let empty = self.ews.seats - self.ews.held.len() + self.obc.seats - self.obc.held.len();
-        match self.keep_best(by_st, empty) {
+        match self.keep_best(by_st, self.empty()) {
             None => Offered::Taken,
             Some(gone) if gone.id == person.id => Offered::Refused,
             Some(gone) => Offered::Displaced(gone.id),
@@ -288,10 +290,17 @@ fn person(number: u32, stride: u32) -> Person {
 
 fn main() {
     let strides = [7_919, 12_345];
+    let steps = [
+        (100, [20, 10, 10, 0, 0, 0]),
+        (20, [4, 2, 0, 0, 0, 0]),
+        (50, [10, 5, 5, 0, 0, 0]),
+        (20, [4, 2, 0, 0, 0, 0]),
+        (10, [2, 0, 0, 0, 0, 0]),
+    ];
     let mut admitted = 0;
     let mut counts = [0; 3];
     for stride in strides {
-        let mut state = ProgrammeState::new(1);
+        let mut state = ProgrammeState::new(1, 2, &steps);
         for number in 1..=PEOPLE {
             match state.offer(&person(number, stride)) {
                 Offered::Taken => counts[0] += 1,

@@ -1,5 +1,5 @@
 // A plain Rust reader of season bundles with the standard library, to measure the command `check` beside it. It makes the
-// same checks and keeps the same facts, with no proof and no first fault by kind: `check` runs both.
+// same checks and keeps the same facts, with no proof and no first fault by kind: `check` runs both. The plain office reads with it.
 use std::collections::{HashMap, HashSet};
 use std::io::Read;
 
@@ -64,16 +64,16 @@ fn rows<'a>(body: &'a str, header: &str) -> Option<impl Iterator<Item = Vec<&'a 
 }
 
 #[derive(Clone, Copy)]
-struct Person {
+pub struct Person {
     #[allow(dead_code)]
-    category: u8,
+    pub category: u8,
     #[allow(dead_code)]
-    traits: u8,
-    places: [(u32, bool); 4],
+    pub traits: u8,
+    pub places: [(u32, bool); 4],
 }
 
-struct Register<'a> {
-    people: HashMap<u32, (usize, Person)>,
+pub struct Register<'a> {
+    pub people: HashMap<u32, (usize, Person)>,
     tokens: HashSet<&'a str>,
 }
 
@@ -120,15 +120,18 @@ fn register(body: &str) -> Option<Register<'_>> {
     Some(Register { people, tokens })
 }
 
-struct Programme<'a> {
-    number: u16,
-    institute: &'a str,
-    list: u32,
+pub struct Programme<'a> {
+    pub number: u16,
+    pub institute: &'a str,
+    pub list: u32,
+    /// the seats of each category, and how many of them each trait protects
+    #[allow(dead_code)]
+    pub steps: [(u32, [u32; 6]); 5],
 }
 
 fn matrix(body: &str) -> Option<HashMap<&str, Programme<'_>>> {
     let mut programmes: HashMap<&str, Programme> = HashMap::new();
-    let mut steps = HashMap::new();
+    let mut steps = HashSet::new();
     let mut total = 0;
     for row in rows(body, "programme,institute,list,step,seats,W,D,X,S,F,L")? {
         if row.len() > 11 || !is_code(row[0]) || !is_code(row.get(1)?) {
@@ -151,26 +154,27 @@ fn matrix(body: &str) -> Option<HashMap<&str, Programme<'_>>> {
         if protections.iter().sum::<u32>() > seats || total > 1_000_000 {
             return None;
         }
-        if steps.insert((row[0], step), (seats, protections)).is_some() {
+        if !steps.insert((row[0], step)) {
             return None;
         }
         let list = number(row[2], 1, 4)?;
         let count = programmes.len();
-        match programmes.get(row[0]) {
-            Some(known) if known.institute != row[1] || known.list != list => return None,
-            Some(_) => {}
-            None if count >= 2_000 => return None,
-            None => {
-                programmes.insert(row[0], Programme { number: count as u16, institute: row[1], list });
-            }
+        if count >= 2_000 && !programmes.contains_key(row[0]) {
+            return None;
         }
+        let new = Programme { number: count as u16, institute: row[1], list, steps: Default::default() };
+        let known = programmes.entry(row[0]).or_insert(new);
+        if known.institute != row[1] || known.list != list {
+            return None;
+        }
+        known.steps[usize::from(step)] = (seats, protections);
     }
     Some(programmes)
 }
 
-struct Choices {
-    programmes: Vec<u16>,
-    ranges: Vec<Option<(usize, usize)>>,
+pub struct Choices {
+    pub programmes: Vec<u16>,
+    pub ranges: Vec<Option<(usize, usize)>>,
 }
 
 fn choices(body: &str, register: &Register, programmes: &HashMap<&str, Programme>) -> Option<Choices> {
@@ -204,7 +208,7 @@ fn choices(body: &str, register: &Register, programmes: &HashMap<&str, Programme
 
 #[derive(Clone, Copy)]
 #[allow(dead_code)]
-enum By {
+pub enum By {
     Clerk,
     Nobody,
     Candidate(u32),
@@ -212,7 +216,7 @@ enum By {
 
 #[derive(Clone, Copy)]
 #[allow(dead_code)]
-enum Choice {
+pub enum Choice {
     Freeze,
     Float,
     Slide,
@@ -220,7 +224,7 @@ enum Choice {
 }
 
 #[allow(dead_code)]
-enum Ask<'a> {
+pub enum Ask<'a> {
     Answer { cand: u32, window: u16, turn: u16, choice: Choice },
     Cut { window: u16 },
     Raise { window: u16, prog: &'a str, step: u8, seats: u16 },
@@ -302,7 +306,17 @@ fn requests(body: &str) -> Option<Vec<(By, Ask<'_>)>> {
     Some(found)
 }
 
-fn check(text: &str) -> Option<String> {
+/// A season bundle of the first version, and its requests.
+pub struct Bundle<'a> {
+    pub rounds: u32,
+    pub register: Register<'a>,
+    pub programmes: HashMap<&'a str, Programme<'a>>,
+    pub choices: Choices,
+    #[allow(dead_code)]
+    pub script: Vec<(By, Ask<'a>)>,
+}
+
+pub fn read(text: &str) -> Option<Bundle<'_>> {
     let text = text.strip_prefix('\u{feff}').unwrap_or(text);
     let (first, rest) = text.split_once('\n')?;
     if first.trim_end_matches(['\r', ',']) != "office bundle 1" {
@@ -330,13 +344,17 @@ fn check(text: &str) -> Option<String> {
     }
     let programmes = matrix(seats)?;
     let choices = choices(wanted, &register, &programmes)?;
-    let _script = requests(script)?;
-    let count: usize = choices.ranges.iter().flatten().map(|(start, end)| end - start).sum();
+    Some(Bundle { rounds: rounds?, register, programmes, choices, script: requests(script)? })
+}
+
+fn check(text: &str) -> Option<String> {
+    let read = read(text)?;
+    let count: usize = read.choices.ranges.iter().flatten().map(|(start, end)| end - start).sum();
     Some(format!(
         "bundle candidates {} programmes {} choices {count} rounds {}",
-        register.people.len(),
-        programmes.len(),
-        rounds?
+        read.register.people.len(),
+        read.programmes.len(),
+        read.rounds
     ))
 }
 
