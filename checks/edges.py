@@ -4,6 +4,7 @@ import functools
 import os
 import resource
 import shutil
+import signal
 import sqlite3
 import subprocess
 import tempfile
@@ -161,6 +162,44 @@ def little_memory(room, program, bundle):
     return "check in little memory: a small bundle wants 256 MiB"
 
 
+def files_end_at(size):
+    """No file grows beyond this size, as where the disk is full: a write past it gives an error."""
+    signal.signal(signal.SIGXFSZ, signal.SIG_IGN)
+    resource.setrlimit(resource.RLIMIT_FSIZE, (size, size))
+
+
+def rows_of(path):
+    """All rows of a store, table by table."""
+    connection = sqlite3.connect(path)
+    try:
+        return [connection.execute(f"SELECT * FROM {name} ORDER BY 1, 2").fetchall() for name in ("season", "answer", "lift", "allot", "phase")]
+    finally:
+        connection.close()
+
+
+@in_a_room
+def full_disk(room, program):
+    """The disk is full at one size after another, up to one with room for all of a generated season: the store is not opened, or its keeper fails after
+    replies that are those of the season. With room it then goes on with all requests to the rows of a season that always had some."""
+    bundle = ended([program, "generate", "60", "7", "text"], room)[0]
+    told = ended([program, "run", "told.db"], room, input=bundle)
+    requests, rows = bundle.partition(b"[requests]\n")[2], rows_of(f"{room}/told.db")
+    for size in (0, *(1 << power for power in range(12, 25))):
+        name = f"{size}.db"
+        came = ended([program, "run", name], room, input=bundle, preexec_fn=functools.partial(files_end_at, size))
+        if came[2] == 0:
+            return is_so(f"run where there is room for {size} bytes", came, told)
+        replies = came[0].removesuffix(b"fault: keeper\n")
+        if came[2] not in (1, 6) or not told[0].startswith(replies) or (came[2] == 1 and came != NO_STORE):
+            return f"run on a disk with room for {size} bytes: {came[0]!r:.80}, standard error {came[1]!r:.80} and status {came[2]} came"
+        again = ended([program, "resume", name], room, input=requests)
+        if again[2] == 3 and not replies:
+            again = ended([program, "run", name], room, input=bundle)
+        if again[2] != 0 or rows_of(f"{room}/{name}") != rows:
+            return f"resume where there was room for {size} bytes: status {again[2]} came, or other rows are kept"
+    return "run on a full disk: a season of 60 candidates wants more than 16 MiB"
+
+
 # ---- the launcher
 
 
@@ -180,5 +219,6 @@ def trials(program, bundle, sheet):
         yield functools.partial(full_output, program, given, words)
     for trial in (lost_replies, not_a_store, only_read, open_elsewhere, little_memory):
         yield functools.partial(trial, program, bundle)
+    yield functools.partial(full_disk, program)
     for words in ([], ["nothing"], ["run"], ["try"], ["try", "step", "now"]):
         yield functools.partial(launcher_forms, words)

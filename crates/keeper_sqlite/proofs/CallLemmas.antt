@@ -1,5 +1,5 @@
 -- Calls that follow one another in a transaction.
-use Rattle.std.proofs.Common.{◌≡◌, ◌+◌, ◌<◌, ◌≤◌, ◌^◌, ◌∙◌, ap, append-nil, append_assoc, ℕ, zero, suc, slice_get, take, drop, get_or, length, false, List, [], ◌∷◌, ◌++◌, Option, Some, None, Result, Ok, Err, IsTrue, IfOk, IfErr, OnOk, Bool, is_some, sym, subst, refl, inl, inr, arith}
+use Rattle.std.proofs.Common.{◌≡◌, ◌+◌, ◌<◌, ◌≤◌, ◌^◌, ◌∙◌, ap, append-nil, append_assoc, ℕ, zero, suc, slice_get, take, drop, get_or, length, false, List, [], ◌∷◌, ◌++◌, Option, Some, None, Result, Ok, Err, IsTrue, IfOk, OnOk, Bool, is_some, sym, subst, refl, inl, inr, arith}
 use Rattle.std.proofs.lemmas.Bool.{cases_Bool}
 use Rattle.std.proofs.lemmas.List.{drop_more, take_more, take_all}
 use Rattle.std.specs.List.{AllByRecursion, AllZip, concat}
@@ -17,9 +17,8 @@ use Rattle.keeper_mem.specs.declared.rows.Kept.{Kept}
 use Rattle.keeper_sqlite.specs.declared.rising.Key.{Key}
 use Rattle.keeper_sqlite.specs.Columns.{IsKeyRow, TellsKey, IsPhaseRow, IsPartRow, IsAnswerRow, IsRaiseRow, IsAllotRow, TellsPhase}
 use Rattle.keeper_sqlite.specs.Commits.{CommitsNothing}
-use Rattle.keeper_sqlite.specs.Kept.{Call, DidAll, TellsRecords, TellsText, TellsTables, TellsKept, text_query, answers_query, raises_query, allots_query, TellsPhaseOf, TellsSeason, LosesPhase, MakesCut, ToldPhase, AreAbove, PutsText, seat_calls, allot_calls, allot_values, phase_query, part_text, part_values, part_calls, text_calls, season_calls, unanswered_calls, any_row_queries, opening_text, opening_values}
+use Rattle.keeper_sqlite.specs.Kept.{Call, DidAll, TellsRecords, TellsText, TellsTables, TellsKept, text_query, answers_query, raises_query, allots_query, TellsPhaseOf, TellsSeason, MakesCut, ToldPhase, AreAbove, PutsText, seat_calls, allot_calls, allot_values, phase_query, part_text, part_values, part_calls, text_calls, season_calls, unanswered_calls, any_row_queries, opening_text, opening_values}
 use Rattle.keeper_sqlite.specs.Kept.Call.{Runs, Places, Asks, Readies}
-use Rattle.keeper_sqlite.specs.Halts.{WantsMemory}
 use Rattle.keeper_sqlite.specs.declared.halt.Halt.{Halt}
 
 -- A statement runs only inside a transaction.
@@ -133,13 +132,6 @@ pub phase_told : {S : Type 0} (g : Ghosts S) (rows seen : List Row) (old new : H
     → HasCleanDisk (state g new) → IfOk ended (λ found. TellsPhaseOf g found old new)
 phase_told g rows seen old new (Err halt) is asked tells clean = tt
 phase_told g rows seen old new (Ok found) is asked tells clean = record { rows = rows; tells = subst (λ (r : List Row). TellsPhase r found) is tells; asked = asked clean }
-
-pub phase_lost : {S : Type 0} (g : Ghosts S) (rows seen : List Row) (old new : Held S) (ended : Result (Option ℕ) Halt) → seen ≡ rows
-    → (HasCleanDisk (state g new) → DidAll g (Asks phase_query rows ∷ []) old new) → IfErr ended (λ halt. ¬ WantsMemory halt → (found : Option ℕ) → ¬ TellsPhase seen found)
-    → HasCleanDisk (state g new) → IfErr ended (λ halt. ¬ WantsMemory halt → LosesPhase g old new)
-phase_lost g rows seen old new (Ok found) is asked none clean = tt
-phase_lost g rows seen old new (Err halt) is asked none clean = λ enough.
-    inr (record { rows = rows; none = subst (λ (r : List Row). (found : Option ℕ) → ¬ TellsPhase r found) is (none enough); asked = asked clean })
 
 pub only_row : (rows : List Row) (row : Row) → 1 ≤ length rows → length rows < 2 → row ≡ get_or rows 0 row → rows ≡ row ∷ []
 only_row [] row least below is = absurd (omega (arith, least))

@@ -1,8 +1,7 @@
 -- What calls that follow one another commit.
-use Rattle.std.proofs.Common.{◌≡◌, true, Result, Ok, Err, ◌⊎◌, IsTrue, IfOk, IfErr, IsErrAnd, IsErrOf, OnOk, OnErr, sym, subst, refl, inl, inr, arith}
+use Rattle.std.proofs.Common.{◌≡◌, true, Result, Ok, Err, IsTrue, IfOk, IfErr, IsErrAnd, IsErrOf, OnOk, OnErr, sym, subst, refl, inl, arith}
 use Rattle.sqlite.specs.Store.{Ghosts}
 use Rattle.sqlite.specs.State.{State, HasCleanDisk, IsRolledBack, Survives}
-use Rattle.sqlite.specs.Tree.{Trees}
 use Rattle.sqlite.specs.Held.{Held, state}
 use Rattle.sqlite.proofs.StateLemmas.{survives_then, survives_weaker}
 use Rattle.sqlite.proofs.Callers.{survives_begin}
@@ -11,7 +10,7 @@ use Rattle.keeper_sqlite.specs.Kept.{Keeps, Looks, Makes, MadeBy}
 use Rattle.keeper_mem.specs.declared.keeper.KeepFault.{KeepFault}
 use Rattle.keeper_mem.specs.declared.keeper.KeepFault.TheVariants.{Failed, OutOfMemory}
 use Rattle.office_base.specs.Memory.{counted}
-use Rattle.keeper_sqlite.specs.Halts.{WantsMemory, keep_fault}
+use Rattle.keeper_sqlite.specs.Halts.{keep_fault}
 use Rattle.keeper_sqlite.specs.Stored.{Stored}
 use Rattle.keeper_sqlite.specs.declared.halt.Halt.{Halt}
 use Rattle.keeper_sqlite.specs.declared.transactions.Change.{Change}
@@ -74,14 +73,6 @@ looked {S} g P old begun mid last (Ok value) is nothing told undone clean =
     let was : HasCleanDisk (state g mid) = omega (arith, nothing.clean) in
     record { last = mid; done = subst (λ (h : Held S). P value h mid) is (told was); undone = undone clean }
 
-pub looked_amiss : {S T : Type 0} (g : Ghosts S) (Other : Type 0) (P : Held S → Held S → Type 0) (old begun mid last : Held S) (found : Result T Halt) → begun ≡ record old { in_transaction = true }
-    → Survives (state g mid) (state g last) (λ _. ⊥) → (HasCleanDisk (state g mid) → IfErr found (λ halt. ¬ WantsMemory halt → P begun mid)) → (HasCleanDisk (state g last) → IsRolledBack (state g mid) (state g last))
-    → HasCleanDisk (state g last) → IfErr found (λ halt. ¬ WantsMemory halt → Other ⊎ Looks g P old last)
-looked_amiss g Other P old begun mid last (Ok value) is nothing lost undone clean = tt
-looked_amiss {S} g Other P old begun mid last (Err halt) is nothing lost undone clean = λ enough.
-    let was : HasCleanDisk (state g mid) = omega (arith, nothing.clean) in
-    inr (record { last = mid; done = subst (λ (h : Held S). P h mid) is (lost was enough); undone = undone clean })
-
 -- The same as the keeper tells it.
 pub value_told : {S T : Type 0} (g : Ghosts S) (P : T → Held S → Type 0) (done : Result T Halt) (told : Result T KeepFault) (mid last : Stored S)
     → IfOk told (λ value. done ≡ Ok value) → (¬ IsErrOf told Failed → last ≡ mid) → (HasCleanDisk (state g mid.connection) → IfOk done (λ value. P value mid.connection))
@@ -90,17 +81,6 @@ value_told g P done (Err fault) mid last ok same kept clean = tt
 value_told {S} g P done (Ok value) mid last ok same kept clean =
     let is : last ≡ mid = same (λ failed. let e = failed in cc) in
     subst (λ (k : Stored S). P value k.connection) (sym is) (rw ok at (kept (subst (λ (k : Stored S). HasCleanDisk (state g k.connection)) is clean)))
-
-pub fault_told : {S T : Type 0} (g : Ghosts S) (P : Held S → Type 0) (done : Result T Halt) (told : Result T KeepFault) (mid last : Stored S)
-    → IfErr told (λ fault. IsErrAnd done (λ halt. fault ≡ keep_fault halt)) → (IsErrOf told Failed → last ≡ record mid { faults = counted mid.faults })
-    → (HasCleanDisk (state g mid.connection) → IfErr done (λ halt. ¬ WantsMemory halt → P mid.connection)) → HasCleanDisk (state g last.connection) → IsErrOf told Failed → P last.connection
-fault_told g P done (Ok value) mid last err rose lost clean failed = absurd (let e = failed in cc)
-fault_told g P (Ok value) (Err fault) mid last err rose lost clean failed = absurd err
-fault_told {S} g P (Err halt) (Err fault) mid last err rose lost clean failed =
-    let is : last ≡ record mid { faults = counted mid.faults } = rose failed in
-    let told : keep_fault halt ≡ Failed = let e = failed in let f = err in cc in
-    let enough : ¬ WantsMemory halt = λ wants. rw told at wants in
-    subst (λ (k : Stored S). P k.connection) (sym is) (lost (subst (λ (k : Stored S). HasCleanDisk (state g k.connection)) is clean) enough)
 
 -- Whatever a crash leaves that it could not leave before is what the whole change made.
 pub made_once : {S : Type 0} (g : Ghosts S) (change : Change) (old begun mid last : Held S) (done : Result (Unit {0}) Halt) → begun ≡ record old { in_transaction = true }

@@ -1,10 +1,11 @@
 -- What a keeper tells after a call, where the call ended well.
-use Rattle.std.proofs.Common.{◌≡◌, ◌⊎◌, inl, inr, ℕ, cond, Bool, true, false, is_some, IsTrue, List, [], ◌∷◌, Option, Some, None, Result, Ok, Err, IfOk, OnOk, OnErr, MatchOption, ◌&&◌, true≢false, refl, sym, ap, subst, ◌∙◌}
+use Rattle.std.proofs.Common.{◌≡◌, inl, inr, ℕ, cond, Bool, true, false, IsTrue, List, [], ◌∷◌, Option, Some, None, Result, Ok, Err, OnOk, OnErr, ◌&&◌, true≢false, refl, sym, ap, subst, ◌∙◌}
+use Rattle.std.specs.List.{AllByRecursion}
 use Rattle.sqlite.specs.Store.{Ghosts}
 use Rattle.sqlite.specs.Tree.{Trees}
 use Rattle.sqlite.specs.Effect.{Database}
 use Rattle.sqlite.specs.Effect.{IsDatabase}
-use Rattle.sqlite.specs.State.{State, HasCleanDisk, IsLive, Survives}
+use Rattle.sqlite.specs.State.{HasCleanDisk, IsLive, Survives}
 use Rattle.sqlite_catalog.specs.Listing.{Lists}
 use Rattle.sqlite_catalog.proofs.ReadLemmas.{lists_once}
 use Rattle.sqlite_trees.proofs.Doubt.{no_doubt}
@@ -22,12 +23,13 @@ use Rattle.keeper_mem.specs.declared.rows.RaiseRow.{RaiseRow}
 use Rattle.stored_tables.specs.Fits.{AnswerFits, RaiseFits}
 use Rattle.stored_tables.specs.Layout.{stored, first_four, no_schema, has_tables}
 use Rattle.stored_tables.proofs.CreateLemmas.{MakesAll, all_made, fifth_made, all_stand}
+use Rattle.stored_tables.specs.Leaves.{LeavesTables}
+use Rattle.stored_tables.proofs.LeaveLemmas.{all_leave}
 use Rattle.stored_tables.specs.Told.{told, told_if, is_bare, records_of, tables_with, tables_in, without_raises}
 use Rattle.stored_tables.specs.Rows.{cuts_of}
 use Rattle.stored_tables.proofs.TellLemmas.{text_same, answers_same, raises_same, allots_same}
 use Rattle.stored_tables.proofs.LayoutLemmas.{layout}
 use Rattle.sqlite.specs.State.{Executes}
-use Rattle.sqlite.specs.Order.{Row}
 use Rattle.keeper_sqlite.specs.Kept.{DidAll, plain_calls, table_texts, lift_table, Keeps, Makes, MadeBy, MakesCut, PutsText, Ran, season_calls, answer_text, answer_values, raise_text, raise_values}
 use Rattle.keeper_sqlite.specs.declared.transactions.Change.{Change}
 use Rattle.keeper_sqlite.specs.declared.transactions.Change.TheVariants as change
@@ -90,6 +92,12 @@ module _ {S : Type 0} (g : Ghosts S) where
 
   season_is : (strict : Bool) (text : List ℕ) (old last : Held S) → (state g old).now.schema ≡ stored strict → PutsText g season_calls text (begun old) last → tables_in (state g last).now.trees ≡ with_season text (tables_in (state g old).now.trees)
   season_is strict text old last has put = let it = season_made g strict text (begun old) last has put in it.after ∙ ap (with_season text) (sym it.before)
+
+  -- a season is put where no row stands in any of the five tables
+  pub season_empty : (strict : Bool) (text : List ℕ) (old new : Held S) (r : Result (Unit {0}) KeepFault) → (HasCleanDisk (state g new) → OnOk r (Keeps g (PutsText g season_calls text) old new))
+      → HasCleanDisk (state g new) → old.schema ≡ stored strict → OnOk r (AllByRecursion (λ t. (state g old).now.trees t ≡ []) (0 ∷ 1 ∷ 3 ∷ 5 ∷ 6 ∷ []))
+  season_empty strict text old new (Err fault) kept clean has = tt
+  season_empty strict text old new (Ok none) kept clean has = let k = kept clean in (season_made g strict text (begun old) k.last has k.done).none
 
   pub season_stays : (text : List ℕ) (old new : Held S) (r : Result (Unit {0}) KeepFault) → (HasCleanDisk (state g new) → OnOk r (Keeps g (PutsText g season_calls text) old new))
       → HasCleanDisk (state g new) → OnOk r (told (state g new) ≡ with_season text (told (state g old)))
@@ -207,6 +215,14 @@ module _ {S : Type 0} (g : Ghosts S) where
     phase = d.2.2.2.1.ran;
     lift = subst (λ (h : Held S). Executes lift_table [] (state g d.2.2.2.0) (state g h) (Ok d.2.2.2.2.1.count)) d.2.2.2.2.2 d.2.2.2.2.1.ran;
   }
+
+  -- the tables that were there stay, with their rows
+  pub tables_left : (old new : Held S) (r : Result (Unit {0}) KeepFault) → (HasCleanDisk (state g new) → OnOk r (Keeps g (DidAll g (plain_calls table_texts)) old new)) → HasCleanDisk (state g new)
+      → OnOk r (LeavesTables (state g old).now (state g new).now)
+  tables_left old new (Err fault) kept clean = tt
+  tables_left old new (Ok none) kept clean =
+      let k = kept clean in
+      subst (λ (d : Database). LeavesTables (state g old).now d) (sym k.shown) (all_leave (state g (begun old)) (state g k.last) (made_all (begun old) k.last k.done))
 
   -- an open store with the tables tells them
   told_open_is : (h : Held S) (strict : Bool) → IsTrue (state g h).is_open → (state g h).now.schema ≡ stored strict → told (state g h) ≡ tables_in (state g h).now.trees

@@ -2,6 +2,9 @@ pub mod CallLemmas
 pub mod CommitLemmas
 pub mod KeeperLemmas
 pub mod LookLemmas
+pub mod LossLemmas
+pub mod MeaningLemmas
 pub mod NumberLemmas
 pub mod OpenLemmas
+pub mod StopLemmas
 pub mod ToldLemmas

@@ -1,12 +1,12 @@
 -- What was found and loaded is what the store tells.
-use Rattle.std.proofs.Common.{◌≡◌, inl, inr, ℕ, Bool, true, false, ◌&&◌, cond, is_some, IsTrue, List, [], ◌∷◌, Option, Some, None, option_map, option_and_then, Result, Ok, Err, IfOk, MatchOption, refl, sym, ap, subst, ◌∙◌, true≢false}
-use Rattle.std.specs.List.{AllZip, concat}
+use Rattle.std.proofs.Common.{◌≡◌, inl, inr, ℕ, Bool, true, false, ◌&&◌, cond, is_some, IsTrue, List, [], ◌∷◌, Option, Some, None, Result, Ok, Err, IfOk, MatchOption, refl, sym, ap, subst, ◌∙◌, true≢false}
+use Rattle.std.specs.List.{concat}
 use Rattle.std.proofs.lemmas.Bool.{cases_Bool}
 use Rattle.sqlite.specs.Store.{Ghosts}
 use Rattle.sqlite.specs.Order.{Row}
 use Rattle.sqlite.specs.Tree.{Trees}
 use Rattle.sqlite.specs.Effect.{Database}
-use Rattle.sqlite.specs.State.{State, HasCleanDisk, Shown}
+use Rattle.sqlite.specs.State.{HasCleanDisk, Shown}
 use Rattle.sqlite.specs.Held.{Held, state}
 use Rattle.keeper_mem.specs.Tables.{Tables, Untold, NoSeason, Records, IsFound, IsLoaded, IsTold}
 use Rattle.keeper_mem.specs.declared.keeper.KeepFault.{KeepFault}
@@ -21,7 +21,7 @@ use Rattle.stored_tables.specs.Told.{told, told_if, tables_in, tables_with, reco
 use Rattle.stored_tables.proofs.StandLemmas.{one_list, one_answer, one_raise, one_allot, one_part, then_some, map_some}
 use Rattle.stored_tables.proofs.ShowLemmas.{shows_phase, shows_parts, shows_answers, shows_raises, shows_allots, phase_same, text_same, answers_same, raises_same}
 use Rattle.keeper_sqlite.specs.Columns.{IsAnswerRow, IsRaiseRow, IsAllotRow, IsPartRow}
-use Rattle.keeper_sqlite.specs.Kept.{Looks, TellsSeason, TellsPhaseOf, TellsKept, TellsTables, TellsText, TellsRecords, DidAll, phase_query}
+use Rattle.keeper_sqlite.specs.Kept.{Looks, TellsSeason, TellsPhaseOf, TellsKept, TellsTables, DidAll, phase_query}
 use Rattle.keeper_sqlite.specs.Kept.Call.{Asks}
 use Rattle.sqlite_trees.proofs.Doubt.{no_doubt}
 use Rattle.keeper_sqlite.proofs.KeeperLemmas.{told_has}
@@ -55,7 +55,7 @@ loaded_with n (Some t) (Some a) None s kept cuts text answers raises allots = tt
 loaded_with n (Some t) None r s kept cuts text answers raises allots = tt
 loaded_with n None a r s kept cuts text answers raises allots = tt
 
-rising_is : (all some : List AllotRow) → rising_alone all ≡ Some some → (are_rising all ≡ true) × (all ≡ some)
+pub rising_is : (all some : List AllotRow) → rising_alone all ≡ Some some → (are_rising all ≡ true) × (all ≡ some)
 rising_is all some h = elim (cases_Bool (are_rising all)) [
   | inl rise ↦ (rise, let e = rw rise at h in cc)
   | inr falls ↦ absurd (let e = rw falls at h in cc)

@@ -1,10 +1,10 @@
 -- A call leaves no connection open that was shut.
-use Rattle.std.proofs.Common.{◌≡◌, ◌⊎◌, inl, inr, ℕ, true, false, IsTrue, List, [], Option, Some, None, Result, Ok, Err, IfOk, IfErr, sym, subst}
+use Rattle.std.proofs.Common.{◌≡◌, ◌⊎◌, inl, inr, ℕ, false, IsTrue, List, [], Option, Some, None, Result, Ok, Err, IfOk, IfErr, subst}
 use Rattle.std.proofs.lemmas.Bool.{cases_Bool}
 use Rattle.sqlite.specs.Store.{Ghosts}
 use Rattle.sqlite.specs.Order.{Row}
 use Rattle.sqlite.specs.Held.{Held, state}
-use Rattle.sqlite.specs.State.{State, HasCleanDisk, Survives, ExecutesInside, IsUnchanged, IsNotRun, FailsToQuery, FailsToShow, IsTooLate, Shown, Fails, RunsCommand}
+use Rattle.sqlite.specs.State.{State, HasCleanDisk, Survives, ExecutesInside, IsUnchanged, IsNotRun, FailsToQuery, FailsToShow, IsTooLate, Shown}
 use Rattle.sqlite.specs.Clock.{timed}
 use Rattle.sqlite.specs.declared.error.Error.{Error}
 use Rattle.sqlite.specs.declared.error.Error.TheVariants.{SqliteFailure}

@@ -1,17 +1,15 @@
 -- What a store tells once a change was made in a transaction.
-use Rattle.std.proofs.Common.{◌≡◌, ◌+◌, ◌<◌, ◌^◌, ◌⊎◌, inl, inr, ℕ, pos, Bool, true, false, ◌&&◌, ◌||◌, IsTrue, List, [], ◌∷◌, ◌++◌, length, fold, append-nil, append_assoc, slice_get, Option, Some, None, option_map, option_and_then, is_some, Ok, refl, sym, ap, ap₂, subst, ◌∙◌, arith}
-use Rattle.std.specs.List.{AllByRecursion, AllZip, concat}
+use Rattle.std.proofs.Common.{◌≡◌, ◌+◌, ◌⊎◌, inl, inr, ℕ, pos, Bool, true, ◌&&◌, IsTrue, List, [], ◌∷◌, ◌++◌, fold, append-nil, append_assoc, slice_get, Option, Some, None, option_map, option_and_then, Ok, refl, sym, ap, ap₂, subst, ◌∙◌}
+use Rattle.std.specs.List.{AllByRecursion}
 use Rattle.std.proofs.lemmas.Bool.{cases_Bool}
-use Rattle.sqlite.specs.declared.types.Value.{Value}
 use Rattle.sqlite.specs.declared.types.Value.TheVariants.{Int}
 use Rattle.sqlite.specs.Store.{Ghosts}
 use Rattle.sqlite.specs.Order.{Row, column}
 use Rattle.sqlite.specs.Tree.{Trees}
 use Rattle.sqlite.specs.Effect.{Database}
-use Rattle.sqlite.specs.Schema.{Schema}
 use Rattle.sqlite.specs.State.{State, Executes, Shown}
 use Rattle.sqlite.specs.Held.{Held, state}
-use Rattle.keeper_mem.specs.Tables.{Tables, Untold, NoSeason, Records, with_season, with_answer, with_raise, with_cut, IsFound, opening_records}
+use Rattle.keeper_mem.specs.Tables.{Tables, Untold, NoSeason, Records, with_answer, with_raise, with_cut, IsFound, opening_records}
 use Rattle.keeper_mem.specs.declared.rows.AnswerRow.{AnswerRow}
 use Rattle.keeper_mem.specs.declared.rows.AllotRow.{AllotRow}
 use Rattle.keeper_mem.specs.declared.rows.RaiseRow.{RaiseRow}
@@ -21,17 +19,17 @@ use Rattle.stored_tables.specs.Rising.{comes_after, rise_after}
 use Rattle.stored_tables.specs.Rising.{are_rising as rise}
 use Rattle.stored_tables.specs.Rows.{rows_from, allot_of, part_of, rising_alone, allots_in, cuts_of}
 use Rattle.stored_tables.specs.Told.{told, told_if, tables_in}
-use Rattle.stored_tables.specs.Puts.{HasParts, PutsAllot, PutsPart, PutsCuts, OpensPhase, Stay}
+use Rattle.stored_tables.specs.Puts.{HasParts, Stay}
 use Rattle.stored_tables.proofs.LayoutLemmas.{layout}
 use Rattle.stored_tables.proofs.RowLemmas.{after}
 use Rattle.stored_tables.proofs.TextLemmas.{any_part-is, any_answer-is, any_raise-is, any_allot-is}
 use Rattle.stored_tables.proofs.TableLemmas.{puts_answer, puts_raise, puts_allot, puts_part}
 use Rattle.stored_tables.proofs.PhaseLemmas.{puts_cuts, opens_phase}
-use Rattle.stored_tables.proofs.OrderLemmas.{more_rise, last_of, rising_exactly}
+use Rattle.stored_tables.proofs.OrderLemmas.{more_rise, rising_exactly}
 use Rattle.stored_tables.proofs.SchemaLemmas.{Keeps, answer_text_keeps, raise_text_keeps, allot_text_keeps, part_text_keeps, opening_text_keeps, cuts_text_keeps, shown_keeps}
 use Rattle.stored_tables.proofs.ShowLemmas.{IsLastKey, shows_phase, shows_key, shows_no_part, shows_no_answer, shows_no_raise, shows_no_allot, phase_stands, phase_same, key_same, none_same}
 use Rattle.stored_tables.proofs.TellLemmas.{answer_told, raise_told, cut_told, none_told, season_told}
-use Rattle.keeper_sqlite.specs.Columns.{IsKeyRow, TellsKey, TellsPhase}
+use Rattle.keeper_sqlite.specs.Columns.{TellsKey}
 use Rattle.keeper_sqlite.specs.Rising.{are_rising, key_of}
 use Rattle.keeper_sqlite.specs.declared.rising.Key.{Key}
 use Rattle.keeper_sqlite.specs.Kept.{Call, Ran, Did, DidAll, PutsText, MakesCut, AreAbove, ToldPhase, IsReady, answer_text, answer_values, raise_text, raise_values, allot_text, allot_calls, part_text, part_calls, text_calls, seat_calls, season_calls, opening_text, opening_values, cuts_text, cuts_values, key_query, phase_query}

@@ -1,11 +1,10 @@
 -- What a put keeps: which statement is run with which values, and that what it makes is committed.
-use Rattle.std.specs.Prelude.{◌≡◌, ◌+◌, ◌≤◌, ◌<◌, ◌^◌, ◌⊎◌, IsTrue, ℕ, pos, Bool, true, is_some, List, [], ◌∷◌, ◌++◌, length, map, codes, Option, Some, None, Ok}
+use Rattle.std.specs.Prelude.{◌≡◌, ◌+◌, ◌≤◌, ◌<◌, ◌^◌, IsTrue, ℕ, Bool, true, is_some, List, [], ◌∷◌, ◌++◌, length, map, Option, Some, None, Ok}
 use Rattle.std.specs.List.{AllByRecursion, AllZip, concat}
 use Rattle.sqlite.specs.Store.{Ghosts}
 use Rattle.sqlite.specs.Tree.{Trees}
 use Rattle.sqlite.specs.Order.{Row}
-use Rattle.sqlite.specs.State.{Executes, IsUnchanged, Shown, FailsToQuery, IsTooLate, IsRolledBack}
-use Rattle.sqlite.specs.declared.error.Error.{Error}
+use Rattle.sqlite.specs.State.{Executes, IsUnchanged, Shown, IsRolledBack}
 use Rattle.sqlite.specs.Held.{Held, state}
 use Rattle.sqlite.specs.Listing.{understood}
 use Rattle.sqlite.specs.Outline.{Outline}
@@ -97,10 +96,6 @@ module _ {S : Type 0} (g : Ghosts S) where
     pub short : AllByRecursion (λ part. length part ≤ 65536) parts
     pub done : DidAll (calls parts) old new
 
-  -- the query of this text, without values, was refused
-  abbrev pub IsRefused : List ℕ → Held S → Held S → Type 0
-  IsRefused text old new = (error : Error) × (FailsToQuery text [] (state g old) (state g new) error ⊎ IsTooLate text [] (state g old) (state g new) error)
-
   -- the phase told of this season, or of none
   pub record TellsPhaseOf (found : Option ℕ) (old new : Held S) : Type 0 where
     pub rows : List Row
@@ -112,16 +107,6 @@ module _ {S : Type 0} (g : Ghosts S) where
     pub cuts : Option ℕ
     pub is : found ≡ is_some cuts
     pub told : TellsPhaseOf cuts old new
-
-  -- the phase told rows that are neither none nor the one of a season
-  pub record TellsNoPhase (old new : Held S) : Type 0 where
-    pub rows : List Row
-    pub none : (found : Option ℕ) → ¬ TellsPhase rows found
-    pub asked : DidAll (Asks phase_query rows ∷ []) old new
-
-  -- the phase was not read: the query was refused, or told rows that are no phase
-  abbrev pub LosesPhase : Held S → Held S → Type 0
-  LosesPhase old new = IsRefused phase_query old new ⊎ TellsNoPhase old new
 
   -- the phase told one row, with the number of the cuts
   pub record ToldPhase (made : ℕ) (old new : Held S) : Type 0 where

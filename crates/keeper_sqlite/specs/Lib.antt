@@ -4,4 +4,5 @@ pub mod Halts
 pub mod Kept
 pub mod Numbers
 pub mod Rising
+pub mod Stops
 pub mod Stored

@@ -15,3 +15,8 @@ is_above (Some key) row = nat_lt key.round row.round || ((key.round == row.round
 abbrev pub are_rising : Option Key → List AllotRow → Bool
 are_rising last [] = true
 are_rising last (row ∷ rows) = is_above last row && are_rising (Some (key_of row)) rows
+
+-- the key of the last of these rows, and this one where there is none
+abbrev pub key_after : Option Key → List AllotRow → Option Key
+key_after last [] = last
+key_after last (row ∷ rows) = key_after (Some (key_of row)) rows

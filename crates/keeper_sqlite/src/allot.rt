@@ -1,5 +1,5 @@
 // The table of published seats.
-ghost use Rattle.std.specs.Prelude.{◌≡◌, Option, List, [], ◌∷◌, codes, IfOk, IfErr, OnOk};
+ghost use Rattle.std.specs.Prelude.{◌≡◌, Option, List, [], ◌∷◌, codes, IfOk, IfErr, OnOk, Bool, Some, None};
 ghost use Rattle.sqlite.specs.Order.{Row as Values};
 ghost use Rattle.sqlite.specs.State.{HasCleanDisk};
 ghost use Rattle.keeper_sqlite.specs.Halts.{WantsMemory};
@@ -10,6 +10,12 @@ ghost use Rattle.std.specs.List.{AllByRecursion};
 ghost use Rattle.stored_tables.specs.Fits.{AllotFits};
 ghost use Rattle.keeper_sqlite.specs.Commits.{CommitsNothing};
 ghost use Rattle.keeper_sqlite.specs.Kept.{DidAll, TellsRecords, allots_query, allot_table, allot_text, allot_values, allot_calls, key_query};
+ghost use Rattle.stored_tables.specs.Layout.{stored};
+ghost use Rattle.stored_tables.specs.Puts.{PutsAllot};
+ghost use Rattle.stored_tables.specs.Rows.{allots_in};
+ghost use Rattle.keeper_mem.specs.declared.rows.AllotRow.{AllotRow};
+ghost use Rattle.keeper_sqlite.specs.Rising.{key_after};
+ghost use Rattle.keeper_sqlite.specs.Stops.{StopsIn, LosesKey, LosesRecords};
 ghost use Rattle.keeper_sqlite.specs.Kept.Call.{Runs, Asks, Readies};
 
 use crate::calls::{ask, expect_none, make_ready, run, run_ready};
@@ -27,6 +33,8 @@ pub(crate) fn create<S: Alter>(tx: &mut Transaction<'_, S>) -> Result<(), Halt>
     ensures same_reference { tx.new.conn.ghost_name ≡ tx.old.conn.ghost_name }
     ensures inside { CommitsNothing (state S.Store tx.old.conn.now) (state S.Store tx.new.conn.now) }
     ensures ran { HasCleanDisk (state S.Store tx.new.conn.now) → OnOk result (DidAll S.Store (Runs allot_table [] ∷ []) tx.old.conn.now tx.new.conn.now) }
+    ensures lost { HasCleanDisk (state S.Store tx.new.conn.now) → IfErr result (λ halt. StopsIn S.Store (Runs allot_table [] ∷ []) halt tx.old.conn.now tx.new.conn.now) }
+    ensures stands { (strict : Bool) → HasCleanDisk (state S.Store tx.new.conn.now) → tx.old.conn.now.schema ≡ stored strict → OnOk result ((state S.Store tx.new.conn.now).now ≡ (state S.Store tx.old.conn.now).now) }
 {
     run(
         tx,
@@ -40,6 +48,8 @@ pub(crate) fn expect_empty<S: Alter>(tx: &mut Transaction<'_, S>) -> Result<(), 
     ensures same_reference { tx.new.conn.ghost_name ≡ tx.old.conn.ghost_name }
     ensures inside { CommitsNothing (state S.Store tx.old.conn.now) (state S.Store tx.new.conn.now) }
     ensures told { HasCleanDisk (state S.Store tx.new.conn.now) → OnOk result (DidAll S.Store (Asks (codes "SELECT rnd FROM allot LIMIT 1") [] ∷ []) tx.old.conn.now tx.new.conn.now) }
+    ensures lost { HasCleanDisk (state S.Store tx.new.conn.now) → IfErr result (λ halt. StopsIn S.Store (Asks (codes "SELECT rnd FROM allot LIMIT 1") [] ∷ []) halt tx.old.conn.now tx.new.conn.now) }
+    ensures none { (strict : Bool) → HasCleanDisk (state S.Store tx.new.conn.now) → tx.old.conn.now.schema ≡ stored strict → OnOk result ((state S.Store tx.old.conn.now).now.trees 3 ≡ []) }
 {
     expect_none(tx, "SELECT rnd FROM allot LIMIT 1")
 }
@@ -53,6 +63,7 @@ pub(crate) fn insert_all<S: Alter>(
     ensures inside { CommitsNothing (state S.Store tx.old.conn.now) (state S.Store tx.new.conn.now) }
     ensures ran { HasCleanDisk (state S.Store tx.new.conn.now) → OnOk result (DidAll S.Store (Readies allot_text ∷ allot_calls allot_text rows.now) tx.old.conn.now tx.new.conn.now) }
     ensures fit { OnOk result (AllByRecursion AllotFits rows.now) }
+    ensures lost { HasCleanDisk (state S.Store tx.new.conn.now) → IfErr result (λ halt. StopsIn S.Store (Readies allot_text ∷ allot_calls allot_text rows.now) halt tx.old.conn.now tx.new.conn.now) }
 {
     let insert = make_ready(
         tx,
@@ -70,6 +81,7 @@ fn insert_each<S: Alter>(
     ensures inside { CommitsNothing (state S.Store tx.old.conn.now) (state S.Store tx.new.conn.now) }
     ensures ran { HasCleanDisk (state S.Store tx.new.conn.now) → OnOk result (DidAll S.Store (allot_calls insert.now.text rows.now) tx.old.conn.now tx.new.conn.now) }
     ensures fit { OnOk result (AllByRecursion AllotFits rows.now) }
+    ensures lost { HasCleanDisk (state S.Store tx.new.conn.now) → IfErr result (λ halt. StopsIn S.Store (allot_calls insert.now.text rows.now) halt tx.old.conn.now tx.new.conn.now) }
 {
     for row in rows {
         insert_one(tx, insert, *row)?;
@@ -86,6 +98,8 @@ fn insert_one<S: Alter>(
     ensures inside { CommitsNothing (state S.Store tx.old.conn.now) (state S.Store tx.new.conn.now) }
     ensures ran { HasCleanDisk (state S.Store tx.new.conn.now) → OnOk result (DidAll S.Store (Runs insert.now.text (allot_values row) ∷ []) tx.old.conn.now tx.new.conn.now) }
     ensures fits { AllotFits row }
+    ensures lost { HasCleanDisk (state S.Store tx.new.conn.now) → IfErr result (λ halt. StopsIn S.Store (Runs insert.now.text (allot_values row) ∷ []) halt tx.old.conn.now tx.new.conn.now) }
+    ensures put { (strict : Bool) → HasCleanDisk (state S.Store tx.new.conn.now) → tx.old.conn.now.schema ≡ stored strict → insert.now.text ≡ allot_text → OnOk result (PutsAllot row (state S.Store tx.old.conn.now).now (state S.Store tx.new.conn.now).now) }
 {
     run_ready(
         tx,
@@ -105,6 +119,8 @@ pub(crate) fn last_key<S: Alter>(tx: &mut Transaction<'_, S>) -> Result<Option<K
     ensures inside { CommitsNothing (state S.Store tx.old.conn.now) (state S.Store tx.new.conn.now) }
     ensures told { HasCleanDisk (state S.Store tx.new.conn.now)
         → IfOk result (λ last. (rows : List Values) × TellsKey rows last × DidAll S.Store (Asks key_query rows ∷ []) tx.old.conn.now tx.new.conn.now) }
+    ensures lost { HasCleanDisk (state S.Store tx.new.conn.now) → IfErr result (λ halt. LosesKey S.Store halt tx.old.conn.now tx.new.conn.now) }
+    ensures stands { (strict : Bool) → HasCleanDisk (state S.Store tx.new.conn.now) → tx.old.conn.now.schema ≡ stored strict → IfOk result (λ last. (all : List AllotRow) → allots_in (state S.Store tx.old.conn.now).now.trees ≡ Some all → last ≡ key_after None all) }
 {
     first_key(&ask(
         tx,
@@ -140,6 +156,8 @@ pub(crate) fn read_all<S: Alter>(
     ensures same_reference { tx.new.conn.ghost_name ≡ tx.old.conn.ghost_name }
     ensures inside { CommitsNothing (state S.Store tx.old.conn.now) (state S.Store tx.new.conn.now) }
     ensures told { HasCleanDisk (state S.Store tx.new.conn.now) → IfOk result (λ records. TellsRecords S.Store IsAllotRow allots_query records tx.old.conn.now tx.new.conn.now) }
+    ensures lost { HasCleanDisk (state S.Store tx.new.conn.now) → IfErr result (λ halt. LosesRecords S.Store IsAllotRow allots_query halt tx.old.conn.now tx.new.conn.now) }
+    ensures stands { (strict : Bool) → HasCleanDisk (state S.Store tx.new.conn.now) → tx.old.conn.now.schema ≡ stored strict → IfOk result (λ records. (all : List AllotRow) → allots_in (state S.Store tx.old.conn.now).now.trees ≡ Some all → all ≡ records) }
 {
     let rows = ask(
         tx,

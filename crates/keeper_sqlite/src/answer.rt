@@ -1,5 +1,5 @@
 // The table of answers.
-ghost use Rattle.std.specs.Prelude.{◌≡◌, [], ◌∷◌, codes, IsTrue, IfOk, IfErr, OnOk};
+ghost use Rattle.std.specs.Prelude.{◌≡◌, [], ◌∷◌, codes, IfOk, IfErr, OnOk, Bool, Some, List};
 ghost use Rattle.sqlite.specs.declared.error.Error.{Error};
 ghost use Rattle.keeper_sqlite.specs.declared.halt.Halt.TheVariants.{Refused};
 ghost use Rattle.sqlite.specs.State.{HasCleanDisk};
@@ -7,6 +7,11 @@ ghost use Rattle.sqlite.specs.Held.{state};
 ghost use Rattle.keeper_sqlite.specs.Columns.{IsAnswerRow};
 ghost use Rattle.keeper_sqlite.specs.Commits.{CommitsNothing};
 ghost use Rattle.keeper_sqlite.specs.Kept.{Ran, DidAll, TellsRecords, answers_query, answer_table, answer_text, answer_values};
+ghost use Rattle.stored_tables.specs.Layout.{stored};
+ghost use Rattle.stored_tables.specs.Puts.{PutsAnswer};
+ghost use Rattle.stored_tables.specs.Rows.{answers_in};
+ghost use Rattle.keeper_mem.specs.declared.rows.AnswerRow.{AnswerRow};
+ghost use Rattle.keeper_sqlite.specs.Stops.{StopsIn, LosesRecords};
 ghost use Rattle.keeper_sqlite.specs.Kept.Call.{Runs, Asks};
 
 use crate::calls::{ask, expect_none, run};
@@ -24,6 +29,8 @@ pub(crate) fn create<S: Alter>(tx: &mut Transaction<'_, S>) -> Result<(), Halt>
     ensures same_reference { tx.new.conn.ghost_name ≡ tx.old.conn.ghost_name }
     ensures inside { CommitsNothing (state S.Store tx.old.conn.now) (state S.Store tx.new.conn.now) }
     ensures ran { HasCleanDisk (state S.Store tx.new.conn.now) → OnOk result (DidAll S.Store (Runs answer_table [] ∷ []) tx.old.conn.now tx.new.conn.now) }
+    ensures lost { HasCleanDisk (state S.Store tx.new.conn.now) → IfErr result (λ halt. StopsIn S.Store (Runs answer_table [] ∷ []) halt tx.old.conn.now tx.new.conn.now) }
+    ensures stands { (strict : Bool) → HasCleanDisk (state S.Store tx.new.conn.now) → tx.old.conn.now.schema ≡ stored strict → OnOk result ((state S.Store tx.new.conn.now).now ≡ (state S.Store tx.old.conn.now).now) }
 {
     run(
         tx,
@@ -37,6 +44,8 @@ pub(crate) fn expect_empty<S: Alter>(tx: &mut Transaction<'_, S>) -> Result<(), 
     ensures same_reference { tx.new.conn.ghost_name ≡ tx.old.conn.ghost_name }
     ensures inside { CommitsNothing (state S.Store tx.old.conn.now) (state S.Store tx.new.conn.now) }
     ensures told { HasCleanDisk (state S.Store tx.new.conn.now) → OnOk result (DidAll S.Store (Asks (codes "SELECT seq FROM answer LIMIT 1") [] ∷ []) tx.old.conn.now tx.new.conn.now) }
+    ensures lost { HasCleanDisk (state S.Store tx.new.conn.now) → IfErr result (λ halt. StopsIn S.Store (Asks (codes "SELECT seq FROM answer LIMIT 1") [] ∷ []) halt tx.old.conn.now tx.new.conn.now) }
+    ensures none { (strict : Bool) → HasCleanDisk (state S.Store tx.new.conn.now) → tx.old.conn.now.schema ≡ stored strict → OnOk result ((state S.Store tx.old.conn.now).now.trees 1 ≡ []) }
 {
     expect_none(tx, "SELECT seq FROM answer LIMIT 1")
 }
@@ -45,11 +54,13 @@ pub(crate) fn expect_empty<S: Alter>(tx: &mut Transaction<'_, S>) -> Result<(), 
 pub(crate) fn insert<S: Alter>(tx: &mut Transaction<'_, S>, row: AnswerRow) -> Result<(), Halt>
     ensures same_reference { tx.new.conn.ghost_name ≡ tx.old.conn.ghost_name }
     ensures inside { CommitsNothing (state S.Store tx.old.conn.now) (state S.Store tx.new.conn.now) }
-    ensures ran { HasCleanDisk (state S.Store tx.new.conn.now) → IsTrue tx.old.conn.now.in_transaction
-        → OnOk result (Ran S.Store answer_text (answer_values row) tx.old.conn.now tx.new.conn.now) }
+    ensures ran { HasCleanDisk (state S.Store tx.new.conn.now) → OnOk result (Ran S.Store answer_text (answer_values row) tx.old.conn.now tx.new.conn.now) }
     ensures halts { IfErr result (λ halt. (error : Error) × (halt ≡ Refused error)) }
+    ensures lost { HasCleanDisk (state S.Store tx.new.conn.now) → IfErr result (λ halt. StopsIn S.Store (Runs answer_text (answer_values row) ∷ []) halt tx.old.conn.now tx.new.conn.now) }
+    ensures put { (strict : Bool) → HasCleanDisk (state S.Store tx.new.conn.now) → tx.old.conn.now.schema ≡ stored strict → OnOk result (PutsAnswer row (state S.Store tx.old.conn.now).now (state S.Store tx.new.conn.now).now) }
 {
-    tx.execute(
+    run(
+        tx,
         "INSERT INTO answer (win, cand, turn, choice) VALUES (?1, ?2, ?3, ?4)",
         params![
             u32::from(row.window),
@@ -57,8 +68,7 @@ pub(crate) fn insert<S: Alter>(tx: &mut Transaction<'_, S>, row: AnswerRow) -> R
             u32::from(row.turn),
             number_of_choice(row.choice)
         ],
-    )?;
-    Ok(())
+    )
 }
 
 /// All rows, in the order in which they were put.
@@ -69,6 +79,8 @@ pub(crate) fn read_all<S: Alter>(
     ensures same_reference { tx.new.conn.ghost_name ≡ tx.old.conn.ghost_name }
     ensures inside { CommitsNothing (state S.Store tx.old.conn.now) (state S.Store tx.new.conn.now) }
     ensures told { HasCleanDisk (state S.Store tx.new.conn.now) → IfOk result (λ records. TellsRecords S.Store IsAnswerRow answers_query records tx.old.conn.now tx.new.conn.now) }
+    ensures lost { HasCleanDisk (state S.Store tx.new.conn.now) → IfErr result (λ halt. LosesRecords S.Store IsAnswerRow answers_query halt tx.old.conn.now tx.new.conn.now) }
+    ensures stands { (strict : Bool) → HasCleanDisk (state S.Store tx.new.conn.now) → tx.old.conn.now.schema ≡ stored strict → IfOk result (λ records. (all : List AnswerRow) → answers_in (state S.Store tx.old.conn.now).now.trees ≡ Some all → all ≡ records) }
 {
     let rows = ask(
         tx,

@@ -1,12 +1,13 @@
 // Calls on the database inside a transaction, as contracts name them.
-ghost use Rattle.std.specs.Prelude.{◌≡◌, [], ◌∷◌, IfOk, IfErr, OnOk, OnErr};
+ghost use Rattle.std.specs.Prelude.{◌≡◌, ◌≢◌, [], ◌∷◌, IfOk, IfErr, OnOk};
 ghost use Rattle.sqlite.specs.declared.error.Error.{Error};
-ghost use Rattle.keeper_sqlite.specs.declared.halt.Halt.TheVariants.{Refused};
+ghost use Rattle.keeper_sqlite.specs.declared.halt.Halt.TheVariants.{Refused, Unfit};
 ghost use Rattle.sqlite.specs.Values.{bound};
 ghost use Rattle.sqlite.specs.State.{HasCleanDisk};
 ghost use Rattle.sqlite.specs.Held.{state};
 ghost use Rattle.keeper_sqlite.specs.Commits.{CommitsNothing};
-ghost use Rattle.keeper_sqlite.specs.Kept.{DidAll, IsRefused};
+ghost use Rattle.keeper_sqlite.specs.Kept.{DidAll};
+ghost use Rattle.keeper_sqlite.specs.Stops.{StopsIn, IsRefusal, RefusesToTell};
 ghost use Rattle.keeper_sqlite.specs.Kept.Call.{Runs, Places, Asks, Readies};
 
 use crate::halt::Halt;
@@ -23,6 +24,7 @@ pub(crate) fn run<S: Alter>(
     ensures inside { CommitsNothing (state S.Store tx.old.conn.now) (state S.Store tx.new.conn.now) }
     ensures ran { HasCleanDisk (state S.Store tx.new.conn.now) → OnOk result (DidAll S.Store (Runs text.now (bound values.now) ∷ []) tx.old.conn.now tx.new.conn.now) }
     ensures halts { IfErr result (λ halt. (error : Error) × (halt ≡ Refused error)) }
+    ensures lost { HasCleanDisk (state S.Store tx.new.conn.now) → IfErr result (λ halt. StopsIn S.Store (Runs text.now (bound values.now) ∷ []) halt tx.old.conn.now tx.new.conn.now) }
 {
     tx.execute(text, values)?;
     Ok(())
@@ -37,6 +39,7 @@ pub(crate) fn place<S: Alter>(
     ensures same_reference { tx.new.conn.ghost_name ≡ tx.old.conn.ghost_name }
     ensures inside { CommitsNothing (state S.Store tx.old.conn.now) (state S.Store tx.new.conn.now) }
     ensures ran { HasCleanDisk (state S.Store tx.new.conn.now) → OnOk result (DidAll S.Store (Places text.now (bound values.now) ∷ []) tx.old.conn.now tx.new.conn.now) }
+    ensures lost { HasCleanDisk (state S.Store tx.new.conn.now) → IfErr result (λ halt. StopsIn S.Store (Places text.now (bound values.now) ∷ []) halt tx.old.conn.now tx.new.conn.now) }
 {
     if tx.execute(text, values)? == 1 {
         Ok(())
@@ -51,7 +54,7 @@ pub(crate) fn ask<S: Alter>(tx: &mut Transaction<'_, S>, text: &str) -> Result<V
     ensures inside { CommitsNothing (state S.Store tx.old.conn.now) (state S.Store tx.new.conn.now) }
     ensures told { HasCleanDisk (state S.Store tx.new.conn.now) → IfOk result (λ rows. DidAll S.Store (Asks text.now rows.items ∷ []) tx.old.conn.now tx.new.conn.now) }
     ensures halts { IfErr result (λ halt. (error : Error) × (halt ≡ Refused error)) }
-    ensures refused { HasCleanDisk (state S.Store tx.new.conn.now) → OnErr result (IsRefused S.Store text.now tx.old.conn.now tx.new.conn.now) }
+    ensures refused { HasCleanDisk (state S.Store tx.new.conn.now) → IfErr result (IsRefusal (λ error. RefusesToTell S.Store text.now error tx.old.conn.now tx.new.conn.now)) }
 {
     Ok(tx.query_all(text, &[])?)
 }
@@ -61,12 +64,14 @@ pub(crate) fn expect_none<S: Alter>(tx: &mut Transaction<'_, S>, text: &str) -> 
     ensures same_reference { tx.new.conn.ghost_name ≡ tx.old.conn.ghost_name }
     ensures inside { CommitsNothing (state S.Store tx.old.conn.now) (state S.Store tx.new.conn.now) }
     ensures told { HasCleanDisk (state S.Store tx.new.conn.now) → OnOk result (DidAll S.Store (Asks text.now [] ∷ []) tx.old.conn.now tx.new.conn.now) }
+    ensures lost { HasCleanDisk (state S.Store tx.new.conn.now) → IfErr result (λ halt. StopsIn S.Store (Asks text.now [] ∷ []) halt tx.old.conn.now tx.new.conn.now) }
 {
     expect_empty(&ask(tx, text)?)
 }
 
 fn expect_empty(rows: &[Row]) -> Result<(), Halt>
-    ensures { OnOk result (rows.now ≡ []) }
+    ensures ok { OnOk result (rows.now ≡ []) }
+    ensures err { IfErr result (λ halt. (halt ≡ Unfit) × (rows.now ≢ [])) }
 {
     if rows.is_empty() {
         Ok(())
@@ -84,6 +89,7 @@ pub(crate) fn make_ready<S: Alter>(
     ensures inside { CommitsNothing (state S.Store tx.old.conn.now) (state S.Store tx.new.conn.now) }
     ensures made { HasCleanDisk (state S.Store tx.new.conn.now) → IfOk result (λ statement. (statement.text ≡ text.now) × DidAll S.Store (Readies text.now ∷ []) tx.old.conn.now tx.new.conn.now) }
     ensures halts { IfErr result (λ halt. (error : Error) × (halt ≡ Refused error)) }
+    ensures lost { HasCleanDisk (state S.Store tx.new.conn.now) → IfErr result (λ halt. StopsIn S.Store (Readies text.now ∷ []) halt tx.old.conn.now tx.new.conn.now) }
 {
     Ok(tx.prepare(text)?)
 }
@@ -98,6 +104,7 @@ pub(crate) fn run_ready<S: Alter>(
     ensures inside { CommitsNothing (state S.Store tx.old.conn.now) (state S.Store tx.new.conn.now) }
     ensures ran { HasCleanDisk (state S.Store tx.new.conn.now) → OnOk result (DidAll S.Store (Runs statement.now.text (bound values.now) ∷ []) tx.old.conn.now tx.new.conn.now) }
     ensures halts { IfErr result (λ halt. (error : Error) × (halt ≡ Refused error)) }
+    ensures lost { HasCleanDisk (state S.Store tx.new.conn.now) → IfErr result (λ halt. StopsIn S.Store (Runs statement.now.text (bound values.now) ∷ []) halt tx.old.conn.now tx.new.conn.now) }
 {
     tx.execute_prepared(statement, values)?;
     Ok(())

@@ -1,14 +1,20 @@
 // The keeper over a connection.
-ghost use Rattle.std.specs.Prelude.{◌≡◌, ◌≤◌, ◌⊎◌, Bool, true, false, IsErrOf, IsErrAnd, IsTrue, IfOk, IfErr, OnOk, OnErr, MatchOption};
+ghost use Rattle.std.specs.Prelude.{◌≡◌, ◌≤◌, ◌⊎◌, [], ◌∷◌, ◌++◌, Bool, true, false, IsErrOf, IsErrAnd, IsTrue, IfOk, IfErr, OnOk, OnErr, MatchOption};
 ghost use Rattle.office_base.specs.Memory.{counted};
 ghost use Rattle.sqlite.specs.State.{HasCleanDisk, Survives};
 ghost use Rattle.sqlite.specs.Tree.{Trees};
 ghost use Rattle.sqlite.specs.Held.{state};
 ghost use Rattle.keeper_sqlite.specs.Commits.{CommitsNothing, CommitsOnce};
-ghost use Rattle.keeper_sqlite.specs.Kept.{Keeps, MadeBy, Looks, TellsSeason, TellsKept, LosesPhase, Makes, MakesCut, PutsText, Ran, DidAll, season_calls, plain_calls, table_texts, answer_text, answer_values, raise_text, raise_values};
+ghost use Rattle.keeper_sqlite.specs.Kept.{Keeps, MadeBy, Looks, TellsSeason, TellsKept, Makes, MakesCut, PutsText, Ran, DidAll, season_calls, plain_calls, table_texts, answer_text, answer_values, raise_text, raise_values};
 ghost use Rattle.keeper_sqlite.specs.Halts.{keep_fault, faults_after};
-ghost use Rattle.keeper_mem.specs.Tables.{NoSeason, with_season, with_answer, with_raise, with_cut, AreTold, IsFound, IsLoaded, IsTold};
+ghost use Rattle.keeper_sqlite.specs.Stops.{FailsBy, StopsIn, StopsText, LosesPhase, LosesCut, LosesKept, Breaks, IsBusy, Loses};
+ghost use Rattle.keeper_sqlite.specs.Kept.Call.{Runs};
+ghost use Rattle.std.specs.List.{AllByRecursion};
+ghost use Rattle.keeper_mem.specs.Tables.{NoSeason, Records, with_season, with_answer, with_raise, with_cut, AreTold, IsFound, IsLoaded, IsTold};
 ghost use Rattle.stored_tables.specs.Told.{told, tables_in, without_raises};
+ghost use Rattle.stored_tables.specs.Leaves.{LeavesTables};
+ghost use Rattle.stored_tables.specs.Rising.{are_rising};
+ghost use Rattle.keeper_mem.specs.declared.rows.Kept.{Kept};
 ghost use Rattle.stored_tables.specs.Layout.{no_schema, first_four, stored};
 
 use crate::halt::Halt;
@@ -74,17 +80,19 @@ impl<S: Alter> SqliteKeeper<S> {
     }
 
     /// Makes the tables that are not there, all or none, and leaves those that are. A database without the table of raises becomes one that has
-    /// none. Where it ends well, the five texts were run in their order and committed: a database without tables tells of no season then, one without
-    /// the table of raises tells what it kept and no raises, and one with all five tells what it kept.
+    /// none. Where it ends well, the five texts were run in their order and committed, and whatever tables were there stay with their rows: a database
+    /// without tables tells of no season then, one without the table of raises tells what it kept and no raises, and one with all five tells what it kept.
     pub fn make_tables(&mut self) -> Result<(), KeepFault>
         ensures count { self.old.faults ≤ self.new.faults }
         ensures steady { ¬ IsErrOf result KeepFault.Failed → self.new.faults ≡ self.old.faults }
         ensures counted { IsErrOf result KeepFault.Failed → self.new.faults ≡ counted self.old.faults }
         ensures once { CommitsOnce (state S.Store self.old.connection) (state S.Store self.new.connection) }
         ensures kept { HasCleanDisk (state S.Store self.new.connection) → OnOk result (Keeps S.Store (DidAll S.Store (plain_calls table_texts)) self.old.connection self.new.connection) }
+        ensures rows { HasCleanDisk (state S.Store self.new.connection) → OnOk result (LeavesTables (state S.Store self.old.connection).now (state S.Store self.new.connection).now) }
         ensures fresh { HasCleanDisk (state S.Store self.new.connection) → self.old.connection.schema ≡ no_schema → OnOk result (told (state S.Store self.new.connection) ≡ NoSeason) }
         ensures older { (strict : Bool) → HasCleanDisk (state S.Store self.new.connection) → self.old.connection.schema ≡ first_four strict → OnOk result (told (state S.Store self.new.connection) ≡ tables_in (without_raises (state S.Store self.old.connection).now.trees)) }
         ensures whole { (strict : Bool) → HasCleanDisk (state S.Store self.new.connection) → self.old.connection.schema ≡ stored strict → OnOk result (told (state S.Store self.new.connection) ≡ tables_in (state S.Store self.old.connection).now.trees) }
+        ensures lost { HasCleanDisk (state S.Store self.new.connection) → IfErr result (FailsBy (λ halt. Loses S.Store (StopsIn S.Store (plain_calls table_texts)) (DidAll S.Store (plain_calls table_texts)) halt self.old.connection self.new.connection)) }
     {
         self.commit(Change::Tables)
     }
@@ -98,6 +106,7 @@ impl<S: Alter> SqliteKeeper<S> {
         ensures stays_err { HasCleanDisk (state S.Store self.new.connection) → IsTrue (state S.Store self.new.connection).is_open → OnErr result (told (state S.Store self.new.connection) ≡ told (state S.Store self.old.connection)) }
         ensures made { Survives (state S.Store self.old.connection) (state S.Store self.new.connection) (MadeBy S.Store change.entry self.old.connection) }
         ensures kept { HasCleanDisk (state S.Store self.new.connection) → OnOk result (Keeps S.Store (Makes S.Store change.entry) self.old.connection self.new.connection) }
+        ensures lost { HasCleanDisk (state S.Store self.new.connection) → IfErr result (FailsBy (λ halt. Loses S.Store (Breaks S.Store change.entry) (Makes S.Store change.entry) halt self.old.connection self.new.connection)) }
     {
         let done = transactions::commit(&mut self.connection, change);
         self.settle(done)
@@ -156,8 +165,7 @@ impl<S: Alter> Keeper for SqliteKeeper<S> {
         ensures counted { IsErrOf result KeepFault.Failed → self.new.faults ≡ counted self.old.faults }
         ensures nothing { CommitsNothing (state S.Store self.old.connection) (state S.Store self.new.connection) }
         ensures found { HasCleanDisk (state S.Store self.new.connection) → IfOk result (λ found. Looks S.Store (TellsSeason S.Store found) self.old.connection self.new.connection) }
-        ensures lost { HasCleanDisk (state S.Store self.new.connection) → IsErrOf result KeepFault.Failed
-            → IsTrue self.old.connection.in_transaction ⊎ Looks S.Store (LosesPhase S.Store) self.old.connection self.new.connection }
+        ensures lost { HasCleanDisk (state S.Store self.new.connection) → IfErr result (FailsBy (λ halt. IsBusy halt self.old.connection ⊎ Looks S.Store (LosesPhase S.Store halt) self.old.connection self.new.connection)) }
     {
         let done = transactions::has_season(&mut self.connection);
         self.settle(done)
@@ -175,6 +183,8 @@ impl<S: Alter> Keeper for SqliteKeeper<S> {
         ensures counted { IsErrOf result KeepFault.Failed → self.new.faults ≡ counted self.old.faults }
         ensures once { CommitsOnce (state S.Store self.old.connection) (state S.Store self.new.connection) }
         ensures kept { HasCleanDisk (state S.Store self.new.connection) → OnOk result (Keeps S.Store (PutsText S.Store season_calls text.now) self.old.connection self.new.connection) }
+        ensures empty { (strict : Bool) → HasCleanDisk (state S.Store self.new.connection) → self.old.connection.schema ≡ stored strict → OnOk result (AllByRecursion (λ t. (state S.Store self.old.connection).now.trees t ≡ []) (0 ∷ 1 ∷ 3 ∷ 5 ∷ 6 ∷ [])) }
+        ensures lost { HasCleanDisk (state S.Store self.new.connection) → IfErr result (FailsBy (λ halt. Loses S.Store (StopsText S.Store season_calls 0 text.now) (PutsText S.Store season_calls text.now) halt self.old.connection self.new.connection)) }
     {
         self.commit(Change::Season(text))
     }
@@ -195,6 +205,7 @@ impl<S: Alter> Keeper for SqliteKeeper<S> {
         ensures counted { IsErrOf result KeepFault.Failed → self.new.faults ≡ counted self.old.faults }
         ensures once { CommitsOnce (state S.Store self.old.connection) (state S.Store self.new.connection) }
         ensures kept { HasCleanDisk (state S.Store self.new.connection) → OnOk result (Keeps S.Store (Ran S.Store answer_text (answer_values row)) self.old.connection self.new.connection) }
+        ensures lost { HasCleanDisk (state S.Store self.new.connection) → IfErr result (FailsBy (λ halt. Loses S.Store (StopsIn S.Store (Runs answer_text (answer_values row) ∷ [])) (Ran S.Store answer_text (answer_values row)) halt self.old.connection self.new.connection)) }
     {
         self.commit(Change::Answer(row))
     }
@@ -211,6 +222,7 @@ impl<S: Alter> Keeper for SqliteKeeper<S> {
         ensures counted { IsErrOf result KeepFault.Failed → self.new.faults ≡ counted self.old.faults }
         ensures once { CommitsOnce (state S.Store self.old.connection) (state S.Store self.new.connection) }
         ensures kept { HasCleanDisk (state S.Store self.new.connection) → OnOk result (Keeps S.Store (Ran S.Store raise_text (raise_values row)) self.old.connection self.new.connection) }
+        ensures lost { HasCleanDisk (state S.Store self.new.connection) → IfErr result (FailsBy (λ halt. Loses S.Store (StopsIn S.Store (Runs raise_text (raise_values row) ∷ [])) (Ran S.Store raise_text (raise_values row)) halt self.old.connection self.new.connection)) }
     {
         self.commit(Change::Raise(row))
     }
@@ -227,6 +239,8 @@ impl<S: Alter> Keeper for SqliteKeeper<S> {
         ensures counted { IsErrOf result KeepFault.Failed → self.new.faults ≡ counted self.old.faults }
         ensures once { CommitsOnce (state S.Store self.old.connection) (state S.Store self.new.connection) }
         ensures kept { HasCleanDisk (state S.Store self.new.connection) → OnOk result (Keeps S.Store (MakesCut S.Store rows.now) self.old.connection self.new.connection) }
+        ensures lost { HasCleanDisk (state S.Store self.new.connection) → IfErr result (FailsBy (λ halt. Loses S.Store (LosesCut S.Store rows.now) (MakesCut S.Store rows.now) halt self.old.connection self.new.connection)) }
+        ensures rises { (kept : Kept) → told (state S.Store self.old.connection) ≡ Records kept → HasCleanDisk (state S.Store self.new.connection) → OnOk result (are_rising (kept.allots ++ rows.now) ≡ true) }
     {
         self.commit(Change::Cut(rows))
     }
@@ -240,6 +254,7 @@ impl<S: Alter> Keeper for SqliteKeeper<S> {
         ensures counted { IsErrOf result KeepFault.Failed → self.new.faults ≡ counted self.old.faults }
         ensures nothing { CommitsNothing (state S.Store self.old.connection) (state S.Store self.new.connection) }
         ensures loaded { HasCleanDisk (state S.Store self.new.connection) → IfOk result (λ found. Looks S.Store (TellsKept S.Store found) self.old.connection self.new.connection) }
+        ensures lost { HasCleanDisk (state S.Store self.new.connection) → IfErr result (FailsBy (λ halt. IsBusy halt self.old.connection ⊎ Looks S.Store (LosesKept S.Store halt) self.old.connection self.new.connection)) }
     {
         let done = transactions::load(&mut self.connection, alloc);
         self.settle(done)

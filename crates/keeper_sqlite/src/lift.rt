@@ -1,5 +1,5 @@
 // The table of raises.
-ghost use Rattle.std.specs.Prelude.{◌≡◌, [], ◌∷◌, codes, IsTrue, IfOk, IfErr, OnOk};
+ghost use Rattle.std.specs.Prelude.{◌≡◌, [], ◌∷◌, codes, IfOk, IfErr, OnOk, Bool, Some, List};
 ghost use Rattle.sqlite.specs.declared.error.Error.{Error};
 ghost use Rattle.keeper_sqlite.specs.declared.halt.Halt.TheVariants.{Refused};
 ghost use Rattle.sqlite.specs.State.{HasCleanDisk};
@@ -7,6 +7,11 @@ ghost use Rattle.sqlite.specs.Held.{state};
 ghost use Rattle.keeper_sqlite.specs.Columns.{IsRaiseRow};
 ghost use Rattle.keeper_sqlite.specs.Commits.{CommitsNothing};
 ghost use Rattle.keeper_sqlite.specs.Kept.{Ran, DidAll, TellsRecords, raises_query, lift_table, raise_text, raise_values};
+ghost use Rattle.stored_tables.specs.Layout.{stored};
+ghost use Rattle.stored_tables.specs.Puts.{PutsRaise};
+ghost use Rattle.stored_tables.specs.Rows.{raises_in};
+ghost use Rattle.keeper_mem.specs.declared.rows.RaiseRow.{RaiseRow};
+ghost use Rattle.keeper_sqlite.specs.Stops.{StopsIn, LosesRecords};
 ghost use Rattle.keeper_sqlite.specs.Kept.Call.{Runs, Asks};
 
 use crate::calls::{ask, expect_none, run};
@@ -23,6 +28,8 @@ pub(crate) fn create<S: Alter>(tx: &mut Transaction<'_, S>) -> Result<(), Halt>
     ensures same_reference { tx.new.conn.ghost_name ≡ tx.old.conn.ghost_name }
     ensures inside { CommitsNothing (state S.Store tx.old.conn.now) (state S.Store tx.new.conn.now) }
     ensures ran { HasCleanDisk (state S.Store tx.new.conn.now) → OnOk result (DidAll S.Store (Runs lift_table [] ∷ []) tx.old.conn.now tx.new.conn.now) }
+    ensures lost { HasCleanDisk (state S.Store tx.new.conn.now) → IfErr result (λ halt. StopsIn S.Store (Runs lift_table [] ∷ []) halt tx.old.conn.now tx.new.conn.now) }
+    ensures stands { (strict : Bool) → HasCleanDisk (state S.Store tx.new.conn.now) → tx.old.conn.now.schema ≡ stored strict → OnOk result ((state S.Store tx.new.conn.now).now ≡ (state S.Store tx.old.conn.now).now) }
 {
     run(
         tx,
@@ -36,6 +43,8 @@ pub(crate) fn expect_empty<S: Alter>(tx: &mut Transaction<'_, S>) -> Result<(), 
     ensures same_reference { tx.new.conn.ghost_name ≡ tx.old.conn.ghost_name }
     ensures inside { CommitsNothing (state S.Store tx.old.conn.now) (state S.Store tx.new.conn.now) }
     ensures told { HasCleanDisk (state S.Store tx.new.conn.now) → OnOk result (DidAll S.Store (Asks (codes "SELECT seq FROM lift LIMIT 1") [] ∷ []) tx.old.conn.now tx.new.conn.now) }
+    ensures lost { HasCleanDisk (state S.Store tx.new.conn.now) → IfErr result (λ halt. StopsIn S.Store (Asks (codes "SELECT seq FROM lift LIMIT 1") [] ∷ []) halt tx.old.conn.now tx.new.conn.now) }
+    ensures none { (strict : Bool) → HasCleanDisk (state S.Store tx.new.conn.now) → tx.old.conn.now.schema ≡ stored strict → OnOk result ((state S.Store tx.old.conn.now).now.trees 6 ≡ []) }
 {
     expect_none(tx, "SELECT seq FROM lift LIMIT 1")
 }
@@ -44,11 +53,13 @@ pub(crate) fn expect_empty<S: Alter>(tx: &mut Transaction<'_, S>) -> Result<(), 
 pub(crate) fn insert<S: Alter>(tx: &mut Transaction<'_, S>, row: RaiseRow) -> Result<(), Halt>
     ensures same_reference { tx.new.conn.ghost_name ≡ tx.old.conn.ghost_name }
     ensures inside { CommitsNothing (state S.Store tx.old.conn.now) (state S.Store tx.new.conn.now) }
-    ensures ran { HasCleanDisk (state S.Store tx.new.conn.now) → IsTrue tx.old.conn.now.in_transaction
-        → OnOk result (Ran S.Store raise_text (raise_values row) tx.old.conn.now tx.new.conn.now) }
+    ensures ran { HasCleanDisk (state S.Store tx.new.conn.now) → OnOk result (Ran S.Store raise_text (raise_values row) tx.old.conn.now tx.new.conn.now) }
     ensures halts { IfErr result (λ halt. (error : Error) × (halt ≡ Refused error)) }
+    ensures lost { HasCleanDisk (state S.Store tx.new.conn.now) → IfErr result (λ halt. StopsIn S.Store (Runs raise_text (raise_values row) ∷ []) halt tx.old.conn.now tx.new.conn.now) }
+    ensures put { (strict : Bool) → HasCleanDisk (state S.Store tx.new.conn.now) → tx.old.conn.now.schema ≡ stored strict → OnOk result (PutsRaise row (state S.Store tx.old.conn.now).now (state S.Store tx.new.conn.now).now) }
 {
-    tx.execute(
+    run(
+        tx,
         "INSERT INTO lift (win, prog, step, seats) VALUES (?1, ?2, ?3, ?4)",
         params![
             u32::from(row.window),
@@ -56,8 +67,7 @@ pub(crate) fn insert<S: Alter>(tx: &mut Transaction<'_, S>, row: RaiseRow) -> Re
             u32::from(step_number(row.step)),
             u32::from(row.seats)
         ],
-    )?;
-    Ok(())
+    )
 }
 
 /// All rows, in the order in which they were put.
@@ -68,6 +78,8 @@ pub(crate) fn read_all<S: Alter>(
     ensures same_reference { tx.new.conn.ghost_name ≡ tx.old.conn.ghost_name }
     ensures inside { CommitsNothing (state S.Store tx.old.conn.now) (state S.Store tx.new.conn.now) }
     ensures told { HasCleanDisk (state S.Store tx.new.conn.now) → IfOk result (λ records. TellsRecords S.Store IsRaiseRow raises_query records tx.old.conn.now tx.new.conn.now) }
+    ensures lost { HasCleanDisk (state S.Store tx.new.conn.now) → IfErr result (λ halt. LosesRecords S.Store IsRaiseRow raises_query halt tx.old.conn.now tx.new.conn.now) }
+    ensures stands { (strict : Bool) → HasCleanDisk (state S.Store tx.new.conn.now) → tx.old.conn.now.schema ≡ stored strict → IfOk result (λ records. (all : List RaiseRow) → raises_in (state S.Store tx.old.conn.now).now.trees ≡ Some all → all ≡ records) }
 {
     let rows = ask(
         tx,

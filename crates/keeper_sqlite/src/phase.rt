@@ -1,11 +1,15 @@
 // The table of one row that says that a season is there, and how many cuts were made.
-ghost use Rattle.std.specs.Prelude.{◌≡◌, ℕ, Option, [], ◌∷◌, IfOk, IfErr, OnOk};
+ghost use Rattle.std.specs.Prelude.{◌≡◌, ℕ, Option, [], ◌∷◌, IfOk, IfErr, OnOk, Bool, Some};
 ghost use Rattle.sqlite.specs.State.{HasCleanDisk};
 ghost use Rattle.keeper_sqlite.specs.Halts.{WantsMemory};
 ghost use Rattle.keeper_sqlite.specs.Columns.{IsPhaseRow, TellsPhase};
 ghost use Rattle.sqlite.specs.Held.{state};
 ghost use Rattle.keeper_sqlite.specs.Commits.{CommitsNothing};
-ghost use Rattle.keeper_sqlite.specs.Kept.{DidAll, TellsPhaseOf, LosesPhase, phase_table, phase_query, cuts_text, cuts_values, opening_text, opening_values};
+ghost use Rattle.keeper_sqlite.specs.Kept.{DidAll, TellsPhaseOf, phase_table, phase_query, cuts_text, cuts_values, opening_text, opening_values};
+ghost use Rattle.stored_tables.specs.Layout.{stored};
+ghost use Rattle.stored_tables.specs.Puts.{OpensPhase, PutsCuts};
+ghost use Rattle.stored_tables.specs.Rows.{cuts_of};
+ghost use Rattle.keeper_sqlite.specs.Stops.{StopsIn, LosesPhase};
 ghost use Rattle.keeper_sqlite.specs.Kept.Call.{Runs, Places, Asks};
 
 use crate::calls::{ask, place, run};
@@ -21,6 +25,8 @@ pub(crate) fn create<S: Alter>(tx: &mut Transaction<'_, S>) -> Result<(), Halt>
     ensures same_reference { tx.new.conn.ghost_name ≡ tx.old.conn.ghost_name }
     ensures inside { CommitsNothing (state S.Store tx.old.conn.now) (state S.Store tx.new.conn.now) }
     ensures ran { HasCleanDisk (state S.Store tx.new.conn.now) → OnOk result (DidAll S.Store (Runs phase_table [] ∷ []) tx.old.conn.now tx.new.conn.now) }
+    ensures lost { HasCleanDisk (state S.Store tx.new.conn.now) → IfErr result (λ halt. StopsIn S.Store (Runs phase_table [] ∷ []) halt tx.old.conn.now tx.new.conn.now) }
+    ensures stands { (strict : Bool) → HasCleanDisk (state S.Store tx.new.conn.now) → tx.old.conn.now.schema ≡ stored strict → OnOk result ((state S.Store tx.new.conn.now).now ≡ (state S.Store tx.old.conn.now).now) }
 {
     run(
         tx,
@@ -34,6 +40,8 @@ pub(crate) fn insert<S: Alter>(tx: &mut Transaction<'_, S>) -> Result<(), Halt>
     ensures same_reference { tx.new.conn.ghost_name ≡ tx.old.conn.ghost_name }
     ensures inside { CommitsNothing (state S.Store tx.old.conn.now) (state S.Store tx.new.conn.now) }
     ensures ran { HasCleanDisk (state S.Store tx.new.conn.now) → OnOk result (DidAll S.Store (Places opening_text opening_values ∷ []) tx.old.conn.now tx.new.conn.now) }
+    ensures lost { HasCleanDisk (state S.Store tx.new.conn.now) → IfErr result (λ halt. StopsIn S.Store (Places opening_text opening_values ∷ []) halt tx.old.conn.now tx.new.conn.now) }
+    ensures put { (strict : Bool) → HasCleanDisk (state S.Store tx.new.conn.now) → tx.old.conn.now.schema ≡ stored strict → OnOk result (OpensPhase (state S.Store tx.old.conn.now).now (state S.Store tx.new.conn.now).now) }
 {
     place(
         tx,
@@ -47,6 +55,8 @@ pub(crate) fn upsert<S: Alter>(tx: &mut Transaction<'_, S>, cuts: u16) -> Result
     ensures same_reference { tx.new.conn.ghost_name ≡ tx.old.conn.ghost_name }
     ensures inside { CommitsNothing (state S.Store tx.old.conn.now) (state S.Store tx.new.conn.now) }
     ensures ran { HasCleanDisk (state S.Store tx.new.conn.now) → OnOk result (DidAll S.Store (Runs cuts_text (cuts_values cuts) ∷ []) tx.old.conn.now tx.new.conn.now) }
+    ensures lost { HasCleanDisk (state S.Store tx.new.conn.now) → IfErr result (λ halt. StopsIn S.Store (Runs cuts_text (cuts_values cuts) ∷ []) halt tx.old.conn.now tx.new.conn.now) }
+    ensures put { (strict : Bool) → HasCleanDisk (state S.Store tx.new.conn.now) → tx.old.conn.now.schema ≡ stored strict → (n : ℕ) → cuts_of ((state S.Store tx.old.conn.now).now.trees 5) ≡ Some (Some n) → OnOk result (PutsCuts cuts (state S.Store tx.old.conn.now).now (state S.Store tx.new.conn.now).now) }
 {
     run(
         tx,
@@ -60,7 +70,8 @@ pub(crate) fn read<S: Alter>(tx: &mut Transaction<'_, S>) -> Result<Option<u16>,
     ensures same_reference { tx.new.conn.ghost_name ≡ tx.old.conn.ghost_name }
     ensures inside { CommitsNothing (state S.Store tx.old.conn.now) (state S.Store tx.new.conn.now) }
     ensures told { HasCleanDisk (state S.Store tx.new.conn.now) → IfOk result (λ found. TellsPhaseOf S.Store found tx.old.conn.now tx.new.conn.now) }
-    ensures lost { HasCleanDisk (state S.Store tx.new.conn.now) → IfErr result (λ halt. ¬ WantsMemory halt → LosesPhase S.Store tx.old.conn.now tx.new.conn.now) }
+    ensures lost { HasCleanDisk (state S.Store tx.new.conn.now) → IfErr result (λ halt. LosesPhase S.Store halt tx.old.conn.now tx.new.conn.now) }
+    ensures stands { (strict : Bool) → HasCleanDisk (state S.Store tx.new.conn.now) → tx.old.conn.now.schema ≡ stored strict → IfOk result (λ found. cuts_of ((state S.Store tx.old.conn.now).now.trees 5) ≡ Some found) }
 {
     phase_of(&ask(tx, "SELECT id, cuts FROM phase ORDER BY id")?)
 }

@@ -1,12 +1,17 @@
 // The table of the season's text, in parts.
-ghost use Rattle.std.specs.Prelude.{◌≡◌, ◌+◌, ◌++◌, ℕ, List, [], ◌∷◌, codes, IfOk, OnErr, IfErr, OnOk};
+ghost use Rattle.std.specs.Prelude.{◌≡◌, ◌+◌, ◌++◌, ◌^◌, ℕ, List, [], ◌∷◌, codes, IfOk, OnErr, IfErr, OnOk, Bool, Some};
 ghost use Rattle.std.specs.List.{AllZip, concat};
 ghost use Rattle.keeper_sqlite.specs.Halts.{WantsMemory};
+ghost use Rattle.keeper_sqlite.specs.declared.halt.Halt.TheVariants.{Unfit};
 ghost use Rattle.keeper_sqlite.specs.Columns.{IsPartRow};
 ghost use Rattle.sqlite.specs.State.{HasCleanDisk};
 ghost use Rattle.sqlite.specs.Held.{state};
 ghost use Rattle.keeper_sqlite.specs.Commits.{CommitsNothing};
-ghost use Rattle.keeper_sqlite.specs.Kept.{DidAll, PutsText, TellsText, season_table, text_calls, part_calls, part_values};
+ghost use Rattle.keeper_sqlite.specs.Kept.{DidAll, PutsText, TellsText, text_query, season_table, text_calls, part_calls, part_text, part_values};
+ghost use Rattle.stored_tables.specs.Layout.{stored};
+ghost use Rattle.stored_tables.specs.Puts.{PutsPart};
+ghost use Rattle.stored_tables.specs.Rows.{text_in};
+ghost use Rattle.keeper_sqlite.specs.Stops.{StopsIn, StopsText, LosesRecords};
 ghost use Rattle.keeper_sqlite.specs.Kept.Call.{Runs, Asks};
 
 use crate::calls::{ask, expect_none, make_ready, run, run_ready};
@@ -24,6 +29,8 @@ pub(crate) fn create<S: Alter>(tx: &mut Transaction<'_, S>) -> Result<(), Halt>
     ensures same_reference { tx.new.conn.ghost_name ≡ tx.old.conn.ghost_name }
     ensures inside { CommitsNothing (state S.Store tx.old.conn.now) (state S.Store tx.new.conn.now) }
     ensures ran { HasCleanDisk (state S.Store tx.new.conn.now) → OnOk result (DidAll S.Store (Runs season_table [] ∷ []) tx.old.conn.now tx.new.conn.now) }
+    ensures lost { HasCleanDisk (state S.Store tx.new.conn.now) → IfErr result (λ halt. StopsIn S.Store (Runs season_table [] ∷ []) halt tx.old.conn.now tx.new.conn.now) }
+    ensures stands { (strict : Bool) → HasCleanDisk (state S.Store tx.new.conn.now) → tx.old.conn.now.schema ≡ stored strict → OnOk result ((state S.Store tx.new.conn.now).now ≡ (state S.Store tx.old.conn.now).now) }
 {
     run(
         tx,
@@ -37,6 +44,8 @@ pub(crate) fn expect_empty<S: Alter>(tx: &mut Transaction<'_, S>) -> Result<(), 
     ensures same_reference { tx.new.conn.ghost_name ≡ tx.old.conn.ghost_name }
     ensures inside { CommitsNothing (state S.Store tx.old.conn.now) (state S.Store tx.new.conn.now) }
     ensures told { HasCleanDisk (state S.Store tx.new.conn.now) → OnOk result (DidAll S.Store (Asks (codes "SELECT part FROM season LIMIT 1") [] ∷ []) tx.old.conn.now tx.new.conn.now) }
+    ensures lost { HasCleanDisk (state S.Store tx.new.conn.now) → IfErr result (λ halt. StopsIn S.Store (Asks (codes "SELECT part FROM season LIMIT 1") [] ∷ []) halt tx.old.conn.now tx.new.conn.now) }
+    ensures none { (strict : Bool) → HasCleanDisk (state S.Store tx.new.conn.now) → tx.old.conn.now.schema ≡ stored strict → OnOk result ((state S.Store tx.old.conn.now).now.trees 0 ≡ []) }
 {
     expect_none(tx, "SELECT part FROM season LIMIT 1")
 }
@@ -46,6 +55,7 @@ pub(crate) fn insert_text<S: Alter>(tx: &mut Transaction<'_, S>, text: &[u8]) ->
     ensures same_reference { tx.new.conn.ghost_name ≡ tx.old.conn.ghost_name }
     ensures inside { CommitsNothing (state S.Store tx.old.conn.now) (state S.Store tx.new.conn.now) }
     ensures ran { HasCleanDisk (state S.Store tx.new.conn.now) → OnOk result (PutsText S.Store text_calls text.now tx.old.conn.now tx.new.conn.now) }
+    ensures lost { HasCleanDisk (state S.Store tx.new.conn.now) → IfErr result (λ halt. StopsText S.Store text_calls 0 text.now halt tx.old.conn.now tx.new.conn.now) }
 {
     let insert = make_ready(tx, "INSERT INTO season (part, bytes) VALUES (?1, ?2)")?;
     insert_parts(tx, &insert, text)
@@ -59,6 +69,7 @@ fn insert_parts<S: Alter>(
     ensures same_reference { tx.new.conn.ghost_name ≡ tx.old.conn.ghost_name }
     ensures inside { CommitsNothing (state S.Store tx.old.conn.now) (state S.Store tx.new.conn.now) }
     ensures ran { HasCleanDisk (state S.Store tx.new.conn.now) → OnOk result (PutsText S.Store (part_calls insert.now.text 0) text.now tx.old.conn.now tx.new.conn.now) }
+    ensures lost { HasCleanDisk (state S.Store tx.new.conn.now) → IfErr result (λ halt. StopsText S.Store (part_calls insert.now.text 0) 0 text.now halt tx.old.conn.now tx.new.conn.now) }
 {
     let mut rest = text;
     let mut number = 0;
@@ -73,6 +84,7 @@ fn insert_parts<S: Alter>(
 
 fn next_number(number: u32) -> Result<u32, Halt>
     ensures ok { IfOk result (λ next. next ≡ number + 1) }
+    ensures err { IfErr result (λ halt. (halt ≡ Unfit) × (number + 1 ≡ 2 ^ 32)) }
 {
     number.checked_add(1).ok_or(Halt::Unfit)
 }
@@ -86,6 +98,8 @@ fn insert_part<S: Alter>(
     ensures same_reference { tx.new.conn.ghost_name ≡ tx.old.conn.ghost_name }
     ensures inside { CommitsNothing (state S.Store tx.old.conn.now) (state S.Store tx.new.conn.now) }
     ensures ran { HasCleanDisk (state S.Store tx.new.conn.now) → OnOk result (DidAll S.Store (Runs insert.now.text (part_values number part.now) ∷ []) tx.old.conn.now tx.new.conn.now) }
+    ensures lost { HasCleanDisk (state S.Store tx.new.conn.now) → IfErr result (λ halt. StopsIn S.Store (Runs insert.now.text (part_values number part.now) ∷ []) halt tx.old.conn.now tx.new.conn.now) }
+    ensures put { (strict : Bool) → HasCleanDisk (state S.Store tx.new.conn.now) → tx.old.conn.now.schema ≡ stored strict → insert.now.text ≡ part_text → OnOk result (PutsPart number part.now (state S.Store tx.old.conn.now).now (state S.Store tx.new.conn.now).now) }
 {
     run_ready(tx, insert, params![number, part])
 }
@@ -95,6 +109,8 @@ pub(crate) fn read_text<S: Alter>(tx: &mut Transaction<'_, S>, alloc: Global) ->
     ensures same_reference { tx.new.conn.ghost_name ≡ tx.old.conn.ghost_name }
     ensures inside { CommitsNothing (state S.Store tx.old.conn.now) (state S.Store tx.new.conn.now) }
     ensures told { HasCleanDisk (state S.Store tx.new.conn.now) → IfOk result (λ text. TellsText S.Store text tx.old.conn.now tx.new.conn.now) }
+    ensures lost { HasCleanDisk (state S.Store tx.new.conn.now) → IfErr result (λ halt. LosesRecords S.Store IsPartRow text_query halt tx.old.conn.now tx.new.conn.now) }
+    ensures stands { (strict : Bool) → HasCleanDisk (state S.Store tx.new.conn.now) → tx.old.conn.now.schema ≡ stored strict → IfOk result (λ text. (all : List ℕ) → text_in (state S.Store tx.old.conn.now).now.trees ≡ Some all → all ≡ text) }
 {
     let rows = ask(tx, "SELECT part, bytes FROM season ORDER BY part")?;
     text_of(alloc, &rows)
@@ -102,6 +118,7 @@ pub(crate) fn read_text<S: Alter>(tx: &mut Transaction<'_, S>, alloc: Global) ->
 
 fn text_of(alloc: Global, rows: &[Row]) -> Result<Text, Halt>
     ensures ok { IfOk result (λ text. (parts : List (List ℕ)) × AllZip IsPartRow rows.now parts × (concat parts ≡ text)) }
+    ensures err { IfErr result (λ halt. ¬ WantsMemory halt → (parts : List (List ℕ)) → ¬ AllZip IsPartRow rows.now parts) }
 {
     let mut text = Listed::new(alloc);
     for row in rows {

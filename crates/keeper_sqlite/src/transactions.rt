@@ -1,13 +1,15 @@
 // The transactions of a keeper: what each method does to the tables, all of it or nothing.
-ghost use Rattle.std.specs.Prelude.{◌≡◌, ◌+◌, ◌<◌, ◌^◌, [], ◌∷◌, drop, false, Ok, IsTrue, IfOk, IfErr, OnOk, OnErr, ◌⊎◌};
-ghost use Rattle.sqlite.specs.State.{HasCleanDisk, IsLive, Survives};
+ghost use Rattle.std.specs.Prelude.{◌≡◌, ◌+◌, ◌<◌, ◌^◌, [], ◌∷◌, drop, false, Ok, Err, IsTrue, IfOk, IfErr, OnOk, OnErr, ◌⊎◌};
+ghost use Rattle.sqlite.specs.State.{HasCleanDisk, IsLive, IsRolledBack, Survives};
+ghost use Rattle.sqlite.specs.Steps.{FailsToCommit};
 ghost use Rattle.stored_tables.specs.Told.{told};
 ghost use Rattle.sqlite.specs.Held.{state};
 ghost use Rattle.std.specs.List.{AllByRecursion};
 ghost use Rattle.stored_tables.specs.Fits.{AllotFits};
-ghost use Rattle.keeper_sqlite.specs.Halts.{WantsMemory};
+ghost use Rattle.keeper_sqlite.specs.declared.halt.Halt.TheVariants.{Unfit};
+ghost use Rattle.keeper_sqlite.specs.Stops.{IsRefusal, StopsIn, StopsText, LosesPhase, LosesMade, LosesOrder, LosesSeats, LosesCut, Breaks, IsBusy, Loses, LosesTables, LosesKept};
 ghost use Rattle.keeper_sqlite.specs.Commits.{CommitsNothing, CommitsOnce};
-ghost use Rattle.keeper_sqlite.specs.Kept.{Keeps, MadeBy, Looks, TellsSeason, TellsKept, TellsTables, LosesPhase, Makes, MakesCut, ToldPhase, AreAbove, PutsText, DidAll, seat_calls, season_calls, unanswered_calls, any_row_queries, plain_calls, table_texts, season_table, phase_table, answer_table, lift_table, allot_table};
+ghost use Rattle.keeper_sqlite.specs.Kept.{Keeps, MadeBy, Looks, TellsSeason, TellsKept, TellsTables, Makes, MakesCut, ToldPhase, AreAbove, PutsText, DidAll, seat_calls, season_calls, unanswered_calls, any_row_queries, plain_calls, table_texts, season_table, phase_table, answer_table, lift_table, allot_table};
 
 use crate::halt::Halt;
 use crate::rising::are_rising;
@@ -34,7 +36,7 @@ pub(crate) enum Change<'a> {
 /// Tests that nobody else is in a transaction.
 fn expect_free<S: Alter>(connection: &Connection<S>) -> Result<(), Halt>
     ensures ok { OnOk result (connection.now.in_transaction ≡ false) }
-    ensures err { OnErr result (IsTrue connection.now.in_transaction) }
+    ensures err { IfErr result (λ halt. IsBusy halt connection.now) }
 {
     if connection.is_autocommit() {
         Ok(())
@@ -63,6 +65,8 @@ fn settle<S: Alter>(tx: Transaction<'_, S>, done: Result<(), Halt>) -> Result<()
     ensures shows { HasCleanDisk (state S.Store tx.exit.0.now) → OnOk result (IsTrue (state S.Store tx.entry.conn.now).is_open × IsTrue (state S.Store tx.exit.0.now).is_open) }
     ensures now { HasCleanDisk (state S.Store tx.exit.0.now) → OnOk result ((state S.Store tx.exit.0.now).now ≡ (state S.Store tx.entry.conn.now).now) }
     ensures committed { HasCleanDisk (state S.Store tx.exit.0.now) → OnOk result ((state S.Store tx.exit.0.now).committed ≡ (state S.Store tx.entry.conn.now).now) }
+    ensures why { HasCleanDisk (state S.Store tx.exit.0.now) → IfErr result (λ halt. ((done ≡ Err halt) × IsRolledBack (state S.Store tx.entry.conn.now) (state S.Store tx.exit.0.now))
+        ⊎ ((done ≡ Ok tt) × IsRefusal (λ error. FailsToCommit (state S.Store tx.entry.conn.now) (state S.Store tx.exit.0.now) error) halt)) }
 {
     done?;
     tx.commit()?;
@@ -78,12 +82,13 @@ pub(crate) fn commit<S: Alter>(
     ensures stays_err { HasCleanDisk (state S.Store connection.new) → IsTrue (state S.Store connection.new).is_open → OnErr result (told (state S.Store connection.new) ≡ told (state S.Store connection.old)) }
     ensures made { Survives (state S.Store connection.old) (state S.Store connection.new) (MadeBy S.Store change.entry connection.old) }
     ensures kept { HasCleanDisk (state S.Store connection.new) → OnOk result (Keeps S.Store (Makes S.Store change.entry) connection.old connection.new) }
+    ensures lost { HasCleanDisk (state S.Store connection.new) → IfErr result (λ halt. Loses S.Store (Breaks S.Store change.entry) (Makes S.Store change.entry) halt connection.old connection.new) }
 {
     expect_free(connection)?;
     at_rest(connection);
-    let mut tx = connection.transaction();
-    let done = write(&mut tx, change);
-    let ended = settle(tx, done);
+    let mut begun = connection.transaction();
+    let done = write(&mut begun, change);
+    let ended = settle(begun, done);
     at_rest(connection);
     ended
 }
@@ -93,6 +98,7 @@ fn write<S: Alter>(tx: &mut Transaction<'_, S>, change: Change<'_>) -> Result<()
     ensures inside { CommitsNothing (state S.Store tx.old.conn.now) (state S.Store tx.new.conn.now) }
     ensures made { HasCleanDisk (state S.Store tx.new.conn.now) → IsTrue tx.old.conn.now.in_transaction
         → OnOk result (Makes S.Store change.entry tx.old.conn.now tx.new.conn.now) }
+    ensures lost { HasCleanDisk (state S.Store tx.new.conn.now) → IfErr result (λ halt. Breaks S.Store change.entry halt tx.old.conn.now tx.new.conn.now) }
 {
     match change {
         Change::Tables => write_tables(tx),
@@ -107,6 +113,7 @@ fn write_tables<S: Alter>(tx: &mut Transaction<'_, S>) -> Result<(), Halt>
     ensures same_reference { tx.new.conn.ghost_name ≡ tx.old.conn.ghost_name }
     ensures inside { CommitsNothing (state S.Store tx.old.conn.now) (state S.Store tx.new.conn.now) }
     ensures ran { HasCleanDisk (state S.Store tx.new.conn.now) → OnOk result (DidAll S.Store (plain_calls table_texts) tx.old.conn.now tx.new.conn.now) }
+    ensures lost { HasCleanDisk (state S.Store tx.new.conn.now) → IfErr result (λ halt. StopsIn S.Store (plain_calls table_texts) halt tx.old.conn.now tx.new.conn.now) }
 {
     make_first_tables(tx)?;
     make_last_tables(tx)
@@ -116,6 +123,7 @@ fn make_first_tables<S: Alter>(tx: &mut Transaction<'_, S>) -> Result<(), Halt>
     ensures same_reference { tx.new.conn.ghost_name ≡ tx.old.conn.ghost_name }
     ensures inside { CommitsNothing (state S.Store tx.old.conn.now) (state S.Store tx.new.conn.now) }
     ensures ran { HasCleanDisk (state S.Store tx.new.conn.now) → OnOk result (DidAll S.Store (plain_calls (season_table ∷ answer_table ∷ [])) tx.old.conn.now tx.new.conn.now) }
+    ensures lost { HasCleanDisk (state S.Store tx.new.conn.now) → IfErr result (λ halt. StopsIn S.Store (plain_calls (season_table ∷ answer_table ∷ [])) halt tx.old.conn.now tx.new.conn.now) }
 {
     season::create(tx)?;
     answer::create(tx)
@@ -125,6 +133,7 @@ fn make_last_tables<S: Alter>(tx: &mut Transaction<'_, S>) -> Result<(), Halt>
     ensures same_reference { tx.new.conn.ghost_name ≡ tx.old.conn.ghost_name }
     ensures inside { CommitsNothing (state S.Store tx.old.conn.now) (state S.Store tx.new.conn.now) }
     ensures ran { HasCleanDisk (state S.Store tx.new.conn.now) → OnOk result (DidAll S.Store (plain_calls (allot_table ∷ phase_table ∷ lift_table ∷ [])) tx.old.conn.now tx.new.conn.now) }
+    ensures lost { HasCleanDisk (state S.Store tx.new.conn.now) → IfErr result (λ halt. StopsIn S.Store (plain_calls (allot_table ∷ phase_table ∷ lift_table ∷ [])) halt tx.old.conn.now tx.new.conn.now) }
 {
     allot::create(tx)?;
     phase::create(tx)?;
@@ -136,8 +145,7 @@ pub(crate) fn has_season<S: Alter>(connection: &mut Connection<S>) -> Result<boo
     ensures stays { HasCleanDisk (state S.Store connection.new) → IsTrue (state S.Store connection.new).is_open → told (state S.Store connection.new) ≡ told (state S.Store connection.old) }
     ensures nothing { CommitsNothing (state S.Store connection.old) (state S.Store connection.new) }
     ensures found { HasCleanDisk (state S.Store connection.new) → IfOk result (λ found. Looks S.Store (TellsSeason S.Store found) connection.old connection.new) }
-    ensures lost { HasCleanDisk (state S.Store connection.new)
-        → IfErr result (λ halt. ¬ WantsMemory halt → IsTrue connection.old.in_transaction ⊎ Looks S.Store (LosesPhase S.Store) connection.old connection.new) }
+    ensures lost { HasCleanDisk (state S.Store connection.new) → IfErr result (λ halt. IsBusy halt connection.old ⊎ Looks S.Store (LosesPhase S.Store halt) connection.old connection.new) }
 {
     expect_free(connection)?;
     at_rest(connection);
@@ -152,7 +160,7 @@ fn look_for_season<S: Alter>(tx: &mut Transaction<'_, S>) -> Result<bool, Halt>
     ensures same_reference { tx.new.conn.ghost_name ≡ tx.old.conn.ghost_name }
     ensures inside { CommitsNothing (state S.Store tx.old.conn.now) (state S.Store tx.new.conn.now) }
     ensures told { HasCleanDisk (state S.Store tx.new.conn.now) → IfOk result (λ found. TellsSeason S.Store found tx.old.conn.now tx.new.conn.now) }
-    ensures lost { HasCleanDisk (state S.Store tx.new.conn.now) → IfErr result (λ halt. ¬ WantsMemory halt → LosesPhase S.Store tx.old.conn.now tx.new.conn.now) }
+    ensures lost { HasCleanDisk (state S.Store tx.new.conn.now) → IfErr result (λ halt. LosesPhase S.Store halt tx.old.conn.now tx.new.conn.now) }
 {
     Ok(phase::read(tx)?.is_some())
 }
@@ -161,6 +169,7 @@ fn write_season<S: Alter>(tx: &mut Transaction<'_, S>, text: &[u8]) -> Result<()
     ensures same_reference { tx.new.conn.ghost_name ≡ tx.old.conn.ghost_name }
     ensures inside { CommitsNothing (state S.Store tx.old.conn.now) (state S.Store tx.new.conn.now) }
     ensures made { HasCleanDisk (state S.Store tx.new.conn.now) → OnOk result (PutsText S.Store season_calls text.now tx.old.conn.now tx.new.conn.now) }
+    ensures lost { HasCleanDisk (state S.Store tx.new.conn.now) → IfErr result (λ halt. StopsText S.Store season_calls 0 text.now halt tx.old.conn.now tx.new.conn.now) }
 {
     expect_empty(tx)?;
     season::insert_text(tx, text)?;
@@ -172,6 +181,7 @@ fn expect_empty<S: Alter>(tx: &mut Transaction<'_, S>) -> Result<(), Halt>
     ensures same_reference { tx.new.conn.ghost_name ≡ tx.old.conn.ghost_name }
     ensures inside { CommitsNothing (state S.Store tx.old.conn.now) (state S.Store tx.new.conn.now) }
     ensures told { HasCleanDisk (state S.Store tx.new.conn.now) → OnOk result (DidAll S.Store (unanswered_calls any_row_queries) tx.old.conn.now tx.new.conn.now) }
+    ensures lost { HasCleanDisk (state S.Store tx.new.conn.now) → IfErr result (λ halt. StopsIn S.Store (unanswered_calls any_row_queries) halt tx.old.conn.now tx.new.conn.now) }
 {
     season::expect_empty(tx)?;
     expect_no_rows(tx)
@@ -181,6 +191,7 @@ fn expect_no_rows<S: Alter>(tx: &mut Transaction<'_, S>) -> Result<(), Halt>
     ensures same_reference { tx.new.conn.ghost_name ≡ tx.old.conn.ghost_name }
     ensures inside { CommitsNothing (state S.Store tx.old.conn.now) (state S.Store tx.new.conn.now) }
     ensures told { HasCleanDisk (state S.Store tx.new.conn.now) → OnOk result (DidAll S.Store (unanswered_calls (drop 1 any_row_queries)) tx.old.conn.now tx.new.conn.now) }
+    ensures lost { HasCleanDisk (state S.Store tx.new.conn.now) → IfErr result (λ halt. StopsIn S.Store (unanswered_calls (drop 1 any_row_queries)) halt tx.old.conn.now tx.new.conn.now) }
 {
     answer::expect_empty(tx)?;
     lift::expect_empty(tx)?;
@@ -191,6 +202,7 @@ fn write_cut<S: Alter>(tx: &mut Transaction<'_, S>, rows: &[AllotRow]) -> Result
     ensures same_reference { tx.new.conn.ghost_name ≡ tx.old.conn.ghost_name }
     ensures inside { CommitsNothing (state S.Store tx.old.conn.now) (state S.Store tx.new.conn.now) }
     ensures made { HasCleanDisk (state S.Store tx.new.conn.now) → OnOk result (MakesCut S.Store rows.now tx.old.conn.now tx.new.conn.now) }
+    ensures lost { HasCleanDisk (state S.Store tx.new.conn.now) → IfErr result (λ halt. LosesCut S.Store rows.now halt tx.old.conn.now tx.new.conn.now) }
 {
     let made = read_made(tx)?;
     expect_above(tx, rows)?;
@@ -202,6 +214,7 @@ fn read_made<S: Alter>(tx: &mut Transaction<'_, S>) -> Result<u16, Halt>
     ensures same_reference { tx.new.conn.ghost_name ≡ tx.old.conn.ghost_name }
     ensures inside { CommitsNothing (state S.Store tx.old.conn.now) (state S.Store tx.new.conn.now) }
     ensures told { HasCleanDisk (state S.Store tx.new.conn.now) → IfOk result (λ made. ToldPhase S.Store made tx.old.conn.now tx.new.conn.now) }
+    ensures lost { HasCleanDisk (state S.Store tx.new.conn.now) → IfErr result (λ halt. LosesMade S.Store halt tx.old.conn.now tx.new.conn.now) }
 {
     phase::read(tx)?.ok_or(Halt::Unfit)
 }
@@ -211,6 +224,7 @@ fn expect_above<S: Alter>(tx: &mut Transaction<'_, S>, rows: &[AllotRow]) -> Res
     ensures same_reference { tx.new.conn.ghost_name ≡ tx.old.conn.ghost_name }
     ensures inside { CommitsNothing (state S.Store tx.old.conn.now) (state S.Store tx.new.conn.now) }
     ensures told { HasCleanDisk (state S.Store tx.new.conn.now) → OnOk result (AreAbove S.Store rows.now tx.old.conn.now tx.new.conn.now) }
+    ensures lost { HasCleanDisk (state S.Store tx.new.conn.now) → IfErr result (λ halt. LosesOrder S.Store rows.now halt tx.old.conn.now tx.new.conn.now) }
 {
     if are_rising(allot::last_key(tx)?, rows) {
         Ok(())
@@ -221,7 +235,7 @@ fn expect_above<S: Alter>(tx: &mut Transaction<'_, S>, rows: &[AllotRow]) -> Res
 
 fn one_more(made: u16) -> Result<u16, Halt>
     ensures ok { IfOk result (λ cuts. (cuts ≡ made + 1) × (made + 1 < 2 ^ 16)) }
-    ensures err { OnErr result (made ≡ 65535) }
+    ensures err { IfErr result (λ halt. (halt ≡ Unfit) × (made ≡ 65535)) }
 {
     made.checked_add(1).ok_or(Halt::Unfit)
 }
@@ -237,6 +251,7 @@ fn put_seats<S: Alter>(
     ensures ran { HasCleanDisk (state S.Store tx.new.conn.now) → OnOk result (DidAll S.Store (seat_calls made rows.now) tx.old.conn.now tx.new.conn.now) }
     ensures fit { OnOk result (AllByRecursion AllotFits rows.now) }
     ensures room { OnOk result (made + 1 < 2 ^ 16) }
+    ensures lost { HasCleanDisk (state S.Store tx.new.conn.now) → IfErr result (λ halt. LosesSeats S.Store made rows.now halt tx.old.conn.now tx.new.conn.now) }
 {
     let cuts = one_more(made)?;
     allot::insert_all(tx, rows)?;
@@ -251,6 +266,7 @@ pub(crate) fn load<S: Alter>(
     ensures stays { HasCleanDisk (state S.Store connection.new) → IsTrue (state S.Store connection.new).is_open → told (state S.Store connection.new) ≡ told (state S.Store connection.old) }
     ensures nothing { CommitsNothing (state S.Store connection.old) (state S.Store connection.new) }
     ensures loaded { HasCleanDisk (state S.Store connection.new) → IfOk result (λ found. Looks S.Store (TellsKept S.Store found) connection.old connection.new) }
+    ensures lost { HasCleanDisk (state S.Store connection.new) → IfErr result (λ halt. IsBusy halt connection.old ⊎ Looks S.Store (LosesKept S.Store halt) connection.old connection.new) }
 {
     expect_free(connection)?;
     at_rest(connection);
@@ -265,6 +281,7 @@ fn read_records<S: Alter>(tx: &mut Transaction<'_, S>, alloc: Global) -> Result<
     ensures same_reference { tx.new.conn.ghost_name ≡ tx.old.conn.ghost_name }
     ensures inside { CommitsNothing (state S.Store tx.old.conn.now) (state S.Store tx.new.conn.now) }
     ensures told { HasCleanDisk (state S.Store tx.new.conn.now) → IfOk result (λ found. TellsKept S.Store found tx.old.conn.now tx.new.conn.now) }
+    ensures lost { HasCleanDisk (state S.Store tx.new.conn.now) → IfErr result (λ halt. LosesKept S.Store halt tx.old.conn.now tx.new.conn.now) }
 {
     match phase::read(tx)? {
         None => Ok(None),
@@ -277,6 +294,7 @@ fn read_kept<S: Alter>(tx: &mut Transaction<'_, S>, alloc: Global, cuts: u16) ->
     ensures inside { CommitsNothing (state S.Store tx.old.conn.now) (state S.Store tx.new.conn.now) }
     ensures cuts { IfOk result (λ kept. kept.cuts ≡ cuts) }
     ensures told { HasCleanDisk (state S.Store tx.new.conn.now) → IfOk result (λ kept. TellsTables S.Store kept tx.old.conn.now tx.new.conn.now) }
+    ensures lost { HasCleanDisk (state S.Store tx.new.conn.now) → IfErr result (λ halt. LosesTables S.Store halt tx.old.conn.now tx.new.conn.now) }
 {
     Ok(Kept {
         season: season::read_text(tx, alloc)?,

@@ -1,10 +1,8 @@
 -- A record is read back from the row in which it is stored, and a row stands for one record alone.
-use Rattle.std.proofs.Common.{◌≡◌, ◌+◌, ◌<◌, ◌≤◌, ◌^◌, inl, inr, ℕ, ℤ, pos, List, [], ◌∷◌, Bool, true, false, nat_lt, Option, Some, None, option_map, option_and_then, refl, sym, ap, subst, ◌∙◌, arith}
-use Rattle.std.proofs.lemmas.Bool.{ltb-true, lt-ltb}
-use Rattle.sqlite.specs.declared.types.Value.{Value}
-use Rattle.sqlite.specs.declared.types.Value.TheVariants.{Null, Int, Blob}
-use Rattle.sqlite.specs.Order.{Row, column}
-use Rattle.office_base.specs.StepNumbers.{step_number, step_of_number}
+use Rattle.std.proofs.Common.{◌≡◌, ◌<◌, ◌^◌, ℕ, ℤ, pos, ◌∷◌, Some, refl, ap}
+use Rattle.std.proofs.lemmas.Bool.{lt-ltb}
+use Rattle.sqlite.specs.declared.types.Value.TheVariants.{Null, Int}
+use Rattle.office_base.specs.StepNumbers.{step_number}
 use Rattle.office_base.specs.declared.asks.Choice.{Choice}
 use Rattle.office_base.specs.declared.asks.Choice.TheVariants.{Freeze, Float, Slide, Withdraw}
 use Rattle.office_base.specs.declared.step.StepKind.{StepKind}
@@ -12,10 +10,10 @@ use Rattle.office_base.specs.declared.step.StepKind.TheVariants.{Open, Ews, Obc,
 use Rattle.keeper_mem.specs.declared.rows.AnswerRow.{AnswerRow}
 use Rattle.keeper_mem.specs.declared.rows.AllotRow.{AllotRow}
 use Rattle.keeper_mem.specs.declared.rows.RaiseRow.{RaiseRow}
-use Rattle.stored_tables.specs.Numbers.{choice_number, choice_of}
+use Rattle.stored_tables.specs.Numbers.{choice_number}
 use Rattle.stored_tables.specs.Texts.{answer_values, raise_values, allot_values}
 use Rattle.stored_tables.specs.Fits.{AnswerFits, RaiseFits, AllotFits}
-use Rattle.stored_tables.specs.Rows.{number_in, choice_in, step_in, answer_of, raise_of, allot_of, part_of}
+use Rattle.stored_tables.specs.Rows.{number_in, choice_in, step_in, answer_of, raise_of, allot_of}
 use Rattle.stored_tables.proofs.RowLemmas.{IsNumbered}
 
 pub number_fits : (bits n : ℕ) → n < 2 ^ bits → number_in bits (Int (pos n)) ≡ Some n

@@ -1,19 +1,17 @@
 -- What is put into the table of the phase: the row of a season, and the number of cuts in the place of another.
-use Rattle.std.proofs.Common.{◌≡◌, ◌<◌, ◌^◌, ◌⊎◌, inl, inr, ℕ, pos, ℤ, List, [], ◌∷◌, map, length, min, Bool, true, false, cond, Option, Some, None, option_map, Ok, Err, Result, refl, sym, ap, subst, ◌∙◌, arith, IsPermutation, is_eq}
+use Rattle.std.proofs.Common.{◌≡◌, ◌<◌, ◌^◌, ◌⊎◌, inl, inr, ℕ, pos, ℤ, List, [], ◌∷◌, map, length, min, Bool, true, false, Option, Some, None, option_map, Ok, refl, sym, ap, subst, ◌∙◌, arith, IsPermutation, is_eq}
 use Rattle.std.specs.List.{flat_map}
 use Rattle.std.proofs.Math.Nat.{min-eq_left}
 use Rattle.std.proofs.lemmas.List.Sorted.{length_permutation}
 use Rattle.std.proofs.lemmas.Cmp.{tied_itself}
-use Rattle.sqlite.specs.declared.types.Value.{Value}
 use Rattle.sqlite.specs.declared.types.Value.TheVariants.{Null, Int}
 use Rattle.sqlite.specs.Order.{Row, value_cmp}
 use Rattle.sqlite.specs.Term.{Term, lit, col}
 use Rattle.sqlite.specs.Ops.{unary, binary, is_true}
-use Rattle.sqlite.specs.Kind.TheVariants.{Integer}
 use Rattle.sqlite.specs.Source.TheVariants as source
 use Rattle.sqlite.specs.Command.TheVariants.{InsertOr}
 use Rattle.sqlite.specs.Edit.{edit_of, with_rowid, put_all, without_all, left_by}
-use Rattle.sqlite.specs.Cast.{cast, cast_row}
+use Rattle.sqlite.specs.Cast.{cast_row}
 use Rattle.sqlite.specs.Rowids.TheVariants.{Chosen, Given}
 use Rattle.sqlite.specs.Does.{Tally, Does}
 use Rattle.sqlite.specs.Rows.{Written, Task, nothing, joined, count_of, Tries, TriesEach, Judged, Upserts, Meets, Updates}
@@ -40,11 +38,11 @@ use Rattle.sqlite_value.proofs.OrderLemmas.{value_cmp_total}
 use Rattle.sqlite.proofs.Callers.{statement_of, runs_as, one_step, one_permutation}
 use Rattle.stored_tables.specs.Layout.{phase, stored}
 use Rattle.stored_tables.specs.Texts.{cuts_text, cuts_values, opening_text, opening_values}
-use Rattle.stored_tables.specs.Rows.{number_in, cuts_of}
+use Rattle.stored_tables.specs.Rows.{cuts_of}
 use Rattle.stored_tables.specs.Puts.{PutsCuts, OpensPhase}
 use Rattle.stored_tables.proofs.TextLemmas.{mends, cuts_text-is, opens, opening_text-is}
 use Rattle.stored_tables.proofs.ColumnLemmas.{number_fits}
-use Rattle.stored_tables.proofs.PutLemmas.{cast_null, cast_whole, went, same_value, plain, Puts, PutsRow, puts, puts_one}
+use Rattle.stored_tables.proofs.PutLemmas.{cast_null, cast_whole, went, same_value, plain, Puts, puts, puts_one}
 use Rattle.stored_tables.proofs.TableLemmas.{apart}
 
 abbrev pub phase_row : ℕ → Row

@@ -1,5 +1,5 @@
 -- What an INSERT of one row does to its table, whatever the table.
-use Rattle.std.proofs.Common.{◌≡◌, ◌≢◌, ◌⊎◌, inl, inr, ℕ, ℤ, pos, List, [], ◌∷◌, ◌++◌, length, unwrap_or, map, drop, slice_get, append-nil, Bool, true, false, not, ◌&&◌, cond, Option, Some, None, Ok, Err, Result, refl, sym, ap, subst, ◌∙◌, true≢false}
+use Rattle.std.proofs.Common.{◌≡◌, ◌≢◌, ◌⊎◌, inl, inr, ℕ, ℤ, List, [], ◌∷◌, ◌++◌, length, unwrap_or, drop, slice_get, Bool, true, false, not, ◌&&◌, cond, Option, Some, None, Ok, Err, Result, refl, sym, ap, subst, ◌∙◌, true≢false}
 use Rattle.std.specs.List.{AllByRecursion}
 use Rattle.sqlite.specs.declared.types.Value.{Value}
 use Rattle.sqlite.specs.declared.types.Value.TheVariants.{Null, Int}
@@ -21,7 +21,7 @@ use Rattle.sqlite.specs.Effect.{Database, IsSource}
 use Rattle.sqlite.specs.State.{State, mode_of, Executes}
 use Rattle.sqlite_rules.specs.Action.{works, Writes}
 use Rattle.sqlite_schema.specs.declared.schema.Keys.{Keys}
-use Rattle.sqlite.proofs.Callers.{IsPlain, command_of, statement_of, runs_as, one_step}
+use Rattle.sqlite.proofs.Callers.{IsPlain, command_of, runs_as, one_step}
 
 either : (b : Bool) (x : Value) → cond b x x ≡ x
 either true x = refl

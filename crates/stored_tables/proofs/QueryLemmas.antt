@@ -1,14 +1,13 @@
 -- What a query of one table shows of it.
-use Rattle.std.proofs.Common.{◌≡◌, ◌+◌, ◌<◌, ℕ, pos, negsuc, ℤ, List, [], ◌∷◌, ◌++◌, map, length, take, Bool, true, false, Option, Some, None, refl, sym, ap, ap₂, subst, ◌∙◌, arith, Ordering, Less, Equal, Greater, IsPermutation}
+use Rattle.std.proofs.Common.{◌≡◌, ℕ, pos, List, [], ◌∷◌, map, false, None, ap, subst, ◌∙◌, Less, IsPermutation}
 use Rattle.std.specs.List.Sorted.{IsSorted}
 use Rattle.std.specs.Cmp.{on_total}
 use Rattle.std.specs.List.{flat_map}
 use Rattle.std.proofs.lemmas.List.Concat.{flat_map_single}
 use Rattle.std.proofs.lemmas.List.Sorted.{IsPermutation-map, IsPermutation-sym, IsPermutation-trans}
-use Rattle.sqlite.specs.declared.types.Value.{Value}
-use Rattle.sqlite.specs.declared.types.Value.TheVariants.{Null, Int}
-use Rattle.sqlite.specs.Order.{Row, column, value_cmp}
-use Rattle.sqlite.specs.Term.{Term, lit, col, eval_all}
+use Rattle.sqlite.specs.declared.types.Value.TheVariants.{Int}
+use Rattle.sqlite.specs.Order.{Row}
+use Rattle.sqlite.specs.Term.{Term, lit, eval_all}
 use Rattle.sqlite.specs.Query.{Query, IsAnswer, Output, output, output_cmp, page, inner, end}
 use Rattle.sqlite.specs.Program.{overlay}
 use Rattle.sqlite.specs.Tree.{Trees, IsAscending}

@@ -1,15 +1,15 @@
 -- What a row that is put above the others is told as.
-use Rattle.std.proofs.Common.{◌≡◌, ◌<◌, ◌≤◌, ◌+◌, ◌⊎◌, inl, inr, ℕ, zero, suc, ℤ, pos, negsuc, ◌+ℤ◌, List, [], ◌∷◌, ◌++◌, fold, Bool, true, false, cond, nat_lt, Option, Some, None, option_map, refl, sym, ap, ap₂, subst, ◌∙◌, arith, Ordering, Less, Equal, Greater, int_cmp, true≢false}
-use Rattle.std.specs.Ordering.{is_eq, match_ordering}
+use Rattle.std.proofs.Common.{◌≡◌, ◌<◌, ◌≤◌, ◌+◌, inl, inr, ℕ, ℤ, pos, negsuc, ◌+ℤ◌, List, [], ◌∷◌, ◌++◌, fold, true, false, nat_lt, Option, Some, None, option_map, refl, sym, ap, ap₂, subst, ◌∙◌, arith, Ordering, Less, Equal, Greater, true≢false}
+use Rattle.std.specs.Ordering.{match_ordering}
 use Rattle.std.specs.List.{AllByRecursion}
 use Rattle.std.proofs.lemmas.Bool.{cases_Bool, ltb-true, lt-ltb}
 use Rattle.std.proofs.lemmas.Int.{ints}
 use Rattle.sqlite.specs.declared.types.Value.{Value}
 use Rattle.sqlite.specs.declared.types.Value.TheVariants.{Null, Int, Real, Text, Blob}
-use Rattle.sqlite.specs.Order.{Row, column, value_cmp}
+use Rattle.sqlite.specs.Order.{Row, value_cmp}
 use Rattle.sqlite.specs.Tree.{rowid, put_row, IsAscending}
-use Rattle.sqlite.specs.Edit.{id_in, next_rowid, is_taken}
-use Rattle.sqlite_value.proofs.OrderLemmas.{value_cmp-Int, value_cmp_total}
+use Rattle.sqlite.specs.Edit.{id_in, is_taken}
+use Rattle.sqlite_value.proofs.OrderLemmas.{value_cmp-Int}
 use Rattle.sqlite_keyed.proofs.KeyedLemmas.{Less-from_lt}
 use Rattle.sqlite_keyed.proofs.ListLemmas.{all_weaker}
 use Rattle.stored_tables.specs.Rows.{after_of, first_of, row_from, rows_from}

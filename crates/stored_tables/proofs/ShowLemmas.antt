@@ -1,16 +1,15 @@
 -- What each query of a keeper shows of what its table stands for.
-use Rattle.std.proofs.Common.{◌≡◌, ◌+◌, ◌<◌, ◌≤◌, ◌==◌, inl, inr, ℕ, pos, negsuc, List, [], ◌∷◌, ◌++◌, map, length, take, reverse, slice_get, Bool, true, false, nat_lt, Option, Some, None, option_map, refl, sym, ap, subst, ◌∙◌, arith, Less, IsPermutation}
+use Rattle.std.proofs.Common.{◌≡◌, ◌==◌, inl, inr, ℕ, pos, negsuc, List, [], ◌∷◌, map, length, take, reverse, Bool, true, false, Option, Some, None, option_map, refl, sym, ap, subst, ◌∙◌, arith, IsPermutation}
 use Rattle.std.specs.List.{AllZip}
 use Rattle.std.proofs.lemmas.List.Sorted.{length_permutation, IsPermutation-refl, IsPermutation-reverse, IsPermutation-sym}
 use Rattle.std.proofs.lemmas.Bool.{cases_Bool, eqb-true}
-use Rattle.sqlite.specs.declared.types.Value.{Value}
 use Rattle.sqlite.specs.declared.types.Value.TheVariants.{Null, Int, Real, Text, Blob}
-use Rattle.sqlite.specs.Order.{Row, column, value_cmp}
+use Rattle.sqlite.specs.Order.{Row, column}
 use Rattle.sqlite.specs.Term.{Term, lit, col}
-use Rattle.sqlite.specs.Query.{Query, IsAnswer, Output}
+use Rattle.sqlite.specs.Query.{IsAnswer, Output}
 use Rattle.sqlite.specs.Program.{overlay}
 use Rattle.sqlite.specs.Command.TheVariants.{Select}
-use Rattle.sqlite.specs.Tree.{Trees, rowid, IsAscending}
+use Rattle.sqlite.specs.Tree.{Trees}
 use Rattle.sqlite.specs.Listing.{understood, reads_listing}
 use Rattle.sqlite.specs.State.{State, Shown, ShowsRows}
 use Rattle.sqlite.specs.Clock.{timed}
@@ -24,13 +23,13 @@ use Rattle.keeper_mem.specs.declared.rows.RaiseRow.{RaiseRow}
 use Rattle.stored_tables.specs.Layout.{stored}
 use Rattle.stored_tables.specs.Texts.{phase_query, text_query, answers_query, raises_query, allots_query, key_query, any_part, any_answer, any_raise, any_allot}
 use Rattle.stored_tables.specs.Rising.{are_rising}
-use Rattle.stored_tables.specs.Rows.{rows_from, answer_of, raise_of, allot_of, part_of, cuts_of, number_in}
+use Rattle.stored_tables.specs.Rows.{rows_from, answer_of, raise_of, allot_of, part_of, cuts_of}
 use Rattle.stored_tables.specs.Columns.{IsAnswerRow, IsRaiseRow, IsAllotRow, IsPartRow, IsPhaseRow, TellsPhase}
-use Rattle.stored_tables.proofs.TextLemmas.{phase_query-means, phase_query-is, text_query-means, text_query-is, answers_query-means, answers_query-is, raises_query-means, raises_query-is, allots_query-means, allots_query-is, key_query-means, key_query-is, any_part-is, any_answer-is, any_raise-is, any_allot-is}
+use Rattle.stored_tables.proofs.TextLemmas.{phase_query-means, phase_query-is, text_query-means, text_query-is, answers_query-means, answers_query-is, raises_query-is, allots_query-means, allots_query-is, key_query-means, key_query-is, any_part-is, any_answer-is, any_raise-is, any_allot-is}
 use Rattle.stored_tables.proofs.RowLemmas.{rising, begins}
 use Rattle.stored_tables.proofs.ColumnLemmas.{number_fits}
 use Rattle.stored_tables.proofs.QueryLemmas.{of_table, shown, Asked, asked, in_order}
-use Rattle.stored_tables.proofs.StandLemmas.{answer_shown, allot_shown, part_shown, answer_stands, raise_stands, allot_stands, part_stands, stand_from, then_some, map_some, number_is}
+use Rattle.stored_tables.proofs.StandLemmas.{answer_shown, allot_shown, part_shown, answer_stands, raise_stands, allot_stands, part_stands, stand_from}
 use Rattle.stored_tables.proofs.OrderLemmas.{KeyLess, keys_rise, last_row, last_of, reverse_first, ascending_reverse, last_stands}
 
 module _ (text : List ℕ) (t : ℕ) (project : List Term) (order : List (Term × Key)) (limit : Term) (names : List (List ℕ)) where

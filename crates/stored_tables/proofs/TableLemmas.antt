@@ -1,8 +1,7 @@
 -- What each INSERT of a keeper does to its table.
-use Rattle.std.proofs.Common.{◌≡◌, ◌≢◌, ◌+◌, ◌<◌, ◌≤◌, ◌^◌, inl, inr, ℕ, ℤ, pos, List, [], ◌∷◌, ◌++◌, fold, map, Bool, true, false, ◌==◌, cond, if◌then◌else◌, Option, Some, None, Ok, option_map, refl, sym, ap, subst, ◌∙◌, arith, Ordering, Less, Equal, Greater}
+use Rattle.std.proofs.Common.{◌≡◌, ◌≢◌, ℕ, ℤ, pos, List, [], ◌∷◌, fold, Bool, true, false, ◌==◌, if◌then◌else◌, Ok, refl, sym, ap, ◌∙◌, arith, Ordering, Less, Equal, Greater}
 use Rattle.std.specs.Ordering.{match_ordering}
 use Rattle.std.proofs.lemmas.Bool.{eqb-false}
-use Rattle.sqlite.specs.declared.types.Value.{Value}
 use Rattle.sqlite.specs.declared.types.Value.TheVariants.{Null, Int, Blob as Bytes}
 use Rattle.sqlite.specs.Order.{Row, value_cmp}
 use Rattle.sqlite.specs.Kind.TheVariants.{Blob, Any}
@@ -10,8 +9,7 @@ use Rattle.sqlite.specs.Cast.{cast, cast_row}
 use Rattle.sqlite.specs.Source.TheVariants.{Values}
 use Rattle.sqlite.specs.Edit.{next_rowid, with_rowid}
 use Rattle.sqlite.specs.Rowids.TheVariants.{Chosen}
-use Rattle.sqlite.specs.Tree.{Trees, rowid, put_row}
-use Rattle.sqlite.specs.Effect.{Database}
+use Rattle.sqlite.specs.Tree.{rowid, put_row}
 use Rattle.sqlite.specs.State.{State, Executes}
 use Rattle.sqlite.specs.Term.{lit, col}
 use Rattle.keeper_mem.specs.declared.rows.AnswerRow.{AnswerRow}
@@ -23,12 +21,12 @@ use Rattle.stored_tables.specs.Layout.{season, answer, allot, lift, stored}
 use Rattle.stored_tables.specs.Texts.{answer_text, answer_values, raise_text, raise_values, allot_text, allot_values, part_text, part_values}
 use Rattle.stored_tables.specs.Rows.{rows_from, answer_of, raise_of, allot_of, part_of}
 use Rattle.stored_tables.specs.Told.{is_bare}
-use Rattle.stored_tables.specs.Puts.{PutsAnswer, PutsRaise, PutsAllot, PutsPart, HasParts}
+use Rattle.stored_tables.specs.Puts.{PutsAnswer, PutsRaise, PutsAllot, PutsPart}
 use Rattle.stored_tables.proofs.TextLemmas.{answer_text-is, raise_text-is, allot_text-is, part_text-is}
 use Rattle.stored_tables.proofs.RowLemmas.{after, told_exactly, told_next, top_next}
 use Rattle.stored_tables.specs.Fits.{AnswerFits, RaiseFits, AllotFits}
 use Rattle.stored_tables.proofs.ColumnLemmas.{answer_stored, raise_stored, allot_stored}
-use Rattle.stored_tables.proofs.PutLemmas.{cast_null, cast_whole, plain, PutsRow, puts, puts_row}
+use Rattle.stored_tables.proofs.PutLemmas.{cast_null, cast_whole, plain, puts, puts_row}
 
 pub apart : (m n : ℕ) → (m == n) ≡ false → m ≢ n
 apart m n h = eqb-false m n h

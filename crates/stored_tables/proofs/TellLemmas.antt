@@ -1,14 +1,12 @@
 -- What the tables are told as, once something was put.
-use Rattle.std.proofs.Common.{◌≡◌, ◌+◌, inl, inr, ℕ, List, [], ◌∷◌, ◌++◌, Bool, true, false, ◌&&◌, cond, Option, Some, None, option_map, option_and_then, refl, sym, ap, ap₂, subst, ◌∙◌, true≢false}
+use Rattle.std.proofs.Common.{◌≡◌, ◌+◌, ℕ, List, [], ◌∷◌, ◌++◌, Bool, true, false, ◌&&◌, cond, Option, Some, None, option_map, option_and_then, refl, sym, ap, ◌∙◌, true≢false}
 use Rattle.std.specs.List.{concat}
-use Rattle.sqlite.specs.Order.{Row}
 use Rattle.sqlite.specs.Tree.{Trees}
 use Rattle.sqlite.specs.Effect.{Database}
-use Rattle.keeper_mem.specs.Tables.{Tables, Untold, NoSeason, Records, with_season, with_answer, with_raise, with_cut, IsFound, opening_records}
+use Rattle.keeper_mem.specs.Tables.{Untold, NoSeason, Records, with_answer, with_raise, with_cut, IsFound, opening_records}
 use Rattle.keeper_mem.specs.declared.rows.AnswerRow.{AnswerRow}
 use Rattle.keeper_mem.specs.declared.rows.AllotRow.{AllotRow}
 use Rattle.keeper_mem.specs.declared.rows.RaiseRow.{RaiseRow}
-use Rattle.stored_tables.specs.Rising.{are_rising}
 use Rattle.stored_tables.specs.Rows.{rows_from, part_of, answer_of, raise_of, allot_of, rising_alone, text_in, answers_in, raises_in, allots_in, cuts_of}
 use Rattle.stored_tables.specs.Told.{is_bare, are_bare, records_of, tables_with, tables_in}
 use Rattle.stored_tables.specs.Puts.{PutsAnswer, PutsRaise, Stay}

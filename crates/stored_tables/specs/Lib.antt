@@ -1,9 +1,11 @@
 pub mod Columns
 pub mod Fits
 pub mod Layout
+pub mod Leaves
 pub mod Numbers
 pub mod Puts
 pub mod Rising
 pub mod Rows
+pub mod Seats
 pub mod Texts
 pub mod Told

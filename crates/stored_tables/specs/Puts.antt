@@ -1,8 +1,6 @@
 -- What each text does to its one table, in the words of what is told.
-use Rattle.std.specs.Prelude.{◌≡◌, ◌+◌, ◌+ℤ◌, fold, false, ℕ, pos, List, [], ◌∷◌, ◌++◌, Option, Some, None, option_map}
-use Rattle.std.specs.List.{AllByRecursion, AllZip}
-use Rattle.sqlite.specs.declared.types.Value.TheVariants.{Int}
-use Rattle.sqlite.specs.Order.{Row, column}
+use Rattle.std.specs.Prelude.{◌≡◌, ◌+◌, ◌+ℤ◌, fold, false, ℕ, pos, List, [], ◌∷◌, ◌++◌, Some, option_map}
+use Rattle.std.specs.List.{AllByRecursion}
 use Rattle.sqlite.specs.Tree.{Trees, rowid}
 use Rattle.sqlite.specs.Edit.{id_in}
 use Rattle.sqlite.specs.Effect.{Database}
@@ -10,9 +8,7 @@ use Rattle.keeper_mem.specs.declared.rows.AnswerRow.{AnswerRow}
 use Rattle.keeper_mem.specs.declared.rows.AllotRow.{AllotRow}
 use Rattle.keeper_mem.specs.declared.rows.RaiseRow.{RaiseRow}
 use Rattle.stored_tables.specs.Rows.{rows_from, part_of, allot_of, answers_in, raises_in, cuts_of}
-use Rattle.stored_tables.specs.Rising.{are_rising}
 use Rattle.stored_tables.specs.Told.{is_bare}
-use Rattle.stored_tables.specs.Columns.{IsAnswerRow, IsRaiseRow, IsAllotRow, IsPartRow}
 
 -- these trees stay
 abbrev pub Stay : List ℕ → Trees → Trees → Type 0

@@ -1,5 +1,5 @@
 -- What a store tells of its tables.
-use Rattle.std.specs.Prelude.{◌≡◌, ◌==◌, ◌&&◌, true, false, Bool, ℕ, List, [], ◌∷◌, if◌then◌else◌, Option, Some, None}
+use Rattle.std.specs.Prelude.{◌==◌, ◌&&◌, true, false, Bool, ℕ, List, [], ◌∷◌, if◌then◌else◌, Option, Some, None}
 use Rattle.sqlite.specs.Order.{Row}
 use Rattle.sqlite.specs.Tree.{Trees}
 use Rattle.sqlite.specs.State.{State}

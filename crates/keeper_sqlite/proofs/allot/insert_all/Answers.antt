@@ -1,3 +1,7 @@
+use Rattle.keeper_sqlite.proofs.StopLemmas.{stops_more, ready_lost}
+use Rattle.keeper_sqlite.specs.Kept.Call.{Readies}
+use Rattle.std.proofs.Common.{[], ◌∷◌}
+use Rattle.std.proofs.lemmas.Result.{err_from_is_err_and}
 use Rattle.keeper_sqlite.specs.Kept.{allot_text, allot_calls}
 use Rattle.keeper_sqlite.proofs.CallLemmas.{ready_then}
 use Rattle.keeper_sqlite.proofs.allot.insert_all.Goals as goal
@@ -5,3 +9,12 @@ use Rattle.keeper_sqlite.proofs.allot.insert_all.Goals as goal
 pub returns-clause-ran : goal.returns-clause-ran
 returns-clause-ran g c =
     ready_then g.S.Store allot_text _ (λ text. allot_calls text c.args.rows.now) c.args.tx.now.conn.now c.make_ready.new.tx.conn.now c.insert_each.new.tx.conn.now c.insert_each.result c.insert_each.ensures.inside c.in_ok-insert.ensures.made c.insert_each.ensures.ran
+
+pub returns-in_err-insert-clause-lost : goal.returns-in_err-insert-clause-lost
+returns-in_err-insert-clause-lost g c = λ clean.
+    let p = err_from_is_err_and c.from_residual.result c.from_residual.ensures.1 in
+    rw (p.1, p.2) (stops_more g.S.Store (Readies allot_text ∷ []) (allot_calls allot_text c.args.rows.now) _ c.args.tx.now.conn.now c.make_ready.new.tx.conn.now (c.in_err-insert.ensures.lost clean))
+
+pub returns-clause-lost : goal.returns-clause-lost
+returns-clause-lost g c =
+    ready_lost g.S.Store allot_text _ (λ text. allot_calls text c.args.rows.now) c.args.tx.now.conn.now c.make_ready.new.tx.conn.now c.insert_each.new.tx.conn.now c.insert_each.result c.insert_each.ensures.inside c.in_ok-insert.ensures.made c.insert_each.ensures.lost

@@ -1,3 +1,4 @@
+use Rattle.std.proofs.lemmas.Result.{err_from_is_err_and}
 use Rattle.std.proofs.Common.{refl}
 use Rattle.keeper_sqlite.proofs.OpenLemmas.{ask_nothing}
 use Rattle.keeper_sqlite.proofs.calls.ask.Goals as goal
@@ -10,3 +11,8 @@ returns-in_err-query_all-clause-inside g c = ask_nothing g.S.Store _ _ (λ rows.
 
 pub returns-clause-inside : goal.returns-clause-inside
 returns-clause-inside g c = ask_nothing g.S.Store _ _ (λ rows. rows.items) c.args.tx.now.conn.now c.query_all.new.self.conn.now c.query_all.result c.query_all.ensures.ok c.query_all.ensures.err c.query_all.ensures.survives
+
+pub returns-in_err-query_all-clause-refused : goal.returns-in_err-query_all-clause-refused
+returns-in_err-query_all-clause-refused g c = λ clean.
+    let p = err_from_is_err_and c.from_residual.result c.from_residual.ensures.1 in
+    rw (p.1, p.2) (_, refl, c.in_err-query_all.ensures.err clean)

@@ -1,4 +1,5 @@
-use Rattle.std.proofs.Common.{◌≡◌, refl}
+use Rattle.std.proofs.lemmas.Result.{err_from_is_err_and}
+use Rattle.std.proofs.Common.{◌≡◌, refl, inl}
 use Rattle.keeper_sqlite.proofs.OpenLemmas.{ready_nothing}
 use Rattle.keeper_sqlite.proofs.calls.make_ready.Goals as goal
 
@@ -12,3 +13,8 @@ returns-in_err-prepare-clause-inside g c = ready_nothing g.S.Store _ (λ s. s.te
 
 pub returns-clause-inside : goal.returns-clause-inside
 returns-clause-inside g c = ready_nothing g.S.Store _ (λ s. s.text ≡ c.args.text.now) c.args.tx.now.conn.now c.prepare.new.self.conn.now c.prepare.result c.prepare.ensures.ok c.prepare.ensures.err c.prepare.ensures.survives
+
+pub returns-in_err-prepare-clause-lost : goal.returns-in_err-prepare-clause-lost
+returns-in_err-prepare-clause-lost g c = λ clean.
+    let p = err_from_is_err_and c.from_residual.result c.from_residual.ensures.1 in
+    rw (p.1, p.2) (inl (_, refl, c.in_err-prepare.ensures.err clean))

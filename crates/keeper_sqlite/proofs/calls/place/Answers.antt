@@ -1,4 +1,6 @@
-use Rattle.std.proofs.Common.{rules}
+use Rattle.keeper_sqlite.proofs.StopLemmas.{refused_inside, lost_place}
+use Rattle.std.proofs.lemmas.Result.{err_from_is_err_and}
+use Rattle.std.proofs.Common.{rules, inl, refl}
 use Rattle.keeper_sqlite.proofs.CallLemmas.{placed_inside}
 use Rattle.keeper_sqlite.proofs.OpenLemmas.{run_nothing}
 use Rattle.keeper_sqlite.proofs.calls.place.Goals as goal
@@ -14,3 +16,11 @@ returns-then-branch-eq1-clause-inside g c = run_nothing g.S.Store _ _ _ _ c.exec
 
 pub returns-else-branch-eq1-clause-inside : goal.returns-else-branch-eq1-clause-inside
 returns-else-branch-eq1-clause-inside g c = run_nothing g.S.Store _ _ _ _ c.execute.result c.execute.ensures.ended c.execute.ensures.runs c.execute.ensures.survives
+
+pub returns-in_err-execute-clause-lost : goal.returns-in_err-execute-clause-lost
+returns-in_err-execute-clause-lost g c = λ clean.
+    let p = err_from_is_err_and c.from_residual.result c.from_residual.ensures.1 in
+    rw (p.1, p.2) (inl (inl (_, refl, refused_inside g.S.Store _ _ _ _ c.execute.result _ c.in_err-execute.was c.execute.ensures.ended c.execute.ensures.runs clean)))
+
+pub returns-else-branch-eq1-clause-lost : goal.returns-else-branch-eq1-clause-lost
+returns-else-branch-eq1-clause-lost g c = lost_place g.S.Store _ _ _ _ c.execute.result _ c.in_ok-execute.was (search rules) c.execute.ensures.ended c.execute.ensures.runs

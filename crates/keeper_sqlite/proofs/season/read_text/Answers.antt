@@ -1,5 +1,24 @@
+use Rattle.keeper_sqlite.proofs.MeaningLemmas.{text_stands}
+use Rattle.keeper_sqlite.proofs.StopLemmas.{rows_lost}
+use Rattle.keeper_sqlite.specs.Columns.{IsPartRow}
+use Rattle.std.specs.List.{AllZip}
+use Rattle.keeper_sqlite.specs.Kept.{text_query}
+use Rattle.std.proofs.Common.{inl, List, ℕ}
+use Rattle.std.proofs.lemmas.Result.{err_from_is_err_and}
 use Rattle.keeper_sqlite.proofs.CallLemmas.{text_told}
 use Rattle.keeper_sqlite.proofs.season.read_text.Goals as goal
 
 pub returns-clause-told : goal.returns-clause-told
 returns-clause-told g c = text_told g.S.Store _ _ c.args.tx.now.conn.now c.ask.new.tx.conn.now c.text_of.result c.deref.ensures.value c.in_ok-rows.ensures.told c.text_of.ensures.ok
+
+pub returns-in_err-rows-clause-lost : goal.returns-in_err-rows-clause-lost
+returns-in_err-rows-clause-lost g c = λ clean.
+    let p = err_from_is_err_and c.from_residual.result c.from_residual.ensures.1 in
+    rw (p.1, p.2) (inl (c.in_err-rows.ensures.refused clean))
+
+pub returns-clause-lost : goal.returns-clause-lost
+returns-clause-lost g c = rows_lost g.S.Store text_query (λ rows. (held : List (List ℕ)) → ¬ AllZip IsPartRow rows held) _ _ c.args.tx.now.conn.now c.ask.new.tx.conn.now c.text_of.result c.deref.ensures.value c.in_ok-rows.ensures.told c.text_of.ensures.err
+
+pub returns-clause-stands : goal.returns-clause-stands
+returns-clause-stands g c = λ strict clean has. text_stands g.S.Store strict c.args.tx.now.conn.now c.ask.new.tx.conn.now c.text_of.result has
+    (text_told g.S.Store _ _ c.args.tx.now.conn.now c.ask.new.tx.conn.now c.text_of.result c.deref.ensures.value c.in_ok-rows.ensures.told c.text_of.ensures.ok) clean

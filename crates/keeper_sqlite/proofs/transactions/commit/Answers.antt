@@ -1,4 +1,7 @@
-use Rattle.std.proofs.Common.{◌≡◌, false, sym, OnOk, OnErr, IsTrue, subst, rules, refl, arith}
+use Rattle.keeper_sqlite.proofs.LossLemmas.{change_lost}
+use Rattle.keeper_sqlite.specs.Stops.{Breaks, Loses}
+use Rattle.std.proofs.lemmas.Result.{err_from_is_err_and}
+use Rattle.std.proofs.Common.{◌≡◌, false, sym, OnOk, OnErr, IsTrue, subst, rules, refl, arith, inl, IfErr}
 use Rattle.sqlite.specs.State.{HasCleanDisk, IsLive, Survives}
 use Rattle.sqlite.specs.Held.{state}
 use Rattle.keeper_sqlite.specs.Commits.{CommitsOnce}
@@ -16,7 +19,7 @@ returns-clause-once g c =
     let last = c.settle-ended.new.tx.0 in
     let same : last ≡ c.connection-1.given.0 = search rules in
     subst (λ h. CommitsOnce (state g.S.Store c.args.connection.now) (state g.S.Store h)) same
-    (once_made g.S.Store _ _ c.write-done.new.tx.conn.now last c.transaction-tx.ensures.begun c.write-done.ensures.inside (shown_by g.S.Store c.write-done.result c.write-done.new.tx.conn.now last c.settle-ended.ensures.shown))
+    (once_made g.S.Store _ _ c.write-done.new.tx.conn.now last c.transaction-begun.ensures.begun c.write-done.ensures.inside (shown_by g.S.Store c.write-done.result c.write-done.new.tx.conn.now last c.settle-ended.ensures.shown))
 
 pub returns-in_err-expect_free-clause-made : goal.returns-in_err-expect_free-clause-made
 returns-in_err-expect_free-clause-made g c = made_same g.S.Store c.args.change c.args.connection.now
@@ -26,14 +29,14 @@ returns-clause-made g c =
     let last = c.settle-ended.new.tx.0 in
     let same : last ≡ c.connection-1.given.0 = search rules in
     subst (λ h. Survives (state g.S.Store c.args.connection.now) (state g.S.Store h) (MadeBy g.S.Store c.args.change c.args.connection.now)) same
-    (made_once g.S.Store c.args.change c.args.connection.now _ c.write-done.new.tx.conn.now last c.write-done.result c.transaction-tx.ensures.begun c.write-done.ensures.inside c.write-done.ensures.made c.settle-ended.ensures.shown)
+    (made_once g.S.Store c.args.change c.args.connection.now _ c.write-done.new.tx.conn.now last c.write-done.result c.transaction-begun.ensures.begun c.write-done.ensures.inside c.write-done.ensures.made c.settle-ended.ensures.shown)
 
 pub returns-clause-kept : goal.returns-clause-kept
 returns-clause-kept g c =
     let last = c.settle-ended.new.tx.0 in
     let same : last ≡ c.connection-1.given.0 = search rules in
     subst (λ h. HasCleanDisk (state g.S.Store h) → OnOk c.settle-ended.result (Keeps g.S.Store (Makes g.S.Store c.args.change) c.args.connection.now h)) same
-    (kept_made g.S.Store c.args.change _ _ c.write-done.new.tx.conn.now last c.write-done.result c.settle-ended.result c.transaction-tx.ensures.begun c.write-done.ensures.made c.settle-ended.ensures.shown c.settle-ended.ensures.done c.settle-ended.ensures.now c.settle-ended.ensures.committed
+    (kept_made g.S.Store c.args.change _ _ c.write-done.new.tx.conn.now last c.write-done.result c.settle-ended.result c.transaction-begun.ensures.begun c.write-done.ensures.made c.settle-ended.ensures.shown c.settle-ended.ensures.done c.settle-ended.ensures.now c.settle-ended.ensures.committed
     c.settle-ended.ensures.shows)
 
 pub returns-in_err-expect_free-clause-stays_err : goal.returns-in_err-expect_free-clause-stays_err
@@ -47,5 +50,17 @@ returns-clause-stays_err g c =
     subst (λ h. HasCleanDisk (state g.S.Store h) → IsTrue (state g.S.Store h).is_open → OnErr c.settle-ended.result (told (state g.S.Store h) ≡ told (state g.S.Store c.args.connection.now))) same
     let live = subst (λ h. IsLive (state g.S.Store h)) (sym same) c.at_rest-2.ensures.live in
     let after = subst (λ h. h.in_transaction ≡ false → IsTrue (state g.S.Store h).is_open → (state g.S.Store h).now ≡ (state g.S.Store h).committed) (sym same) c.at_rest-2.ensures.settled in
-    (put_back g.S.Store c.args.connection.now c.transaction-tx.result.conn.now mid last c.settle-ended.result c.transaction-tx.ensures.begun (g.met.S.Store.settled c.args.connection.now.store) (g.met.S.Store.stays mid.store)
+    (put_back g.S.Store c.args.connection.now c.transaction-begun.result.conn.now mid last c.settle-ended.result c.transaction-begun.ensures.begun (g.met.S.Store.settled c.args.connection.now.store) (g.met.S.Store.stays mid.store)
     c.at_rest.ensures.live live c.write-done.ensures.inside (c.at_rest.ensures.settled (search rules)) (after c.settle-ended.ensures.ended) (λ sound. omega (arith, sound, c.settle-ended.ensures.shown.clean)) c.settle-ended.ensures.back)
+
+pub returns-in_err-expect_free-clause-lost : goal.returns-in_err-expect_free-clause-lost
+returns-in_err-expect_free-clause-lost g c = λ clean.
+    let p = err_from_is_err_and c.from_residual.result c.from_residual.ensures.1 in
+    rw (p.1, p.2) (inl c.in_err-expect_free.ensures.err)
+
+pub returns-clause-lost : goal.returns-clause-lost
+returns-clause-lost g c =
+    let last = c.settle-ended.new.tx.0 in
+    let same : last ≡ c.connection-1.given.0 = search rules in
+    subst (λ h. HasCleanDisk (state g.S.Store h) → IfErr c.settle-ended.result (λ halt. Loses g.S.Store (Breaks g.S.Store c.args.change) (Makes g.S.Store c.args.change) halt c.args.connection.now h)) same
+    (change_lost g.S.Store c.args.change c.args.connection.now _ c.write-done.new.tx.conn.now last c.write-done.result c.settle-ended.result c.transaction-begun.ensures.begun c.settle-ended.ensures.shown c.write-done.ensures.made c.write-done.ensures.lost c.settle-ended.ensures.why)

@@ -1,9 +1,11 @@
-use Rattle.std.proofs.Common.{◌≡◌, ◌⊎◌, IfOk, IfErr, IsTrue, subst, rules, refl, arith, false, sym}
+use Rattle.keeper_sqlite.proofs.LossLemmas.{look_lost}
+use Rattle.keeper_sqlite.specs.Stops.{IsBusy, LosesPhase}
+use Rattle.std.proofs.lemmas.Result.{err_from_is_err_and}
+use Rattle.std.proofs.Common.{◌≡◌, ◌⊎◌, IfOk, IfErr, IsTrue, subst, rules, refl, arith, false, sym, inl}
 use Rattle.sqlite.specs.State.{HasCleanDisk, IsLive}
 use Rattle.sqlite.specs.Held.{state}
-use Rattle.keeper_sqlite.specs.Halts.{WantsMemory}
-use Rattle.keeper_sqlite.specs.Kept.{Looks, TellsSeason, LosesPhase}
-use Rattle.keeper_sqlite.proofs.CommitLemmas.{looked, looked_amiss}
+use Rattle.keeper_sqlite.specs.Kept.{Looks, TellsSeason}
+use Rattle.keeper_sqlite.proofs.CommitLemmas.{looked}
 use Rattle.stored_tables.specs.Told.{told}
 use Rattle.keeper_sqlite.proofs.KeeperLemmas.{back_told}
 use Rattle.keeper_sqlite.proofs.transactions.has_season.Goals as goal
@@ -15,14 +17,6 @@ returns-clause-found g c =
     subst (λ h. HasCleanDisk (state g.S.Store h) → IfOk c.look_for_season-found.result (λ found. Looks g.S.Store (TellsSeason g.S.Store found) c.args.connection.now h)) same
     (looked g.S.Store (λ found. TellsSeason g.S.Store found) c.args.connection.now c.transaction-tx.result.conn.now c.look_for_season-found.new.tx.conn.now last c.look_for_season-found.result
     c.transaction-tx.ensures.begun c.rollback.ensures.survives c.look_for_season-found.ensures.told c.rollback.ensures.undone)
-
-pub returns-clause-lost : goal.returns-clause-lost
-returns-clause-lost g c =
-    let last = c.rollback.new.self.0 in
-    let same : last ≡ c.connection-1.given.0 = search rules in
-    subst (λ h. HasCleanDisk (state g.S.Store h) → IfErr c.look_for_season-found.result (λ halt. ¬ WantsMemory halt → IsTrue c.args.connection.now.in_transaction ⊎ Looks g.S.Store (LosesPhase g.S.Store) c.args.connection.now h)) same
-    (looked_amiss g.S.Store (IsTrue c.args.connection.now.in_transaction) (LosesPhase g.S.Store) c.args.connection.now c.transaction-tx.result.conn.now c.look_for_season-found.new.tx.conn.now last c.look_for_season-found.result
-    c.transaction-tx.ensures.begun c.rollback.ensures.survives c.look_for_season-found.ensures.lost c.rollback.ensures.undone)
 
 pub returns-clause-stays : goal.returns-clause-stays
 returns-clause-stays g c =
@@ -39,3 +33,16 @@ returns-clause-stays g c =
 
 pub returns-in_err-expect_free-clause-stays : goal.returns-in_err-expect_free-clause-stays
 returns-in_err-expect_free-clause-stays g c = λ clean is_so. refl
+
+pub returns-in_err-expect_free-clause-lost : goal.returns-in_err-expect_free-clause-lost
+returns-in_err-expect_free-clause-lost g c = λ clean.
+    let p = err_from_is_err_and c.from_residual.result c.from_residual.ensures.1 in
+    rw (p.1, p.2) (inl c.in_err-expect_free.ensures.err)
+
+pub returns-clause-lost : goal.returns-clause-lost
+returns-clause-lost g c =
+    let last = c.rollback.new.self.0 in
+    let same : last ≡ c.connection-1.given.0 = search rules in
+    subst (λ h. HasCleanDisk (state g.S.Store h) → IfErr c.look_for_season-found.result (λ halt. IsBusy halt c.args.connection.now ⊎ Looks g.S.Store (LosesPhase g.S.Store halt) c.args.connection.now h)) same
+    (look_lost g.S.Store (LosesPhase g.S.Store) c.args.connection.now c.transaction-tx.result.conn.now c.look_for_season-found.new.tx.conn.now last c.look_for_season-found.result
+    c.transaction-tx.ensures.begun c.rollback.ensures.survives c.look_for_season-found.ensures.lost c.rollback.ensures.undone)

@@ -1,4 +1,7 @@
-use Rattle.std.proofs.Common.{IsTrue, ◌≡◌, IfOk, subst, rules, refl, arith, false, sym}
+use Rattle.keeper_sqlite.proofs.LossLemmas.{look_lost}
+use Rattle.keeper_sqlite.specs.Stops.{IsBusy, LosesKept}
+use Rattle.std.proofs.lemmas.Result.{err_from_is_err_and}
+use Rattle.std.proofs.Common.{IsTrue, ◌≡◌, IfOk, subst, rules, refl, arith, false, sym, inl, IfErr, ◌⊎◌}
 use Rattle.sqlite.specs.State.{HasCleanDisk, IsLive}
 use Rattle.sqlite.specs.Held.{state}
 use Rattle.keeper_sqlite.specs.Kept.{Looks, TellsKept}
@@ -30,3 +33,16 @@ returns-clause-stays g c =
 
 pub returns-in_err-expect_free-clause-stays : goal.returns-in_err-expect_free-clause-stays
 returns-in_err-expect_free-clause-stays g c = λ clean is_so. refl
+
+pub returns-in_err-expect_free-clause-lost : goal.returns-in_err-expect_free-clause-lost
+returns-in_err-expect_free-clause-lost g c = λ clean.
+    let p = err_from_is_err_and c.from_residual.result c.from_residual.ensures.1 in
+    rw (p.1, p.2) (inl c.in_err-expect_free.ensures.err)
+
+pub returns-clause-lost : goal.returns-clause-lost
+returns-clause-lost g c =
+    let last = c.rollback.new.self.0 in
+    let same : last ≡ c.connection-1.given.0 = search rules in
+    subst (λ h. HasCleanDisk (state g.S.Store h) → IfErr c.read_records-found.result (λ halt. IsBusy halt c.args.connection.now ⊎ Looks g.S.Store (LosesKept g.S.Store halt) c.args.connection.now h)) same
+    (look_lost g.S.Store (LosesKept g.S.Store) c.args.connection.now c.transaction-tx.result.conn.now c.read_records-found.new.tx.conn.now last c.read_records-found.result
+    c.transaction-tx.ensures.begun c.rollback.ensures.survives c.read_records-found.ensures.lost c.rollback.ensures.undone)

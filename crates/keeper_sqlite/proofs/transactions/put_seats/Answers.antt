@@ -1,4 +1,7 @@
-use Rattle.std.proofs.Common.{[], ◌∷◌, ◌+◌}
+use Rattle.keeper_sqlite.proofs.LossLemmas.{on_seats}
+use Rattle.keeper_sqlite.proofs.StopLemmas.{stops_more, later_lost}
+use Rattle.std.proofs.lemmas.Result.{err_from_is_err_and}
+use Rattle.std.proofs.Common.{[], ◌∷◌, ◌+◌, inl, inr, refl}
 use Rattle.keeper_sqlite.specs.Kept.{allot_text, allot_calls, cuts_text, cuts_values}
 use Rattle.keeper_sqlite.specs.Kept.Call.{Runs, Readies}
 use Rattle.keeper_sqlite.proofs.CallLemmas.{both_done}
@@ -9,3 +12,19 @@ returns-clause-ran g c =
     let rows = c.args.rows.now in
     both_done g.S.Store (Readies allot_text ∷ allot_calls allot_text rows) (Runs cuts_text (cuts_values (c.args.made + 1)) ∷ []) c.args.tx.now.conn.now c.insert_all.new.tx.conn.now c.upsert.new.tx.conn.now c.insert_all.result c.upsert.result
     c.in_ok-insert_all.was c.upsert.ensures.inside c.insert_all.ensures.ran (rw c.in_ok-cuts.ensures.ok.0 at c.upsert.ensures.ran)
+
+pub returns-in_err-cuts-clause-lost : goal.returns-in_err-cuts-clause-lost
+returns-in_err-cuts-clause-lost g c = λ clean.
+    let p = err_from_is_err_and c.from_residual.result c.from_residual.ensures.1 in
+    rw (p.1, p.2) (inl (c.in_err-cuts.ensures.err.0, c.in_err-cuts.ensures.err.1, refl))
+
+pub returns-in_err-insert_all-clause-lost : goal.returns-in_err-insert_all-clause-lost
+returns-in_err-insert_all-clause-lost g c = λ clean.
+    let p = err_from_is_err_and c.from_residual-in_err-insert_all.result c.from_residual-in_err-insert_all.ensures.1 in
+    rw (p.1, p.2) (inr (stops_more g.S.Store (Readies allot_text ∷ allot_calls allot_text c.args.rows.now) (Runs cuts_text (cuts_values (c.args.made + 1)) ∷ []) _ c.args.tx.now.conn.now c.insert_all.new.tx.conn.now (c.in_err-insert_all.ensures.lost clean)))
+
+pub returns-clause-lost : goal.returns-clause-lost
+returns-clause-lost g c =
+    on_seats g.S.Store c.args.made c.args.rows.now c.args.tx.now.conn.now c.upsert.new.tx.conn.now c.upsert.result
+    (later_lost g.S.Store (Readies allot_text ∷ allot_calls allot_text c.args.rows.now) (Runs cuts_text (cuts_values (c.args.made + 1)) ∷ []) c.args.tx.now.conn.now c.insert_all.new.tx.conn.now c.upsert.new.tx.conn.now c.upsert.result
+    c.upsert.ensures.inside c.in_ok-insert_all.ensures.ran (rw c.in_ok-cuts.ensures.ok.0 at c.upsert.ensures.lost))

@@ -1,4 +1,4 @@
-use Rattle.std.proofs.Common.{rules, arith}
+use Rattle.keeper_sqlite.proofs.MeaningLemmas.{cut_rises}
 use Rattle.sqlite.specs.Held.{state}
 use Rattle.keeper_mem.specs.Tables.{with_cut}
 use Rattle.stored_tables.specs.Told.{told}
@@ -27,3 +27,6 @@ pub returns-clause-alone : goal.returns-clause-alone
 returns-clause-alone g c =
     let new = c.commit.new.self.connection in
     alone_kept g.S.Store (MakesCut g.S.Store c.args.rows.now) c.args.self.now.connection new c.commit.result (g.met.S.Store.settled new.store) c.commit.ensures.kept
+
+pub returns-clause-rises : goal.returns-clause-rises
+returns-clause-rises g c = cut_rises g.S.Store c.args.rows.now c.args.self.now.connection c.commit.new.self.connection c.commit.result (cut_stays g.S.Store c.args.rows.now c.args.self.now.connection c.commit.new.self.connection c.commit.result c.commit.ensures.kept)

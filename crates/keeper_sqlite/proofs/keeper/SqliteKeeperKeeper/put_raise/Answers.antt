@@ -1,4 +1,4 @@
-use Rattle.std.proofs.Common.{rules, arith}
+use Rattle.std.proofs.Common.{rules}
 use Rattle.sqlite.specs.Held.{state}
 use Rattle.keeper_mem.specs.Tables.{with_raise}
 use Rattle.stored_tables.specs.Told.{told}

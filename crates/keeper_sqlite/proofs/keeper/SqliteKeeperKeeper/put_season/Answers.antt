@@ -1,9 +1,8 @@
-use Rattle.std.proofs.Common.{rules, arith}
 use Rattle.sqlite.specs.Held.{state}
 use Rattle.keeper_mem.specs.Tables.{with_season}
 use Rattle.stored_tables.specs.Told.{told}
 use Rattle.keeper_sqlite.specs.Kept.{PutsText, season_calls}
-use Rattle.keeper_sqlite.proofs.KeeperLemmas.{ok_told, err_told, season_stays, season_crash, alone_kept}
+use Rattle.keeper_sqlite.proofs.KeeperLemmas.{ok_told, err_told, season_stays, season_crash, alone_kept, season_empty}
 use Rattle.keeper_sqlite.proofs.keeper.SqliteKeeperKeeper.put_season.Goals as goal
 
 pub returns-clause-stays : goal.returns-clause-stays
@@ -27,3 +26,6 @@ pub returns-clause-alone : goal.returns-clause-alone
 returns-clause-alone g c =
     let new = c.commit.new.self.connection in
     alone_kept g.S.Store (PutsText g.S.Store season_calls c.args.text.now) c.args.self.now.connection new c.commit.result (g.met.S.Store.settled new.store) c.commit.ensures.kept
+
+pub returns-clause-empty : goal.returns-clause-empty
+returns-clause-empty g c = λ strict. season_empty g.S.Store strict c.args.text.now c.args.self.now.connection c.commit.new.self.connection c.commit.result c.commit.ensures.kept
