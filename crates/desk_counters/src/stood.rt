@@ -1,0 +1,104 @@
+// An office as it is given to a desk.
+ghost use Rattle.std.specs.Prelude.{◌≡◌, ◌<◌};
+ghost use Rattle.keeper_mem.specs.Tables.{IsTold};
+ghost use Rattle.office_asks.specs.Asking.{AsksOffice, token_of};
+ghost use Rattle.proceedings.specs.Proceeding.{last_of};
+
+use http_sessions::Answered;
+use keeper_mem::Keeper;
+use office_asks::put_to_office;
+use office_base::{Ask, Booked};
+use office_moves::Entry;
+use round_cut::{Office, OfficeFault};
+use std::alloc::Global;
+use std::marker::{Brand, Model, PhantomData};
+
+/// What the keeper of an office told when the office was given to a desk. Each desk picks it.
+pub trait Beginning {
+    ghost use Rattle.keeper_mem.specs.Tables.{Tables};
+
+    ghost tables: { Tables };
+}
+
+impl Beginning for Brand {
+    ghost use Rattle.keeper_mem.specs.Tables.{Untold};
+
+    ghost tables = { Untold };
+}
+
+/// An office whose keeper tells its tables only where they were told at the beginning.
+pub struct Stood<K: Keeper, B: Beginning> {
+    pub(crate) office: Office<K>,
+    of: PhantomData<B>,
+}
+
+impl<K: Keeper, B: Beginning> Model for Stood<K, B> {
+    ghost use Rattle.keeper_mem.specs.Tables.{IsTold};
+    ghost use Rattle.round_cut.specs.Office.{Opened};
+
+    ghost Value = { Opened K };
+
+    ghost view = { λ a. a.office };
+
+    ghost invariant = { λ a. IsTold (K.tables a.office.keeper) → IsTold B.tables };
+}
+
+/// It is the same book as the office.
+impl<K: Keeper, B: Beginning> Booked for Stood<K, B> {
+    type Item = Entry;
+
+    ghost use Rattle.std.specs.Prelude.{Bool};
+    ghost use Rattle.office_moves.specs.Facts.{SeasonFacts};
+
+    ghost Basis = { SeasonFacts × Bool };
+
+    ghost basis = { λ office. (office.season, K.holds_room office.keeper) };
+
+    ghost entries = { λ office. office.entries };
+
+    ghost number = { λ entry. entry.number };
+
+    ghost count = { λ office. K.faults office.keeper };
+
+    fn last_number(&self) -> u64 {
+        let _entries = self.office.entries();
+        self.office.last_number()
+    }
+}
+
+impl<K: Keeper, B: Beginning> Stood<K, B> {
+    /// The office as it stands, at the beginning.
+    pub fn new(office: Office<K>) -> Stood<K, B>
+        requires { K.tables office.keeper ≡ B.tables }
+        ensures { result ≡ office }
+    {
+        Stood {
+            office,
+            of: PhantomData,
+        }
+    }
+
+    /// Puts an ask with its token to the office, as `put_to_office` does.
+    pub fn put(
+        &mut self,
+        alloc: Global,
+        number: u64,
+        has_token: bool,
+        token: &[u8],
+        ask: &Ask,
+    ) -> Result<Answered, OfficeFault>
+        requires { last_of self.old.entries < number }
+        ensures { AsksOffice K.tables K.holds_room K.faults number (token_of has_token token.now) ask.now result self.old self.new }
+    {
+        put_to_office(alloc, &mut self.office, number, has_token, token, ask)
+    }
+
+    /// The office. Its keeper tells its tables only where they were told at the beginning.
+    pub fn into_office(self) -> Office<K>
+        ensures same { result ≡ self }
+        ensures told { IsTold (K.tables result.keeper) → IsTold B.tables }
+    {
+        let Stood { office, of: _ } = self;
+        office
+    }
+}

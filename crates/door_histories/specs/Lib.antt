@@ -1,0 +1,5 @@
+pub mod Counts
+pub mod Desk
+pub mod Ending
+pub mod Served
+pub mod Workers

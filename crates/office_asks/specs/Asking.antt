@@ -1,0 +1,102 @@
+-- An ask that is put to an office with its token, and what comes of it.
+use Rattle.std.specs.Prelude.{◌≡◌, ◌≤◌, ◌++◌, ℕ, Bool, true, false, List, Option, Some, None, Result, Ok, Err, IfOk}
+use Rattle.office_base.specs.Outside.{Rose}
+use Rattle.office_base.specs.declared.asks.Ask.{Ask}
+use Rattle.office_base.specs.declared.asks.By.{By}
+use Rattle.office_base.specs.declared.asks.By.TheVariants.{Nobody}
+use Rattle.office_base.specs.declared.asks.Request.{Request}
+use Rattle.keeper_mem.specs.Tables.{AreTold, IsTold, Tables}
+use Rattle.office_moves.specs.Facts.{SeasonFacts}
+use Rattle.office_moves.specs.State.{State}
+use Rattle.office_moves.specs.Decided.{decided}
+use Rattle.office_moves.specs.History.{IsHistory, grown, newly}
+use Rattle.office_moves.specs.Moves.{IsMove}
+use Rattle.office_moves.specs.Stands.{Stand}
+use Rattle.office_moves.specs.declared.moves.Entry.{Entry}
+use Rattle.proceedings.specs.Told.{takes_nothing}
+use Rattle.reply_bodies.specs.Bodies.{reply_body}
+use Rattle.round_cut.specs.Office.{Opened, who_by, withdraws}
+use Rattle.round_cut.specs.declared.fault.OfficeFault.{OfficeFault}
+use Rattle.round_cut.specs.declared.fault.OfficeFault.TheVariants.{KeeperFault, OutOfMemory}
+use Rattle.http_sessions.specs.declared.counter.Answered.{Answered}
+
+-- ---- who asks what
+
+-- the token that its two parts are: whether there is one, and its bytes
+abbrev pub token_of : Bool → List ℕ → Option (List ℕ)
+token_of true bytes = Some bytes
+token_of false bytes = None
+
+-- whom a token stands for; without one it is nobody
+abbrev pub by_token : SeasonFacts → Option (List ℕ) → By
+by_token facts None = Nobody
+by_token facts (Some bytes) = who_by facts bytes
+
+-- the request that an ask with its token is
+abbrev pub request_of : SeasonFacts → Option (List ℕ) → Ask → Request
+request_of facts token ask = record { by = by_token facts token; ask = ask }
+
+-- ---- one ask after a history
+
+-- The body, where there is one, is that of the reply.
+abbrev pub HasItsBody : SeasonFacts → Answered → Type 0
+HasItsBody facts answered = IfOk answered.body (λ text. text ≡ reply_body facts.matrix answered.reply)
+
+-- A request after a history is answered: it is the move of the state to which the history leads, and these entries, one or none, are what it newly accepted.
+pub record IsAnsweredAt (facts : SeasonFacts) (place : List Entry) (request : Request) (answered : Answered) (added : List Entry) : Type 0 where
+  pub old : State
+  pub new : State
+  pub history : IsHistory facts place old
+  pub moves : IsMove facts old request answered.reply new
+  pub number : ℕ
+  pub grows : place ++ added ≡ grown place number (newly old.now (decided facts old request))
+  pub body : HasItsBody facts answered
+
+-- A request after a history is not answered. It is none of those that take nothing, and, over a keeper that holds room in advance, no withdrawal that finds no
+-- memory.
+pub record IsUnanswered (facts : SeasonFacts) (room : Bool) (place : List Entry) (request : Request) (fault : OfficeFault) : Type 0 where
+  pub old : State
+  pub history : IsHistory facts place old
+  pub some : takes_nothing (decided facts old request) ≡ true → ⊥
+  pub spared : room ≡ true → withdraws (decided facts old request) ≡ true → fault ≡ OutOfMemory → ⊥
+
+-- the same two of an ask with its token, in a season
+abbrev pub AnswersAt : SeasonFacts → List Entry → Option (List ℕ) → Ask → Answered → List Entry → Type 0
+AnswersAt facts place token ask answered added = IsAnsweredAt facts place (request_of facts token ask) answered added
+
+abbrev pub UnanswersAt : SeasonFacts → Bool → List Entry → Option (List ℕ) → Ask → OfficeFault → Type 0
+UnanswersAt facts room place token ask fault = IsUnanswered facts room place (request_of facts token ask) fault
+
+-- ---- one ask of an office
+
+module _ {K : Type 0} (tables : K → Tables) (holds_room : K → Bool) (faults : K → ℕ) where
+  -- The office answered a request under this number: the move begins where the last one ended, what is newly accepted is kept and is the last entry, and
+  -- the keeper did not fail.
+  pub record HasAnswered (number : ℕ) (request : Request) (answered : Answered) (old new : Opened K) : Type 0 where
+    pub history : IsHistory old.season old.entries old.state
+    pub moves : IsMove old.season old.state request answered.reply new.state
+    pub entries : new.entries ≡ grown old.entries number (newly old.state.now (decided old.season old.state request))
+    pub season : new.season ≡ old.season
+    pub stands : Stand new.season new.state (tables new.keeper)
+    pub told_before : IsTold (tables new.keeper) → IsTold (tables old.keeper)
+    pub body : HasItsBody old.season answered
+    pub room : holds_room new.keeper ≡ holds_room old.keeper
+    pub steady : faults new.keeper ≡ faults old.keeper
+
+  -- The office did not answer a request: it and what its keeper tells are as before. The keeper failed exactly where that is the fault.
+  pub record HasNotAnswered (request : Request) (fault : OfficeFault) (old new : Opened K) : Type 0 where
+    pub unanswered : IsUnanswered old.season (holds_room old.keeper) old.entries request fault
+    pub entries : new.entries ≡ old.entries
+    pub state : new.state ≡ old.state
+    pub season : new.season ≡ old.season
+    pub told : AreTold (tables old.keeper) (tables new.keeper)
+    pub told_before : IsTold (tables new.keeper) → IsTold (tables old.keeper)
+    pub room : holds_room new.keeper ≡ holds_room old.keeper
+    pub count : faults old.keeper ≤ faults new.keeper
+    pub cause : fault ≡ KeeperFault → Rose (faults old.keeper) (faults new.keeper)
+    pub steady : fault ≡ OutOfMemory → faults new.keeper ≡ faults old.keeper
+
+  -- an ask with its token, put to an office under a number: its answer, and the office before and after it
+  abbrev pub AsksOffice : ℕ → Option (List ℕ) → Ask → Result Answered OfficeFault → Opened K → Opened K → Type 0
+  AsksOffice number token ask (Ok answered) old new = HasAnswered number (request_of old.season token ask) answered old new
+  AsksOffice number token ask (Err fault) old new = HasNotAnswered (request_of old.season token ask) fault old new

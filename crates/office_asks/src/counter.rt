@@ -1,0 +1,48 @@
+// An office as a counter.
+ghost use Rattle.std.specs.Prelude.{◌≡◌};
+
+use crate::putting::{put_to_office, token_parts};
+use http_sessions::{Answered, Counter};
+use keeper_mem::Keeper;
+use office_base::Ask;
+use round_cut::{Office, OfficeFault};
+use std::alloc::Global;
+
+/// An office to which asks are put one after another, each under the number after the last one. So many asks are left as the last number is below 2^42.
+#[derive(Drop)]
+pub struct OfficeCounter<'a, K: Keeper> {
+    pub office: &'a mut Office<K>,
+}
+
+impl<'a, K: Keeper> OfficeCounter<'a, K> {
+    /// A counter over this office. It takes no memory.
+    pub fn new(office: &'a mut Office<K>) -> OfficeCounter<'a, K>
+        ensures same_office { result.office.ghost_name ≡ office.entry.ghost_name }
+        ensures office { result.office.now ≡ office.old }
+    {
+        OfficeCounter { office }
+    }
+}
+
+impl<K: Keeper> Counter for OfficeCounter<'_, K> {
+    ghost use Rattle.std.specs.Prelude.{◌+◌, ◌-◌, ◌^◌};
+    ghost use Rattle.office_asks.specs.Asking.{AsksOffice};
+    ghost use Rattle.proceedings.specs.Proceeding.{last_of};
+
+    ghost asks_left = { λ c. 2 ^ 42 - last_of c.office.now.entries };
+
+    ghost lender = { λ c. c.office.ghost_name };
+
+    ghost answers = { λ c token ask answer c'. AsksOffice K.tables K.holds_room K.faults (last_of c.office.now.entries + 1) token ask answer c.office.now c'.office.now };
+
+    fn ask(
+        &mut self,
+        alloc: Global,
+        token: Option<&[u8]>,
+        ask: &Ask,
+    ) -> Result<Answered, OfficeFault> {
+        let (has_token, bytes) = token_parts(token);
+        let number = self.office.last_number() + 1;
+        put_to_office(alloc, self.office, number, has_token, bytes, ask)
+    }
+}
