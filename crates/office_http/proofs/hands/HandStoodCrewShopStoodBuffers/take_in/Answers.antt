@@ -1,0 +1,15 @@
+use Rattle.std.proofs.Common.{◌≡◌, rules}
+use Rattle.office_http.proofs.Handing.{first_no_more, other_no_more}
+use Rattle.office_http.proofs.hands.HandStoodCrewShopStoodBuffers.take_in.Goals as goal
+
+pub returns-clause-joined : goal.returns-clause-joined
+returns-clause-joined g c =
+    let u = c.join.ensures.union in
+    record {
+      shares = u.shares;
+      seen = u.seen;
+      own = u.own;
+      more = first_no_more _ _ _ _ _ u.count;
+      most = other_no_more _ _ _ _ _ u.count;
+      failed = search rules;
+    }

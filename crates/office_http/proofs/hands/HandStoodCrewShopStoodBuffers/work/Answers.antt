@@ -1,0 +1,28 @@
+use Rattle.std.proofs.Common.{◌≡◌, ◌≤◌, arith, refl, subst}
+use Rattle.office_asks.specs.Asking.{AnswersAt, UnanswersAt}
+use Rattle.desk_counters.specs.Knowing.{known_of}
+use Rattle.office_desk.specs.Words.{belongs, origin_of, shares_of}
+use Rattle.door_histories.proofs.Linked.{visited_is_served}
+use Rattle.office_http.proofs.Handing.{asked_there, ended_so}
+use Rattle.office_http.proofs.hands.HandStoodCrewShopStoodBuffers.work.Goals as goal
+
+pub returns : goal.returns
+returns g c =
+    let v = c.serve_door-self.ensures in
+    let D = g.D.Door in
+    let L = g.D.Conn.Link in
+    let holds = g.K.Keeper.holds_room in
+    let shop = c.args.shop.now.desk.now in
+    let facts = (origin_of shop).season in
+    let room = holds (origin_of shop).keeper in
+    let after = c.serve_door-self.new.counter in
+    let some = c.requires.ready in
+    let w = visited_is_served (AnswersAt facts) (UnanswersAt facts room) _ (λ k. known_of k.pass.now) (λ k. k.desk.now ≡ shop)
+    (λ k k' token ask r keeps a. asked_there holds shop k.desk.now k'.desk.now (known_of k.pass.now) (known_of k'.pass.now) token ask r keeps a)
+    (record { to_come = D.to_come; out = D.out; told = D.told; faults = D.faults; left = L.left; written = L.written; failures = L.faults })
+    c.args.door.now c.serve_door-self.new.door _ after refl v.visited v.out (ended_so c.serve_door-self.result _ _ _ v.done v.failed) in
+    let shares = w.shares in
+    record {
+      able = (subst (λ desk. belongs desk after.pass.now) w.keeps after.same_desk, omega (arith, shares, some), omega arith);
+      worked = record { entries = w.entries; failures = w.failures; served = w.served; own = w.own; rose = w.rose; begins = w.begins; shares = w.shares; fails = v.failed; ends = v.done };
+    }

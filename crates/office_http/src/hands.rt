@@ -1,0 +1,84 @@
+// The workers behind the doors.
+ghost use Rattle.std.specs.Prelude.{◌≡◌, ◌≤◌, ◌+◌, ◌*◌, ◌<◌, ◌^◌, ℕ, length};
+ghost use Rattle.desk_counters.specs.Knowing.{known_of};
+ghost use Rattle.door_histories.specs.Workers.{IsHired, IsTakenIn, HasWorked};
+ghost use Rattle.office_asks.specs.Asking.{AnswersAt, UnanswersAt};
+ghost use Rattle.office_desk.specs.Words.{belongs, left_of, origin_of, shares_of};
+ghost use Rattle.office_http.specs.Hands.{worker_of};
+
+use desk_counters::{Beginning, DeskCounter, Stood};
+use door_crews::Crew;
+use http_sessions::{Buffers, Gate, serve_door};
+use keeper_mem::Keeper;
+use office_desk::{Booked, Desk, Pass};
+use office_links::Door;
+use std::alloc::Global;
+use std::sync::Wait;
+
+/// The turns of a worker: a hundred for each of a hundred thousand connections.
+const TURNS: u64 = 10_000_000;
+
+/// What all workers share.
+#[derive(Drop)]
+pub struct Shop<'a, V: Booked, G> {
+    pub alloc: Global,
+    pub desk: &'a Desk<V>,
+    pub gate: &'a G,
+}
+
+/// A worker: a pass to the desk, and whether a door failed that was served by it or by a worker that it took in.
+#[derive(Drop)]
+pub struct Hand<V: Booked> {
+    pub pass: Pass<V>,
+    pub failed: bool,
+}
+
+impl<K: Keeper, B: Beginning, G: Gate, D: Door> Crew<Shop<'_, Stood<K, B>, G>, D, Buffers>
+    for Hand<Stood<K, B>> {
+    ghost suits = { λ door. D.to_come door ≤ 100000 };
+
+    ghost able = { λ shop n hand. belongs shop.desk.now hand.pass × (n + 1 ≤ shares_of hand.pass) × (n * 10000000 ≤ left_of hand.pass) };
+
+    ghost ready = { λ shop hand. belongs shop.desk.now hand.pass × (1 ≤ shares_of hand.pass) × (10000000 ≤ left_of hand.pass) };
+
+    ghost hired = { λ shop p q w. IsHired (worker_of p) (worker_of q) (worker_of w) };
+
+    ghost worked = { λ shop number door door' w w'. HasWorked (AnswersAt (origin_of shop.desk.now).season)
+        (UnanswersAt (origin_of shop.desk.now).season (K.holds_room (origin_of shop.desk.now).keeper))
+        (record { to_come = D.to_come; out = D.out; told = D.told; faults = D.faults; left = D.Conn.left; written = D.Conn.written; failures = D.Conn.faults })
+        number door door' (worker_of w) (worker_of w') };
+
+    ghost joined = { λ shop m w p. IsTakenIn (worker_of m) (worker_of w) (worker_of p) };
+
+    fn hire(&mut self, shop: &Shop<'_, Stood<K, B>, G>) -> Self {
+        let Ok(pass) = self.pass.split(shop.desk, TURNS) else {
+            unreachable!()
+        };
+        Hand {
+            pass,
+            failed: false,
+        }
+    }
+
+    fn work<R: Wait>(
+        &mut self,
+        rt: &R,
+        shop: &Shop<'_, Stood<K, B>, G>,
+        number: u32,
+        door: &mut D,
+        buffers: &mut Buffers,
+    ) {
+        let mut counter = DeskCounter {
+            rt,
+            desk: shop.desk,
+            pass: &mut self.pass,
+        };
+        self.failed = serve_door(shop.alloc, &mut counter, door, buffers, shop.gate, number);
+    }
+
+    fn take_in(&mut self, shop: &Shop<'_, Stood<K, B>, G>, other: Self) {
+        let Hand { pass, failed } = other;
+        self.pass.join(shop.desk, pass);
+        self.failed = self.failed || failed;
+    }
+}

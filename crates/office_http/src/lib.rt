@@ -1,0 +1,17 @@
+// The office over HTTP: its doors served at once, with one history.
+//
+// The command that serves stands on it, and whoever holds sessions over an office. Each door has a worker on a thread of its own, and all workers take
+// turns at one desk, so that what they were answered is one history. It hands on the sessions, the counters and the gate. It must never know how a
+// season came, what a real connection is, nor how a server ends.
+#![tactic(auto)]
+
+mod hands;
+mod serving;
+
+pub use desk_counters::DeskCounter;
+pub use http_sessions::{
+    Answered, Buffers, Counter, Gate, OpenGate, SessionEnd, serve_door, session,
+};
+pub use office_asks::OfficeCounter;
+pub use office_links::{Door, Link};
+pub use serving::{Served, serve};

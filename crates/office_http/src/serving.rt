@@ -1,0 +1,212 @@
+// The doors of an office, served at once.
+ghost use Rattle.std.specs.Prelude.{◌≡◌, ◌≤◌, ◌<◌, ◌^◌, ◌++◌, [], true, false, length, IfOk, IfErr, OnErr};
+ghost use Rattle.std.specs.List.{AllByRecursion};
+ghost use Rattle.door_histories.specs.Ending.{SomeRose, AllEnded};
+ghost use Rattle.door_histories.specs.Workers.{IsRow};
+ghost use Rattle.keeper_mem.specs.Tables.{IsTold};
+ghost use Rattle.office_asks.specs.Asking.{AnswersAt, UnanswersAt};
+ghost use Rattle.office_desk.specs.Words.{belongs, count_of, left_of, origin_of, own_of, seen_of, shares_of, tickets_of};
+ghost use Rattle.office_http.specs.Hands.{worker_of};
+ghost use Rattle.office_http.specs.Serving.{DoorsServed};
+ghost use Rattle.proceedings.specs.Proceeding.{last_of};
+
+use crate::hands::{Hand, Shop};
+use desk_counters::{Beginning, Stood};
+use door_crews::work_all;
+use http_sessions::{Buffers, Gate};
+use keeper_mem::Keeper;
+use office_base::OutOfMemory;
+use office_desk::{Booked, Desk, Pass};
+use office_links::Door;
+use round_cut::Office;
+use std::alloc::Global;
+use std::marker::Brand;
+use std::sync::Wait;
+use std::thread::Threads;
+
+/// An office that was served, and whether a door of it failed.
+pub struct Served<K: Keeper> {
+    pub office: Office<K>,
+    pub door_failed: bool,
+}
+
+/// Serves an office to all doors at once: each has one worker, who takes its connections one after another, holds a session on each and gives it back,
+/// until the door has none or fails. Workers are numbered from 0 in the order of the doors. It returns when all have ended; where no thread can be made,
+/// they work one after another. There are at most 64 doors, each with at most 100,000 connections still to come, and the last number of the office is below
+/// 2^40. `OutOfMemory` comes only before the first connection is taken, with the office as it was.
+pub fn serve<
+    R: Threads + Wait + Sync,
+    K: Keeper + Send,
+    D: Door<Conn: Send> + Send,
+    G: Gate + Sync,
+>(
+    rt: &R,
+    alloc: Global,
+    office: Office<K>,
+    doors: &mut [D],
+    gate: &G,
+) -> Result<Served<K>, (Office<K>, OutOfMemory)>
+    requires few { length doors.old ≤ 64 }
+    requires suit { AllByRecursion (λ door. D.to_come door ≤ 100000) doors.old }
+    requires last { last_of office.entries < 2 ^ 40 }
+    ensures season { IfOk result (λ served. served.office.season ≡ office.season) }
+    ensures room { IfOk result (λ served. K.holds_room served.office.keeper ≡ K.holds_room office.keeper) }
+    ensures served { IfOk result (λ served. DoorsServed office.season (K.holds_room office.keeper)
+        (record { to_come = D.to_come; out = D.out; told = D.told; faults = D.faults; left = D.Conn.left; written = D.Conn.written; failures = D.Conn.faults })
+        office.entries (K.faults office.keeper) doors.old doors.new served.office.entries (K.faults served.office.keeper)) }
+    ensures failed { IfOk result (λ served. served.door_failed ≡ true → SomeRose D.faults doors.old doors.new) }
+    ensures done { IfOk result (λ served. served.door_failed ≡ false → AllEnded D.faults D.to_come doors.old doors.new) }
+    ensures told_before { IfOk result (λ served. IsTold (K.tables served.office.keeper) → IsTold (K.tables office.keeper)) }
+    ensures err { IfErr result (λ refused. refused.0 ≡ office) }
+    ensures spared { OnErr result (doors.new ≡ doors.old) }
+{
+    serve_stood::<Brand, R, K, D, G>(rt, alloc, office, doors, gate)
+}
+
+/// The same with what the keeper tells at the beginning named, so that the office at the desk can remember it.
+fn serve_stood<
+    B: Beginning + Send + Sync,
+    R: Threads + Wait + Sync,
+    K: Keeper + Send,
+    D: Door<Conn: Send> + Send,
+    G: Gate + Sync,
+>(
+    rt: &R,
+    alloc: Global,
+    office: Office<K>,
+    doors: &mut [D],
+    gate: &G,
+) -> Result<Served<K>, (Office<K>, OutOfMemory)>
+    requires tells { K.tables office.keeper ≡ B.tables }
+    requires few { length doors.old ≤ 64 }
+    requires suit { AllByRecursion (λ door. D.to_come door ≤ 100000) doors.old }
+    requires last { last_of office.entries < 2 ^ 40 }
+    ensures season { IfOk result (λ served. served.office.season ≡ office.season) }
+    ensures room { IfOk result (λ served. K.holds_room served.office.keeper ≡ K.holds_room office.keeper) }
+    ensures served { IfOk result (λ served. DoorsServed office.season (K.holds_room office.keeper)
+        (record { to_come = D.to_come; out = D.out; told = D.told; faults = D.faults; left = D.Conn.left; written = D.Conn.written; failures = D.Conn.faults })
+        office.entries (K.faults office.keeper) doors.old doors.new served.office.entries (K.faults served.office.keeper)) }
+    ensures failed { IfOk result (λ served. served.door_failed ≡ true → SomeRose D.faults doors.old doors.new) }
+    ensures done { IfOk result (λ served. served.door_failed ≡ false → AllEnded D.faults D.to_come doors.old doors.new) }
+    ensures told_before { IfOk result (λ served. IsTold (K.tables served.office.keeper) → IsTold (K.tables office.keeper)) }
+    ensures err { IfErr result (λ refused. refused.0 ≡ office) }
+    ensures spared { OnErr result (doors.new ≡ doors.old) }
+{
+    let Ok(mut buffers) = make_buffers(alloc, doors.len()) else {
+        return Err((office, OutOfMemory));
+    };
+    match Desk::begin(alloc, Stood::<K, B>::new(office)) {
+        Ok((desk, pass)) => Ok(serve_desk(rt, alloc, desk, pass, doors, gate, &mut buffers)),
+        Err((stood, want)) => Err((stood.into_office(), want)),
+    }
+}
+
+/// Serves the doors with turns at a desk that has just begun, and ends it.
+fn serve_desk<
+    B: Beginning + Send + Sync,
+    R: Threads + Wait + Sync,
+    K: Keeper + Send,
+    D: Door<Conn: Send> + Send,
+    G: Gate + Sync,
+>(
+    rt: &R,
+    alloc: Global,
+    desk: Desk<Stood<K, B>>,
+    pass: Pass<Stood<K, B>>,
+    doors: &mut [D],
+    gate: &G,
+    buffers: &mut [Buffers],
+) -> Served<K>
+    requires few { length doors.old ≤ 64 }
+    requires as_many { length buffers.old ≡ length doors.old }
+    requires suit { AllByRecursion (λ door. D.to_come door ≤ 100000) doors.old }
+    requires whole { belongs desk pass × (shares_of pass ≡ 2 ^ 30) × (left_of pass ≡ 2 ^ 40) }
+    requires first { (tickets_of pass ≡ []) × (seen_of pass ≡ (origin_of desk).entries) × (count_of pass ≡ K.faults (origin_of desk).keeper) }
+    ensures season { result.office.season ≡ (origin_of desk).season }
+    ensures room { K.holds_room result.office.keeper ≡ K.holds_room (origin_of desk).keeper }
+    ensures served { DoorsServed (origin_of desk).season (K.holds_room (origin_of desk).keeper)
+        (record { to_come = D.to_come; out = D.out; told = D.told; faults = D.faults; left = D.Conn.left; written = D.Conn.written; failures = D.Conn.faults })
+        (origin_of desk).entries (K.faults (origin_of desk).keeper) doors.old doors.new result.office.entries (K.faults result.office.keeper) }
+    ensures failed { result.door_failed ≡ true → SomeRose D.faults doors.old doors.new }
+    ensures done { result.door_failed ≡ false → AllEnded D.faults D.to_come doors.old doors.new }
+    ensures told { IsTold (K.tables result.office.keeper) → IsTold B.tables }
+{
+    let mut hand = first_hand(pass);
+    serve_all(rt, alloc, &desk, gate, &mut hand, doors, buffers);
+    let Hand { pass, failed } = hand;
+    Served {
+        office: end_desk(desk, pass),
+        door_failed: failed,
+    }
+}
+
+/// The first worker, with the pass of a desk that has just begun.
+fn first_hand<V: Booked>(pass: Pass<V>) -> Hand<V>
+    requires { tickets_of pass ≡ [] }
+    ensures pass { result.pass ≡ pass }
+    ensures own { own_of result.pass ≡ [] }
+    ensures failed { result.failed ≡ false }
+{
+    Hand {
+        pass,
+        failed: false,
+    }
+}
+
+/// Ends the desk, and gives the office back.
+fn end_desk<K: Keeper, B: Beginning>(desk: Desk<Stood<K, B>>, pass: Pass<Stood<K, B>>) -> Office<K>
+    requires desk { belongs desk pass }
+    requires whole { shares_of pass ≡ 2 ^ 30 }
+    ensures season { result.season ≡ (origin_of desk).season }
+    ensures room { K.holds_room result.keeper ≡ K.holds_room (origin_of desk).keeper }
+    ensures seen { result.entries ≡ seen_of pass }
+    ensures own { result.entries ≡ (origin_of desk).entries ++ own_of pass }
+    ensures count { count_of pass ≤ K.faults result.keeper }
+    ensures told { IsTold (K.tables result.keeper) → IsTold B.tables }
+{
+    desk.close(pass).into_office()
+}
+
+/// Buffers for so many workers.
+fn make_buffers(alloc: Global, count: usize) -> Result<Vec<Buffers>, OutOfMemory>
+    ensures { IfOk result (λ buffers. length buffers.items ≡ count) }
+{
+    let mut buffers = Vec::with_capacity(alloc, count)?;
+    for _ in 0..count {
+        buffers.push(Buffers::new(alloc)?)?;
+    }
+    Ok(buffers)
+}
+
+/// Has all doors served by a crew, who begins as one worker with the whole pass and with no entries of its own.
+fn serve_all<
+    R: Threads + Wait + Sync,
+    K: Keeper + Send,
+    B: Beginning + Send + Sync,
+    D: Door<Conn: Send> + Send,
+    G: Gate + Sync,
+>(
+    rt: &R,
+    alloc: Global,
+    desk: &Desk<Stood<K, B>>,
+    gate: &G,
+    hand: &mut Hand<Stood<K, B>>,
+    doors: &mut [D],
+    buffers: &mut [Buffers],
+)
+    requires few { length doors.old ≤ 64 }
+    requires as_many { length buffers.old ≡ length doors.old }
+    requires suit { AllByRecursion (λ door. D.to_come door ≤ 100000) doors.old }
+    requires whole { belongs desk.now hand.old.pass × (shares_of hand.old.pass ≡ 2 ^ 30) × (left_of hand.old.pass ≡ 2 ^ 40) }
+    requires fresh { (own_of hand.old.pass ≡ []) × (hand.old.failed ≡ false) }
+    ensures same_desk { belongs desk.now hand.new.pass }
+    ensures row { IsRow (AnswersAt (origin_of desk.now).season) (UnanswersAt (origin_of desk.now).season (K.holds_room (origin_of desk.now).keeper))
+        (record { to_come = D.to_come; out = D.out; told = D.told; faults = D.faults; left = D.Conn.left; written = D.Conn.written; failures = D.Conn.faults })
+        (worker_of hand.old) doors.old doors.new (worker_of hand.new) }
+    ensures shares { shares_of hand.new.pass ≡ shares_of hand.old.pass }
+    ensures failed { hand.new.failed ≡ true → SomeRose D.faults doors.old doors.new }
+    ensures done { hand.new.failed ≡ false → AllEnded D.faults D.to_come doors.old doors.new }
+{
+    let shop = Shop { alloc, desk, gate };
+    work_all(rt, &shop, 0, hand, doors, buffers);
+}

@@ -1,0 +1,5 @@
+mod OneSeason
+mod SeasonFaults
+mod ServeEnds
+mod ServedEnds
+mod Unresumed

@@ -1,0 +1,121 @@
+-- How the command `serve` ends.
+use Rattle.std.proofs.Common.{◌≡◌, inl, inr, ℕ, true, false, true≢false, List, [], Option, Some, None, Err, refl, sym, subst}
+use Rattle.office_base.specs.Outside.{Appends}
+use Rattle.season_file.specs.Season.{content_of}
+use Rattle.season_file.specs.declared.season.Season.{Season}
+use Rattle.keeper_mem.specs.Tables.{Tables, Untold, NoSeason, Records, AreTold, IsFound, IsTold as IsTablesTold, still}
+use Rattle.office_moves.specs.Facts.{SeasonFacts}
+use Rattle.office_moves.specs.History.{IsHistory}
+use Rattle.office_moves.specs.Season.{facts_of}
+use Rattle.office_moves.specs.State.{State}
+use Rattle.office_moves.specs.declared.moves.Entry.{Entry}
+use Rattle.round_cut.specs.Resume.{HoldsTheKept, IsResumed, IsUnresumed}
+use Rattle.round_cut.specs.declared.fault.BeginFault.{BeginFault}
+use Rattle.round_cut.specs.declared.fault.BeginFault.TheVariants.{NotEmpty, KeeperFault as NoKeeper, OutOfMemory as NoMemory}
+use Rattle.round_cut.specs.declared.resume.Unresumed.{Unresumed}
+use Rattle.season_commands.specs.Resume.{IsUnresumedText}
+use Rattle.season_commands.specs.Run.{IsUnbegunText, TellsSeason, begin_status, begin_text}
+use Rattle.command_answers.specs.Answers.{HaveOneAnswer, IsFailureOf, Tells}
+use Rattle.command_answers.specs.Writes.{IsTold, Writes, status_of, text_of}
+use Rattle.command_answers.specs.declared.failure.Failure.{Failure}
+use Rattle.command_answers.specs.declared.failure.Failure.TheVariants.{Read, Bad, NoMemory as NoMemoryToRead}
+use Rattle.command_answers.specs.declared.status.Status.{Status}
+use Rattle.command_answers.proofs.Ended.{told_is_written}
+use Rattle.serve_command.proofs.Unresumed.{still_from, still_later, still_resumed}
+use Rattle.serve_command.specs.Doors.{Doors}
+use Rattle.serve_command.specs.Serve.{EndsBegun, EndsServe, EndsServeKept, EndsServed, IsFaultySeason, IsLeftSeason, IsSeasonBundle, IsUnreadText, season_answers}
+
+-- ---- an office begins
+
+-- the text of why no office began goes with its status
+text_of_begin : (tables : Tables) (fault : BeginFault) → (fault ≡ NotEmpty → IsFound true tables) → IsUnbegunText tables (begin_status fault) (begin_text fault)
+text_of_begin tables NotEmpty held = (held refl, refl)
+text_of_begin tables NoKeeper held = refl
+text_of_begin tables NoMemory held = refl
+
+-- No office began.
+pub unbegun_ends : (season : Season) (before after : Tables) (doors : Doors) (fault : BeginFault) (written now : Option (List ℕ)) (broke : Type 0) (result : Status)
+    → (fault ≡ NotEmpty → IsFound true after) → AreTold before after → doors.spared → IsTold (begin_status fault) (begin_text fault) written now broke result
+    → (output : List ℕ) × Appends output written now × EndsBegun season before after doors result output
+unbegun_ends season before after doors fault written now broke result held told spared is =
+    let (output, appends, writes) = told_is_written (IsUnbegunText (still before after)) (begin_status fault) result (begin_text fault) written now broke
+    (text_of_begin (still before after) fault (λ same. still_from (λ t. IsFound true t) before after told (held same))) is in
+    (output, appends, inl (writes, told, spared))
+
+-- An office began, and was served.
+pub begun_ends : (season : Season) (facts : SeasonFacts) (held : List Entry) (before mid after : Tables) (doors : Doors) (written now : Option (List ℕ)) (status : Status)
+    → facts ≡ facts_of season → held ≡ [] → IsFound false (still before mid) → (IsTablesTold after → IsTablesTold mid)
+    → (output : List ℕ) × Appends output written now × EndsServed facts held after doors status output
+    → (output : List ℕ) × Appends output written now × EndsBegun season before after doors status output
+begun_ends season facts held before mid after doors written now status same none empty was end = (
+  end.0,
+  end.1,
+  inr (
+    still_later (λ t. IsFound false t) before mid after was tt empty,
+    subst (λ (f : SeasonFacts). EndsServed f [] after doors status end.0) same (subst (λ (h : List Entry). EndsServed facts h after doors status end.0) none end.2),
+  ),
+)
+
+-- the text of why no season was read goes with its status
+text_of_failure : (left : Option (List ℕ)) (failed : Type 0) (failure : Failure) → IsFailureOf season_answers left failed failure → IsUnreadText left (status_of (Err failure)) (text_of (Err failure))
+text_of_failure left failed Read cause = refl
+text_of_failure left failed (Bad line) cause = cause
+text_of_failure left failed NoMemoryToRead cause = refl
+
+-- No season was read.
+pub unread_ends : (left : Option (List ℕ)) (failed : Type 0) (failure : Failure) (tables : Tables) (doors : Doors) (written now : Option (List ℕ)) (broke : Type 0) (result : Status)
+    → IsFailureOf season_answers left failed failure → doors.spared → IsTold (status_of (Err failure)) (text_of (Err failure)) written now broke result
+    → (output : List ℕ) × Appends output written now × EndsServe left tables tables doors result output
+unread_ends left failed failure tables doors written now broke result cause spared is =
+    let (output, appends, writes) = told_is_written (IsUnreadText left) (status_of (Err failure)) result (text_of (Err failure)) written now broke (text_of_failure left failed failure cause) is in
+    (output, appends, inl (writes, refl, spared))
+
+-- No season can be read where a bundle has a fault.
+pub no_faulty_season : (left : Option (List ℕ)) (season : Season) → ((bytes : List ℕ) → HaveOneAnswer season_answers bytes) → IsLeftSeason left season → Tells IsFaultySeason left → ⊥
+no_faulty_season None season laws is tells = tells
+no_faulty_season (Some bytes) season laws is tells =
+    let (script, with) = is.2 in
+    let given = subst (λ b. IsSeasonBundle b) is.1 (content_of season with.row, script, with.given) in
+    (laws bytes).apart given tells
+
+-- A season was read, and ended.
+pub read_ends : (left : Option (List ℕ)) (before after : Tables) (doors : Doors) (season : Season) (written now : Option (List ℕ)) (status : Status) → IsLeftSeason left season
+    → (output : List ℕ) × Appends output written now × EndsBegun season before after doors status output
+    → (output : List ℕ) × Appends output written now × EndsServe left before after doors status output
+read_ends left before after doors season written now status is end = (end.0, end.1, inr (season, is, end.2))
+
+-- Where an office began the keeper held no season.
+pub none_held : (before mid after : Tables) → IsFound false (still before mid) → (IsTablesTold after → IsTablesTold mid) → TellsSeason (still before after) → ⊥
+none_held before mid after empty was = apart (still before after) (still_later (λ t. IsFound false t) before mid after was tt empty)
+  where
+    apart : (tables : Tables) → IsFound false tables → TellsSeason tables → ⊥
+    apart Untold found tells = tells
+    apart NoSeason found tells = tells
+    apart (Records kept) found tells = true≢false (sym found)
+
+-- ---- an office goes on
+
+-- the entries of the records are kept by what was told before
+still_held : (before mid after : Tables) (held : List Entry) → AreTold before mid → (IsTablesTold after → IsTablesTold mid) → HoldsTheKept mid held → HoldsTheKept (still before after) held
+still_held before mid after held told was holds =
+    let (records, loaded, same) = holds in
+    still_later (λ t. HoldsTheKept t held) before mid after was (records, tt, same) (still_from (λ t. HoldsTheKept t held) before mid told holds)
+
+-- An office went on, and was served.
+pub kept_ends : (facts : SeasonFacts) (start : State) (held : List Entry) (before mid after : Tables) (doors : Doors) (written now : Option (List ℕ)) (status : Status)
+    → IsResumed mid facts start → HoldsTheKept mid held → IsHistory facts held start → AreTold before mid → (IsTablesTold after → IsTablesTold mid)
+    → (output : List ℕ) × Appends output written now × EndsServed facts held after doors status output
+    → (output : List ℕ) × Appends output written now × EndsServeKept before after doors status output
+kept_ends facts start held before mid after doors written now status resumed holds leads told was end = (
+  end.0,
+  end.1,
+  inr (facts, held, (start, still_resumed before mid after facts start told was resumed, still_held before mid after held told was holds, leads), end.2),
+)
+
+-- No office went on.
+pub unresumed_ends : (before after : Tables) (doors : Doors) (why : Unresumed) (written now : Option (List ℕ)) (status : Status) → AreTold before after → IsUnresumed after why → doors.spared
+    → ((tables : Tables) → IsUnresumed tables why → (output : List ℕ) × Appends output written now × Writes (IsUnresumedText tables) status output)
+    → (output : List ℕ) × Appends output written now × EndsServeKept before after doors status output
+unresumed_ends before after doors why written now status told stopped spared writes =
+    let (output, appends, is) = writes (still before after) (still_from (λ t. IsUnresumed t why) before after told stopped) in
+    (output, appends, inl (is, told, spared))

@@ -1,0 +1,26 @@
+-- Doors at which an office is served, in words of the command.
+use Rattle.std.specs.Prelude.{◌≡◌, ℕ, Bool, true, false, List}
+use Rattle.door_histories.specs.Ending.{AllEnded, SomeRose}
+use Rattle.door_histories.specs.Served.{Telling}
+use Rattle.office_http.specs.Serving.{DoorsServed}
+use Rattle.office_moves.specs.Facts.{SeasonFacts}
+use Rattle.office_moves.specs.declared.moves.Entry.{Entry}
+
+-- What is said of doors: that they are as they were; and that the office of a season was served at them, from one history to another, and that one of them
+-- failed or none.
+pub record Doors : Type 1 where
+  pub spared : Type 0
+  pub served : SeasonFacts → List Entry → List Entry → Bool → Type 0
+
+module _ {D L : Type 0} (of : Telling D L) where
+  -- one of the doors failed, or none did and no connection is still to come
+  abbrev pub HaveEnded : Bool → List D → List D → Type 0
+  HaveEnded true doors doors' = SomeRose of.faults doors doors'
+  HaveEnded false doors doors' = AllEnded of.faults of.to_come doors doors'
+
+  -- The doors, as they were and as they are: over a keeper that holds room in advance or does not, whose count of faults went from one number to the other.
+  abbrev pub doors_of : Bool → ℕ → ℕ → List D → List D → Doors
+  doors_of room before after doors doors' = record {
+    spared = doors' ≡ doors;
+    served = λ facts held history failed. DoorsServed facts room of held before doors doors' history after × HaveEnded failed doors doors';
+  }

@@ -1,0 +1,124 @@
+-- The command `serve`: an office begins with a season that is read, or goes on from what the keeper holds, and is served at doors. Its output is how far the
+-- office is at the end, and how many entries its history has.
+use Rattle.std.specs.Prelude.{◌≡◌, ◌⊎◌, ℕ, Bool, true, false, List, [], ◌++◌, Option, codes, length}
+use Rattle.std.specs.Fmt.{decimal}
+use Rattle.office_base.specs.FaultLines.{memory_line, read_line}
+use Rattle.office_base.specs.Outside.{AreLeft}
+use Rattle.office_base.specs.declared.asks.Request.{Request}
+use Rattle.season_file.specs.Laws.{HasFault}
+use Rattle.season_file.specs.Season.{BundleGives, IsSeasonWith}
+use Rattle.season_file.specs.declared.content.Content.{Content}
+use Rattle.season_file.specs.declared.fault.SeasonFault.{SeasonFault}
+use Rattle.season_file.specs.declared.season.Season.{Season}
+use Rattle.season_texts.specs.Texts.{fault_line}
+use Rattle.keeper_mem.specs.Tables.{Tables, AreTold, IsFound, still}
+use Rattle.office_moves.specs.Facts.{SeasonFacts}
+use Rattle.office_moves.specs.History.{IsHistory}
+use Rattle.office_moves.specs.Promise.{KeepsItsWord}
+use Rattle.office_moves.specs.Season.{facts_of}
+use Rattle.office_moves.specs.Stands.{Stand}
+use Rattle.office_moves.specs.State.{State}
+use Rattle.office_moves.specs.declared.moves.Entry.{Entry}
+use Rattle.reply_texts.specs.Replies.{state_line}
+use Rattle.round_cut.specs.Resume.{HoldsTheKept, IsResumed}
+use Rattle.season_commands.specs.Resume.{IsUnresumedText}
+use Rattle.season_commands.specs.Run.{IsUnbegunText}
+use Rattle.command_answers.specs.Answers.{Answers, HasLeft}
+use Rattle.command_answers.specs.Writes.{Writes}
+use Rattle.command_answers.specs.declared.status.Status.{Status}
+use Rattle.command_answers.specs.declared.status.Status.TheVariants.{BadInput, ReadFault, OutOfMemory}
+use Rattle.serve_command.specs.Doors.{Doors}
+use Rattle.serve_command.specs.Ending.{served_status}
+
+-- ---- the input of an office that begins: a season bundle without requests, whose section is a fault there
+
+-- the bytes are such a bundle without faults
+abbrev pub IsSeasonBundle : List ℕ → Type 0
+IsSeasonBundle bytes = (content : Content) × (script : List Request) × BundleGives false bytes content script
+
+-- the bytes that were left are such a bundle, and this is its season
+abbrev pub IsLeftSeason : Option (List ℕ) → Season → Type 0
+IsLeftSeason left season = (bytes : List ℕ) × AreLeft bytes left × ((script : List Request) × IsSeasonWith false bytes season script)
+
+-- the bytes have a fault as such a bundle
+abbrev pub IsFaultySeason : List ℕ → Type 0
+IsFaultySeason bytes = (fault : SeasonFault) × HasFault false bytes fault
+
+-- the bytes have a fault as such a bundle, and this is its line
+abbrev pub IsSeasonFaultLine : List ℕ → List ℕ → Type 0
+IsSeasonFaultLine bytes line = (fault : SeasonFault) × HasFault false bytes fault × (line ≡ fault_line fault)
+
+-- what is answered to the bytes alone: the line of a fault
+abbrev pub season_answers : Answers
+season_answers = record { IsInput = IsSeasonBundle; IsFaulty = IsFaultySeason; IsOutput = λ bytes output. ⊥; IsFaultLine = IsSeasonFaultLine }
+
+-- the whole text that goes with each status where no season is read, for the bytes that the source had left
+abbrev pub IsUnreadText : Option (List ℕ) → Status → List ℕ → Type 0
+IsUnreadText left BadInput text = HasLeft IsSeasonFaultLine left text
+IsUnreadText left ReadFault text = text ≡ read_line
+IsUnreadText left OutOfMemory text = text ≡ memory_line
+IsUnreadText left other text = ⊥
+
+-- ---- the output
+
+abbrev pub door_line : Bool → List ℕ
+door_line true = codes "fault: door\n"
+door_line false = []
+
+-- how far the office is, how many entries its history has, and whether a door failed
+abbrev pub served_text : SeasonFacts → State → ℕ → Bool → List ℕ
+served_text facts state entries failed =
+    state_line state.now facts.rounds (length state.rounds) ++ codes "entries " ++ decimal entries ++ codes "\n" ++ door_line failed
+
+-- ---- an office at its doors
+
+-- An office is at the end of this history: the history leads to the state, in which the office keeps its word, and for which the tables stand.
+pub record IsOfficeAfter (facts : SeasonFacts) (history : List Entry) (tables : Tables) (state : State) : Type 0 where
+  pub leads : IsHistory facts history state
+  pub promise : KeepsItsWord facts state
+  pub stands : Stand facts state tables
+
+-- the whole text that goes with each status where an office is at the end of a history, and a door failed or none; for want of memory nothing is told of that
+abbrev pub IsEndText : SeasonFacts → List Entry → Tables → Bool → Status → List ℕ → Type 0
+IsEndText facts history tables failed status text = (state : State) × IsOfficeAfter facts history tables state
+    × (((status ≡ served_status failed) × (text ≡ served_text facts state (length history) failed)) ⊎ ((status ≡ OutOfMemory) × (text ≡ memory_line)))
+
+-- The office of the season was served at the doors from the history `held` on, to the end of another one, with the text that goes with the status.
+abbrev pub HasServed : SeasonFacts → List Entry → Tables → Doors → Status → List ℕ → Type 0
+HasServed facts held tables doors status text = (history : List Entry) × (failed : Bool) × doors.served facts held history failed × IsEndText facts history tables failed status text
+
+-- The office was not served, for want of memory: the doors are as they were, and the tables stand for the state to which the history `held` leads.
+abbrev pub HasSpared : SeasonFacts → List Entry → Tables → Doors → Status → List ℕ → Type 0
+HasSpared facts held tables doors status text = ((state : State) × IsHistory facts held state × Stand facts state tables) × doors.spared × (status ≡ OutOfMemory) × (text ≡ memory_line)
+
+-- the whole text that goes with each status where an office stood at its doors with the history `held`
+abbrev pub IsServedText : SeasonFacts → List Entry → Tables → Doors → Status → List ℕ → Type 0
+IsServedText facts held tables doors status text = HasServed facts held tables doors status text ⊎ HasSpared facts held tables doors status text
+
+-- how an office ends that stood at its doors with the history `held`
+abbrev pub EndsServed : SeasonFacts → List Entry → Tables → Doors → Status → List ℕ → Type 0
+EndsServed facts held tables doors status output = Writes (IsServedText facts held tables doors) status output
+
+-- ---- all together
+
+-- how a season that was read ends: no office begins, the tables are as before, and the doors too; or the keeper held no season, and an office without entries
+-- is served. What the keeper held is told where it tells both before and after.
+abbrev pub EndsBegun : Season → Tables → Tables → Doors → Status → List ℕ → Type 0
+EndsBegun season before after doors status output = (Writes (IsUnbegunText (still before after)) status output × AreTold before after × doors.spared)
+    ⊎ (IsFound false (still before after) × EndsServed (facts_of season) [] after doors status output)
+
+-- how `serve` ends where an office is to begin: no season is read, the tables are as before, and the doors too; or the bytes that were left are a season's,
+-- and that ends
+abbrev pub EndsServe : Option (List ℕ) → Tables → Tables → Doors → Status → List ℕ → Type 0
+EndsServe left before after doors status output = (Writes (IsUnreadText left) status output × (after ≡ before) × doors.spared)
+    ⊎ ((season : Season) × IsLeftSeason left season × EndsBegun season before after doors status output)
+
+-- the records of the tables lead to a state of a season, and these are the entries that they hold
+abbrev pub IsKept : Tables → SeasonFacts → List Entry → Type 0
+IsKept tables facts held = (start : State) × IsResumed tables facts start × HoldsTheKept tables held × IsHistory facts held start
+
+-- how `serve` ends where an office is to go on: none does, the tables are as before, and the doors too; or the office of the records is served from the
+-- entries that they hold. What was kept is told where the keeper tells both before and after.
+abbrev pub EndsServeKept : Tables → Tables → Doors → Status → List ℕ → Type 0
+EndsServeKept before after doors status output = (Writes (IsUnresumedText (still before after)) status output × AreTold before after × doors.spared)
+    ⊎ ((facts : SeasonFacts) × (held : List Entry) × IsKept (still before after) facts held × EndsServed facts held after doors status output)
