@@ -1,0 +1,5 @@
+pub mod Agreeing
+pub mod FairCuts
+pub mod FairSeasons
+mod OneVerdict
+pub mod Ordering

@@ -1,0 +1,11 @@
+pub mod Along
+mod Ending
+mod Grouping
+pub mod Lifting
+mod Listing
+mod Missing
+pub mod Noting
+mod Seeking
+pub mod Stood
+mod Sums
+pub mod Telling
