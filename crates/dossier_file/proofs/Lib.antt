@@ -1,0 +1,14 @@
+mod LineLemmas
+mod FollowLemmas
+mod EndLemmas
+mod HeadLemmas
+mod TakeLemmas
+mod RowsLemmas
+mod ListLemmas
+mod TextLemmas
+mod DueLemmas
+mod CutLemmas
+mod KeptLemmas
+mod LawLemmas
+mod PartLemmas
+mod OneLemmas

@@ -1,0 +1,52 @@
+-- Which cuts of a script are accepted, and which texts they publish.
+use Rattle.std.specs.Prelude.{◌<◌, ◌+◌, ◌^◌, ℕ, zero, suc, Bool, false, ◌==◌, ◌&&◌, nat_le, List, [], ◌∷◌, ◌++◌, length, if◌then◌else◌}
+use Rattle.office_base.specs.declared.asks.Ask.{Ask}
+use Rattle.office_base.specs.declared.asks.Ask.TheVariants.{Answer, Cut, Seat, Why, List as ListOf, State, Raise}
+use Rattle.office_base.specs.declared.asks.By.{By}
+use Rattle.office_base.specs.declared.asks.By.TheVariants.{Clerk, Candidate, Nobody}
+use Rattle.office_base.specs.declared.asks.Request.{Request}
+use Rattle.seat_matrix.specs.Matrix.{SeatTable}
+use Rattle.dossier_file.specs.declared.due.Due.{Due}
+use Rattle.dossier_file.specs.declared.due.Due.TheVariants.{Round as RoundDue, List as ListDue, Final as FinalDue}
+
+-- the ask is the cut of this window
+abbrev pub is_cut : ℕ → Ask → Bool
+is_cut now (Cut window) = window == now
+is_cut now (Answer cand window turn choice) = false
+is_cut now (Seat cand) = false
+is_cut now (Why cand prog) = false
+is_cut now (ListOf round prog) = false
+is_cut now State = false
+is_cut now (Raise window prog step seats) = false
+
+-- the clerk cuts this window
+abbrev pub is_cut_by : ℕ → By → Ask → Bool
+is_cut_by now Clerk ask = is_cut now ask
+is_cut_by now (Candidate id) ask = false
+is_cut_by now Nobody ask = false
+
+-- How many cuts of a script are accepted, where the windows before this one were cut: the clerk cuts the open window, and the
+-- window after the last round is the last.
+abbrev pub cuts_of : ℕ → ℕ → List Request → ℕ
+cuts_of rounds now [] = 0
+cuts_of rounds now (request ∷ script) = if is_cut_by now request.by request.ask && nat_le now rounds then suc (cuts_of rounds (suc now) script) else cuts_of rounds now script
+
+-- the lists of a round, of so many programmes
+abbrev pub lists_due : ℕ → ℕ → List Due
+lists_due number zero = []
+lists_due number (suc programmes) = lists_due number programmes ++ ListDue number (record { 0 = programmes }) ∷ []
+
+-- what the cut of a window publishes: the next round and the lists of its programmes, or the final admissions
+abbrev pub published_by : ℕ → ℕ → ℕ → List Due
+published_by rounds programmes window = if window == rounds then FinalDue ∷ [] else RoundDue (window + 1) ∷ lists_due (window + 1) programmes
+
+-- the texts that so many accepted cuts publish, in their order
+abbrev pub due : ℕ → ℕ → ℕ → List Due
+due rounds programmes zero = []
+due rounds programmes (suc cuts) = due rounds programmes cuts ++ published_by rounds programmes cuts
+
+-- a text that can be due: its round has 16 bits, and its programme is one of the matrix
+abbrev pub IsDueOf : SeatTable → Due → Type 0
+IsDueOf table (RoundDue number) = number < 2 ^ 16
+IsDueOf table (ListDue number prog) = (number < 2 ^ 16) × (prog.0 < length table.programmes)
+IsDueOf table FinalDue = Unit {0}

@@ -1,0 +1,7 @@
+pub mod Cut
+pub mod Dossier
+pub mod Due
+pub mod Kept
+pub mod Laws
+pub mod Papers
+pub mod Texts

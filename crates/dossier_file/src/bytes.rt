@@ -1,0 +1,70 @@
+// Lines, and what bytes begin with.
+ghost use Rattle.std.specs.Prelude.{◌≡◌, ◌≢◌, ◌<◌, ◌≤◌, ◌^◌, ◌++◌, ◌∷◌, List, ℕ, IfNone, IfSome, length};
+ghost use Rattle.publish.specs.Reading.{HasNo, lines_in};
+ghost use Rattle.dossier_file.specs.Texts.{IsCutAfter, IsNoHead};
+
+use memchr::memchr;
+
+/// The first line without its end, and what stands after it. None where no line ends.
+fn cut_line(bytes: &[u8]) -> Option<(&[u8], &[u8])>
+    ensures some { IfSome result (λ parts. bytes.now ≡ parts.0.now ++ 10 ∷ parts.1.now) }
+    ensures first { IfSome result (λ parts. HasNo 10 parts.0.now) }
+    ensures shorter { IfSome result (λ parts. length parts.1.now < length bytes.now) }
+    ensures none { IfNone result (HasNo 10 bytes.now) }
+{
+    match memchr(b'\n', bytes) {
+        Some(end) => Some((&bytes[..end], &bytes[end + 1..])),
+        None => None,
+    }
+}
+
+/// What stands after a word. None where the bytes do not begin with it.
+fn after<'a>(bytes: &'a [u8], word: &[u8]) -> Option<&'a [u8]>
+    ensures some { IfSome result (λ rest. bytes.now ≡ word.now ++ rest.now) }
+    ensures none { IfNone result ((rest : List ℕ) → bytes.now ≢ word.now ++ rest) }
+{
+    bytes.strip_prefix(word)
+}
+
+/// How many lines there are. What stands after the last LF is a line too.
+pub(crate) fn line_count(bytes: &[u8]) -> u32
+    requires { length bytes.now < 2 ^ 32 }
+    ensures value { result ≡ lines_in bytes.now }
+    ensures within { result ≤ length bytes.now }
+{
+    let mut rest = bytes;
+    let mut count: u32 = 0;
+    'lines: while let Some((_, later)) = cut_line(rest) {
+        count += 1;
+        rest = later;
+    }
+    if rest.is_empty() { count } else { count + 1 }
+}
+
+/// The line of the fault of bytes that do not begin with a head. None where they do.
+pub(crate) fn headless_line(bytes: &[u8], head: &[u8]) -> Option<u32>
+    ensures none { IfNone result ((tail : List ℕ) × (bytes.now ≡ head.now ++ tail)) }
+    ensures some { IfSome result (λ line. IsNoHead head.now bytes.now line) }
+{
+    if after(bytes, head).is_some() {
+        return None;
+    }
+    match after(head, bytes) {
+        Some(_) => Some(if bytes.is_empty() { 1 } else { 2 }),
+        None => Some(1),
+    }
+}
+
+/// The bytes cut after the first whole line that is this one. Where there is none, all of them, and nothing.
+pub(crate) fn cut_text<'a>(bytes: &'a [u8], ending: &[u8]) -> (&'a [u8], &'a [u8])
+    ensures { IsCutAfter ending.now bytes.now result.0.now result.1.now }
+{
+    let mut rest = bytes;
+    'lines: while let Some((line, later)) = cut_line(rest) {
+        if line == ending {
+            return bytes.split_at(bytes.len() - later.len());
+        }
+        rest = later;
+    }
+    (bytes, &[])
+}
