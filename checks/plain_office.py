@@ -79,7 +79,7 @@ def sheet_text(sheet):
 
 class Person:
     def __init__(self, fields):
-        self.id, self.category, self.traits = int(fields[0]), OTHER_WORDS.get(fields[1], fields[1]), fields[2].strip("-")
+        self.id, self.category, self.traits, self.token = int(fields[0]), OTHER_WORDS.get(fields[1], fields[1]), fields[2].strip("-"), fields[3]
         self.places = [*fields[4:], "", "", "", ""]
 
     def place(self, merit):
@@ -100,7 +100,8 @@ class Season:
                 name = line.strip("[]")
             sections.setdefault(name, []).append(line.split(","))
         self.version = int(first.split(" ")[-1])
-        self.rounds = int(dict(sections["season"][1:])["rounds"])
+        rows = dict(sections["season"][1:])
+        self.rounds, self.clerk = int(rows["rounds"]), rows["clerk"]
         self.people = sorted((Person(row) for row in sections["register"][2:]), key=lambda it: it.id)
         self.programmes, self.seats, self.protections = {}, {}, {}
         for code, institute, merit, step, seats, *protections in sections["matrix"][2:]:

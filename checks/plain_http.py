@@ -1,0 +1,124 @@
+"""The plain office over HTTP: the rows of a script as messages, and its replies as statuses and bodies. Of the forms of docs/FORMATS.md it knows those of requests
+that a script can spell, and of replies that the office gives; checks/served.py holds the program against it, and checks/openapi.py the examples of documents."""
+import json
+
+from plain_office import Office, Season
+
+PHRASES = {
+    200: "OK",
+    400: "Bad Request",
+    403: "Forbidden",
+    404: "Not Found",
+    405: "Method Not Allowed",
+    409: "Conflict",
+    411: "Length Required",
+    413: "Payload Too Large",
+    431: "Request Header Fields Too Large",
+    501: "Not Implemented",
+    503: "Service Unavailable",
+    507: "Insufficient Storage",
+}
+NOT_FOUND = ("UnknownCandidate", "UnknownProgramme", "NotChosen", "NoSuchRound")
+# the members of the bodies that a POST needs, in the order of a script's row, and those that are numbers
+MEMBERS = {"answer": ("cand", "window", "turn", "choice"), "cut": ("window",), "raise": ("window", "programme", "step", "seats")}
+NUMBERS = ("cand", "window", "turn", "seats")
+# the key under which a refusal carries what no word of its line names, and those that are texts
+KEYS = {"Gone": "how"}
+TEXTS = ("kept", "how", "standing")
+
+
+def compact(value):
+    return json.dumps(value, sort_keys=True, separators=(",", ":"))
+
+
+# ---- requests
+
+
+def token_of(season, by):
+    """The token of whom a row names: none for nobody, and one of no candidate for whom the register does not have."""
+    if by in ("clerk", "nobody"):
+        return season.clerk if by == "clerk" else None
+    person = season.person(int(by))
+    return person.token if person else "nobodyhasthis"
+
+
+def asked(season, row):
+    """The method, path, token and body of a request that a row of a script tells."""
+    word, by, *fields = row.split(",")
+    token = token_of(season, by)
+    if word in MEMBERS:
+        told = {name: int(it) if name in NUMBERS else it for name, it in zip(MEMBERS[word], fields)}
+        return "POST", f"/v1/{word}", token, json.dumps(told, separators=(",", ":")).encode()
+    return "GET", "/".join(["/v1", word, *fields]), token, b""
+
+
+def row_of(season, method, path, token, body):
+    """The row of a script that asks what such a message asks."""
+    _, _, word, *fields = path.split("/")
+    by = "clerk" if token == season.clerk else next((str(it.id) for it in season.people if it.token == token), "nobody")
+    if method == "POST":
+        told = json.loads(body)
+        fields = [str(told[it]) for it in MEMBERS[word]]
+    return ",".join([word, by, *fields])
+
+
+def message(method, path, token, body, fields=()):
+    """The bytes of a request; what asks is told by its token alone."""
+    lines = [f"{method} {path} HTTP/1.1", *fields]
+    lines += [f"X-Office-Token: {token}"] if token else []
+    lines += [f"Content-Length: {len(body)}"] if body or method == "POST" else []
+    return "\r\n".join([*lines, "", ""]).encode() + body
+
+
+# ---- replies
+
+
+def replied(text):
+    """The status and the body of what the plain office replies."""
+    word, *rest = text.split("\n", 1)[0].split(" ")
+    if word == "refused":
+        return refused(*rest)
+    told = {
+        "noted": lambda cand, _, window, __, turn, choice: {"cand": int(cand), "choice": choice, "turn": int(turn), "window": int(window)},
+        "raised": lambda code, step, _, window, __, seats: {"programme": code, "seats": int(seats), "step": step, "window": int(window)},
+        "published": lambda number, _, seated: {"round": int(number), "seated": int(seated)},
+        "final": lambda _, admitted: {"admitted": int(admitted)},
+        "seat": seat_told,
+        "why": lambda cand, code, *_: {"cand": int(cand), "programme": code, "text": text},
+        "list": lambda number, code: {"programme": code, "round": int(number), "text": text},
+        "state": lambda _, now, __, rounds, ___, published: {"now": int(now), "published": int(published), "rounds": int(rounds)},
+    }[word](*rest)
+    return 200, compact({**told, "reply": word}).encode()
+
+
+def seat_told(cand, _, number, standing, code, step=None):
+    """A seat; without one no step is told, and the word `none` stands for its code."""
+    return {"cand": int(cand), "programme": code if step else None, "round": int(number), "standing": standing, "step": step}
+
+
+def refused(number, name, *detail):
+    status = 403 if name == "Denied" else 404 if name in NOT_FOUND else 409
+    told = {"name": name, "refused": int(number), "reply": "refused"}
+    if detail:
+        key = KEYS.get(name, detail[0])
+        told[key] = detail[-1] if key in TEXTS else int(detail[-1])
+    return status, compact(told).encode()
+
+
+def reply_bytes(status, body=b"", closes=False, allow=None):
+    """The bytes of a reply. One without a body is of a message that the office was not asked."""
+    lines = [f"HTTP/1.1 {status} {PHRASES[status]}", *(["Content-Type: application/json"] if body else []), f"Content-Length: {len(body)}"]
+    lines += [f"Allow: {allow}"] if allow else []
+    lines += ["Connection: close"] if closes else []
+    return "\r\n".join([*lines, "", ""]).encode() + body
+
+
+class Served:
+    """A plain office that is asked by messages."""
+
+    def __init__(self, text):
+        self.season = Season(text)
+        self.office = Office(self.season)
+
+    def reply(self, method, path, token, body):
+        return replied(self.office.reply(row_of(self.season, method, path, token, body)))

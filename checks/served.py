@@ -1,0 +1,727 @@
+"""The program under `serve`, over real sockets: scripts as messages over loopback against the plain office (checks/plain_office.py), messages at their limits, bytes cut
+anywhere, clients side by side, a server that is killed, clients that go away, and how it ends. checks/repository runs it where the program has the command."""
+import collections
+import contextlib
+import functools
+import itertools
+import json
+import os
+import random
+import re
+import shutil
+import signal
+import socket
+import sqlite3
+import struct
+import subprocess
+import tempfile
+import threading
+import time
+
+import openapi
+from cases import READS_STORES, ROOMS, SECONDS
+from plain_http import asked, message, replied, reply_bytes, row_of
+from plain_office import Office, Season
+
+TOP = os.path.dirname(os.path.dirname(os.path.realpath(__file__)))
+LOOPBACK, LISTENS = "0100007F", "0A"
+# messages that a connection takes, and seconds that a silent one is waited for
+MOST_MESSAGES, PATIENCE = 100, 30
+NO_PORT = (b"", b"cannot bind port\n", 1)
+PORTS = itertools.chain.from_iterable(itertools.repeat(random.sample(range(15_000, 30_000), 15_000)))
+TABLES = ("answer", "lift", "allot", "phase")
+
+
+class Wrong(Exception):
+    """What the program does otherwise."""
+
+
+def want(holds, label, what):
+    if not holds:
+        raise Wrong(f"{label}: {what}")
+
+
+# ---- a server
+
+
+def free_port():
+    """A port that nobody has, below those from which clients get theirs; no two calls give the same one."""
+    while True:
+        port = next(PORTS)
+        with socket.socket() as it, contextlib.suppress(OSError):
+            it.bind(("127.0.0.1", port))
+            return port
+
+
+def listeners(port):
+    """The addresses at which somebody listens on a port."""
+    with open("/proc/net/tcp", encoding="ascii") as table:
+        rows = [it.split() for it in table.readlines()[1:]]
+    return {row[1].split(":")[0] for row in rows if row[3] == LISTENS and row[1].endswith(f":{port:04X}")}
+
+
+class Server:
+    """The program serving: so many connections of each of so many workers, from a bundle or from what a store keeps."""
+
+    def __init__(self, program, room, label, conns, workers=1, start="new", store="memory", bundle=b""):
+        self.label, self.port, self.total = label, free_port(), conns * workers
+        words = [program, "serve", str(conns), str(workers), start, str(self.port), store]
+        self.child = subprocess.Popen(words, cwd=room, stdin=subprocess.PIPE, stdout=subprocess.PIPE, stderr=subprocess.PIPE)
+        with contextlib.suppress(BrokenPipeError):
+            self.child.stdin.write(bundle)
+            self.child.stdin.close()
+        self.child.stdin = None
+        until = time.monotonic() + SECONDS
+        while not listeners(self.port) and self.child.poll() is None and time.monotonic() < until:
+            time.sleep(0.005)
+        found = listeners(self.port)
+        if found != {LOOPBACK}:
+            why = f"it listens at {sorted(found)}" if found else f"it does not listen, and ended with {self.stop()}"
+            raise Wrong(f"{label}: {why}")
+
+    def connected(self):
+        link = socket.create_connection(("127.0.0.1", self.port), timeout=SECONDS)
+        link.setsockopt(socket.IPPROTO_TCP, socket.TCP_NODELAY, 1)
+        return link
+
+    def talk(self, pieces):
+        """What comes back over one connection on which these pieces are written, and then no more."""
+        with self.connected() as link:
+            for piece in pieces:
+                link.sendall(piece)
+            link.shutdown(socket.SHUT_WR)
+            return rest_of(link)
+
+    def ended(self):
+        """What was written, and the status, once it has ended by itself."""
+        try:
+            wrote, said = self.child.communicate(timeout=SECONDS)
+        except subprocess.TimeoutExpired:
+            self.stop()
+            raise Wrong(f"{self.label}: it goes on after its last connection") from None
+        return wrote.decode(errors="replace"), said.decode(errors="replace"), self.child.returncode
+
+    def used_up(self):
+        """Takes all connections that are left, each by a client that says nothing."""
+        until = time.monotonic() + SECONDS
+        while self.child.poll() is None and time.monotonic() < until:
+            with contextlib.suppress(OSError):
+                self.talk([])
+
+    def stop(self):
+        self.child.kill()
+        self.child.communicate()
+        return self.child.returncode
+
+    def __enter__(self):
+        return self
+
+    def __exit__(self, *_):
+        if self.child.poll() is None:
+            self.stop()
+
+
+def rest_of(link):
+    """All bytes that still come over a connection."""
+    found = b""
+    with contextlib.suppress(ConnectionResetError):
+        while piece := link.recv(1 << 16):
+            found += piece
+    return found
+
+
+def read_reply(link, held=b""):
+    """The next reply on a connection as status, body and whether it closes, with what came after it."""
+    while b"\r\n\r\n" not in held:
+        piece = link.recv(1 << 16)
+        if not piece:
+            raise EOFError
+        held += piece
+    head, _, held = held.partition(b"\r\n\r\n")
+    lines = head.decode().split("\r\n")
+    length = next(int(it.split(": ")[1]) for it in lines if it.startswith("Content-Length: "))
+    while len(held) < length:
+        piece = link.recv(1 << 16)
+        if not piece:
+            raise EOFError
+        held += piece
+    return int(lines[0].split()[1]), held[:length], "Connection: close" in lines, held[length:]
+
+
+def trial(tried):
+    """A trial in a folder of its own, which gives its fault or None."""
+
+    @functools.wraps(tried)
+    def gives(*given):
+        with tempfile.TemporaryDirectory(prefix="served-", dir=ROOMS) as room:
+            try:
+                tried(room, *given)
+            except Wrong as why:
+                return str(why)
+            except (OSError, EOFError) as why:
+                return f"{tried.__name__}: {type(why).__name__} {why}"
+        return None
+
+    return gives
+
+
+def same(label, came, wanted):
+    if came != wanted:
+        at = next((at for at, (one, other) in enumerate(zip(came, wanted)) if one != other), min(len(came), len(wanted)))
+        raise Wrong(f"{label}: from byte {at} on {came[at : at + 60]!r} comes, and not {wanted[at : at + 60]!r}")
+
+
+def ends_well(server, office, label):
+    """The last lines tell how far the office is and how much it accepted, and standard error told once where it listened."""
+    wrote, said, status = server.ended()
+    entries = len(office.answers) + len(office.raises) + office.cuts
+    told = f"state window {office.cuts} rounds {office.season.rounds} published {len(office.rounds)}\nentries {entries}\n"
+    want((wrote, status) == (told, 0), label, f"it ended with status {status} and wrote {wrote!r:.100}, and not {told!r}")
+    want(said.count("\n") == 1 and f"127.0.0.1:{server.port}" in said, label, f"standard error tells {said!r:.100}, and not in one line where it listens")
+
+
+def kept_rows(store):
+    connection = sqlite3.connect(store)
+    try:
+        return {name: connection.execute(f"SELECT * FROM {name} ORDER BY 1, 2").fetchall() for name in TABLES}
+    finally:
+        connection.close()
+
+
+# ---- scripts
+
+
+def batches(items):
+    return [items[at : at + MOST_MESSAGES] for at in range(0, len(items), MOST_MESSAGES)]
+
+
+class Script:
+    """A season with requests, their messages, and the plain office's replies."""
+
+    def __init__(self, label, text, rows):
+        self.label, self.text, self.rows = label, text, rows
+        self.season = Season(text)
+        self.office = Office(self.season)
+        self.asks = [asked(self.season, it) for it in rows]
+        self.messages = [message(*it) for it in self.asks]
+        self.replies = [replied(self.office.reply(it)) for it in rows]
+
+    def told(self, first=0, last=None):
+        """The bytes of the replies of one connection."""
+        found = self.replies[first:last]
+        return b"".join(reply_bytes(*it, closes=at == MOST_MESSAGES) for at, it in enumerate(found, 1))
+
+    def not_described(self):
+        return next((why for (method, path, *_), reply in zip(self.asks, self.replies) for why in [openapi.fault_of(method, path, *reply)] if why), None)
+
+
+@trial
+def scripted(room, program, script, cuts, store):
+    """A script, each of its messages on a connection after a hundred others, in pieces of so many bytes."""
+    want(script.not_described() is None, script.label, script.not_described())
+    parts = batches(script.messages)
+    with Server(program, room, script.label, len(parts), store=store, bundle=script.text.encode()) as server:
+        for number, part in enumerate(parts):
+            given = b"".join(part)
+            pieces = [given[at : at + cuts] for at in range(0, len(given), cuts)] if cuts else [given]
+            same(script.label, server.talk(pieces), script.told(number * MOST_MESSAGES, (number + 1) * MOST_MESSAGES))
+        ends_well(server, script.office, script.label)
+    if store != "memory" and READS_STORES:
+        want(kept_rows(f"{room}/{store}") == script.office.rows(), script.label, "the store has other rows than the plain office accepted")
+
+
+def worked_scripts(found):
+    """The scripts that run well in the cases, once each."""
+    seen = {}
+    for case in found:
+        for call in (it for it in case.steps if not isinstance(it, str)):
+            text, begin, script = b"".join(call.source).decode(errors="replace").partition("[requests]\n")
+            if call.words[:1] == ["run"] and call.status == 0 and begin and not case.is_large():
+                seen.setdefault((text, script), case.label)
+    return [Script(label, text, [it for it in script.split("\n") if it]) for (text, script), label in seen.items()]
+
+
+# ---- messages at their limits
+
+
+def get(*fields, target="/v1/state", version="1.1", end="\r\n"):
+    return end.join([f"GET {target} HTTP/{version}", *fields, "", ""]).encode()
+
+
+def post(route, body, *fields):
+    return "\r\n".join([f"POST /v1/{route} HTTP/1.1", *fields, "", ""]).encode() + body
+
+
+def padded(length):
+    """A message whose head has so many bytes."""
+    plain = len(get("X: "))
+    return get(f"X: {'x' * (length - plain)}")
+
+
+CLERK, SECOND = "X-Office-Token: clerk0001", "X-Office-Token: tok00002"
+LEAVE = b'{"cand":2,"window":0,"turn":1,"choice":"withdraw"}'
+STATE = reply_bytes(200, b'{"now":0,"published":0,"reply":"state","rounds":2}')
+STATE_CLOSED = reply_bytes(200, b'{"now":0,"published":0,"reply":"state","rounds":2}', closes=True)
+LEFT = reply_bytes(200, b'{"cand":2,"choice":"withdraw","reply":"noted","turn":1,"window":0}')
+DENIED = reply_bytes(403, b'{"name":"Denied","refused":3,"reply":"refused","rule":1}')
+BAD, NONE, BAD_CLOSED = reply_bytes(400), reply_bytes(404), reply_bytes(400, closes=True)
+
+
+def length(count):
+    return f"Content-Length: {count}"
+
+
+def as_answer(body):
+    return post("answer", body, SECOND, length(len(body)))
+
+
+# what is sent over one connection to the season of five candidates, and what comes back
+EXCHANGES = {
+    "no byte": (b"", b""),
+    "an end inside a head": (get()[:-1], b""),
+    "an end inside a body": (post("answer", LEAVE[:-1], SECOND, length(len(LEAVE))), b""),
+    "lines of a head that end with LF alone, after empty lines": (b"\r\n\n" + get(end="\n") + get(), STATE * 2),
+    "an empty line after the last message": (get() + b"\r\n", STATE),
+    "a question": (get(target="/v1/state?x=1") + get(target="/v1/state?"), STATE * 2),
+    "a connection that is asked to end": (get("Connection: keep-alive, Close") + get(), STATE_CLOSED),
+    "one that is asked to end in a second field": (get("Connection: x", "connection: close") + get(), STATE_CLOSED),
+    "an older version": (get(version="1.0") + get(), STATE_CLOSED),
+    "a head of 8,192 bytes": (padded(8192) + get(), STATE * 2),
+    "a head of 8,193 bytes": (padded(8193) + get(), reply_bytes(431, closes=True)),
+    "empty lines of 8,192 bytes": (b"\r\n" * 4096 + get(), reply_bytes(431, closes=True)),
+    "64 fields": (get(*[f"X{at}: x" for at in range(64)]), STATE),
+    "65 fields": (get(*[f"X{at}: x" for at in range(65)]) + get(), BAD_CLOSED),
+    "no HTTP": (b"hello\r\n\r\n" + get(), BAD_CLOSED),
+    "a transfer coding": (post("answer", b"", SECOND, "transfer-encoding: chunked", length("x")) + get(), reply_bytes(501, closes=True)),
+    "no length": (post("cut", b"", CLERK) + get(), reply_bytes(411, closes=True)),
+    "a length of 18 digits, then of 19": (
+        post("answer", LEAVE, SECOND, length(f"{len(LEAVE):018}")) + post("answer", LEAVE, SECOND, length(f"{len(LEAVE):019}")),
+        LEFT + BAD_CLOSED,
+    ),
+    "two lengths that are equal, then two that are not": (
+        post("answer", LEAVE, SECOND, length(50), length("050")) + post("answer", LEAVE, SECOND, length(50), length(51)),
+        LEFT + BAD_CLOSED,
+    ),
+    "lengths that are no digits": (get(length("+1")), BAD_CLOSED),
+    "a body of 4,096 bytes, then of 4,097": (
+        as_answer(LEAVE + b" " * (4096 - len(LEAVE))) + as_answer(LEAVE + b" " * (4097 - len(LEAVE))),
+        LEFT + reply_bytes(413, closes=True),
+    ),
+    "a body of a page that is read": (get(length(3)) + b"abc" + get(), STATE * 2),
+    "a long body of a page that is read": (get(length(4097)) + get(), reply_bytes(413, closes=True)),
+    "no page": (
+        b"".join(get(target=f"/v1/{it}") for it in ("nothing", "state/", "seat/0", "seat/01", "seat/+1", "seat/1000000000", "why/1", "list/65536/A", "list/1/A.B")),
+        NONE * 9,
+    ),
+    "no page, nor a path": (get(target="http://127.0.0.1/v1/state") + get(target="/v1/%73tate") + get(target="*"), NONE * 3),
+    "another method": (
+        get(target="/v1/cut") + post("state", b"", length(0)) + get().replace(b"GET", b"HEAD") + get().replace(b"GET", b"get"),
+        reply_bytes(405, allow="POST") + reply_bytes(405, allow="GET") * 3,
+    ),
+    "another method, and the end": (get("Connection: close", target="/v1/cut"), reply_bytes(405, allow="POST", closes=True)),
+    "bodies that are not what the page needs": (
+        b"".join(as_answer(it) for it in (b"", b"{}", b"[]", b"x", LEAVE[:-1], LEAVE + b"x", LEAVE.replace(b":1,", b":1.0,"), LEAVE.replace(b":1,", b":0,"), LEAVE.replace(b":2", b":-2"), LEAVE.replace(b"withdraw", b"Withdraw"))),
+        BAD * 10,
+    ),
+    "seats of a raise": (
+        b"".join(post("raise", it, CLERK, length(len(it))) for it in (b'{"window":0,"programme":"A","step":"%s","seats":%s}' % one for one in ((b"OPEN", b"0"), (b"OPEN", b"4001"), (b"D", b"2"), (b"OPEN", b'"2"')))),
+        BAD * 4,
+    ),
+    "other members, other spellings, no type": (as_answer(b' { "choice" : "withdraw", "x": [1.5, null], "turn":1, "window":0, "cand":2 } '), LEFT),
+    "no token, another one, and the second of two": (
+        post("answer", LEAVE, length(50)) + post("answer", LEAVE, "X-Office-Token: tok00003", length(50)) + post("answer", LEAVE, "x-office-token: no", SECOND, length(50)),
+        DENIED * 3,
+    ),
+    "a token with blanks round it, and its name in small letters": (post("answer", LEAVE, "x-office-token: \t tok00002 ", length(50)), LEFT),
+    "a hundred and one messages": (get() * 101, STATE * 99 + STATE_CLOSED),
+    "a hundred messages": (get() * 100, STATE * 99 + STATE_CLOSED),
+}
+
+
+@trial
+def exchanges(room, program, bundle, cuts):
+    """Each exchange on a server of its own: the bytes at once, or in pieces of so many."""
+    for label, (given, told) in EXCHANGES.items():
+        label = f"{label}, in pieces of {cuts or 'all'} bytes"
+        with Server(program, room, label, 1, bundle=bundle) as server:
+            same(label, server.talk([given[at : at + (cuts or len(given))] for at in range(0, len(given), cuts or len(given) or 1)]), told)
+            wrote, _, status = server.ended()
+            want(status == 0 and wrote.endswith(f"entries {1 if LEFT in told else 0}\n"), label, f"it ended with status {status} and wrote {wrote!r}")
+
+
+@trial
+def torn(room, program, bundle):
+    """Each beginning of a message gets no reply, and the next connection is served."""
+    given = as_answer(LEAVE)
+    with Server(program, room, "torn messages", len(given) + 1, bundle=bundle) as server:
+        for at in range(len(given)):
+            same(f"the first {at} bytes of a message", server.talk([given[:at]]), b"")
+        same("the message after all its beginnings", server.talk([given]), LEFT)
+        wrote, _, status = server.ended()
+        want(status == 0 and wrote.endswith("entries 1\n"), "torn messages", f"it ended with status {status} and wrote {wrote!r}")
+
+
+# ---- clients side by side
+
+
+class Client(threading.Thread):
+    """A client with one request after another, some to a connection. What it asks next may depend on how far it knows the office to be."""
+
+    def __init__(self, server, season, draw, next_row):
+        super().__init__(daemon=True)
+        self.server, self.season, self.draw, self.next_row = server, season, draw, next_row
+        self.came, self.fault, self.now = [], None, 0
+
+    def run(self):
+        try:
+            row = self.next_row(self)
+            while row:
+                with self.server.connected() as link:
+                    row = self.over(link, row, self.draw.randint(1, 5))
+        except (OSError, EOFError) as why:
+            self.fault = f"{type(why).__name__} {why}"
+
+    def over(self, link, row, count):
+        """So many requests over one connection, from this one on; the next one after them."""
+        held = b""
+        for _ in range(count):
+            link.sendall(message(*asked(self.season, row)))
+            status, body, closes, held = read_reply(link, held)
+            self.came.append((row, (status, body)))
+            row = self.next_row(self)
+            if not row or closes:
+                break
+        return row
+
+
+class Crowd:
+    """The clients of a season: its candidates, its clerk, and others who only look."""
+
+    def __init__(self, server, season, seed, count):
+        self.season, self.over, self.clients = season, threading.Event(), []
+        self.choices = season.choices
+        for number in range(count - 1):
+            draw = random.Random(seed * 100 + number)
+            people = season.people
+            row = functools.partial(self.of_candidate, people[number]) if number < len(people) else self.of_anybody
+            self.clients.append(Client(server, season, draw, row))
+        self.clerk = Client(server, season, random.Random(seed * 100 + 99), self.of_clerk)
+        self.clerk_rows = iter(self.rows_of_clerk())
+        self.left = collections.Counter()
+
+    def goes_on(self, client):
+        """Until the clerk is done, and some requests more; the state was asked if the client does not know how far the office is."""
+        if self.over.is_set():
+            self.left[client] += 1
+        if client.came:
+            status, body = client.came[-1][1]
+            told = json.loads(body)
+            client.now = told.get("now", client.now)
+        return self.left[client] < 5 and len(client.came) < 2000
+
+    def of_candidate(self, person, client):
+        if not self.goes_on(client):
+            return None
+        cand, draw = person.id, client.draw
+        own = [it for row, (status, _) in client.came for it in [row.split(",")] if it[0] == "answer" and status == 200 and int(it[3]) == client.now]
+        turn = max((int(it[4]) for it in own), default=0) + 1
+        answer = f"answer,{cand},{cand},{client.now},{turn},{draw.choice(('float', 'float', 'slide', 'freeze', 'withdraw') if draw.random() < 0.2 else ('float', 'slide'))}"
+        code = draw.choice(sorted(self.season.programmes))
+        return draw.choice([answer, answer, f"seat,{cand},{cand}", f"why,{cand},{cand},{code}", "state,nobody"])
+
+    def of_anybody(self, client):
+        if not self.goes_on(client):
+            return None
+        code = client.draw.choice(sorted(self.season.programmes))
+        return client.draw.choice(["state,nobody", f"list,nobody,{client.draw.randint(0, self.season.rounds + 1)},{code}"])
+
+    def rows_of_clerk(self):
+        """All cuts, with raises and repeated cuts between them, each window open until the others asked some more."""
+        draw = self.clerk.draw
+        for window in range(self.season.rounds + 1):
+            self.wait_for(40)
+            for code in sorted(self.season.programmes):
+                if draw.random() < 0.3:
+                    yield f"raise,clerk,{window},{code},OPEN,{draw.randint(1, 3)}"
+            yield f"cut,clerk,{window}"
+            yield f"cut,clerk,{max(window - draw.randint(0, 1), 0)}"
+        self.over.set()
+
+    def wait_for(self, more):
+        before, until = sum(len(it.came) for it in self.clients), time.monotonic() + 5
+        while sum(len(it.came) for it in self.clients) < before + more and time.monotonic() < until:
+            time.sleep(0.001)
+
+    def of_clerk(self, _):
+        return next(self.clerk_rows, None)
+
+    def served(self):
+        everybody = [*self.clients, self.clerk]
+        for it in everybody:
+            it.start()
+        for it in everybody:
+            it.join(SECONDS)
+            want(not it.is_alive(), "clients side by side", "a client waits for its reply")
+            want(it.fault is None, "clients side by side", it.fault)
+        return everybody
+
+
+class History:
+    """The one history that the rows of a store are, as the plain office accepts it, and the office after each of its cuts."""
+
+    def __init__(self, season, rows):
+        self.season, self.offices = season, []
+        codes, steps, choices = list(season.programmes), ("OPEN", "EWS", "OBC", "SC", "ST", "D"), ("freeze", "float", "slide", "withdraw")
+        office = Office(season)
+        for window in range(rows["phase"][0][1] + 1):
+            self.offices.append(forked(office))
+            script = [f"raise,clerk,{w},{codes[prog]},{steps[step]},{seats}" for _, w, prog, step, seats in rows["lift"] if w == window]
+            script += [f"answer,{c},{c},{w},{turn},{choices[choice]}" for _, w, c, turn, choice in rows["answer"] if w == window]
+            script += [f"cut,clerk,{window}"] if window < rows["phase"][0][1] else []
+            for row in script:
+                before = count_of(office)
+                reply = office.reply(row)
+                want(count_of(office) == before + 1, "clients side by side", f"the kept row {row} is not newly accepted where it stands: {reply!r:.60}")
+        self.last = office
+        want(office.rows() == rows, "clients side by side", "the kept rows are not those of the history")
+
+    def replies(self, row, cuts, own):
+        """The reply to a row at so many cuts, of one who was told of these accepted rows of the open window, and how many cuts there are after it."""
+        word, by, *fields = row.split(",")
+        if word == "cut" and by == "clerk" and int(fields[0]) == cuts and cuts + 1 < len(self.offices):
+            return forked(self.offices[cuts + 1]).reply(row), cuts + 1
+        office = forked(self.offices[cuts])
+        for it in own:
+            office.reply(it)
+        return office.reply(row), cuts
+
+    def holds(self, came):
+        """The replies of one client in their order, each at a place of the history not before that of the last one."""
+        cuts, own = 0, []
+        for row, reply in came:
+            for at in range(cuts, len(self.offices)):
+                text, after = self.replies(row, at, own if at == cuts else [])
+                if replied(text) == reply:
+                    own = (own if after == cuts else []) + ([row] if row.split(",")[0] in ("answer", "raise") and reply[0] == 200 else [])
+                    cuts = after
+                    break
+            else:
+                raise Wrong(f"clients side by side: at no place of the history, from cut {cuts} on, {row} is replied by {reply}")
+
+
+def count_of(office):
+    return len(office.answers) + len(office.raises) + office.cuts
+
+
+def forked(office):
+    made = Office(office.season)
+    made.answers, made.raises, made.cuts, made.rounds = [*office.answers], [*office.raises], office.cuts, [*office.rounds]
+    return made
+
+
+@trial
+def side_by_side(room, program, text, seed, workers, count):
+    """So many workers and clients at once: afterwards the file's rows are one history, which has what each client was told, each once and in its order."""
+    if not READS_STORES:
+        return
+    season = Season(text)
+    label = f"{workers} workers and {count} clients"
+    with Server(program, room, label, 100_000, workers, store="season.db", bundle=text.encode()) as server:
+        everybody = Crowd(server, season, seed, count).served()
+        # it ends with its connections alone, so it is stopped; what was answered is kept
+        server.child.send_signal(signal.SIGKILL)
+        server.child.communicate()
+    kept = kept_rows(f"{room}/season.db")
+    history = History(season, kept)
+    for client in everybody:
+        history.holds(client.came)
+    noted = sorted({row for it in everybody for row, (status, _) in it.came if status == 200 and row.split(",")[0] in ("answer", "raise")})
+    stand = len(kept["answer"]) + len(kept["lift"])
+    want(len(noted) == stand, label, f"{len(noted)} answers and raises were told as accepted, and {stand} are kept")
+    want(kept["phase"] == [(1, season.rounds + 1)], label, "not all windows are cut")
+
+
+# ---- a server that is killed
+
+
+@trial
+def killed(room, program, script, at, delay):
+    """It is killed while request `at` is under way, and taken up again with what its store keeps: nothing that was answered is lost, and the season goes on. What was
+    accepted or only read is asked again: it changes nothing, and what was accepted gives its receipt."""
+    label = f"{script.label}, killed at request {at}"
+    with Server(program, room, label, 1, store="season.db", bundle=script.text.encode()) as server:
+        with server.connected() as link:
+            link.sendall(get())
+            *_, held = read_reply(link)
+            for one, reply in zip(script.messages[:at], script.replies):
+                link.sendall(one)
+                *came, _, held = read_reply(link, held)
+                want(tuple(came) == reply, label, f"{came} comes, and not {reply}")
+            link.sendall(script.messages[at])
+            time.sleep(delay)
+            server.stop()
+    office = Office(script.season)
+    for row in script.rows[: at + 1]:
+        office.reply(row)
+    done = [it for it in range(at) if script.replies[it][0] == 200]
+    told = [script.replies[at], *(replied(forked(office).reply(script.rows[it])) for it in done)]
+    with Server(program, room, label, 2, start="kept", store="season.db") as server:
+        given = b"".join(script.messages[it] for it in (at, *done))
+        same(f"{label}, and asked again", server.talk([given]), b"".join(reply_bytes(*it) for it in told))
+        same(f"{label}, and going on", server.talk([b"".join(script.messages[at + 1 :])]), script.told(at + 1))
+        ends_well(server, script.office, label)
+    want(not READS_STORES or kept_rows(f"{room}/season.db") == script.office.rows(), label, "the store has other rows than the plain office accepted")
+
+
+# ---- clients that go away
+
+
+@trial
+def gone(room, program, bundle):
+    """Clients that go away, in the middle of a request, of many, or before a reply, and one that takes no reply: the next ones are served."""
+    label = "clients that go away"
+    with Server(program, room, label, 5, bundle=bundle) as server:
+        for given in (b"", get()[:-3], get() * 50, as_answer(LEAVE)):
+            with server.connected() as link:
+                link.setsockopt(socket.SOL_SOCKET, socket.SO_LINGER, struct.pack("ii", 1, 0))
+                link.sendall(given)
+        reply = server.talk([post("answer", LEAVE, SECOND, length(len(LEAVE)))])
+        same(label, reply, LEFT)
+        wrote, _, status = server.ended()
+        want(status == 0 and wrote.endswith("entries 1\n"), label, f"it ended with status {status} and wrote {wrote!r}")
+
+
+@trial
+def silent(room, program, bundle):
+    """A client that says no more in the middle of a message fails its own connection, and the one after it is served."""
+    label = "a silent client"
+    with Server(program, room, label, 2, bundle=bundle) as server:
+        begun = time.monotonic()
+        with server.connected() as link:
+            link.sendall(get()[:-3])
+            same(label, server.talk([get()]), STATE)
+            waited = time.monotonic() - begun
+            want(PATIENCE - 5 <= waited <= PATIENCE + 15, label, f"it was waited for {waited:.0f} seconds")
+            same(label, rest_of(link), b"")
+        wrote, _, status = server.ended()
+        want(status == 0 and wrote.endswith("entries 0\n"), label, f"it ended with status {status} and wrote {wrote!r}")
+
+
+# ---- how it ends
+
+
+def ended(program, room, words, **how):
+    ran = subprocess.run([program, *words], cwd=room, capture_output=True, timeout=SECONDS, **how)
+    return ran.stdout, ran.stderr, ran.returncode
+
+
+@trial
+def port_taken(room, program, bundle):
+    """A port that somebody has: nothing is read, nothing is written, and the store has no season."""
+    with socket.socket() as it:
+        it.bind(("127.0.0.1", 0))
+        it.listen()
+        port = str(it.getsockname()[1])
+        for store in ("memory", "season.db"):
+            came = ended(program, room, ["serve", "1", "1", "new", port, store], input=bundle)
+            want(came == NO_PORT, "a port that is taken", f"{came} comes, and not {NO_PORT}")
+    came = ended(program, room, ["resume", "season.db"], input=b"")
+    want(came == (b"fault: keeper holds no season\n", b"", 3), "a store after a port that is taken", f"{came} comes")
+
+
+@trial
+def no_season(room, program, bundle):
+    """What ends a server before its first connection: faults of the bundle and of the store, an input that is closed, a store that cannot be opened."""
+    requests = bundle + b"[requests]\nstate,nobody\n"
+    ended(program, room, ["run", "held.db"], input=requests)
+    ended(program, room, ["resume", "empty.db"], input=b"")
+    line = bundle.count(b"\n") + 1
+    trials_of = [
+        (["new", "memory"], requests, f"fault: bundle line {line} Section\n", 3),
+        (["new", "memory"], b"office bundle 1\n[season]\nrounds", "fault: bundle line 4 Section\n", 3),
+        (["new", "memory"], b"office bundle 3\n", "fault: bundle BadFirstLine\n", 3),
+        (["new", "held.db"], bundle, "fault: keeper holds a season\n", 3),
+        (["kept", "memory"], b"", "fault: keeper holds no season\n", 3),
+        (["kept", "empty.db"], b"", "fault: keeper holds no season\n", 3),
+    ]
+    for (start, store), given, told, status in trials_of:
+        wrote, _, came = ended(program, room, ["serve", "1", "1", start, str(free_port()), store], input=given)
+        want((wrote.decode(), came) == (told, status), f"serve {start} {store}", f"it wrote {wrote!r:.80} and ended with status {came}, and not {told!r} and {status}")
+    closed = ended("/bin/sh", room, ["-c", f'exec "$0" serve 1 1 new {free_port()} memory <&-', program])
+    want((closed[0], closed[2]) == (b"fault: read\n", 4), "serve with its input closed", f"{closed} comes")
+    with open("/dev/full", "wb") as full:
+        child = subprocess.Popen([program, "serve", "1", "1", "new", str(port := free_port()), "memory"], cwd=room, stdin=subprocess.PIPE, stdout=full, stderr=subprocess.DEVNULL)
+        child.stdin.write(bundle)
+        child.stdin.close()
+        until = time.monotonic() + SECONDS
+        while not listeners(port) and time.monotonic() < until:
+            time.sleep(0.005)
+        socket.create_connection(("127.0.0.1", port), timeout=SECONDS).close()
+        want(child.wait(SECONDS) == 5, "serve with a full output", f"it ended with status {child.returncode}")
+
+
+@trial
+def one_connection(room, program, bundle):
+    """After its one connection it takes no other and ends."""
+    with Server(program, room, "one connection", 1, bundle=bundle) as server:
+        same("one connection", server.talk([get()]), STATE)
+        ends_well(server, Office(Season(bundle.decode())), "one connection")
+        with contextlib.suppress(ConnectionRefusedError):
+            server.connected().close()
+            raise Wrong("one connection: another one is taken after the end")
+
+
+# ---- the tour of the README
+
+
+def tour_of(text):
+    """The calls of `curl` in the part of the README that serves an office, each with the reply that stands below it."""
+    part = text.partition("\n## The office over HTTP\n")[2].partition("\n## ")[0]
+    blocks = [it.strip() for it in re.findall(r"(?:^ {4}.*\n)+", part, re.M)]
+    return [(one, other) for one, other in zip(blocks, blocks[1:]) if one.startswith("curl ")], part
+
+
+@trial
+def tour(room, program, bundle):
+    """Each call of the tour is replied as it says there, and so is the end."""
+    with open(f"{TOP}/README.md", encoding="utf-8") as it:
+        calls, part = tour_of(it.read())
+    want(len(calls) >= 7, "the tour of the README", f"it has {len(calls)} calls")
+    if not shutil.which("curl"):
+        return
+    with Server(program, room, "the tour of the README", len(calls), store="season.db", bundle=bundle) as server:
+        for call, told in calls:
+            said = subprocess.run(["sh", "-c", call.replace(":8080/", f":{server.port}/")], cwd=room, capture_output=True, text=True, timeout=SECONDS).stdout
+            want(said == told, "the tour of the README", f"{call} is replied by {said!r:.200}")
+        wrote, _, status = server.ended()
+        lacking = [it for it in wrote.splitlines() if f"`{it}`" not in part]
+        want(status == 0 and wrote and not lacking, "the tour of the README", f"it ended with status {status} and wrote {wrote!r}")
+
+
+def has_serve(program):
+    """Whether the program knows the command: where it does not, its words are none."""
+    with tempfile.TemporaryDirectory(prefix="served-") as room:
+        return ended(program, room, ["serve", "1", "1", "kept", str(free_port()), "memory"], input=b"")[2] != 2
+
+
+def trials(program, bundle, worked, drawn, is_long):
+    """What is tried, each a call that gives a fault or None: over the season of five candidates, worked scripts of cases, and drawn ones of a season of several rounds."""
+    worked = worked_scripts(worked)
+    scripts = [Script(label, text, rows) for label, text, rows, *_ in drawn]
+    for script in worked + scripts:
+        yield functools.partial(scripted, program, script, None, "season.db")
+    for script in (worked + scripts)[:: 5 if is_long else 20]:
+        for cuts in (1, 2, 3, 7) if is_long else (3,):
+            yield functools.partial(scripted, program, script, cuts, "memory")
+    for cuts in (None, 1, 2, 3, 7) if is_long else (None,):
+        yield functools.partial(exchanges, program, bundle, cuts)
+    long = Script("two hundred and fifty requests", bundle.decode(), ["state,nobody", "seat,1,1"] * 125)
+    yield functools.partial(scripted, program, long, None, "memory")
+    text = scripts[-1].text
+    for seed in range(20 if is_long else 2):
+        yield functools.partial(side_by_side, program, text, seed, 4, 8)
+    for number, script in enumerate(scripts[:: 10 if is_long else len(scripts)]):
+        for at in (0, len(script.rows) // 2, len(script.rows) - 1) if is_long else (len(script.rows) // 2,):
+            yield functools.partial(killed, program, script, at, 0.0005 * (number % 4))
+    for tried in (torn, gone, port_taken, no_season, one_connection, tour, *([silent] if is_long else [])):
+        yield functools.partial(tried, program, bundle)
