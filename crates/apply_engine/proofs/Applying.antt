@@ -11,7 +11,7 @@ use Rattle.allocations.proofs.Settled.{not_begun_free, still_not_begun}
 use Rattle.allocations.proofs.Those.{value_at}
 use Rattle.open_then_category.specs.State.{ProgrammeKept}
 use Rattle.rounds.specs.Rule.{rule_of}
-use Rattle.apply_engine.specs.Engine.{Begins, BeginsAt, HasApplied, IsFree, IsGoing, IsSet, IsSettledBut, Leaves, Reads, Setting, seekers_in}
+use Rattle.apply_engine.specs.Engine.{AreSettledBefore, HasApplied, IsFree, IsGoing, IsNextToPropose, IsSet, IsSettledBut, Leaves, MayPropose, Setting, seekers_in}
 use Rattle.apply_engine.proofs.Making.{standing}
 use Rattle.apply_engine.proofs.Setting.{length_with, seeker_at}
 use Rattle.round_laws.proofs.People.{there_is}
@@ -28,10 +28,10 @@ pub record IsOn (over : Setting) (people : List Person) (lists : List (List Prog
   pub not_begun : HaveNotBegun next (first + 1)
   pub cost : steps + places_left (seekers_in over) next ≡ steps_before + places_left (seekers_in over) before
 
-pub begins_on : (over : Setting) (people : List Person) (lists : List (List ProgId)) (next : List ℕ) (states : List ProgrammeKept) (first steps : ℕ) → BeginsAt over people lists next states first
+pub begins_on : (over : Setting) (people : List Person) (lists : List (List ProgId)) (next : List ℕ) (states : List ProgrammeKept) (first steps : ℕ) → IsNextToPropose over people lists next states first
     → IsOn over people lists next next states first first steps steps
 begins_on over people lists next states first steps b =
-    let r = b.begins in
+    let r = b.before in
     let less : first < length (seekers_in over) = (let full = length_with over.people over.lists r.set_is.full in let same = ap length r.people_is in let in_people = b.within in omega (arith, full, same, in_people)) in
     let s = there_is (seekers_in over) first less in
     let n = value_at (seekers_in over) next first s.0 r.going.underway.full s.1 in
@@ -48,9 +48,9 @@ begins_on over people lists next states first steps b =
       cost = refl;
     }
 
-pub reads_on : (over : Setting) (people : List Person) (lists : List (List ProgId)) (before next : List ℕ) (states : List ProgrammeKept) (first cur steps_before steps : ℕ) (list : List ProgId)
-    → IsOn over people lists before next states first cur steps_before steps → slice_get lists cur ≡ Some list → slice_index next cur < length list → Reads over people lists next states cur
-reads_on over people lists before next states first cur steps_before steps list h there less = record {
+pub may_propose_on : (over : Setting) (people : List Person) (lists : List (List ProgId)) (before next : List ℕ) (states : List ProgrammeKept) (first cur steps_before steps : ℕ) (list : List ProgId)
+    → IsOn over people lists before next states first cur steps_before steps → slice_get lists cur ≡ Some list → slice_index next cur < length list → MayPropose over people lists next states cur
+may_propose_on over people lists before next states first cur steps_before steps list h there less = record {
   people_is = h.people_is;
   lists_is = h.lists_is;
   set_is = h.set_is;
@@ -144,14 +144,14 @@ ends_list over people lists before next states first cur steps_before steps list
 
 -- ---- all candidates
 
-pub first_applied : (over : Setting) (people : List Person) (lists : List (List ProgId)) (next : List ℕ) (states : List ProgrammeKept) (steps : ℕ) → Begins over people lists next states 0
+pub first_applied : (over : Setting) (people : List Person) (lists : List (List ProgId)) (next : List ℕ) (states : List ProgrammeKept) (steps : ℕ) → AreSettledBefore over people lists next states 0
     → HasApplied over next next states 0 steps steps
 first_applied over people lists next states steps b = record { going = b.going; settled = b.settled; not_begun = b.not_begun; cost = refl }
 
 pub begins_next : (over : Setting) (people : List Person) (lists : List (List ProgId)) (before next : List ℕ) (states states' : List ProgrammeKept) (first steps_before steps : ℕ)
-    → Begins over people lists before states 0 → HasApplied over before next states' first steps_before steps → first < length next → BeginsAt over people lists next states' first
+    → AreSettledBefore over people lists before states 0 → HasApplied over before next states' first steps_before steps → first < length next → IsNextToPropose over people lists next states' first
 begins_next over people lists before next states states' first steps_before steps b h less = record {
-  begins = record { people_is = b.people_is; lists_is = b.lists_is; set_is = b.set_is; going = h.going; settled = h.settled; not_begun = h.not_begun };
+  before = record { people_is = b.people_is; lists_is = b.lists_is; set_is = b.set_is; going = h.going; settled = h.settled; not_begun = h.not_begun };
   within = (let full = h.going.underway.full in let size = length_with over.people over.lists b.set_is.full in let same = ap length b.people_is in omega (arith, less, full, size, same));
 }
 
@@ -165,7 +165,7 @@ applied_more over before middle next states states' first last steps_before step
 }
 
 -- there are as many places as people
-pub as_many : (over : Setting) (people : List Person) (lists : List (List ProgId)) (next : List ℕ) (states : List ProgrammeKept) → Begins over people lists next states 0 → length next ≡ length people
+pub as_many : (over : Setting) (people : List Person) (lists : List (List ProgId)) (next : List ℕ) (states : List ProgrammeKept) → AreSettledBefore over people lists next states 0 → length next ≡ length people
 as_many over people lists next states b =
     let full = b.going.underway.full in
     let size = length_with over.people over.lists b.set_is.full in

@@ -1,13 +1,13 @@
 -- The applications begin with nobody admitted, and end.
 use Rattle.std.proofs.Common.{◌≡◌, ◌<◌, ◌≤◌, ◌+◌, ◌++◌, inl, ℕ, zero, suc, List, [], ◌∷◌, Some, length, arith, refl, sym, ap, ◌∙◌, subst, nat_lt}
-use Rattle.std.specs.Prelude.{slice_get, replicate}
+use Rattle.std.specs.Prelude.{slice_get, replicate, sum}
 use Rattle.std.proofs.lemmas.Bool.{ltb-true}
 use Rattle.std.proofs.lemmas.Option.{slice_get_within}
 use Rattle.office_base.specs.Lists.{IsAmong}
 use Rattle.office_base.specs.declared.person.Person.{Person}
 use Rattle.office_base.specs.declared.person.ProgId.{ProgId}
 use Rattle.placements.proofs.Ranks.{any_among}
-use Rattle.allocations.specs.Course.{places, tried}
+use Rattle.allocations.specs.Course.{places, places_left, tried}
 use Rattle.allocations.proofs.Course.{begins, left_at_first, tried_may}
 use Rattle.allocations.proofs.Those.{of_those}
 use Rattle.allocations.specs.Market.{Seeker, place_of}
@@ -17,7 +17,8 @@ use Rattle.programme_lists.specs.Chosen.{ChoosesFrom, everybody}
 use Rattle.programme_lists.specs.Programme.{Admissions}
 use Rattle.rounds.specs.Rule.{MayApplyIn, rule_of}
 use Rattle.seat_matrix.specs.Matrix.{SeatTable, seats_in}
-use Rattle.apply_engine.specs.Engine.{AreBegun, AreTallied, AreUntried, Begins, Enters, HasApplied, HasRun, IsSet, IsSettledTo, Setting, seekers_in}
+use Rattle.apply_engine.specs.Engine.{AreBegun, AreSettledBefore, AreTallied, AreUntried, Enters, HasApplied, HasRun, IsSet, IsSettledTo, Setting, seekers_in}
+use Rattle.apply_engine.proofs.Counting.{tried_and_left}
 use Rattle.apply_engine.proofs.Setting.{chooses_well, length_with}
 use Rattle.apply_engine.proofs.Tallies.{untried}
 
@@ -77,7 +78,7 @@ choice_from_none over p set below may =
 
 -- The applications begin.
 pub enters : (over : Setting) (version : ℕ) (table : SeatTable) (people : List Person) (lists : List (List ProgId)) (next : List ℕ) (states : List ProgrammeKept)
-    → Enters over version table people lists → AreBegun version table states → next ≡ replicate (length lists) 0 → Begins over people lists next states 0
+    → Enters over version table people lists → AreBegun version table states → next ≡ replicate (length lists) 0 → AreSettledBefore over people lists next states 0
 enters over version table people lists next states e begun zeros =
     let people_is : over.people ≡ people = ap (λ (o : Setting). o.people) e.over_is in
     let lists_is : over.lists ≡ lists = ap (λ (o : Setting). o.lists) e.over_is in
@@ -142,13 +143,29 @@ run_again over next next2 states states2 tallies tallies2 a b d run =
     subst (λ (l : List ℕ). HasRun over l states2 tallies2) (sym a)
     (subst (λ (l : List ProgrammeKept). HasRun over next l tallies2) (sym b) (subst (λ (l : List Tried). HasRun over next states l) (sym d) run))
 
-pub at_most : (over : Setting) (version : ℕ) (table : SeatTable) (people : List Person) (lists : List (List ProgId)) (before next : List ℕ) (states : List ProgrammeKept) (last steps_before steps : ℕ)
-    → Enters over version table people lists → before ≡ replicate (length lists) 0 → HasApplied over before next states last steps_before steps → steps ≤ steps_before + places (seekers_in over)
-at_most over version table people lists before next states last steps_before steps e zeros h =
+-- at first all places are left to try
+left_first : (over : Setting) (version : ℕ) (table : SeatTable) (people : List Person) (lists : List (List ProgId)) (before : List ℕ) → Enters over version table people lists
+    → before ≡ replicate (length lists) 0 → places_left (seekers_in over) before ≡ places (seekers_in over)
+left_first over version table people lists before e zeros =
     let lists_is : over.lists ≡ lists = ap (λ (o : Setting). o.lists) e.over_is in
     let none : (i n : ℕ) → slice_get before i ≡ Some n → n ≡ 0 = λ i n at. zeros_at (length lists) i n (subst (λ l. slice_get l i ≡ Some n) zeros at) in
     let size = length_with over.people over.lists e.set_is.full in
     let full : length before ≡ length (seekers_in over) = (let a = ap length zeros ∙ length_zeros (length lists) in let b = ap length lists_is in let d = e.set_is.full in omega (arith, a, b, d, size)) in
-    let all = left_at_first (seekers_in over) before full none in
+    left_at_first (seekers_in over) before full none
+
+-- The steps are no more than there are places,
+pub at_most : (over : Setting) (version : ℕ) (table : SeatTable) (people : List Person) (lists : List (List ProgId)) (before next : List ℕ) (states : List ProgrammeKept) (last steps_before steps : ℕ)
+    → Enters over version table people lists → before ≡ replicate (length lists) 0 → HasApplied over before next states last steps_before steps → steps ≤ steps_before + places (seekers_in over)
+at_most over version table people lists before next states last steps_before steps e zeros h =
+    let all = left_first over version table people lists before e zeros in
     let cost = h.cost in
     omega (arith, all, cost)
+
+-- and as many as were tried.
+pub exactly : (over : Setting) (version : ℕ) (table : SeatTable) (people : List Person) (lists : List (List ProgId)) (before next : List ℕ) (states : List ProgrammeKept) (last steps_before steps : ℕ)
+    → Enters over version table people lists → before ≡ replicate (length lists) 0 → HasApplied over before next states last steps_before steps → steps ≡ steps_before + sum next
+exactly over version table people lists before next states last steps_before steps e zeros h =
+    let all = left_first over version table people lists before e zeros in
+    let both = tried_and_left (seekers_in over) next h.going.underway.full h.going.underway.within in
+    let cost = h.cost in
+    omega (arith, all, both, cost)

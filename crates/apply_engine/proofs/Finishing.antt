@@ -1,6 +1,6 @@
 -- The end of a round: what the lists of the programmes show, and that the seats are the best allocation.
 use Rattle.std.proofs.Common.{◌≡◌, ◌<◌, ◌+◌, ℕ, List, Option, Some, length, arith, refl, sym, ap, ◌∙◌, subst, nat_lt}
-use Rattle.std.specs.Prelude.{slice_get}
+use Rattle.std.specs.Prelude.{slice_get, sum}
 use Rattle.std.proofs.lemmas.Option.{slice_get_within}
 use Rattle.office_base.specs.Merit.{in_merit}
 use Rattle.office_base.specs.Lists.{IsAmong}
@@ -27,8 +27,10 @@ use Rattle.seat_matrix.specs.Matrix.{seats_in}
 use Rattle.seat_matrix.specs.declared.seats.ProgrammeSeats.{ProgrammeSeats}
 use Rattle.office_base.proofs.StepNumbers.{kinds, kind_at, number_at}
 use Rattle.seeks.specs.declared.seek.Seek.{Seek}
+use Rattle.apply_engine.specs.Applications.{applications}
 use Rattle.apply_engine.specs.Engine.{HasEnded, HasRun, IsMade, IsSet, Setting, seekers_in}
 use Rattle.apply_engine.specs.Made.{AreGiven, AreInOrder, AreListed, AreShown, admitted_of, shown}
+use Rattle.apply_engine.proofs.Counting.{settled_applications}
 use Rattle.apply_engine.proofs.Offers.{admitted_is_there, held_tried, rule_shows}
 use Rattle.apply_engine.proofs.Setting.{chooses_well, length_with, seeker_at}
 use Rattle.round_laws.proofs.People.{there_is}
@@ -187,6 +189,13 @@ made over next programmes seats n seeks r given =
           sym (settled_applicants (rule_of over.version over.table) (MayApplyIn over.table) (length over.table.programmes) p (seekers_in over) next seats r.ended.underway are settled) in
           subst (λ people. ShowsFrom over.version (seats_in over.table p) people programme) same (r.listed.each p programme at);
     }
+
+-- The programmes that were tried in a run are the applications down to its seats.
+pub run_applications : (over : Setting) (next : List ℕ) (programmes : List Programme) (seats : List (Option Seat)) → Run over next programmes
+    → AreGiven over.people programmes (length programmes) seats → sum next ≡ applications (seekers_in over) seats
+run_applications over next programmes seats r given =
+    settled_applications (rule_of over.version over.table) (length over.table.programmes) (seekers_in over) next seats r.ended.underway (are_seats over next programmes seats r given)
+    (all_settled over next r.set_is r.ended)
 
 -- What came to a programme of a run: those who tried it.
 pub have_come : (over : Setting) (next : List ℕ) (states : List ProgrammeKept) (tallies : List Tried) (p : ℕ) (state : ProgrammeKept) (tally : Tried) → HasRun over next states tallies

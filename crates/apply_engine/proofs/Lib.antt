@@ -1,5 +1,6 @@
 pub mod Answered
 pub mod Applying
+pub mod Counting
 pub mod Ending
 pub mod Finishing
 pub mod MadeLemmas

@@ -15,7 +15,7 @@ use Rattle.open_then_category.specs.State.{IsAnswered, ProgrammeKept}
 use Rattle.programme_lists.specs.Chosen.{AreApplicants, ChoosesFrom, everybody}
 use Rattle.rank_lists.specs.Register.{row_of}
 use Rattle.rounds.specs.Rule.{rule_of}
-use Rattle.apply_engine.specs.Engine.{IsFree, IsSet, Leaves, Reads, Setting, seekers_in}
+use Rattle.apply_engine.specs.Engine.{IsFree, IsSet, Leaves, MayPropose, Setting, seekers_in}
 use Rattle.apply_engine.proofs.Answered.{Given, Offer, leaves_displaced, may_be_offered}
 use Rattle.apply_engine.proofs.Setting.{seeker_at}
 
@@ -42,7 +42,7 @@ pub record Making (over : Setting) (next : List ℕ) (states : List ProgrammeKep
   pub try : MayTry (rule_of over.version over.table) (length over.table.programmes) (seekers_in over) next cur p (slice_index next cur) s
 
 pub making : (over : Setting) (people : List Person) (lists : List (List ProgId)) (next : List ℕ) (states : List ProgrammeKept) (cur to p : ℕ) (list : List ProgId) (d : ProgId)
-    → Reads over people lists next states cur → slice_get lists cur ≡ Some list → to ≡ get_or next cur 0 → p ≡ (get_or list to d).0 → Making over next states cur p
+    → MayPropose over people lists next states cur → slice_get lists cur ≡ Some list → to ≡ get_or next cur 0 → p ≡ (get_or list to d).0 → Making over next states cur p
 making over people lists next states cur to p list d r read to_is p_is =
     let s : Seeker = r.free.s in
     let at = seeker_at over.people over.lists cur s r.free.there in
@@ -69,10 +69,10 @@ making over people lists next states cur to p list d r read to_is p_is =
 
 -- the offer itself
 pub offer_of : (over : Setting) (people : List Person) (lists : List (List ProgId)) (next : List ℕ) (states : List ProgrammeKept) (cur p : ℕ) (old : ProgrammeKept)
-    → Reads over people lists next states cur → (m : Making over next states cur p) → slice_get states p ≡ Some old → Offer over next states cur p (slice_index next cur) m.s old
+    → MayPropose over people lists next states cur → (m : Making over next states cur p) → slice_get states p ≡ Some old → Offer over next states cur p (slice_index next cur) m.s old
 offer_of over people lists next states cur p old r m at = record { set_is = r.set_is; going = r.going; try = m.try; at = at }
 
-pub known : (over : Setting) (people : List Person) (lists : List (List ProgId)) (next : List ℕ) (states : List ProgrammeKept) (cur p : ℕ) → Reads over people lists next states cur
+pub known : (over : Setting) (people : List Person) (lists : List (List ProgId)) (next : List ℕ) (states : List ProgrammeKept) (cur p : ℕ) → MayPropose over people lists next states cur
     → Making over next states cur p → (p < length states) × (p < most_programmes)
 known over people lists next states cur p r m =
     let below = m.try.below in
@@ -82,20 +82,20 @@ known over people lists next states cur p r m =
 
 -- the person who is read is the seeker's
 pub same_person : (over : Setting) (people : List Person) (lists : List (List ProgId)) (next : List ℕ) (states : List ProgrammeKept) (cur p : ℕ) (d : Person)
-    → Reads over people lists next states cur → (m : Making over next states cur p) → get_or people cur d ≡ m.s.person
+    → MayPropose over people lists next states cur → (m : Making over next states cur p) → get_or people cur d ≡ m.s.person
 same_person over people lists next states cur p d r m =
     let at = seeker_at over.people over.lists cur m.s m.try.there in
     get_or_from_slice_get people cur m.s.person d (subst (λ l. slice_get l cur ≡ Some m.s.person) r.people_is at.person_at)
 
 pub offered : (over : Setting) (people : List Person) (lists : List (List ProgId)) (next : List ℕ) (states : List ProgrammeKept) (cur p : ℕ) (old : ProgrammeKept) (person : Person)
-    → Reads over people lists next states cur → (m : Making over next states cur p) → slice_get states p ≡ Some old → person ≡ m.s.person
+    → MayPropose over people lists next states cur → (m : Making over next states cur p) → slice_get states p ≡ Some old → person ≡ m.s.person
     → AreApplicants old.seats.list (person ∷ everybody old.admissions)
 offered over people lists next states cur p old person r m at same =
     subst (λ z. AreApplicants old.seats.list (z ∷ everybody old.admissions)) (sym same)
     (may_be_offered over next states cur p (slice_index next cur) m.s old (offer_of over people lists next states cur p old r m at))
 
 pub given : (over : Setting) (people : List Person) (lists : List (List ProgId)) (next : List ℕ) (states : List ProgrammeKept) (cur p : ℕ) (old new : ProgrammeKept) (person : Person) (result : Offered)
-    → Reads over people lists next states cur → (m : Making over next states cur p) → slice_get states p ≡ Some old → person ≡ m.s.person
+    → MayPropose over people lists next states cur → (m : Making over next states cur p) → slice_get states p ≡ Some old → person ≡ m.s.person
     → new ≡ record old { admissions = new.admissions } → ChoosesFrom old.version old.seats (person ∷ everybody old.admissions) new.admissions → IsAnswered old person result new
     → Given over next states cur p (slice_index next cur) m.s old new result
 given over people lists next states cur p old new person result r m at same stays choice answer = record {
@@ -111,7 +111,7 @@ falls over next states cur p m = left_falls cur (slice_index next cur) (seekers_
 
 -- the one who left is at the row that the register tells
 pub displaced : (over : Setting) (people : List Person) (lists : List (List ProgId)) (next : List ℕ) (states : List ProgrammeKept) (cur p : ℕ) (old new : ProgrammeKept) (cand : CandId) (place : ℕ)
-    → Reads over people lists next states cur → (m : Making over next states cur p) → Given over next states cur p (slice_index next cur) m.s old new (Displaced cand)
+    → MayPropose over people lists next states cur → (m : Making over next states cur p) → Given over next states cur p (slice_index next cur) m.s old new (Displaced cand)
     → Some place ≡ row_of cand.0 people → Leaves over next (slice_set next cur (slice_index next cur + 1)) cur (Some place)
 displaced over people lists next states cur p old new cand place r m g row =
     let gone = leaves_displaced over next states cur p (slice_index next cur) m.s old new cand g in
@@ -120,7 +120,7 @@ displaced over people lists next states cur p old new cand place r m g row =
     subst (λ k. Leaves over next (slice_set next cur (slice_index next cur + 1)) cur (Some k)) same gone.leaves
 
 pub has_left_row : (over : Setting) (people : List Person) (lists : List (List ProgId)) (next : List ℕ) (states : List ProgrammeKept) (cur p : ℕ) (old new : ProgrammeKept) (cand : CandId)
-    → Reads over people lists next states cur → (m : Making over next states cur p) → Given over next states cur p (slice_index next cur) m.s old new (Displaced cand)
+    → MayPropose over people lists next states cur → (m : Making over next states cur p) → Given over next states cur p (slice_index next cur) m.s old new (Displaced cand)
     → None ≡ row_of cand.0 people → ⊥
 has_left_row over people lists next states cur p old new cand r m g row =
     let gone = leaves_displaced over next states cur p (slice_index next cur) m.s old new cand g in
@@ -129,5 +129,5 @@ has_left_row over people lists next states cur p old new cand r m g row =
 
 -- the same, where the people were read from the register
 pub person_read : (over : Setting) (people read : List Person) (lists : List (List ProgId)) (next : List ℕ) (states : List ProgrammeKept) (cur p : ℕ) (d : Person)
-    → Reads over people lists next states cur → (m : Making over next states cur p) → read ≡ people → get_or read cur d ≡ m.s.person
+    → MayPropose over people lists next states cur → (m : Making over next states cur p) → read ≡ people → get_or read cur d ≡ m.s.person
 person_read over people read lists next states cur p d r m same = ap (λ l. get_or l cur d) same ∙ same_person over people lists next states cur p d r m

@@ -1,9 +1,10 @@
 -- The whole round: the people with what their seeks leave of their lists are a sound setting, and what is made over it is the round.
-use Rattle.std.proofs.Common.{◌≡◌, ◌<◌, ◌≤◌, ◌+◌, ◌∙◌, ℕ, zero, suc, List, [], ◌∷◌, Some, length, arith, refl, sym, ap, subst}
+use Rattle.std.proofs.Common.{◌≡◌, ◌<◌, ◌≤◌, ◌+◌, ◌∙◌, ℕ, zero, suc, List, [], ◌∷◌, Option, Some, length, arith, refl, sym, ap, subst}
 use Rattle.std.specs.Prelude.{slice_get}
 use Rattle.std.specs.List.{AllByRecursion}
 use Rattle.std.proofs.lemmas.Option.{slice_get_within}
 use Rattle.office_base.specs.Limits.{most_row_choices}
+use Rattle.office_base.specs.declared.asks.Seat.{Seat}
 use Rattle.office_base.specs.declared.person.Person.{Person}
 use Rattle.office_base.specs.declared.person.ProgId.{ProgId}
 use Rattle.allocations.specs.Course.{places}
@@ -20,6 +21,7 @@ use Rattle.rounds.proofs.Entrants.{leaves_own, leaves_sublist, market}
 use Rattle.seat_matrix.specs.Matrix.{AreSeats, SeatTable, seats_in}
 use Rattle.seeks.specs.Seek.{AreBelow, seek_leaves}
 use Rattle.seeks.specs.declared.seek.Seek.{Seek}
+use Rattle.apply_engine.specs.Applications.{applications}
 use Rattle.apply_engine.specs.Engine.{AreLawful, IsMade, IsSet, MayRun, Setting, lists_in, seekers_with}
 use Rattle.apply_engine.specs.Made.{leaves_along}
 use Rattle.round_laws.proofs.People.{there_is}
@@ -135,6 +137,11 @@ pub cost_over : (table : SeatTable) (people : List Person) (lists : List (List P
     → after ≤ before + places (seekers_with people left) → after ≤ before + places (seekers_of table people lists seeks)
 cost_over table people lists seeks left before after same less =
     subst (λ s. after ≤ before + places s) (ap (λ l. seekers_with people l) same ∙ seekers_same table people lists seeks) less
+
+pub counted_over : (table : SeatTable) (people : List Person) (lists : List (List ProgId)) (seeks : List Seek) (left : List (List ProgId)) (seats : List (Option Seat)) (before after : ℕ)
+    → left ≡ leaves_along table lists seeks → after ≡ before + applications (seekers_with people left) seats → after ≡ before + applications (seekers_of table people lists seeks) seats
+counted_over table people lists seeks left seats before after same counted =
+    subst (λ s. after ≡ before + applications s seats) (ap (λ l. seekers_with people l) same ∙ seekers_same table people lists seeks) counted
 
 pub round_over_is : (version : ℕ) (table : SeatTable) (ranks : Ranks) (lists : Lists) (n : ℕ) (seeks : List Seek) (left : List (List ProgId)) (round : Round) → left ≡ leaves_along table (lists_in lists) seeks
     → IsMade (record { version = version; table = table; people = ranks.people; lists = left }) n seeks round → IsRound version table ranks.people (lists_in lists) n seeks round

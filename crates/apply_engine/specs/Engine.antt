@@ -116,8 +116,8 @@ pub record AreUntried (table : SeatTable) (tallies : List Tried) : Type 0 where
   pub full : length tallies ≡ length table.programmes
   pub each : (p : ℕ) (tally : Tried) → slice_get tallies p ≡ Some tally → tally ≡ counted (list_in table p) []
 
--- what the engine reads: the list at the place, the programme there, and the person
-pub record Reads (over : Setting) (people : List Person) (lists : List (List ProgId)) (next : List ℕ) (states : List ProgrammeKept) (cur : ℕ) : Type 0 where
+-- The one at this place is free, and has a programme left on the own list to propose to.
+pub record MayPropose (over : Setting) (people : List Person) (lists : List (List ProgId)) (next : List ℕ) (states : List ProgrammeKept) (cur : ℕ) : Type 0 where
   pub people_is : over.people ≡ people
   pub lists_is : over.lists ≡ lists
   pub set_is : IsSet over
@@ -125,8 +125,8 @@ pub record Reads (over : Setting) (people : List Person) (lists : List (List Pro
   pub free : IsFree over next cur
   pub more : (list : List ProgId) → slice_get lists cur ≡ Some list → slice_index next cur < length list
 
--- All before this place are settled, and nobody from it on has begun.
-pub record Begins (over : Setting) (people : List Person) (lists : List (List ProgId)) (next : List ℕ) (states : List ProgrammeKept) (first : ℕ) : Type 0 where
+-- All before `first` are settled, and nobody from `first` on has proposed to anyone.
+pub record AreSettledBefore (over : Setting) (people : List Person) (lists : List (List ProgId)) (next : List ℕ) (states : List ProgrammeKept) (first : ℕ) : Type 0 where
   pub people_is : over.people ≡ people
   pub lists_is : over.lists ≡ lists
   pub set_is : IsSet over
@@ -134,12 +134,12 @@ pub record Begins (over : Setting) (people : List Person) (lists : List (List Pr
   pub settled : IsSettledTo over next first
   pub not_begun : HaveNotBegun next first
 
--- so does the one at this place of the register
-pub record BeginsAt (over : Setting) (people : List Person) (lists : List (List ProgId)) (next : List ℕ) (states : List ProgrammeKept) (first : ℕ) : Type 0 where
-  pub begins : Begins over people lists next states first
+-- All before `first` are settled, and the one at `first` is the next to propose.
+pub record IsNextToPropose (over : Setting) (people : List Person) (lists : List (List ProgId)) (next : List ℕ) (states : List ProgrammeKept) (first : ℕ) : Type 0 where
+  pub before : AreSettledBefore over people lists next states first
   pub within : first < length people
 
--- All before this place are settled now, and nobody from it on has begun; each step was an offer.
+-- All before `last` are settled now, and nobody from `last` on has proposed to anyone; the steps that were counted are the proposals since `before`.
 pub record HasApplied (over : Setting) (before next : List ℕ) (states : List ProgrammeKept) (last steps_before steps : ℕ) : Type 0 where
   pub going : IsGoing over next states
   pub settled : IsSettledTo over next last

@@ -1,8 +1,8 @@
 // The applications: one offer, the offers until all so far are settled, and all of them.
-ghost use Rattle.std.specs.Prelude.{◌≡◌, ◌<◌, ◌≤◌, ◌+◌, ℕ, List, Some, None, IfOk, length, replicate, slice_get, slice_set, slice_index};
+ghost use Rattle.std.specs.Prelude.{◌≡◌, ◌<◌, ◌≤◌, ◌+◌, ℕ, List, Some, None, IfOk, length, replicate, slice_get, slice_set, slice_index, sum};
 ghost use Rattle.allocations.specs.Course.{places, places_left};
 ghost use Rattle.office_base.specs.Version.{IsVersion};
-ghost use Rattle.apply_engine.specs.Engine.{Setting, AreTallied, IsGoing, Begins, BeginsAt, Enters, HasApplied, HasRun, Leaves, Reads, seekers_in};
+ghost use Rattle.apply_engine.specs.Engine.{Setting, AreSettledBefore, AreTallied, Enters, HasApplied, HasRun, IsGoing, IsNextToPropose, Leaves, MayPropose, seekers_in};
 
 use crate::programmes::{begin_states, begin_tallies};
 use choice_lists::FlatLists;
@@ -35,7 +35,7 @@ fn offer_next<L: Ledger>(
     steps: &mut Steps<L>,
 ) -> Option<usize>
     ghost over: { Setting }
-    requires reads { Reads over register.now.people lists.now next.old states.old cur }
+    requires may_propose { MayPropose over register.now.people lists.now next.old states.old cur }
     requires tallied { AreTallied over next.old tallies.old }
     ensures going { IsGoing over next.new states.new }
     ensures tallied { AreTallied over next.new tallies.new }
@@ -72,7 +72,7 @@ fn apply_from<L: Ledger>(
     steps: &mut Steps<L>,
 )
     ghost over: { Setting }
-    requires begins { BeginsAt over register.now.people lists.now next.old states.old first }
+    requires is_next { IsNextToPropose over register.now.people lists.now next.old states.old first }
     requires tallied { AreTallied over next.old tallies.old }
     ensures applied { HasApplied over next.old next.new states.new (first + 1) steps.old steps.new }
     ensures tallied { AreTallied over next.new tallies.new }
@@ -96,7 +96,7 @@ fn apply_in_order<L: Ledger>(
     steps: &mut Steps<L>,
 )
     ghost over: { Setting }
-    requires begins { Begins over register.now.people lists.now next.old states.old 0 }
+    requires settled { AreSettledBefore over register.now.people lists.now next.old states.old 0 }
     requires tallied { AreTallied over next.old tallies.old }
     ensures applied { HasApplied over next.old next.new states.new (length register.now.people) steps.old steps.new }
     ensures tallied { AreTallied over next.new tallies.new }
@@ -113,7 +113,7 @@ fn zeros(alloc: Global, count: usize) -> Result<Vec<u16>, OutOfMemory>
     Ok(vec![in alloc; 0u16; count]?)
 }
 
-/// All applications, from the first one on.
+/// All applications, from the first one on: a step for each.
 pub(crate) fn apply_all<L: Ledger>(
     alloc: Global,
     version: u8,
@@ -126,6 +126,7 @@ pub(crate) fn apply_all<L: Ledger>(
     requires { Enters over version matrix.now register.now.people lists.now }
     ensures run { IfOk result (λ applied. HasRun over applied.next.items applied.states.items applied.tallies.items) }
     ensures cost { steps.new ≤ steps.old + places (seekers_in over) }
+    ensures counted { IfOk result (λ applied. steps.new ≡ steps.old + sum applied.next.items) }
 {
     let mut states = begin_states(alloc, matrix, version)?;
     let mut tallies = begin_tallies(alloc, matrix)?;

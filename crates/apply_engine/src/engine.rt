@@ -3,6 +3,7 @@ ghost use Rattle.std.specs.Prelude.{◌≡◌, ◌<◌, ◌≤◌, ◌+◌, IfOk
 ghost use Rattle.allocations.specs.Course.{places};
 ghost use Rattle.rounds.specs.Round.{IsRound};
 ghost use Rattle.rounds.specs.Rule.{AreSeeks, seekers_of};
+ghost use Rattle.apply_engine.specs.Applications.{applications};
 ghost use Rattle.apply_engine.specs.Engine.{lists_in};
 
 use crate::one_round::round_over;
@@ -17,7 +18,9 @@ use std::sync::ledger::{Blank, Ledger};
 /// The round of this number over a season, on what each candidate of the register seeks, and over a matrix of the season's
 /// programmes: its own one, or one with raised seats. The round is the best allocation on what the seeks leave of the choice
 /// lists (candidates propose, and acceptance is deferred), with the six lists of each programme from its applicants. Steps rise
-/// at most by the lengths of what the seeks leave. The only error is want of memory; it leaves nothing but the steps.
+/// by one for each application: everybody has applied to each programme of what the own seek leaves, down to that of the own
+/// seat, or to all of them without a seat. The only error is want of memory; it leaves nothing but the steps, which never rise
+/// by more than the lengths of what the seeks leave.
 pub fn round<L: Ledger>(
     alloc: Global,
     season: &Season,
@@ -30,6 +33,7 @@ pub fn round<L: Ledger>(
     requires sought { AreSeeks (lists_in season.now.choices) seeks.now }
     ensures round { IfOk result (λ round. IsRound season.now.version matrix.now season.now.register.people (lists_in season.now.choices) number seeks.now round) }
     ensures cost { steps.new ≤ steps.old + places (seekers_of matrix.now season.now.register.people (lists_in season.now.choices) seeks.now) }
+    ensures counted { IfOk result (λ round. steps.new ≡ steps.old + applications (seekers_of matrix.now season.now.register.people (lists_in season.now.choices) seeks.now) round.seats) }
 {
     let mut own = Seeks::new(alloc);
     own.extend_from_slice(seeks.as_slice())?;

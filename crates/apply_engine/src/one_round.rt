@@ -1,8 +1,9 @@
 // A round made: the effective lists, the applications, and the lists of the programmes from those who applied.
-ghost use Rattle.std.specs.Prelude.{◌≡◌, ◌≤◌, ◌+◌, IfOk};
+ghost use Rattle.std.specs.Prelude.{◌≡◌, ◌≤◌, ◌+◌, IfOk, sum};
 ghost use Rattle.allocations.specs.Course.{places};
 ghost use Rattle.rounds.specs.Round.{IsRound};
 ghost use Rattle.rounds.specs.Rule.{seekers_of};
+ghost use Rattle.apply_engine.specs.Applications.{applications};
 ghost use Rattle.apply_engine.specs.Engine.{AreLawful, Enters, HasRun, IsMade, MayRun, Setting, lists_in, seekers_in};
 
 use crate::applications::{Applied, apply_all};
@@ -40,7 +41,8 @@ fn finish(
     ghost over: { Setting }
     requires people { over.people ≡ register.now.people }
     requires run { HasRun over applied.now.next.items applied.now.states.items applied.now.tallies.items }
-    ensures { IfOk result (IsMade over number seeks) }
+    ensures made { IfOk result (IsMade over number seeks) }
+    ensures counted { IfOk result (λ round. sum applied.now.next.items ≡ applications (seekers_in over) round.seats) }
 {
     let programmes = list_programmes(alloc, applied)?;
     let seats = seats_of(alloc, register, programmes.as_slice())?;
@@ -67,6 +69,7 @@ fn round_on<L: Ledger>(
     requires { Enters over version matrix.now register.now.people lists.now }
     ensures round { IfOk result (IsMade over number seeks) }
     ensures cost { steps.new ≤ steps.old + places (seekers_in over) }
+    ensures counted { IfOk result (λ round. steps.new ≡ steps.old + applications (seekers_in over) round.seats) }
 {
     let applied = apply_all(alloc, version, matrix, register, lists, steps)?;
     finish(alloc, register, &applied, number, seeks)
@@ -86,6 +89,7 @@ pub(crate) fn round_over<L: Ledger>(
     requires { MayRun version matrix.now register.now choices.now seeks }
     ensures round { IfOk result (λ round. IsRound version matrix.now register.now.people (lists_in choices.now) number seeks round) }
     ensures cost { steps.new ≤ steps.old + places (seekers_of matrix.now register.now.people (lists_in choices.now) seeks) }
+    ensures counted { IfOk result (λ round. steps.new ≡ steps.old + applications (seekers_of matrix.now register.now.people (lists_in choices.now) seeks) round.seats) }
 {
     laws();
     let _count = matrix.count();

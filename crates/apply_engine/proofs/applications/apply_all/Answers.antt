@@ -1,9 +1,9 @@
-use Rattle.std.proofs.Common.{◌≡◌, ◌∙◌, ℕ, List, length, sym, subst, ap}
-use Rattle.std.specs.Prelude.{replicate}
+use Rattle.std.proofs.Common.{◌≡◌, ◌+◌, ◌∙◌, ℕ, List, length, sym, subst, ap}
+use Rattle.std.specs.Prelude.{replicate, sum}
 use Rattle.open_then_category.specs.State.{ProgrammeKept}
 use Rattle.open_then_category.specs.declared.kept_lists.Tried.{Tried}
 use Rattle.apply_engine.specs.Engine.{AreBegun, AreUntried}
-use Rattle.apply_engine.proofs.Ending.{at_most, ended, enters, enters_untried, run_again}
+use Rattle.apply_engine.proofs.Ending.{at_most, ended, enters, enters_untried, exactly, run_again}
 use Rattle.apply_engine.proofs.Tallies.{whole_again}
 use Rattle.apply_engine.proofs.applications.apply_all.Goals as goal
 
@@ -36,3 +36,12 @@ returns-clause-run g c =
 pub returns-clause-cost : goal.returns-clause-cost
 returns-clause-cost g c =
     at_most g.over _ _ _ _ _ _ _ _ _ _ c.requires.1 (c.deref_mut-3.ensures.value ∙ (c.in_ok-next.ensures ∙ ap (λ (n : ℕ). replicate n 0) c.len.ensures)) c.apply_in_order.ensures.applied
+
+pub returns-clause-counted : goal.returns-clause-counted
+returns-clause-counted g c =
+    let zeros = c.deref_mut-3.ensures.value ∙ (c.in_ok-next.ensures ∙ ap (λ (n : ℕ). replicate n 0) c.len.ensures) in
+    let begun = enters g.over _ _ _ _ _ _ c.requires.1 (subst (λ (states : List ProgrammeKept). AreBegun c.args.version c.args.matrix.now states) (sym c.deref_mut.ensures.value) c.in_ok-states.ensures) zeros in
+    let after = c.apply_in_order.ensures.applied in
+    let same : length c.apply_in_order.new.next ≡ length c.in_ok-next.next.items = after.going.underway.full ∙ (sym begun.going.underway.full ∙ ap length c.deref_mut-3.ensures.value) in
+    let next = whole_again c.apply_in_order.new.next c.in_ok-next.next.items c.in_ok-next.next.len same c.in_ok-next.next.ok.0 in
+    exactly g.over _ _ _ _ _ _ _ _ _ _ c.requires.1 zeros after ∙ ap (λ (l : List ℕ). c.args.steps.now + sum l) (sym next)

@@ -2,7 +2,7 @@ use Rattle.std.proofs.Common.{◌∙◌, List, refl, ap}
 use Rattle.std.proofs.lemmas.Result.{IfOk-weaker}
 use Rattle.apply_engine.specs.Engine.{lists_in}
 use Rattle.apply_engine.specs.Made.{leaves_along}
-use Rattle.apply_engine.proofs.Whole.{cost_over, lists_below, round_over_is, set_over}
+use Rattle.apply_engine.proofs.Whole.{cost_over, counted_over, lists_below, round_over_is, set_over}
 use Rattle.apply_engine.proofs.one_round.round_over.Goals as goal
 use Rattle.seeks.specs.declared.seek.Seek.{Seek}
 
@@ -29,3 +29,9 @@ pub returns-clause-cost : goal.returns-clause-cost
 returns-clause-cost g c =
     let same = c.in_ok-lists.ensures ∙ ap (λ (s : List Seek). leaves_along c.args.matrix.now (lists_in c.args.choices.now) s) c.as_slice.ensures in
     cost_over c.args.matrix.now c.args.register.now.people (lists_in c.args.choices.now) c.args.seeks c.in_ok-lists.lists c.args.steps.now c.round_on.new.steps same c.round_on.ensures.cost
+
+pub returns-clause-counted : goal.returns-clause-counted
+returns-clause-counted g c =
+    let same = c.in_ok-lists.ensures ∙ ap (λ (s : List Seek). leaves_along c.args.matrix.now (lists_in c.args.choices.now) s) c.as_slice.ensures in
+    IfOk-weaker c.round_on.result _ _
+    (λ round counted. counted_over c.args.matrix.now c.args.register.now.people (lists_in c.args.choices.now) c.args.seeks c.in_ok-lists.lists round.seats c.args.steps.now c.round_on.new.steps same counted) c.round_on.ensures.counted
