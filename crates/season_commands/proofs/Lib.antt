@@ -5,4 +5,5 @@ mod OneAnswer
 mod Requests
 mod ResumeEnds
 mod RunEnds
-mod Still
+pub mod Still
+pub mod Unresumed

@@ -2,4 +2,3 @@ mod OneSeason
 mod SeasonFaults
 mod ServeEnds
 mod ServedEnds
-mod Unresumed

@@ -21,7 +21,7 @@ use Rattle.command_answers.specs.declared.failure.Failure.{Failure}
 use Rattle.command_answers.specs.declared.failure.Failure.TheVariants.{Read, Bad, NoMemory as NoMemoryToRead}
 use Rattle.command_answers.specs.declared.status.Status.{Status}
 use Rattle.command_answers.proofs.Ended.{told_is_written}
-use Rattle.serve_command.proofs.Unresumed.{still_from, still_later, still_resumed}
+use Rattle.season_commands.proofs.Still.{still_from, still_later, still_resumed}
 use Rattle.serve_command.specs.Doors.{Doors}
 use Rattle.serve_command.specs.Serve.{EndsBegun, EndsServe, EndsServeKept, EndsServed, IsFaultySeason, IsLeftSeason, IsSeasonBundle, IsUnreadText, season_answers}
 

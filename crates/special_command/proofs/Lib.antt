@@ -1,3 +1,2 @@
 mod OneSpecial
 mod SpecialEnds
-mod Unresumed

@@ -16,7 +16,7 @@ use Rattle.command_answers.specs.declared.failure.Failure.TheVariants.{Read, Bad
 use Rattle.command_answers.specs.declared.status.Status.{Status}
 use Rattle.command_answers.specs.declared.status.Status.TheVariants.{Ok as Done, BadInput, OutOfMemory}
 use Rattle.command_answers.proofs.Ended.{told_is_written}
-use Rattle.special_command.proofs.Unresumed.{still_from, still_resumed}
+use Rattle.season_commands.proofs.Still.{still_from, still_resumed}
 use Rattle.season_commands.specs.Resume.{IsUnresumedText}
 use Rattle.special_command.specs.Special.{AreFaultyKeptLists, AreFaultyLists, AreKeptLists, AreSpecialLists, EndsSpecial, HaveOneSpecial, IsListsFaultLine, IsSpecialOutput, IsSpecialText, IsToldFault, special_answers, too_long_line}
 

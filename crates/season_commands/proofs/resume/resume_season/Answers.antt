@@ -1,7 +1,8 @@
 use Rattle.std.proofs.Common.{inl, inr, subst}
 use Rattle.office_moves.specs.Facts.{IsSound, SeasonFacts}
-use Rattle.season_commands.proofs.ResumeEnds.{no_office_goes_on, none_differs, none_goes_on, none_goes_on_from_no_bundle, none_stops, resumed_ends, row_fault_stops, sound_stops, text_fault_stops, unresumed_ends}
+use Rattle.season_commands.proofs.ResumeEnds.{none_differs, resumed_ends, unresumed_ends}
 use Rattle.season_commands.proofs.Still.{still_resumed}
+use Rattle.season_commands.proofs.Unresumed.{no_office_goes_on, none_goes_on, none_goes_on_from_no_bundle, none_stops, row_fault_stops, sound_stops, text_fault_stops}
 use Rattle.season_commands.proofs.resume.resume_season.Goals as goal
 
 pub returns-in-Ok-clause-written : goal.returns-in-Ok-clause-written

@@ -1,6 +1,7 @@
 use Rattle.std.proofs.Common.{inl, inr, refl, subst}
 use Rattle.office_moves.specs.Facts.{IsSound, SeasonFacts}
-use Rattle.serve_command.proofs.Unresumed.{no_office_goes_on, none_goes_on, none_goes_on_from_no_bundle, none_stops, row_fault_stops, sound_stops, still_resumed, text_fault_stops}
+use Rattle.season_commands.proofs.Still.{still_resumed}
+use Rattle.season_commands.proofs.Unresumed.{no_office_goes_on, none_goes_on, none_goes_on_from_no_bundle, none_stops, row_fault_stops, sound_stops, text_fault_stops}
 use Rattle.serve_command.specs.Doors.{doors_of}
 use Rattle.serve_command.proofs.ServedEnds.{handed_in}
 use Rattle.serve_command.proofs.ServeEnds.{kept_ends, unresumed_ends}

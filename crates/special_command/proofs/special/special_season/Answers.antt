@@ -1,6 +1,6 @@
 use Rattle.std.proofs.Common.{inl, inr, ap, subst}
 use Rattle.office_moves.specs.Facts.{IsSound, SeasonFacts}
-use Rattle.special_command.proofs.Unresumed.{no_office_goes_on, none_goes_on, none_goes_on_from_no_bundle, none_stops, row_fault_stops, sound_stops, text_fault_stops}
+use Rattle.season_commands.proofs.Unresumed.{no_office_goes_on, none_goes_on, none_goes_on_from_no_bundle, none_stops, row_fault_stops, sound_stops, text_fault_stops}
 use Rattle.special_command.specs.Special.{AreFaultyLists, AreSpecialLists}
 use Rattle.special_command.proofs.SpecialEnds.{resumed_ends, still_here, tells_here, unresumed_ends}
 use Rattle.special_command.proofs.special.special_season.Goals as goal

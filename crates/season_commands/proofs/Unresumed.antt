@@ -17,35 +17,7 @@ use Rattle.command_answers.specs.declared.status.Status.{Status}
 use Rattle.command_answers.specs.declared.status.Status.TheVariants.{BadInput, WriteFault, OutOfMemory, Differs as StatusDiffers}
 use Rattle.season_commands.specs.Resume.{HaveNoFault, HaveRowFault, HaveTextFault, TellsNoOffice, TellsRowFault, TellsSound, TellsTextFault, unresumed_status}
 use Rattle.season_commands.specs.Run.{TellsNoSeason}
-
--- ---- what was told before
-
--- where nothing changed, it is what is told after
-pub still_same : (before after : Tables) → AreTold before after → still before after ≡ after
-still_same before Untold told = refl
-still_same before NoSeason told = told
-still_same before (Records kept) told = told
-
-pub still_from : (P : Tables → Type 0) (before after : Tables) → AreTold before after → P after → P (still before after)
-still_from P before after told holds = subst P (sym (still_same before after told)) holds
-
-pub still_to : (P : Tables → Type 0) (before after : Tables) → AreTold before after → P (still before after) → P after
-still_to P before after told holds = subst P (still_same before after told) holds
-
--- what held of the tables at first holds at the end too, where nothing is told or what was told was the same
-pub still_later : (P : Tables → Type 0) (before mid after : Tables) → (IsTold after → IsTold mid) → P Untold → P (still before mid) → P (still before after)
-still_later P before mid Untold was none holds = none
-still_later P before Untold NoSeason was none holds = absurd (was tt)
-still_later P before NoSeason NoSeason was none holds = holds
-still_later P before (Records kept) NoSeason was none holds = holds
-still_later P before Untold (Records last) was none holds = absurd (was tt)
-still_later P before NoSeason (Records last) was none holds = holds
-still_later P before (Records kept) (Records last) was none holds = holds
-
-pub still_resumed : (before mid after : Tables) (facts : SeasonFacts) (state : State) → AreTold before mid → (IsTold after → IsTold mid) → IsResumed mid facts state → IsResumed (still before after) facts state
-still_resumed before mid after facts state told was resumed =
-    let (records, loaded, lead) = resumed in
-    still_later (λ t. IsResumed t facts state) before mid after was (records, tt, lead) (still_from (λ t. IsResumed t facts state) before mid told resumed)
+use Rattle.season_commands.proofs.Still.{still_to}
 
 -- ---- records without a fault
 
