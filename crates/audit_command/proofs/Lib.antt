@@ -1,0 +1,3 @@
+mod AuditEnds
+mod AuditFaults
+mod OneAudit

@@ -1,0 +1,13 @@
+// The command `audit`: it reads a dossier, which is a season bundle with its requests and what was published for it, and answers whether a clause is broken.
+//
+// The program stands on it. `specs/Audit` says what the command answers to the bytes of a dossier and how it ends, `specs/Texts` its lines. It must never know
+// of the words of a command line, nor how a dossier is read or audited.
+#![tactic(auto)]
+
+pub mod answer;
+pub mod laws;
+mod texts;
+mod write;
+
+pub use answer::{Audited, audit_answer};
+pub use write::audit_season;

@@ -1,0 +1,4 @@
+mod Reading
+mod Requests
+mod Scripts
+mod Taking

@@ -1,0 +1,109 @@
+-- What requests may do, and what stands at a cut.
+use Rattle.std.proofs.Common.{◌≡◌, ◌<◌, ◌⊎◌, inl, inr, true, List, Option, Some, None, length, ℕ, arith, sym, ap, ◌∙◌, subst}
+use Rattle.std.specs.Prelude.{IfOk, Result, is_some, slice_get}
+use Rattle.std.proofs.lemmas.Result.{IfOk-weaker}
+use Rattle.office_base.specs.declared.asks.Ask.{Ask}
+use Rattle.office_base.specs.declared.asks.Ask.TheVariants.{Seat as AskSeat, Why, List as AskList, State as AskState}
+use Rattle.office_base.specs.declared.asks.Request.{Request}
+use Rattle.office_base.specs.declared.asks.Seat.{Seat}
+use Rattle.office_base.specs.declared.person.CandId.{CandId}
+use Rattle.keeper_mem.specs.declared.rows.AllotRow.{AllotRow}
+use Rattle.office_moves.specs.Decided.{decided, decided_by, is_chosen_by, is_known}
+use Rattle.office_moves.specs.Facts.{SeasonFacts, find_programme}
+use Rattle.office_moves.specs.History.{newly}
+use Rattle.office_moves.specs.State.{State, view_of}
+use Rattle.office_moves.specs.declared.decide.Decision.{Decision}
+use Rattle.office_moves.specs.declared.decide.Decision.TheVariants.{Publish}
+use Rattle.seat_matrix.specs.Matrix.{SeatTable}
+use Rattle.office_moves.proofs.Chains.{list_old, seat_old, why_old}
+use Rattle.audit_rules.specs.Papers.{Papers, lists_after, rows_after, seats_told}
+use Rattle.cut_checks.specs.AtCut.{IsAtCut, Setting}
+use Rattle.cut_checks.specs.Comes.{AreLists, CutComesTo, told_by}
+use Rattle.cut_checks.specs.declared.fault.Fault.{Fault}
+use Rattle.cut_checks.specs.declared.stand.Stand.{Stand}
+use Rattle.publish.specs.declared.lists.ListRead.{ListRead}
+use Rattle.season_audit.specs.Audit.{ComesTo, IsUpTo, NameOnce, Passes}
+use Rattle.season_audit.specs.declared.auditor.Auditor.{Auditor}
+
+-- ---- what an ask comes to
+
+by_ask : (facts : SeasonFacts) (request : Request) (ask : Ask) → request.ask ≡ ask → (state : State) → decided facts state request ≡ decided_by facts state request.by ask
+by_ask facts request ask is state = ap (decided_by facts state request.by) is
+
+seat_quiet : (facts : SeasonFacts) (request : Request) (cand : CandId) → request.ask ≡ AskSeat cand → (state : State) → newly state.now (decided facts state request) ≡ None
+seat_quiet facts request cand is state = ap (newly state.now) (by_ask facts request (AskSeat cand) is state) ∙ seat_old state.now (is_known facts cand) request.by cand
+
+why_quiet : (facts : SeasonFacts) (request : Request) (cand : CandId) (code : List ℕ) → request.ask ≡ Why cand code → (state : State) → newly state.now (decided facts state request) ≡ None
+why_quiet facts request cand code is state =
+    ap (newly state.now) (by_ask facts request (Why cand code) is state)
+    ∙ why_old state.now (is_known facts cand) (find_programme facts code) (is_chosen_by facts cand (find_programme facts code)) (length (view_of state cand.0).rounds) request.by cand
+
+list_quiet : (facts : SeasonFacts) (request : Request) (round : ℕ) (code : List ℕ) → request.ask ≡ AskList round code → (state : State) → newly state.now (decided facts state request) ≡ None
+list_quiet facts request round code is state = ap (newly state.now) (by_ask facts request (AskList round code) is state) ∙ list_old state.now (find_programme facts code) (length state.rounds) round
+
+state_quiet : (facts : SeasonFacts) (request : Request) → request.ask ≡ AskState → (state : State) → newly state.now (decided facts state request) ≡ None
+state_quiet facts request is state = ap (newly state.now) (by_ask facts request AskState is state)
+
+-- the ask is a question
+abbrev pub IsQuestion : Ask → Type 0
+IsQuestion ask = ((cand : CandId) × (ask ≡ AskSeat cand)) ⊎ (((cand : CandId) × (code : List ℕ) × (ask ≡ Why cand code)) ⊎ (((round : ℕ) × (code : List ℕ) × (ask ≡ AskList round code)) ⊎ (ask ≡ AskState)))
+
+pub question_quiet : (facts : SeasonFacts) (request : Request) → IsQuestion request.ask → (state : State) → newly state.now (decided facts state request) ≡ None
+question_quiet facts request (inl e) state = seat_quiet facts request e.0 e.1 state
+question_quiet facts request (inr (inl e)) state = why_quiet facts request e.0 e.1 e.2 state
+question_quiet facts request (inr (inr (inl e))) state = list_quiet facts request e.0 e.1 e.2 state
+question_quiet facts request (inr (inr (inr e))) state = state_quiet facts request e state
+
+-- ---- what comes of it
+
+-- what a decision passes, another passes that is the same
+pub passes_as : (facts : SeasonFacts) (papers : Papers) (state : State) (one other : Decision) (auditor : Auditor) → one ≡ other → Passes facts papers state other auditor → Passes facts papers state one auditor
+passes_as facts papers state one other auditor same passes = subst (λ (d : Decision). Passes facts papers state d auditor) (sym same) passes
+
+pub comes_as : (facts : SeasonFacts) (papers : Papers) (state : State) (one other : Decision) (auditor : Auditor) (fault : Option Fault) → one ≡ other → ComesTo facts papers state other auditor fault
+    → ComesTo facts papers state one auditor fault
+comes_as facts papers state one other auditor fault same comes = subst (λ (d : Decision). ComesTo facts papers state d auditor fault) (sym same) comes
+
+pub ok_as : {E : Type 0} (facts : SeasonFacts) (papers : Papers) (state : State) (one other : Decision) (auditor : Auditor) (result : Result (Option Fault) E) → one ≡ other
+    → IfOk result (ComesTo facts papers state other auditor) → IfOk result (ComesTo facts papers state one auditor)
+ok_as facts papers state one other auditor result same comes = subst (λ (d : Decision). IfOk result (ComesTo facts papers state d auditor)) (sym same) comes
+
+-- of the request at a place of a script
+pub ok_there : {E : Type 0} (facts : SeasonFacts) (papers : Papers) (state : State) (script : List Request) (at : ℕ) (other : Decision) (auditor : Auditor) (result : Result (Option Fault) E)
+    → ((request : Request) → slice_get script at ≡ Some request → decided facts state request ≡ other) → IfOk result (ComesTo facts papers state other auditor)
+    → IfOk result (λ fault. (request : Request) → slice_get script at ≡ Some request → ComesTo facts papers state (decided facts state request) auditor fault)
+ok_there facts papers state script at other auditor result same comes =
+    IfOk-weaker result (ComesTo facts papers state other auditor) (λ fault. (request : Request) → slice_get script at ≡ Some request → ComesTo facts papers state (decided facts state request) auditor fault)
+    (λ fault there request is. comes_as facts papers state (decided facts state request) other auditor fault (same request is) there) comes
+
+-- ---- raises
+
+-- a programme of the season is one of the replay's matrix
+pub of_matrix : (facts : SeasonFacts) (state : State) (auditor : Auditor) (prog : ℕ) → IsUpTo facts state auditor → prog < length facts.matrix.programmes → prog < length auditor.matrix.programmes
+of_matrix facts state auditor prog upto below = subst (λ z. prog < length z) (sym (ap (λ (m : SeatTable). m.programmes) upto.matrix ∙ upto.order.programmes)) below
+
+-- ---- at a cut
+
+pub at_cut : (facts : SeasonFacts) (at : Setting) (papers : Papers) (auditor : Auditor) (stands : List Stand) (rows : List AllotRow) (seats : List (Option Seat)) → at.papers ≡ papers → IsUpTo facts at.state auditor
+    → at.state.now < facts.rounds → stands ≡ auditor.stands.items → rows ≡ rows_after papers auditor.window → seats ≡ seats_told rows facts.people → IsAtCut facts at auditor.matrix stands seats
+at_cut facts at papers auditor stands rows seats these upto early same told given = record {
+  sound = upto.sound;
+  order = upto.order;
+  early = early;
+  matrix_is = upto.matrix;
+  stands_are = same ∙ upto.stands (omega (arith, early));
+  seats_are = given ∙ ap (λ (r : List AllotRow). seats_told r facts.people) (told ∙ (ap (rows_after papers) upto.window ∙ ap (λ (p : Papers). rows_after p at.state.now) (sym these)));
+}
+
+pub are_lists : (facts : SeasonFacts) (at : Setting) (papers : Papers) (auditor : Auditor) (count : ℕ) (lists : List ListRead) → at.papers ≡ papers → IsUpTo facts at.state auditor
+    → count ≡ length facts.matrix.programmes → told_by lists ≡ lists_after papers count auditor.window → NameOnce lists → AreLists facts at lists
+are_lists facts at papers auditor count lists these upto many told once = record {
+  same = told ∙ (ap (λ (n : ℕ). lists_after papers n auditor.window) many
+      ∙ (ap (lists_after papers (length facts.matrix.programmes)) upto.window ∙ ap (λ (p : Papers). lists_after p (length facts.matrix.programmes) at.state.now) (sym these)));
+  once = once;
+}
+
+-- a clause that is broken at the cut
+pub fault_comes : (facts : SeasonFacts) (at : Setting) (auditor : Auditor) (fault : Option Fault) → is_some fault ≡ true → CutComesTo facts at fault → ComesTo facts at.papers at.state Publish auditor fault
+fault_comes facts at auditor None e comes = absurd (cc)
+fault_comes facts at auditor (Some fault) e comes = comes

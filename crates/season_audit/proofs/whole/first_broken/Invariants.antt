@@ -1,0 +1,11 @@
+use Rattle.office_moves.specs.Season.{facts_of}
+use Rattle.audit_rules.specs.Replay.{before}
+use Rattle.season_audit.specs.Audit.{papers_in}
+use Rattle.season_audit.proofs.Taking.{Stood}
+use Rattle.season_audit.proofs.whole.first_broken.Given as goal
+
+abbrev pub ghost-take : goal.ghost-take
+ghost-take a = before (facts_of a.dossier.now.season) a.dossier.now.script (papers_in a.dossier.now) a.at
+
+abbrev pub invariant-loop-at : goal.invariant-loop-at
+invariant-loop-at l = Stood (facts_of l.dossier.season) l.dossier.script (papers_in l.dossier) l.at l.auditor

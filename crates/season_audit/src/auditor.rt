@@ -1,0 +1,291 @@
+// The replay of a season from its papers.
+ghost use Rattle.std.specs.Prelude.{◌≡◌, ◌↔◌, ◌<◌, ◌≤◌, ◌+◌, IfOk, IfSome, IsTrue, OnOk, Some, length, slice_get};
+ghost use Rattle.office_base.specs.declared.asks.Request.{Request as AnyRequest};
+ghost use Rattle.office_moves.specs.Decided.{decide_answer, decide_cut, decide_raise_of, decided};
+ghost use Rattle.office_moves.specs.Facts.{find_programme};
+ghost use Rattle.office_moves.specs.Season.{facts_of};
+ghost use Rattle.office_moves.specs.State.{State, opening, view_of};
+ghost use Rattle.office_moves.specs.declared.decide.Decision.TheVariants.{Finish, Publish};
+ghost use Rattle.audit_rules.specs.Papers.{Papers};
+ghost use Rattle.cut_checks.specs.AtCut.{Setting};
+ghost use Rattle.season_audit.specs.Audit.{ComesTo, IsUpTo, Passes, StandAfter, papers_in};
+ghost use Rattle.season_audit.specs.Deeds.{Does, IsOfMatrix};
+ghost use Rattle.office_moves.specs.Judge.{is_clerk};
+ghost use Rattle.audit_rules.specs.Cut.{EndHolds};
+ghost use Rattle.cut_checks.specs.Stands.{stands_along};
+
+use crate::texts::{lists_after, rows_after};
+use cut_checks::{
+    Fault, Stand, are_final, cut_fault, is_among, lifts, seats_told, stands_after, total_seats,
+};
+use dossier_file::Dossier;
+use keeper_mem::{AnswerRow, RaiseRow};
+use list_audit::Clause;
+use office_base::{Ask, By, Code, OutOfMemory, ProgId, Request};
+use office_moves::{RaiseLooks, says_what_is_sound};
+use season_file::Season;
+use seat_matrix::Matrix;
+use std::alloc::Global;
+
+/// Whether the clerk asks.
+fn is_clerk(by: By) -> bool
+    ensures { result ≡ is_clerk by }
+{
+    by == By::Clerk
+}
+
+/// Lets the candidate of an answer of the open window stand as it says, where it is noted.
+fn note(season: &Season, stands: &mut [Stand], by: By, row: AnswerRow)
+    ghost state: { State }
+    requires stands { stands.old ≡ stands_along (facts_of season.now) state }
+    requires now { row.window ≡ state.now }
+    requires within { row.window ≤ (facts_of season.now).rounds }
+    ensures { StandAfter (facts_of season.now) state row (decide_answer (facts_of season.now) (view_of state row.cand.0) by row) stands.new }
+{
+    let _ = season.register.people();
+    let Some(at) = season.register.position(row.cand) else {
+        return;
+    };
+    let at = at as usize;
+    if !stands[at].notes(by, row) {
+        return;
+    }
+    stands[at] = stands[at].answered(row);
+}
+
+/// Whether the final admissions are those of the last round.
+fn is_right(dossier: &Dossier, stands: &[Stand]) -> bool
+    ghost state: { State }
+    requires { stands.now ≡ stands_along (facts_of dossier.now.season) state }
+    ensures { IsTrue result ↔ EndHolds (facts_of dossier.now.season) (papers_in dossier.now) state }
+{
+    match &dossier.last {
+        Some(read) => are_final(&dossier.season, stands, read.rows.as_slice()),
+        None => false,
+    }
+}
+
+/// What a request may do: give an answer, cut a window, or raise seats of a programme of the matrix; nothing, where it only asks or names no programme of it.
+#[derive(Clone, Copy)]
+enum Deed {
+    Answer(AnswerRow),
+    Cut(u16),
+    Raise(RaiseRow),
+    Nothing,
+}
+
+/// The programme of a code. None exactly where none has it.
+fn find(season: &Season, code: Code) -> Option<ProgId>
+    ensures found { result ≡ find_programme (facts_of season.now) code }
+    ensures within { IfSome result (λ prog. prog.0 < length (facts_of season.now).matrix.programmes) }
+{
+    season.matrix.find(code)
+}
+
+/// What this request may do.
+fn deed_of(season: &Season, request: &Request) -> Deed
+    ensures known { IsOfMatrix (facts_of season.now) result }
+    ensures does { Does (facts_of season.now) request.now request.now.by result }
+{
+    match request.ask {
+        Ask::Answer {
+            cand,
+            window,
+            turn,
+            choice,
+        } => Deed::Answer(AnswerRow {
+            window,
+            cand,
+            turn,
+            choice,
+        }),
+        Ask::Cut { window } => Deed::Cut(window),
+        Ask::Raise {
+            window,
+            prog,
+            step,
+            seats,
+        } => match find(season, prog) {
+            Some(prog) => Deed::Raise(RaiseRow {
+                window,
+                prog,
+                step,
+                seats,
+            }),
+            None => Deed::Nothing,
+        },
+        Ask::Seat { .. } | Ask::Why { .. } | Ask::List { .. } | Ask::State => Deed::Nothing,
+    }
+}
+
+/// What the request at this place of the script may do, and who asks.
+fn deed_at(dossier: &Dossier, at: usize) -> (By, Deed)
+    requires { at < length dossier.now.script }
+    ensures known { IsOfMatrix (facts_of dossier.now.season) result.1 }
+    ensures does { (request : AnyRequest) → slice_get dossier.now.script at ≡ Some request → Does (facts_of dossier.now.season) request result.0 result.1 }
+{
+    let request = &dossier.script.as_slice()[at];
+    (request.by, deed_of(&dossier.season, request))
+}
+
+/// A replay: the matrix with what was raised, how each candidate stands, the raises, and the open window.
+#[derive(Drop)]
+pub(crate) struct Auditor {
+    matrix: Matrix,
+    stands: Vec<Stand>,
+    raises: Vec<RaiseRow>,
+    pub(crate) window: u16,
+}
+
+impl Auditor {
+    /// The replay of a season before everything.
+    pub(crate) fn begin(alloc: Global, season: &Season) -> Result<Auditor, OutOfMemory>
+        ensures { IfOk result (λ auditor. IsUpTo (facts_of season.now) opening auditor) }
+    {
+        says_what_is_sound(season);
+        let matrix = season.matrix.copy(alloc)?;
+        let stands = vec![in alloc; Stand::first(); season.register.people().len()]?;
+        Ok(Auditor {
+            matrix,
+            stands,
+            raises: Vec::new(alloc),
+            window: 0,
+        })
+    }
+
+    /// Takes an answer, where it is noted.
+    fn answer(&mut self, season: &Season, by: By, row: AnswerRow)
+        ghost state: { State }
+        requires { IsUpTo (facts_of season.now) state self.old }
+        ensures { (papers : Papers) → Passes (facts_of season.now) papers state (decide_answer (facts_of season.now) (view_of state row.cand.0) by row) self.new }
+    {
+        seat_matrix::laws::one_step_changes();
+        if row.window != self.window {
+            return;
+        }
+        if row.window > season.rounds {
+            return;
+        }
+        note(season, self.stands.as_mut_slice(), by, row);
+    }
+
+    /// Takes a raise of a programme of the matrix, where it is accepted.
+    fn raise(&mut self, season: &Season, by: By, row: RaiseRow) -> Result<(), OutOfMemory>
+        ghost state: { State }
+        requires upto { IsUpTo (facts_of season.now) state self.old }
+        requires known { row.prog.0 < length (facts_of season.now).matrix.programmes }
+        ensures { OnOk result ((papers : Papers) → Passes (facts_of season.now) papers state (decide_raise_of (facts_of season.now) state by row) self.new) }
+    {
+        seat_matrix::laws::one_step_changes();
+        let looks = RaiseLooks {
+            again: is_among(&self.raises, row),
+            window: self.window,
+            rounds: season.rounds,
+            seats: self.matrix.seats(row.prog, row.step),
+            total: total_seats(&self.matrix),
+        };
+        if !lifts(&looks, by, row) {
+            return Ok(());
+        }
+        self.raises.push(row)?;
+        self.matrix.raise(row.prog, row.step, row.seats);
+        Ok(())
+    }
+
+    /// Takes the cut that publishes a round, where its texts break no clause.
+    fn publish(&mut self, alloc: Global, dossier: &Dossier) -> Result<Option<Fault>, OutOfMemory>
+        ghost at: { Setting }
+        requires papers { at.papers ≡ papers_in dossier.now }
+        requires upto { IsUpTo (facts_of dossier.now.season) at.state self.old }
+        requires early { at.state.now < (facts_of dossier.now.season).rounds }
+        ensures { IfOk result (ComesTo (facts_of dossier.now.season) at.papers at.state Publish self.new) }
+    {
+        let season = &dossier.season;
+        let rows = rows_after(dossier, self.window);
+        let lists = lists_after(dossier, season.matrix.count(), self.window);
+        let seats = seats_told(alloc, &season.register, rows)?;
+        let fault = cut_fault(alloc, season, &self.matrix, &self.stands, &seats, lists)?;
+        if fault.is_some() {
+            return Ok(fault);
+        }
+        let stands = stands_after(alloc, season, &self.matrix, &self.stands, &seats)?;
+        self.stands = stands;
+        self.window += 1;
+        Ok(None)
+    }
+
+    /// Takes the last cut, where the final admissions are right.
+    fn finish(&mut self, dossier: &Dossier) -> Option<Fault>
+        ghost state: { State }
+        requires upto { IsUpTo (facts_of dossier.now.season) state self.old }
+        requires last { state.now ≡ (facts_of dossier.now.season).rounds }
+        ensures { ComesTo (facts_of dossier.now.season) (papers_in dossier.now) state Finish self.new result }
+    {
+        if !is_right(dossier, &self.stands) {
+            return Some(Fault {
+                clause: Clause::FinalDiffers,
+                prog: None,
+                cand: None,
+            });
+        }
+        self.window += 1;
+        None
+    }
+
+    /// Takes a cut, where it is accepted and breaks no clause.
+    fn cut(
+        &mut self,
+        alloc: Global,
+        dossier: &Dossier,
+        by: By,
+        window: u16,
+    ) -> Result<Option<Fault>, OutOfMemory>
+        ghost state: { State }
+        requires { IsUpTo (facts_of dossier.now.season) state self.old }
+        ensures { IfOk result (ComesTo (facts_of dossier.now.season) (papers_in dossier.now) state (decide_cut (facts_of dossier.now.season) state by window) self.new) }
+    {
+        let rounds = dossier.season.rounds;
+        if !is_clerk(by) {
+            return Ok(None);
+        }
+        if window != self.window {
+            return Ok(None);
+        }
+        if window > rounds {
+            return Ok(None);
+        }
+        if window == rounds {
+            return Ok(self.finish(dossier));
+        }
+        self.publish(alloc, dossier)
+    }
+
+    /// Takes the request at this place of the script: an answer that is noted, a raise that is accepted, a cut that breaks no clause. The first clause that a
+    /// cut breaks is given; after it the replay goes no further. It fails for want of memory alone.
+    pub(crate) fn take(
+        &mut self,
+        alloc: Global,
+        dossier: &Dossier,
+        at: usize,
+    ) -> Result<Option<Fault>, OutOfMemory>
+        ghost state: { State }
+        requires within { at < length dossier.now.script }
+        requires upto { IsUpTo (facts_of dossier.now.season) state self.old }
+        ensures { IfOk result (λ fault. (request : AnyRequest) → slice_get dossier.now.script at ≡ Some request
+            → ComesTo (facts_of dossier.now.season) (papers_in dossier.now) state (decided (facts_of dossier.now.season) state request) self.new fault) }
+    {
+        let (by, deed) = deed_at(dossier, at);
+        match deed {
+            Deed::Answer(row) => {
+                self.answer(&dossier.season, by, row);
+                Ok(None)
+            }
+            Deed::Cut(window) => self.cut(alloc, dossier, by, window),
+            Deed::Raise(row) => {
+                self.raise(&dossier.season, by, row)?;
+                Ok(None)
+            }
+            Deed::Nothing => Ok(None),
+        }
+    }
+}

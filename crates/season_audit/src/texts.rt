@@ -1,0 +1,39 @@
+// The texts of a dossier that a cut takes.
+ghost use Rattle.std.specs.Prelude.{◌≡◌, ◌≤◌, ◌-◌, ◌*◌, ◌+◌, drop, length, take};
+ghost use Rattle.audit_rules.specs.Papers.{lists_after, rows_after};
+ghost use Rattle.cut_checks.specs.Comes.{told_by};
+ghost use Rattle.season_audit.specs.Audit.{NameOnce, papers_in};
+
+use dossier_file::Dossier;
+use keeper_mem::AllotRow;
+use publish::ListRead;
+
+/// The rows of the round that follows so many; none where there is no text of it.
+pub(crate) fn rows_after(dossier: &Dossier, rounds: u16) -> &[AllotRow]
+    ensures { result.now ≡ rows_after (papers_in dossier.now) rounds }
+{
+    match dossier.rounds.as_slice().get(usize::from(rounds)) {
+        Some(read) => read.rows.as_slice(),
+        None => &[],
+    }
+}
+
+/// The lists from one place to before another.
+fn part(lists: &[ListRead], from: usize, to: usize) -> &[ListRead]
+    requires rising { from ≤ to }
+    requires within { to ≤ length lists.now }
+    ensures { result.now ≡ take (to - from) (drop from lists.now) }
+{
+    &lists[from..to]
+}
+
+/// The lists of that round, one for each of so many programmes; fewer where there are not so many.
+pub(crate) fn lists_after(dossier: &Dossier, count: u16, rounds: u16) -> &[ListRead]
+    ensures lists { told_by result.now ≡ lists_after (papers_in dossier.now) count rounds }
+    ensures once { NameOnce result.now }
+{
+    let lists = dossier.lists.as_slice();
+    let from = (usize::from(rounds) * usize::from(count)).min(lists.len());
+    let to = (from + usize::from(count)).min(lists.len());
+    part(lists, from, to)
+}

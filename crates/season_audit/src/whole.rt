@@ -1,0 +1,60 @@
+// The audit of a dossier.
+ghost use Rattle.std.specs.Prelude.{◌≡◌, ◌≤◌, ◌+◌, ℕ, IfOk, List, length, option_map};
+ghost use Rattle.office_base.specs.declared.asks.Request.{Request};
+ghost use Rattle.office_moves.specs.Facts.{SeasonFacts};
+ghost use Rattle.office_moves.specs.Season.{facts_of};
+ghost use Rattle.audit_rules.specs.Fair.{AreFairRounds};
+ghost use Rattle.audit_rules.specs.Papers.{Papers};
+ghost use Rattle.audit_rules.specs.Verdict.{IsVerdict};
+ghost use Rattle.season_audit.specs.Audit.{ScriptComesTo, papers_in};
+
+use crate::auditor::Auditor;
+use audit_rules::Verdict;
+use cut_checks::Fault;
+use dossier_file::Dossier;
+use office_base::OutOfMemory;
+use office_moves::says_what_is_sound;
+use std::alloc::Global;
+
+/// The first clause that a cut breaks, with the number of the round that the cut publishes.
+fn first_broken(alloc: Global, dossier: &Dossier) -> Result<Option<(u16, Fault)>, OutOfMemory>
+    ensures { IfOk result (ScriptComesTo (facts_of dossier.now.season) dossier.now.script (papers_in dossier.now)) }
+{
+    let mut auditor = Auditor::begin(alloc, &dossier.season)?;
+    for at in 0..dossier.script.len() {
+        let number = auditor.window + 1;
+        if let Some(fault) = auditor.take(alloc, dossier, at)? {
+            return Ok(Some((number, fault)));
+        }
+    }
+    Ok(None)
+}
+
+/// The verdict by the first clause that is broken, of papers with texts of so many rounds.
+fn verdict_of(rounds: u16, broken: Option<(u16, Fault)>) -> Verdict
+    ensures { (facts : SeasonFacts) (script : List Request) (papers : Papers) → rounds ≡ length papers.rounds → ScriptComesTo facts script papers broken → IsVerdict facts script papers result }
+{
+    let Some((round, fault)) = broken else {
+        return Verdict::Sound { rounds };
+    };
+    Verdict::Broken {
+        round,
+        clause: fault.clause,
+        prog: fault.prog,
+        cand: fault.cand,
+    }
+}
+
+/// The verdict on a dossier: sound exactly where its papers break no clause, else the first clause that is broken. Rounds are taken in rising order; in each the
+/// candidates' seats, then the lists against the round's text, then each list, and after the last window the final admissions. Where it is sound, every round
+/// is fair and nobody falls. It fails for want of memory alone, is linear in the dossier but for a sort of each programme's applicants by merit, and calls
+/// nothing of the office that made the papers.
+pub fn audit(alloc: Global, dossier: &Dossier) -> Result<Verdict, OutOfMemory>
+    ensures verdict { IfOk result (IsVerdict (facts_of dossier.now.season) dossier.now.script (papers_in dossier.now)) }
+    ensures fair { IfOk result (λ verdict. (rounds : ℕ) → verdict ≡ Verdict.Sound rounds → AreFairRounds (facts_of dossier.now.season) dossier.now.script (papers_in dossier.now)) }
+{
+    says_what_is_sound(&dossier.season);
+    audit_rules::laws::sound_is_fair();
+    let broken = first_broken(alloc, dossier)?;
+    Ok(verdict_of(dossier.rounds.len() as u16, broken))
+}
