@@ -83,7 +83,7 @@ unfolding walk_fault
 fails_on held position word rest plain =
     ap₂ (λ (k : Kinds) (w : Walk). or_else k (walk_fault shape [] w rest)) (turn_fails held position word plain) (turn held position word plain)
 
--- ---- the walks over up to four words
+-- ---- the walks over up to six words
 
 abbrev one : Text → Walk
 one w = next nothing_held 1 w
@@ -96,6 +96,12 @@ three w x y = next (two w x).held 3 y
 
 abbrev four : Text → Text → Text → Text → Walk
 four w x y z = next (three w x y).held 4 z
+
+abbrev five : Text → Text → Text → Text → Text → Walk
+five w x y z u = next (four w x y z).held 5 u
+
+abbrev six : Text → Text → Text → Text → Text → Text → Walk
+six w x y z u v = next (five w x y z u).held 6 v
 
 -- ---- the end of a walk
 
@@ -135,7 +141,7 @@ module _ (w : Text) (p : IsNoFlag w) where
   unfolding clap_on_literals
   divided_one = record {
     faultless = fault_at_end (w ∷ []) (one w) [] reaches_one passes_one;
-    rows = rows_are (w ∷ []) (one w) reaches_one (record { some = omega arith; few = omega arith; command = refl; first = refl; second = refl; third = refl });
+    rows = rows_are (w ∷ []) (one w) reaches_one (record { some = omega arith; few = omega arith; command = refl; first = refl; second = refl; third = refl; fourth = refl; fifth = refl });
   }
 
   module _ (x : Text) (q : IsNoFlag x) where
@@ -150,7 +156,7 @@ module _ (w : Text) (p : IsNoFlag w) where
     unfolding clap_on_literals
     divided_two = record {
       faultless = fault_at_end (w ∷ x ∷ []) (two w x) [] reaches_two passes_two;
-      rows = rows_are (w ∷ x ∷ []) (two w x) reaches_two (record { some = omega arith; few = omega arith; command = refl; first = refl; second = refl; third = refl });
+      rows = rows_are (w ∷ x ∷ []) (two w x) reaches_two (record { some = omega arith; few = omega arith; command = refl; first = refl; second = refl; third = refl; fourth = refl; fifth = refl });
     }
 
     module _ (y : Text) (r : IsNoFlag y) where
@@ -165,37 +171,74 @@ module _ (w : Text) (p : IsNoFlag w) where
       unfolding clap_on_literals
       divided_three = record {
         faultless = fault_at_end (w ∷ x ∷ y ∷ []) (three w x y) [] reaches_three passes_three;
-        rows = rows_are (w ∷ x ∷ y ∷ []) (three w x y) reaches_three (record { some = omega arith; few = omega arith; command = refl; first = refl; second = refl; third = refl });
+        rows = rows_are (w ∷ x ∷ y ∷ []) (three w x y) reaches_three (record { some = omega arith; few = omega arith; command = refl; first = refl; second = refl; third = refl; fourth = refl; fifth = refl });
       }
 
       module _ (z : Text) (t : IsNoFlag z) where
         -- four words, and more
-        on_four : (rest : List Text) → walk_fault shape [] (walk_from nothing_held) (w ∷ x ∷ y ∷ z ∷ rest) ≡ walk_fault shape [] (four w x y z) rest
-        unfolding clap_on_literals
-        on_four rest = fails_on nothing_held 1 w (x ∷ y ∷ z ∷ rest) p
-            ∙ (fails_on (one w).held 2 x (y ∷ z ∷ rest) q ∙ (fails_on (two w x).held 3 y (z ∷ rest) r ∙ fails_on (three w x y).held 4 z rest t))
+        on_four : (rest : List Text) → walk rules [] nothing_held (w ∷ x ∷ y ∷ z ∷ rest) ≡ fold (walked rules []) (four w x y z) rest
+        on_four rest = walk_on nothing_held 1 w (x ∷ y ∷ z ∷ rest) p
+            ∙ (walk_on (one w).held 2 x (y ∷ z ∷ rest) q ∙ (walk_on (two w x).held 3 y (z ∷ rest) r ∙ walk_on (three w x y).held 4 z rest t))
 
-        reaches_four : walk rules [] nothing_held (w ∷ x ∷ y ∷ z ∷ []) ≡ four w x y z
-        reaches_four = walk_on nothing_held 1 w (x ∷ y ∷ z ∷ []) p
-            ∙ (walk_on (one w).held 2 x (y ∷ z ∷ []) q ∙ (walk_on (two w x).held 3 y (z ∷ []) r ∙ walk_on (three w x y).held 4 z [] t))
+        fails_four : (rest : List Text) → walk_fault shape [] (walk_from nothing_held) (w ∷ x ∷ y ∷ z ∷ rest) ≡ walk_fault shape [] (four w x y z) rest
+        unfolding clap_on_literals
+        fails_four rest = fails_on nothing_held 1 w (x ∷ y ∷ z ∷ rest) p
+            ∙ (fails_on (one w).held 2 x (y ∷ z ∷ rest) q ∙ (fails_on (two w x).held 3 y (z ∷ rest) r ∙ fails_on (three w x y).held 4 z rest t))
 
         passes_four : walk_fault shape [] (walk_from nothing_held) (w ∷ x ∷ y ∷ z ∷ []) ≡ []
         unfolding clap_on_literals
-        passes_four = on_four []
+        passes_four = fails_four []
 
         divided_four : IsDivided (w ∷ x ∷ y ∷ z ∷ [])
         unfolding clap_on_literals
         divided_four = record {
-          faultless = fault_at_end (w ∷ x ∷ y ∷ z ∷ []) (four w x y z) [] reaches_four passes_four;
-          rows = rows_are (w ∷ x ∷ y ∷ z ∷ []) (four w x y z) reaches_four (record { some = omega arith; few = omega arith; command = refl; first = refl; second = refl; third = refl });
+          faultless = fault_at_end (w ∷ x ∷ y ∷ z ∷ []) (four w x y z) [] (on_four []) passes_four;
+          rows = rows_are (w ∷ x ∷ y ∷ z ∷ []) (four w x y z) (on_four []) (record { some = omega arith; few = omega arith; command = refl; first = refl; second = refl; third = refl; fourth = refl; fifth = refl });
         }
 
-        refuses_five : (u : Text) (rest : List Text) → IsNoFlag u → walk_fault shape [] (walk_from nothing_held) (w ∷ x ∷ y ∷ z ∷ u ∷ rest) ≡ kind.UnknownArgument ∷ []
-        unfolding clap_on_literals
-        refuses_five u rest s = on_four (u ∷ rest) ∙ fails_on (four w x y z).held 5 u rest s
+        module _ (u : Text) (s : IsNoFlag u) where
+          reaches_five : walk rules [] nothing_held (w ∷ x ∷ y ∷ z ∷ u ∷ []) ≡ five w x y z u
+          reaches_five = on_four (u ∷ []) ∙ walk_on (four w x y z).held 5 u [] s
 
-        divided_not : (u : Text) (rest : List Text) → IsNoFlag u → fault_of program (w ∷ x ∷ y ∷ z ∷ u ∷ rest) ≡ kind.UnknownArgument ∷ []
-        divided_not u rest s = fault_at_end (w ∷ x ∷ y ∷ z ∷ u ∷ rest) _ _ refl (refuses_five u rest s)
+          passes_five : walk_fault shape [] (walk_from nothing_held) (w ∷ x ∷ y ∷ z ∷ u ∷ []) ≡ []
+          unfolding clap_on_literals
+          passes_five = fails_four (u ∷ []) ∙ fails_on (four w x y z).held 5 u [] s
+
+          divided_five : IsDivided (w ∷ x ∷ y ∷ z ∷ u ∷ [])
+          unfolding clap_on_literals
+          divided_five = record {
+            faultless = fault_at_end (w ∷ x ∷ y ∷ z ∷ u ∷ []) (five w x y z u) [] reaches_five passes_five;
+            rows = rows_are (w ∷ x ∷ y ∷ z ∷ u ∷ []) (five w x y z u) reaches_five
+                (record { some = omega arith; few = omega arith; command = refl; first = refl; second = refl; third = refl; fourth = refl; fifth = refl });
+          }
+
+          module _ (v : Text) (o : IsNoFlag v) where
+            -- six words, and more
+            fails_six : (rest : List Text) → walk_fault shape [] (walk_from nothing_held) (w ∷ x ∷ y ∷ z ∷ u ∷ v ∷ rest) ≡ walk_fault shape [] (six w x y z u v) rest
+            unfolding clap_on_literals
+            fails_six rest = fails_four (u ∷ v ∷ rest) ∙ (fails_on (four w x y z).held 5 u (v ∷ rest) s ∙ fails_on (five w x y z u).held 6 v rest o)
+
+            reaches_six : walk rules [] nothing_held (w ∷ x ∷ y ∷ z ∷ u ∷ v ∷ []) ≡ six w x y z u v
+            reaches_six = on_four (u ∷ v ∷ []) ∙ (walk_on (four w x y z).held 5 u (v ∷ []) s ∙ walk_on (five w x y z u).held 6 v [] o)
+
+            passes_six : walk_fault shape [] (walk_from nothing_held) (w ∷ x ∷ y ∷ z ∷ u ∷ v ∷ []) ≡ []
+            unfolding clap_on_literals
+            passes_six = fails_six []
+
+            divided_six : IsDivided (w ∷ x ∷ y ∷ z ∷ u ∷ v ∷ [])
+            unfolding clap_on_literals
+            divided_six = record {
+              faultless = fault_at_end (w ∷ x ∷ y ∷ z ∷ u ∷ v ∷ []) (six w x y z u v) [] reaches_six passes_six;
+              rows = rows_are (w ∷ x ∷ y ∷ z ∷ u ∷ v ∷ []) (six w x y z u v) reaches_six
+                  (record { some = omega arith; few = omega arith; command = refl; first = refl; second = refl; third = refl; fourth = refl; fifth = refl });
+            }
+
+            refuses_seven : (a : Text) (rest : List Text) → IsNoFlag a → walk_fault shape [] (walk_from nothing_held) (w ∷ x ∷ y ∷ z ∷ u ∷ v ∷ a ∷ rest) ≡ kind.UnknownArgument ∷ []
+            unfolding clap_on_literals
+            refuses_seven a rest b = fails_six (a ∷ rest) ∙ fails_on (six w x y z u v).held 7 a rest b
+
+            divided_not : (a : Text) (rest : List Text) → IsNoFlag a → fault_of program (w ∷ x ∷ y ∷ z ∷ u ∷ v ∷ a ∷ rest) ≡ kind.UnknownArgument ∷ []
+            divided_not a rest b = fault_at_end (w ∷ x ∷ y ∷ z ∷ u ∷ v ∷ a ∷ rest) _ _ refl (refuses_seven a rest b)
 
 refuses_none : fault_of program [] ≡ kind.MissingRequiredArgument ∷ []
 unfolding clap_on_literals
@@ -204,7 +247,7 @@ refuses_none = refl
 -- ---- all together
 
 abbrev Divides : List Text → Type 0
-Divides words = (fault_of program words ≡ [] → AreRows words (matches_of program words)) × ((fault_of program words ≡ [] → ⊥) → (length words ≡ 0) ⊎ (4 < length words))
+Divides words = (fault_of program words ≡ [] → AreRows words (matches_of program words)) × ((fault_of program words ≡ [] → ⊥) → (length words ≡ 0) ⊎ (6 < length words))
 
 divides_well : (words : List Text) → IsDivided words → Divides words
 divides_well words is = (λ none. is.rows, λ some. absurd (some is.faultless))
@@ -215,32 +258,48 @@ head_of w words plain = no_flag w (both (is_plain w) (list_all is_plain words) p
 rest_of : (w : Text) (words : List Text) → ArePlain (w ∷ words) → ArePlain words
 rest_of w words plain = (both (is_plain w) (list_all is_plain words) plain).1
 
--- Plain words are divided into their places where there are one to four of them, and otherwise refused.
+-- Plain words are divided into their places where there are one to six of them, and otherwise refused.
 pub divides : (words : List Text) → ArePlain words → Divides words
 divides [] plain = (λ none. absurd (bad none), λ some. inl refl)
   where
     bad : fault_of program [] ≡ [] → ⊥
     bad none = let same : kind.MissingRequiredArgument ∷ [] ≡ [] = sym refuses_none ∙ none in cc
-divides (w ∷ []) plain = divides_well (w ∷ []) (divided_one w (head_of w [] plain))
+divides (w ∷ []) plain =
+    divides_well (w ∷ []) (divided_one w (head_of w [] plain))
 divides (w ∷ x ∷ []) plain =
-    let more : ArePlain (x ∷ []) = rest_of w (x ∷ []) plain in
-    divides_well (w ∷ x ∷ []) (divided_two w (head_of w (x ∷ []) plain) x (head_of x [] more))
+    let p1 : ArePlain (x ∷ []) = rest_of w (x ∷ []) plain in
+    divides_well (w ∷ x ∷ []) (divided_two w (head_of w (x ∷ []) plain) x (head_of x [] p1))
 divides (w ∷ x ∷ y ∷ []) plain =
-    let more : ArePlain (x ∷ y ∷ []) = rest_of w (x ∷ y ∷ []) plain in
-    let last : ArePlain (y ∷ []) = rest_of x (y ∷ []) more in
-    divides_well (w ∷ x ∷ y ∷ []) (divided_three w (head_of w (x ∷ y ∷ []) plain) x (head_of x (y ∷ []) more) y (head_of y [] last))
+    let p1 : ArePlain (x ∷ y ∷ []) = rest_of w (x ∷ y ∷ []) plain in
+    let p2 : ArePlain (y ∷ []) = rest_of x (y ∷ []) p1 in
+    divides_well (w ∷ x ∷ y ∷ []) (divided_three w (head_of w (x ∷ y ∷ []) plain) x (head_of x (y ∷ []) p1) y (head_of y [] p2))
 divides (w ∷ x ∷ y ∷ z ∷ []) plain =
-    let more : ArePlain (x ∷ y ∷ z ∷ []) = rest_of w (x ∷ y ∷ z ∷ []) plain in
-    let last : ArePlain (y ∷ z ∷ []) = rest_of x (y ∷ z ∷ []) more in
-    let end : ArePlain (z ∷ []) = rest_of y (z ∷ []) last in
-    divides_well (w ∷ x ∷ y ∷ z ∷ []) (divided_four w (head_of w (x ∷ y ∷ z ∷ []) plain) x (head_of x (y ∷ z ∷ []) more) y (head_of y (z ∷ []) last) z (head_of z [] end))
-divides (w ∷ x ∷ y ∷ z ∷ u ∷ rest) plain =
-    let more : ArePlain (x ∷ y ∷ z ∷ u ∷ rest) = rest_of w (x ∷ y ∷ z ∷ u ∷ rest) plain in
-    let last : ArePlain (y ∷ z ∷ u ∷ rest) = rest_of x (y ∷ z ∷ u ∷ rest) more in
-    let end : ArePlain (z ∷ u ∷ rest) = rest_of y (z ∷ u ∷ rest) last in
-    let fifth : ArePlain (u ∷ rest) = rest_of z (u ∷ rest) end in
-    let refuses : fault_of program (w ∷ x ∷ y ∷ z ∷ u ∷ rest) ≡ kind.UnknownArgument ∷ [] =
-    divided_not w (head_of w (x ∷ y ∷ z ∷ u ∷ rest) plain) x (head_of x (y ∷ z ∷ u ∷ rest) more) y (head_of y (z ∷ u ∷ rest) last) z (head_of z (u ∷ rest) end) u rest (head_of u rest fifth) in
+    let p1 : ArePlain (x ∷ y ∷ z ∷ []) = rest_of w (x ∷ y ∷ z ∷ []) plain in
+    let p2 : ArePlain (y ∷ z ∷ []) = rest_of x (y ∷ z ∷ []) p1 in
+    let p3 : ArePlain (z ∷ []) = rest_of y (z ∷ []) p2 in
+    divides_well (w ∷ x ∷ y ∷ z ∷ []) (divided_four w (head_of w (x ∷ y ∷ z ∷ []) plain) x (head_of x (y ∷ z ∷ []) p1) y (head_of y (z ∷ []) p2) z (head_of z [] p3))
+divides (w ∷ x ∷ y ∷ z ∷ u ∷ []) plain =
+    let p1 : ArePlain (x ∷ y ∷ z ∷ u ∷ []) = rest_of w (x ∷ y ∷ z ∷ u ∷ []) plain in
+    let p2 : ArePlain (y ∷ z ∷ u ∷ []) = rest_of x (y ∷ z ∷ u ∷ []) p1 in
+    let p3 : ArePlain (z ∷ u ∷ []) = rest_of y (z ∷ u ∷ []) p2 in
+    let p4 : ArePlain (u ∷ []) = rest_of z (u ∷ []) p3 in
+    divides_well (w ∷ x ∷ y ∷ z ∷ u ∷ []) (divided_five w (head_of w (x ∷ y ∷ z ∷ u ∷ []) plain) x (head_of x (y ∷ z ∷ u ∷ []) p1) y (head_of y (z ∷ u ∷ []) p2) z (head_of z (u ∷ []) p3) u (head_of u [] p4))
+divides (w ∷ x ∷ y ∷ z ∷ u ∷ v ∷ []) plain =
+    let p1 : ArePlain (x ∷ y ∷ z ∷ u ∷ v ∷ []) = rest_of w (x ∷ y ∷ z ∷ u ∷ v ∷ []) plain in
+    let p2 : ArePlain (y ∷ z ∷ u ∷ v ∷ []) = rest_of x (y ∷ z ∷ u ∷ v ∷ []) p1 in
+    let p3 : ArePlain (z ∷ u ∷ v ∷ []) = rest_of y (z ∷ u ∷ v ∷ []) p2 in
+    let p4 : ArePlain (u ∷ v ∷ []) = rest_of z (u ∷ v ∷ []) p3 in
+    let p5 : ArePlain (v ∷ []) = rest_of u (v ∷ []) p4 in
+    divides_well (w ∷ x ∷ y ∷ z ∷ u ∷ v ∷ []) (divided_six w (head_of w (x ∷ y ∷ z ∷ u ∷ v ∷ []) plain) x (head_of x (y ∷ z ∷ u ∷ v ∷ []) p1) y (head_of y (z ∷ u ∷ v ∷ []) p2) z (head_of z (u ∷ v ∷ []) p3) u (head_of u (v ∷ []) p4) v (head_of v [] p5))
+divides (w ∷ x ∷ y ∷ z ∷ u ∷ v ∷ a ∷ rest) plain =
+    let p1 : ArePlain (x ∷ y ∷ z ∷ u ∷ v ∷ a ∷ rest) = rest_of w (x ∷ y ∷ z ∷ u ∷ v ∷ a ∷ rest) plain in
+    let p2 : ArePlain (y ∷ z ∷ u ∷ v ∷ a ∷ rest) = rest_of x (y ∷ z ∷ u ∷ v ∷ a ∷ rest) p1 in
+    let p3 : ArePlain (z ∷ u ∷ v ∷ a ∷ rest) = rest_of y (z ∷ u ∷ v ∷ a ∷ rest) p2 in
+    let p4 : ArePlain (u ∷ v ∷ a ∷ rest) = rest_of z (u ∷ v ∷ a ∷ rest) p3 in
+    let p5 : ArePlain (v ∷ a ∷ rest) = rest_of u (v ∷ a ∷ rest) p4 in
+    let p6 : ArePlain (a ∷ rest) = rest_of v (a ∷ rest) p5 in
+    let refuses : fault_of program (w ∷ x ∷ y ∷ z ∷ u ∷ v ∷ a ∷ rest) ≡ kind.UnknownArgument ∷ [] =
+    divided_not w (head_of w (x ∷ y ∷ z ∷ u ∷ v ∷ a ∷ rest) plain) x (head_of x (y ∷ z ∷ u ∷ v ∷ a ∷ rest) p1) y (head_of y (z ∷ u ∷ v ∷ a ∷ rest) p2) z (head_of z (u ∷ v ∷ a ∷ rest) p3) u (head_of u (v ∷ a ∷ rest) p4) v (head_of v (a ∷ rest) p5) a rest (head_of a rest p6) in
     (λ none. let same : kind.UnknownArgument ∷ [] ≡ [] = sym refuses ∙ none in absurd cc, λ some. inr (omega arith))
 
 pub is_simple_program : is_simple program ≡ true

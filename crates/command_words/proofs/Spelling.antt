@@ -1,19 +1,20 @@
 -- How commands are spelled.
-use Rattle.std.proofs.Common.{◌≡◌, ◌≤◌, ◌<◌, ◌^◌, ◌⊎◌, ◌&&◌, inl, inr, true≢false, ℕ, Bool, true, false, List, [], ◌∷◌, Option, Some, None, Result, Ok, Err, length, refl, sym, ap, subst, arith, ◌∙◌}
-use Rattle.std.specs.Prelude.{IfOk, IfSome, option_map, slice_get}
+use Rattle.std.proofs.Common.{◌≡◌, ◌≤◌, ◌<◌, ◌^◌, ◌⊎◌, ◌&&◌, inl, inr, true≢false, ℕ, zero, suc, Bool, true, false, List, [], ◌∷◌, Option, Some, None, Result, Ok, Err, length, refl, sym, ap, subst, arith, ◌∙◌}
+use Rattle.std.specs.Prelude.{IfOk, IfSome, IsErrOf, option_map, slice_get}
 use Rattle.std.specs.List.{list_all}
-use Rattle.std.specs.Option.{ok_or}
 use Rattle.std.specs.Borrow.{Bor}
 use Rattle.std.specs.Fmt.{decimal}
 use Rattle.std.proofs.lemmas.Bool.Decides.{eqb_tells}
 use Rattle.office_text.specs.Number.{AreInverse, is_number, number_of}
-use Rattle.command_words.specs.Parts.{ArePlain, AreParts, is_plain}
-use Rattle.command_words.specs.Words.{IsInRange, IsNamed, Spell, SpellNothing, word_of, word_out, words_of}
+use Rattle.command_words.specs.Parts.{ArePlain, AreParts, NamePlain, is_plain}
+use Rattle.command_words.specs.Words.{IsInRange, IsNamed, Spell, SpellNothing, word_of, word_out, word_start, words_of}
 use Rattle.command_words.specs.declared.parts.Parts.{Parts}
 use Rattle.command_words.specs.declared.words.Command.{Command}
-use Rattle.command_words.specs.declared.words.Command.TheVariants.{Step, Check, Run, Resume, Units, Special, Generate}
+use Rattle.command_words.specs.declared.words.Command.TheVariants.{Step, Check, Run, Resume, Units, Special, Serve, Audit, Generate}
 use Rattle.command_words.specs.declared.words.OutKind.{OutKind}
 use Rattle.command_words.specs.declared.words.OutKind.TheVariants as out_kind
+use Rattle.command_words.specs.declared.words.Start.{Start}
+use Rattle.command_words.specs.declared.words.Start.TheVariants.{New, Kept}
 use Rattle.command_words.specs.declared.words.WordsFault.{WordsFault}
 use Rattle.command_words.specs.declared.words.WordsFault.TheVariants.{Usage}
 use Rattle.command_words.specs.declared.words.Store.{Store}
@@ -66,22 +67,39 @@ one_store Memory (File name) first second same = absurd (second.1 (sym same))
 one_store (File name) Memory first second same = absurd (first.1 same)
 one_store (File name) (File other) first second same = ap File same
 
+-- no two ways to begin have one word
+one_start : (start other : Start) → word_start start ≡ word_start other → start ≡ other
+one_start New New same = refl
+one_start New Kept same = absurd cc
+one_start Kept New same = absurd cc
+one_start Kept Kept same = refl
+
+-- the first byte of words, 0 where there is none
+abbrev first_byte : List (List ℕ) → ℕ
+first_byte [] = 0
+first_byte ([] ∷ words) = 0
+first_byte ((byte ∷ bytes) ∷ words) = byte
+
 -- no two commands are spelled alike
 one_command : AreInverse → (command other : Command) → IsInRange command → IsInRange other → words_of command ≡ words_of other → command ≡ other
 one_command own Step Step first second same = refl
 one_command own Step Check first second same = absurd cc
-one_command own Step (Run store) first second same = absurd cc
-one_command own Step (Resume store) first second same = absurd cc
-one_command own Step (Units store) first second same = absurd cc
-one_command own Step (Special store) first second same = absurd cc
-one_command own Step (Generate n seed out) first second same = absurd cc
+one_command own Step (Run other) first second same = absurd cc
+one_command own Step (Resume other) first second same = absurd cc
+one_command own Step (Units other) first second same = absurd cc
+one_command own Step (Special other) first second same = absurd cc
+one_command own Step (Serve many crew begin place other) first second same = absurd cc
+one_command own Step Audit first second same = absurd cc
+one_command own Step (Generate m from last) first second same = absurd cc
 one_command own Check Step first second same = absurd cc
 one_command own Check Check first second same = refl
-one_command own Check (Run store) first second same = absurd cc
-one_command own Check (Resume store) first second same = absurd cc
-one_command own Check (Units store) first second same = absurd cc
-one_command own Check (Special store) first second same = absurd cc
-one_command own Check (Generate n seed out) first second same = absurd cc
+one_command own Check (Run other) first second same = absurd cc
+one_command own Check (Resume other) first second same = absurd cc
+one_command own Check (Units other) first second same = absurd cc
+one_command own Check (Special other) first second same = absurd cc
+one_command own Check (Serve many crew begin place other) first second same = absurd cc
+one_command own Check Audit first second same = let bytes : 99 ≡ 97 = ap first_byte same in absurd (omega (arith, bytes))
+one_command own Check (Generate m from last) first second same = absurd cc
 one_command own (Run store) Step first second same = absurd cc
 one_command own (Run store) Check first second same = absurd cc
 one_command own (Run store) (Run other) first second same =
@@ -89,7 +107,9 @@ one_command own (Run store) (Run other) first second same =
 one_command own (Run store) (Resume other) first second same = absurd cc
 one_command own (Run store) (Units other) first second same = absurd cc
 one_command own (Run store) (Special other) first second same = absurd cc
-one_command own (Run store) (Generate n seed out) first second same = absurd cc
+one_command own (Run store) (Serve many crew begin place other) first second same = absurd cc
+one_command own (Run store) Audit first second same = absurd cc
+one_command own (Run store) (Generate m from last) first second same = absurd cc
 one_command own (Resume store) Step first second same = absurd cc
 one_command own (Resume store) Check first second same = absurd cc
 one_command own (Resume store) (Run other) first second same = absurd cc
@@ -97,7 +117,9 @@ one_command own (Resume store) (Resume other) first second same =
     let words : word_of store ≡ word_of other = cc in ap Resume (one_store store other first second words)
 one_command own (Resume store) (Units other) first second same = absurd cc
 one_command own (Resume store) (Special other) first second same = absurd cc
-one_command own (Resume store) (Generate n seed out) first second same = absurd cc
+one_command own (Resume store) (Serve many crew begin place other) first second same = absurd cc
+one_command own (Resume store) Audit first second same = absurd cc
+one_command own (Resume store) (Generate m from last) first second same = absurd cc
 one_command own (Units store) Step first second same = absurd cc
 one_command own (Units store) Check first second same = absurd cc
 one_command own (Units store) (Run other) first second same = absurd cc
@@ -105,7 +127,9 @@ one_command own (Units store) (Resume other) first second same = absurd cc
 one_command own (Units store) (Units other) first second same =
     let words : word_of store ≡ word_of other = cc in ap Units (one_store store other first second words)
 one_command own (Units store) (Special other) first second same = absurd cc
-one_command own (Units store) (Generate n seed out) first second same = absurd cc
+one_command own (Units store) (Serve many crew begin place other) first second same = absurd cc
+one_command own (Units store) Audit first second same = absurd cc
+one_command own (Units store) (Generate m from last) first second same = absurd cc
 one_command own (Special store) Step first second same = absurd cc
 one_command own (Special store) Check first second same = absurd cc
 one_command own (Special store) (Run other) first second same = absurd cc
@@ -113,19 +137,52 @@ one_command own (Special store) (Resume other) first second same = absurd cc
 one_command own (Special store) (Units other) first second same = absurd cc
 one_command own (Special store) (Special other) first second same =
     let words : word_of store ≡ word_of other = cc in ap Special (one_store store other first second words)
-one_command own (Special store) (Generate n seed out) first second same = absurd cc
+one_command own (Special store) (Serve many crew begin place other) first second same = absurd cc
+one_command own (Special store) Audit first second same = absurd cc
+one_command own (Special store) (Generate m from last) first second same = absurd cc
+one_command own (Serve conns workers start port store) Step first second same = absurd cc
+one_command own (Serve conns workers start port store) Check first second same = absurd cc
+one_command own (Serve conns workers start port store) (Run other) first second same = absurd cc
+one_command own (Serve conns workers start port store) (Resume other) first second same = absurd cc
+one_command own (Serve conns workers start port store) (Units other) first second same = absurd cc
+one_command own (Serve conns workers start port store) (Special other) first second same = absurd cc
+one_command own (Serve conns workers start port store) (Serve many crew begin place other) first second same =
+    let conns_same : decimal conns ≡ decimal many = cc in
+    let workers_same : decimal workers ≡ decimal crew = cc in
+    let starts_same : word_start start ≡ word_start begin = cc in
+    let ports_same : decimal port ≡ decimal place = cc in
+    let words : word_of store ≡ word_of other = cc in
+    let connections = one_number own conns many (omega (arith, first.0.1)) (omega (arith, second.0.1)) conns_same in
+    let hands = one_number own workers crew (omega (arith, first.1.1)) (omega (arith, second.1.1)) workers_same in
+    let ports = one_number own port place (omega (arith, first.2.1)) (omega (arith, second.2.1)) ports_same in
+    let starts = one_start start begin starts_same in
+    let stores = one_store store other first.3 second.3 words in
+    cc
+one_command own (Serve conns workers start port store) Audit first second same = absurd cc
+one_command own (Serve conns workers start port store) (Generate m from last) first second same = absurd cc
+one_command own Audit Step first second same = absurd cc
+one_command own Audit Check first second same = let bytes : 97 ≡ 99 = ap first_byte same in absurd (omega (arith, bytes))
+one_command own Audit (Run other) first second same = absurd cc
+one_command own Audit (Resume other) first second same = absurd cc
+one_command own Audit (Units other) first second same = absurd cc
+one_command own Audit (Special other) first second same = absurd cc
+one_command own Audit (Serve many crew begin place other) first second same = absurd cc
+one_command own Audit Audit first second same = refl
+one_command own Audit (Generate m from last) first second same = absurd cc
 one_command own (Generate n seed out) Step first second same = absurd cc
 one_command own (Generate n seed out) Check first second same = absurd cc
-one_command own (Generate n seed out) (Run store) first second same = absurd cc
-one_command own (Generate n seed out) (Resume store) first second same = absurd cc
-one_command own (Generate n seed out) (Units store) first second same = absurd cc
-one_command own (Generate n seed out) (Special store) first second same = absurd cc
-one_command own (Generate m seed out) (Generate n other last) first second same =
-    let numbers : decimal m ≡ decimal n = cc in
-    let seeds : decimal seed ≡ decimal other = cc in
+one_command own (Generate n seed out) (Run other) first second same = absurd cc
+one_command own (Generate n seed out) (Resume other) first second same = absurd cc
+one_command own (Generate n seed out) (Units other) first second same = absurd cc
+one_command own (Generate n seed out) (Special other) first second same = absurd cc
+one_command own (Generate n seed out) (Serve many crew begin place other) first second same = absurd cc
+one_command own (Generate n seed out) Audit first second same = absurd cc
+one_command own (Generate n seed out) (Generate m from last) first second same =
+    let numbers : decimal n ≡ decimal m = cc in
+    let seeds : decimal seed ≡ decimal from = cc in
     let words : word_out out ≡ word_out last = cc in
-    let number = one_number own m n (omega (arith, first.1)) (omega (arith, second.1)) numbers in
-    let from = one_number own seed other first.2 second.2 seeds in
+    let number = one_number own n m (omega (arith, first.1)) (omega (arith, second.1)) numbers in
+    let grown = one_number own seed from first.2 second.2 seeds in
     let kind = one_out out last words in
     cc
 
@@ -146,120 +203,190 @@ plain_command own (Run store) range = rw (plain_store store range) refl
 plain_command own (Resume store) range = rw (plain_store store range) refl
 plain_command own (Units store) range = rw (plain_store store range) refl
 plain_command own (Special store) range = rw (plain_store store range) refl
+plain_command own (Serve conns workers New port store) range =
+    rw (plain_digits own conns (omega (arith, range.0.1)), plain_digits own workers (omega (arith, range.1.1)), plain_digits own port (omega (arith, range.2.1)), plain_store store range.3) refl
+plain_command own (Serve conns workers Kept port store) range =
+    rw (plain_digits own conns (omega (arith, range.0.1)), plain_digits own workers (omega (arith, range.1.1)), plain_digits own port (omega (arith, range.2.1)), plain_store store range.3) refl
+plain_command own Audit range = refl
 plain_command own (Generate n seed out_kind.Text) range =
     rw (plain_digits own n (omega (arith, range.1)), plain_digits own seed range.2) refl
 plain_command own (Generate n seed out_kind.Run) range =
     rw (plain_digits own n (omega (arith, range.1)), plain_digits own seed range.2) refl
 
--- a command has one word, two or four
-some_words : (command : Command) → (0 < length (words_of command)) × (length (words_of command) ≤ 4) × (length (words_of command) ≡ 3 → ⊥)
-some_words Step = (omega arith, omega arith, λ h. omega (arith, h))
-some_words Check = (omega arith, omega arith, λ h. omega (arith, h))
-some_words (Run store) = (omega arith, omega arith, λ h. omega (arith, h))
-some_words (Resume store) = (omega arith, omega arith, λ h. omega (arith, h))
-some_words (Units store) = (omega arith, omega arith, λ h. omega (arith, h))
-some_words (Special store) = (omega arith, omega arith, λ h. omega (arith, h))
-some_words (Generate n seed out) = (omega arith, omega arith, λ h. omega (arith, h))
+-- a command has one word, two, four or six
+some_words : (command : Command) → (0 < length (words_of command)) × (length (words_of command) ≤ 6) × (length (words_of command) ≡ 3 → ⊥) × (length (words_of command) ≡ 5 → ⊥)
+some_words Step = (omega arith, omega arith, λ h. omega (arith, h), λ h. omega (arith, h))
+some_words Check = (omega arith, omega arith, λ h. omega (arith, h), λ h. omega (arith, h))
+some_words (Run store) = (omega arith, omega arith, λ h. omega (arith, h), λ h. omega (arith, h))
+some_words (Resume store) = (omega arith, omega arith, λ h. omega (arith, h), λ h. omega (arith, h))
+some_words (Units store) = (omega arith, omega arith, λ h. omega (arith, h), λ h. omega (arith, h))
+some_words (Special store) = (omega arith, omega arith, λ h. omega (arith, h), λ h. omega (arith, h))
+some_words (Serve conns workers start port store) = (omega arith, omega arith, λ h. omega (arith, h), λ h. omega (arith, h))
+some_words Audit = (omega arith, omega arith, λ h. omega (arith, h), λ h. omega (arith, h))
+some_words (Generate n seed out) = (omega arith, omega arith, λ h. omega (arith, h), λ h. omega (arith, h))
 
 -- Words that are not all plain spell no command.
 pub flags_spell_nothing : AreInverse → (words : List (List ℕ)) → (ArePlain words → ⊥) → SpellNothing words
 flags_spell_nothing own words flag command spelled = flag (subst ArePlain (sym spelled.0) (plain_command own command spelled.1))
 
--- No words, and more than four, spell no command.
-pub many_spell_nothing : (words : List (List ℕ)) → (length words ≡ 0) ⊎ (4 < length words) → SpellNothing words
+-- No words, and more than six, spell no command.
+pub many_spell_nothing : (words : List (List ℕ)) → (length words ≡ 0) ⊎ (6 < length words) → SpellNothing words
 many_spell_nothing words many command spelled =
     let few = some_words command in
     let same : length words ≡ length (words_of command) = ap length spelled.0 in
     elim many [ inl none ↦ omega (arith, few.0, none, same) | inr more ↦ omega (arith, few.1, more, same) ]
 
+-- Three words, and five, spell no command.
+pub odd_spell_nothing : (words : List (List ℕ)) → (length words ≡ 3) ⊎ (length words ≡ 5) → SpellNothing words
+odd_spell_nothing words odd command spelled =
+    let has = some_words command in
+    let same : length words ≡ length (words_of command) = ap length spelled.0 in
+    elim odd [ inl three ↦ has.2 (sym same ∙ three) | inr five ↦ has.3 (sym same ∙ five) ]
+
 -- ---- by places
 
+-- the words in the places, and their numbers
+abbrev now_of : Option (Bor (List ℕ)) → Option (List ℕ)
+now_of word = option_map (λ s. s.now) word
+
 -- the one word that there is
-one_word : (words : List (List ℕ)) (parts : Parts) (name : Bor (List ℕ)) → AreParts words parts → parts.command ≡ Some name → parts.first ≡ None → words ≡ name.now ∷ []
-one_word [] parts name are named none = let bad = are.some in absurd (omega arith)
-one_word (w ∷ []) parts name are named none =
-    let first : option_map (λ s. s.now) parts.command ≡ Some w = are.command in
-    let same : Some name.now ≡ Some w = sym (ap (option_map (λ s. s.now)) named) ∙ first in
-    let word : name.now ≡ w = cc in ap (λ (x : List ℕ). x ∷ []) (sym word)
-one_word (w ∷ x ∷ words) parts name are named none =
-    let bad : None ≡ Some x = sym (ap (option_map (λ s. s.now)) none) ∙ are.first in absurd cc
+one_word : (words : List (List ℕ)) (parts : Parts) (s0 : Bor (List ℕ)) → AreParts words parts → parts.command ≡ Some s0 → parts.first ≡ None → words ≡ s0.now ∷ []
+one_word [] parts s0 are h0 none = let bad : Some s0.now ≡ None = sym (ap now_of h0) ∙ are.command in absurd cc
+one_word (w ∷ []) parts s0 are h0 none =
+    let t0 : Some s0.now ≡ Some w = sym (ap now_of h0) ∙ are.command in
+    let e0 : s0.now ≡ w = cc in cc
+one_word (w ∷ x ∷ rest) parts s0 are h0 none = let bad : None ≡ Some x = sym (ap now_of none) ∙ are.first in absurd cc
 
 -- the two words that there are
-two_words : (words : List (List ℕ)) (parts : Parts) (name store : Bor (List ℕ)) → AreParts words parts → parts.command ≡ Some name → parts.first ≡ Some store → parts.second ≡ None
-    → words ≡ name.now ∷ store.now ∷ []
-two_words [] parts name store are named stored none = let bad = are.some in absurd (omega arith)
-two_words (w ∷ []) parts name store are named stored none =
-    let bad : Some store.now ≡ None = sym (ap (option_map (λ s. s.now)) stored) ∙ are.first in absurd cc
-two_words (w ∷ x ∷ []) parts name store are named stored none =
-    let same : Some name.now ≡ Some w = sym (ap (option_map (λ s. s.now)) named) ∙ are.command in
-    let next : Some store.now ≡ Some x = sym (ap (option_map (λ s. s.now)) stored) ∙ are.first in
-    let word : name.now ≡ w = cc in let other : store.now ≡ x = cc in cc
-two_words (w ∷ x ∷ y ∷ words) parts name store are named stored none =
-    let bad : None ≡ Some y = sym (ap (option_map (λ s. s.now)) none) ∙ are.second in absurd cc
+two_words : (words : List (List ℕ)) (parts : Parts) (s0 s1 : Bor (List ℕ)) → AreParts words parts → parts.command ≡ Some s0 → parts.first ≡ Some s1 → parts.second ≡ None → words ≡ s0.now ∷ s1.now ∷ []
+two_words [] parts s0 s1 are h0 h1 none = let bad : Some s0.now ≡ None = sym (ap now_of h0) ∙ are.command in absurd cc
+two_words (w ∷ []) parts s0 s1 are h0 h1 none = let bad : Some s1.now ≡ None = sym (ap now_of h1) ∙ are.first in absurd cc
+two_words (w ∷ x ∷ []) parts s0 s1 are h0 h1 none =
+    let t0 : Some s0.now ≡ Some w = sym (ap now_of h0) ∙ are.command in
+    let t1 : Some s1.now ≡ Some x = sym (ap now_of h1) ∙ are.first in
+    let e0 : s0.now ≡ w = cc in let e1 : s1.now ≡ x = cc in cc
+two_words (w ∷ x ∷ y ∷ rest) parts s0 s1 are h0 h1 none = let bad : None ≡ Some y = sym (ap now_of none) ∙ are.second in absurd cc
+
+-- the three words that there are
+three_words : (words : List (List ℕ)) (parts : Parts) (s0 s1 s2 : Bor (List ℕ)) → AreParts words parts → parts.command ≡ Some s0 → parts.first ≡ Some s1 → parts.second ≡ Some s2 → parts.third ≡ None → words ≡ s0.now ∷ s1.now ∷ s2.now ∷ []
+three_words [] parts s0 s1 s2 are h0 h1 h2 none = let bad : Some s0.now ≡ None = sym (ap now_of h0) ∙ are.command in absurd cc
+three_words (w ∷ []) parts s0 s1 s2 are h0 h1 h2 none = let bad : Some s1.now ≡ None = sym (ap now_of h1) ∙ are.first in absurd cc
+three_words (w ∷ x ∷ []) parts s0 s1 s2 are h0 h1 h2 none = let bad : Some s2.now ≡ None = sym (ap now_of h2) ∙ are.second in absurd cc
+three_words (w ∷ x ∷ y ∷ []) parts s0 s1 s2 are h0 h1 h2 none =
+    let t0 : Some s0.now ≡ Some w = sym (ap now_of h0) ∙ are.command in
+    let t1 : Some s1.now ≡ Some x = sym (ap now_of h1) ∙ are.first in
+    let t2 : Some s2.now ≡ Some y = sym (ap now_of h2) ∙ are.second in
+    let e0 : s0.now ≡ w = cc in let e1 : s1.now ≡ x = cc in let e2 : s2.now ≡ y = cc in cc
+three_words (w ∷ x ∷ y ∷ z ∷ rest) parts s0 s1 s2 are h0 h1 h2 none = let bad : None ≡ Some z = sym (ap now_of none) ∙ are.third in absurd cc
 
 -- the four words that there are
-four_words : (words : List (List ℕ)) (parts : Parts) (name first second out : Bor (List ℕ)) → AreParts words parts → parts.command ≡ Some name → parts.first ≡ Some first
-    → parts.second ≡ Some second → parts.third ≡ Some out → words ≡ name.now ∷ first.now ∷ second.now ∷ out.now ∷ []
-four_words [] parts name first second out are named one two three = let bad = are.some in absurd (omega arith)
-four_words (w ∷ []) parts name first second out are named one two three =
-    let bad : Some out.now ≡ None = sym (ap (option_map (λ s. s.now)) three) ∙ are.third in absurd cc
-four_words (w ∷ x ∷ []) parts name first second out are named one two three =
-    let bad : Some out.now ≡ None = sym (ap (option_map (λ s. s.now)) three) ∙ are.third in absurd cc
-four_words (w ∷ x ∷ y ∷ []) parts name first second out are named one two three =
-    let bad : Some out.now ≡ None = sym (ap (option_map (λ s. s.now)) three) ∙ are.third in absurd cc
-four_words (w ∷ x ∷ y ∷ z ∷ []) parts name first second out are named one two three =
-    let a : Some name.now ≡ Some w = sym (ap (option_map (λ s. s.now)) named) ∙ are.command in
-    let b : Some first.now ≡ Some x = sym (ap (option_map (λ s. s.now)) one) ∙ are.first in
-    let d : Some second.now ≡ Some y = sym (ap (option_map (λ s. s.now)) two) ∙ are.second in
-    let e : Some out.now ≡ Some z = sym (ap (option_map (λ s. s.now)) three) ∙ are.third in
-    let word : name.now ≡ w = cc in let other : first.now ≡ x = cc in let third : second.now ≡ y = cc in let last : out.now ≡ z = cc in cc
-four_words (w ∷ x ∷ y ∷ z ∷ u ∷ words) parts name first second out are named one two three = let bad = are.few in absurd (omega arith)
+four_words : (words : List (List ℕ)) (parts : Parts) (s0 s1 s2 s3 : Bor (List ℕ)) → AreParts words parts → parts.command ≡ Some s0 → parts.first ≡ Some s1 → parts.second ≡ Some s2 → parts.third ≡ Some s3 → parts.fourth ≡ None → words ≡ s0.now ∷ s1.now ∷ s2.now ∷ s3.now ∷ []
+four_words [] parts s0 s1 s2 s3 are h0 h1 h2 h3 none = let bad : Some s0.now ≡ None = sym (ap now_of h0) ∙ are.command in absurd cc
+four_words (w ∷ []) parts s0 s1 s2 s3 are h0 h1 h2 h3 none = let bad : Some s1.now ≡ None = sym (ap now_of h1) ∙ are.first in absurd cc
+four_words (w ∷ x ∷ []) parts s0 s1 s2 s3 are h0 h1 h2 h3 none = let bad : Some s2.now ≡ None = sym (ap now_of h2) ∙ are.second in absurd cc
+four_words (w ∷ x ∷ y ∷ []) parts s0 s1 s2 s3 are h0 h1 h2 h3 none = let bad : Some s3.now ≡ None = sym (ap now_of h3) ∙ are.third in absurd cc
+four_words (w ∷ x ∷ y ∷ z ∷ []) parts s0 s1 s2 s3 are h0 h1 h2 h3 none =
+    let t0 : Some s0.now ≡ Some w = sym (ap now_of h0) ∙ are.command in
+    let t1 : Some s1.now ≡ Some x = sym (ap now_of h1) ∙ are.first in
+    let t2 : Some s2.now ≡ Some y = sym (ap now_of h2) ∙ are.second in
+    let t3 : Some s3.now ≡ Some z = sym (ap now_of h3) ∙ are.third in
+    let e0 : s0.now ≡ w = cc in let e1 : s1.now ≡ x = cc in let e2 : s2.now ≡ y = cc in let e3 : s3.now ≡ z = cc in cc
+four_words (w ∷ x ∷ y ∷ z ∷ u ∷ rest) parts s0 s1 s2 s3 are h0 h1 h2 h3 none = let bad : None ≡ Some u = sym (ap now_of none) ∙ are.fourth in absurd cc
 
--- what holds of the spelled words holds of the words that are they
-some_spelled : (parts : Parts) (spelled : List (List ℕ)) (found : Result Command WordsFault) → ((words : List (List ℕ)) → AreParts words parts → words ≡ spelled) → IfOk found (Spell spelled)
-    → IfOk found (λ command. (words : List (List ℕ)) → AreParts words parts → Spell words command)
-some_spelled parts spelled (Err fault) same is = tt
-some_spelled parts spelled (Ok command) same is = λ words are. subst (λ (ws : List (List ℕ)). Spell ws command) (sym (same words are)) is
+-- the five words that there are
+five_words : (words : List (List ℕ)) (parts : Parts) (s0 s1 s2 s3 s4 : Bor (List ℕ)) → AreParts words parts → parts.command ≡ Some s0 → parts.first ≡ Some s1 → parts.second ≡ Some s2 → parts.third ≡ Some s3 → parts.fourth ≡ Some s4 → parts.fifth ≡ None → words ≡ s0.now ∷ s1.now ∷ s2.now ∷ s3.now ∷ s4.now ∷ []
+five_words [] parts s0 s1 s2 s3 s4 are h0 h1 h2 h3 h4 none = let bad : Some s0.now ≡ None = sym (ap now_of h0) ∙ are.command in absurd cc
+five_words (w ∷ []) parts s0 s1 s2 s3 s4 are h0 h1 h2 h3 h4 none = let bad : Some s1.now ≡ None = sym (ap now_of h1) ∙ are.first in absurd cc
+five_words (w ∷ x ∷ []) parts s0 s1 s2 s3 s4 are h0 h1 h2 h3 h4 none = let bad : Some s2.now ≡ None = sym (ap now_of h2) ∙ are.second in absurd cc
+five_words (w ∷ x ∷ y ∷ []) parts s0 s1 s2 s3 s4 are h0 h1 h2 h3 h4 none = let bad : Some s3.now ≡ None = sym (ap now_of h3) ∙ are.third in absurd cc
+five_words (w ∷ x ∷ y ∷ z ∷ []) parts s0 s1 s2 s3 s4 are h0 h1 h2 h3 h4 none = let bad : Some s4.now ≡ None = sym (ap now_of h4) ∙ are.fourth in absurd cc
+five_words (w ∷ x ∷ y ∷ z ∷ u ∷ []) parts s0 s1 s2 s3 s4 are h0 h1 h2 h3 h4 none =
+    let t0 : Some s0.now ≡ Some w = sym (ap now_of h0) ∙ are.command in
+    let t1 : Some s1.now ≡ Some x = sym (ap now_of h1) ∙ are.first in
+    let t2 : Some s2.now ≡ Some y = sym (ap now_of h2) ∙ are.second in
+    let t3 : Some s3.now ≡ Some z = sym (ap now_of h3) ∙ are.third in
+    let t4 : Some s4.now ≡ Some u = sym (ap now_of h4) ∙ are.fourth in
+    let e0 : s0.now ≡ w = cc in let e1 : s1.now ≡ x = cc in let e2 : s2.now ≡ y = cc in let e3 : s3.now ≡ z = cc in let e4 : s4.now ≡ u = cc in cc
+five_words (w ∷ x ∷ y ∷ z ∷ u ∷ v ∷ rest) parts s0 s1 s2 s3 s4 are h0 h1 h2 h3 h4 none = let bad : None ≡ Some v = sym (ap now_of none) ∙ are.fifth in absurd cc
 
--- a command that was found
-ok_spelled : (spelled : List (List ℕ)) (found : Option Command) (told : Result Command WordsFault) → told ≡ ok_or found Usage → IfSome found (Spell spelled) → IfOk told (Spell spelled)
-ok_spelled spelled None told is made = subst (λ (t : Result Command WordsFault). IfOk t (Spell spelled)) (sym is) tt
-ok_spelled spelled (Some command) told is made = subst (λ (t : Result Command WordsFault). IfOk t (Spell spelled)) (sym is) made
+-- the six words that there are
+six_words : (words : List (List ℕ)) (parts : Parts) (s0 s1 s2 s3 s4 s5 : Bor (List ℕ)) → AreParts words parts → parts.command ≡ Some s0 → parts.first ≡ Some s1 → parts.second ≡ Some s2 → parts.third ≡ Some s3 → parts.fourth ≡ Some s4 → parts.fifth ≡ Some s5 → words ≡ s0.now ∷ s1.now ∷ s2.now ∷ s3.now ∷ s4.now ∷ s5.now ∷ []
+six_words [] parts s0 s1 s2 s3 s4 s5 are h0 h1 h2 h3 h4 h5 = let bad : Some s0.now ≡ None = sym (ap now_of h0) ∙ are.command in absurd cc
+six_words (w ∷ []) parts s0 s1 s2 s3 s4 s5 are h0 h1 h2 h3 h4 h5 = let bad : Some s1.now ≡ None = sym (ap now_of h1) ∙ are.first in absurd cc
+six_words (w ∷ x ∷ []) parts s0 s1 s2 s3 s4 s5 are h0 h1 h2 h3 h4 h5 = let bad : Some s2.now ≡ None = sym (ap now_of h2) ∙ are.second in absurd cc
+six_words (w ∷ x ∷ y ∷ []) parts s0 s1 s2 s3 s4 s5 are h0 h1 h2 h3 h4 h5 = let bad : Some s3.now ≡ None = sym (ap now_of h3) ∙ are.third in absurd cc
+six_words (w ∷ x ∷ y ∷ z ∷ []) parts s0 s1 s2 s3 s4 s5 are h0 h1 h2 h3 h4 h5 = let bad : Some s4.now ≡ None = sym (ap now_of h4) ∙ are.fourth in absurd cc
+six_words (w ∷ x ∷ y ∷ z ∷ u ∷ []) parts s0 s1 s2 s3 s4 s5 are h0 h1 h2 h3 h4 h5 = let bad : Some s5.now ≡ None = sym (ap now_of h5) ∙ are.fifth in absurd cc
+six_words (w ∷ x ∷ y ∷ z ∷ u ∷ v ∷ []) parts s0 s1 s2 s3 s4 s5 are h0 h1 h2 h3 h4 h5 =
+    let t0 : Some s0.now ≡ Some w = sym (ap now_of h0) ∙ are.command in
+    let t1 : Some s1.now ≡ Some x = sym (ap now_of h1) ∙ are.first in
+    let t2 : Some s2.now ≡ Some y = sym (ap now_of h2) ∙ are.second in
+    let t3 : Some s3.now ≡ Some z = sym (ap now_of h3) ∙ are.third in
+    let t4 : Some s4.now ≡ Some u = sym (ap now_of h4) ∙ are.fourth in
+    let t5 : Some s5.now ≡ Some v = sym (ap now_of h5) ∙ are.fifth in
+    let e0 : s0.now ≡ w = cc in let e1 : s1.now ≡ x = cc in let e2 : s2.now ≡ y = cc in let e3 : s3.now ≡ z = cc in let e4 : s4.now ≡ u = cc in let e5 : s5.now ≡ v = cc in cc
+six_words (w ∷ x ∷ y ∷ z ∷ u ∷ v ∷ a ∷ rest) parts s0 s1 s2 s3 s4 s5 are h0 h1 h2 h3 h4 h5 = let bad = are.few in absurd (omega arith)
 
--- A name alone.
-pub some_named : (parts : Parts) (name : Bor (List ℕ)) (found : Option Command) (told : Result Command WordsFault) → parts.command ≡ Some name → parts.first ≡ None → told ≡ ok_or found Usage
-    → IfSome found (Spell (name.now ∷ [])) → IfOk told (λ command. (words : List (List ℕ)) → AreParts words parts → Spell words command)
-some_named parts name found told named none is made =
-    some_spelled parts (name.now ∷ []) told (λ words are. one_word words parts name are named none) (ok_spelled (name.now ∷ []) found told is made)
+-- what was read of the words, by what was read of those that they spell
+pub record AreRead (parts : Parts) (told : Result Command WordsFault) : Type 0 where
+  pub some : IfOk told (λ command. (words : List (List ℕ)) → AreParts words parts → Spell words command)
+  pub none : IsErrOf told Usage → (words : List (List ℕ)) → AreParts words parts → SpellNothing words
 
--- A name with a store.
-pub some_stored : (parts : Parts) (name store : Bor (List ℕ)) (told : Result Command WordsFault) → parts.command ≡ Some name → parts.first ≡ Some store → parts.second ≡ None
-    → IfOk told (Spell (name.now ∷ store.now ∷ [])) → IfOk told (λ command. (words : List (List ℕ)) → AreParts words parts → Spell words command)
-some_stored parts name store told named stored none is = some_spelled parts (name.now ∷ store.now ∷ []) told (λ words are. two_words words parts name store are named stored none) is
+read : (parts : Parts) (spelled : List (List ℕ)) (told : Result Command WordsFault) → ((words : List (List ℕ)) → AreParts words parts → words ≡ spelled)
+    → IfOk told (Spell spelled) → (IsErrOf told Usage → SpellNothing spelled) → AreRead parts told
+read parts spelled told same is not = record { some = go told is; none = λ usage words are. subst SpellNothing (sym (same words are)) (not usage) }
+  where
+    go : (found : Result Command WordsFault) → IfOk found (Spell spelled) → IfOk found (λ command. (words : List (List ℕ)) → AreParts words parts → Spell words command)
+    go (Err fault) found = tt
+    go (Ok command) found = λ words are. subst (λ (ws : List (List ℕ)). Spell ws command) (sym (same words are)) found
 
--- A name with two numbers and a last word.
-pub some_numbered : (parts : Parts) (name first second out : Bor (List ℕ)) (found : Option Command) (told : Result Command WordsFault) → parts.command ≡ Some name → parts.first ≡ Some first
-    → parts.second ≡ Some second → parts.third ≡ Some out → told ≡ ok_or found Usage → IfSome found (Spell (name.now ∷ first.now ∷ second.now ∷ out.now ∷ []))
-    → IfOk told (λ command. (words : List (List ℕ)) → AreParts words parts → Spell words command)
-some_numbered parts name first second out found told named one two three is made =
-    let spelled : List (List ℕ) = name.now ∷ first.now ∷ second.now ∷ out.now ∷ [] in
-    some_spelled parts spelled told (λ words are. four_words words parts name first second out are named one two three) (ok_spelled spelled found told is made)
+-- One word.
+pub read_one : (parts : Parts) (s0 : Bor (List ℕ)) (told : Result Command WordsFault) → parts.command ≡ Some s0 → parts.first ≡ None
+    → IfOk told (Spell (s0.now ∷ [])) → (IsErrOf told Usage → SpellNothing (s0.now ∷ [])) → AreRead parts told
+read_one parts s0 told h0 none = read parts (s0.now ∷ []) told (λ words are. one_word words parts s0 are h0 none)
 
--- The second of plain words is plain, where there is one.
-pub first_is_plain : (words : List (List ℕ)) (parts : Parts) → ArePlain words → AreParts words parts → IfSome parts.first (λ word. is_plain word.now ≡ true)
-first_is_plain words parts plain are = go words parts.first plain are.first
+-- Two words.
+pub read_two : (parts : Parts) (s0 s1 : Bor (List ℕ)) (told : Result Command WordsFault) → parts.command ≡ Some s0 → parts.first ≡ Some s1 → parts.second ≡ None
+    → IfOk told (Spell (s0.now ∷ s1.now ∷ [])) → (IsErrOf told Usage → SpellNothing (s0.now ∷ s1.now ∷ [])) → AreRead parts told
+read_two parts s0 s1 told h0 h1 none = read parts (s0.now ∷ s1.now ∷ []) told (λ words are. two_words words parts s0 s1 are h0 h1 none)
+
+-- Four words.
+pub read_four : (parts : Parts) (s0 s1 s2 s3 : Bor (List ℕ)) (told : Result Command WordsFault) → parts.command ≡ Some s0 → parts.first ≡ Some s1 → parts.second ≡ Some s2 → parts.third ≡ Some s3 → parts.fourth ≡ None
+    → IfOk told (Spell (s0.now ∷ s1.now ∷ s2.now ∷ s3.now ∷ [])) → (IsErrOf told Usage → SpellNothing (s0.now ∷ s1.now ∷ s2.now ∷ s3.now ∷ [])) → AreRead parts told
+read_four parts s0 s1 s2 s3 told h0 h1 h2 h3 none = read parts (s0.now ∷ s1.now ∷ s2.now ∷ s3.now ∷ []) told (λ words are. four_words words parts s0 s1 s2 s3 are h0 h1 h2 h3 none)
+
+-- Six words.
+pub read_six : (parts : Parts) (s0 s1 s2 s3 s4 s5 : Bor (List ℕ)) (told : Result Command WordsFault) → parts.command ≡ Some s0 → parts.first ≡ Some s1 → parts.second ≡ Some s2 → parts.third ≡ Some s3 → parts.fourth ≡ Some s4 → parts.fifth ≡ Some s5
+    → IfOk told (Spell (s0.now ∷ s1.now ∷ s2.now ∷ s3.now ∷ s4.now ∷ s5.now ∷ [])) → (IsErrOf told Usage → SpellNothing (s0.now ∷ s1.now ∷ s2.now ∷ s3.now ∷ s4.now ∷ s5.now ∷ [])) → AreRead parts told
+read_six parts s0 s1 s2 s3 s4 s5 told h0 h1 h2 h3 h4 h5 = read parts (s0.now ∷ s1.now ∷ s2.now ∷ s3.now ∷ s4.now ∷ s5.now ∷ []) told (λ words are. six_words words parts s0 s1 s2 s3 s4 s5 are h0 h1 h2 h3 h4 h5)
+
+-- Three words spell nothing.
+pub not_three : (parts : Parts) (s0 s1 s2 : Bor (List ℕ)) → parts.command ≡ Some s0 → parts.first ≡ Some s1 → parts.second ≡ Some s2 → parts.third ≡ None → (words : List (List ℕ)) → AreParts words parts → SpellNothing words
+not_three parts s0 s1 s2 h0 h1 h2 none words are = odd_spell_nothing words (inl (ap length (three_words words parts s0 s1 s2 are h0 h1 h2 none)))
+
+-- Five words spell nothing.
+pub not_five : (parts : Parts) (s0 s1 s2 s3 s4 : Bor (List ℕ)) → parts.command ≡ Some s0 → parts.first ≡ Some s1 → parts.second ≡ Some s2 → parts.third ≡ Some s3 → parts.fourth ≡ Some s4 → parts.fifth ≡ None → (words : List (List ℕ)) → AreParts words parts → SpellNothing words
+not_five parts s0 s1 s2 s3 s4 h0 h1 h2 h3 h4 none words are = odd_spell_nothing words (inr (ap length (five_words words parts s0 s1 s2 s3 s4 are h0 h1 h2 h3 h4 none)))
+
+-- No words are none.
+pub not_none : (parts : Parts) → parts.command ≡ None → (words : List (List ℕ)) → AreParts words parts → SpellNothing words
+not_none parts none [] are = let bad = are.some in absurd (omega arith)
+not_none parts none (w ∷ words) are = let bad : None ≡ Some w = sym (ap now_of none) ∙ are.command in absurd cc
+
+-- Those of plain words that may name a file are plain.
+pub named_plain : (words : List (List ℕ)) (parts : Parts) → ArePlain words → AreParts words parts → NamePlain parts
+named_plain words parts plain are = record { first = there words 1 parts.first plain are.first; fifth = there words 5 parts.fifth plain are.fifth }
   where
     both : (a b : Bool) → (a && b) ≡ true → (a ≡ true) × (b ≡ true)
     both true true h = (refl, refl)
     both true false h = absurd (true≢false (sym h))
     both false b h = absurd (true≢false (sym h))
 
-    go : (words : List (List ℕ)) (first : Option (Bor (List ℕ))) → ArePlain words → option_map (λ s. s.now) first ≡ slice_get words 1 → IfSome first (λ word. is_plain word.now ≡ true)
-    go words None plain same = tt
-    go [] (Some word) plain same = let bad : Some word.now ≡ None = same in absurd cc
-    go (w ∷ []) (Some word) plain same = let bad : Some word.now ≡ None = same in absurd cc
-    go (w ∷ x ∷ rest) (Some word) plain same =
-        let next : Some word.now ≡ Some x = same in
-        let here : word.now ≡ x = cc in
-        let more : list_all is_plain (x ∷ rest) ≡ true = (both (is_plain w) (list_all is_plain (x ∷ rest)) plain).1 in
-        subst (λ (t : List ℕ). is_plain t ≡ true) (sym here) (both (is_plain x) (list_all is_plain rest) more).0
+    there : (words : List (List ℕ)) (at : ℕ) (word : Option (Bor (List ℕ))) → ArePlain words → now_of word ≡ slice_get words at → IfSome word (λ word. is_plain word.now ≡ true)
+    there words at None plain same = tt
+    there [] at (Some word) plain same = let bad : Some word.now ≡ None = same in absurd cc
+    there (w ∷ rest) zero (Some word) plain same =
+        let next : Some word.now ≡ Some w = same in
+        let here : word.now ≡ w = cc in
+        subst (λ (t : List ℕ). is_plain t ≡ true) (sym here) (both (is_plain w) (list_all is_plain rest) plain).0
+    there (w ∷ rest) (suc at) (Some word) plain same = there rest at (Some word) (both (is_plain w) (list_all is_plain rest) plain).1 same

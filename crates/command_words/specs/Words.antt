@@ -3,9 +3,12 @@ use Rattle.std.specs.Prelude.{◌≡◌, ◌≢◌, ◌<◌, ◌≤◌, ◌^◌,
 use Rattle.std.specs.Fmt.{decimal}
 use Rattle.command_words.specs.Parts.{is_plain}
 use Rattle.command_words.specs.declared.words.Command.{Command}
-use Rattle.command_words.specs.declared.words.Command.TheVariants.{Step, Check, Run, Resume, Units, Special, Generate}
+use Rattle.command_words.specs.declared.words.Command.TheVariants.{Step, Check, Run, Resume, Units, Special, Serve, Audit, Generate}
 use Rattle.command_words.specs.declared.words.OutKind.{OutKind}
 use Rattle.command_words.specs.declared.words.OutKind.TheVariants as out_kind
+use Rattle.command_words.specs.declared.words.Service.{Service}
+use Rattle.command_words.specs.declared.words.Start.{Start}
+use Rattle.command_words.specs.declared.words.Start.TheVariants.{New, Kept}
 use Rattle.command_words.specs.declared.words.Store.{Store}
 use Rattle.command_words.specs.declared.words.Store.TheVariants.{Memory, File}
 
@@ -24,8 +27,13 @@ abbrev pub word_out : OutKind → List ℕ
 word_out out_kind.Text = codes "text"
 word_out out_kind.Run = codes "run"
 
--- the words of a command: its name alone; `run`, `resume`, `units` or `special`, and where the records are kept; or `generate`, how many candidates, the
--- seed, and what is written
+-- the word for how a served office begins
+abbrev pub word_start : Start → List ℕ
+word_start New = codes "new"
+word_start Kept = codes "kept"
+
+-- the words of a command: its name alone; `run`, `resume`, `units` or `special`, and where the records are kept; `serve`, how many connections, how many
+-- workers, how the office begins, at which port, and where the records are kept; or `generate`, how many candidates, the seed, and what is written
 abbrev pub words_of : Command → List (List ℕ)
 words_of Step = codes "step" ∷ []
 words_of Check = codes "check" ∷ []
@@ -33,6 +41,8 @@ words_of (Run store) = codes "run" ∷ word_of store ∷ []
 words_of (Resume store) = codes "resume" ∷ word_of store ∷ []
 words_of (Units store) = codes "units" ∷ word_of store ∷ []
 words_of (Special store) = codes "special" ∷ word_of store ∷ []
+words_of (Serve conns workers start port store) = codes "serve" ∷ decimal conns ∷ decimal workers ∷ word_start start ∷ decimal port ∷ word_of store ∷ []
+words_of Audit = codes "audit" ∷ []
 words_of (Generate n seed out) = codes "generate" ∷ decimal n ∷ decimal seed ∷ word_out out ∷ []
 
 -- the numbers of a command lie in their ranges, and its file has a name
@@ -43,7 +53,19 @@ IsInRange (Run store) = IsNamed store
 IsInRange (Resume store) = IsNamed store
 IsInRange (Units store) = IsNamed store
 IsInRange (Special store) = IsNamed store
+IsInRange (Serve conns workers start port store) = ((1 ≤ conns) × (conns ≤ 100000)) × ((1 ≤ workers) × (workers ≤ 64)) × ((1 ≤ port) × (port < 2 ^ 16)) × IsNamed store
+IsInRange Audit = Unit {0}
 IsInRange (Generate n seed out) = (1 ≤ n) × (n ≤ 100000) × (seed < 2 ^ 32)
+
+-- the words after `serve`, without the store, are those of this service, whose numbers lie in their ranges
+pub record AreServiceWords (service : Service) (conns workers start port : List ℕ) : Type 0 where
+  pub conns_are : conns ≡ decimal service.conns
+  pub conns_range : (1 ≤ service.conns) × (service.conns ≤ 100000)
+  pub workers_are : workers ≡ decimal service.workers
+  pub workers_range : (1 ≤ service.workers) × (service.workers ≤ 64)
+  pub start_is : start ≡ word_start service.start
+  pub port_is : port ≡ decimal service.port
+  pub port_range : (1 ≤ service.port) × (service.port < 2 ^ 16)
 
 -- the words spell the command
 abbrev pub Spell : List (List ℕ) → Command → Type 0

@@ -8,4 +8,4 @@ pub mod laws;
 mod parts;
 mod words;
 
-pub use words::{Command, OutKind, Store, WordsFault, read_words};
+pub use words::{Command, OutKind, Start, Store, WordsFault, read_words};

@@ -2,7 +2,7 @@
 ghost use Rattle.std.specs.Prelude.{◌≡◌, ◌≢◌, ◌<◌, ◌⊎◌, IfOk, IsErrOf, length, map};
 ghost use Rattle.clap.specs.Values.{kind_of};
 ghost use Rattle.clap.specs.Words.{app_of, found_of, rows_of};
-ghost use Rattle.command_words.specs.Parts.{ArePlain, AreParts, AreRows, program};
+ghost use Rattle.command_words.specs.Parts.{ArePlain, AreParts, AreRows, program, short_program};
 
 use crate::words::WordsFault;
 use clap::error::ErrorKind;
@@ -16,13 +16,15 @@ pub struct Parts<'a> {
     pub first: Option<&'a str>,
     pub second: Option<&'a str>,
     pub third: Option<&'a str>,
+    pub fourth: Option<&'a str>,
+    pub fifth: Option<&'a str>,
 }
 
-/// The places of the words, of which none is empty or begins with `-`. `Usage` comes only where there is none, or more than four.
+/// The places of the words, of which none is empty or begins with `-`. `Usage` comes only where there is none, or more than six.
 pub fn parts_of<'a>(alloc: Global, line: &'a [&'a str]) -> Result<Parts<'a>, WordsFault>
     requires { ArePlain (map (λ word. word.now) line.now) }
     ensures parts { IfOk result (AreParts (map (λ word. word.now) line.entry.now)) }
-    ensures usage { IsErrOf result WordsFault.Usage → (length line.entry.now ≡ 0) ⊎ (4 < length line.entry.now) }
+    ensures usage { IsErrOf result WordsFault.Usage → (length line.entry.now ≡ 0) ⊎ (6 < length line.entry.now) }
 {
     let matches = divided(alloc, line)?;
     Ok(Parts {
@@ -30,6 +32,8 @@ pub fn parts_of<'a>(alloc: Global, line: &'a [&'a str]) -> Result<Parts<'a>, Wor
         first: matches.get_str("first"),
         second: matches.get_str("second"),
         third: matches.get_str("third"),
+        fourth: matches.get_str("fourth"),
+        fifth: matches.get_str("fifth"),
     })
 }
 
@@ -37,7 +41,7 @@ pub fn parts_of<'a>(alloc: Global, line: &'a [&'a str]) -> Result<Parts<'a>, Wor
 fn divided<'a>(alloc: Global, line: &'a [&'a str]) -> Result<ArgMatches<'a>, WordsFault>
     requires { ArePlain (map (λ word. word.now) line.now) }
     ensures rows { IfOk result (λ matches. AreRows (map (λ word. word.now) line.entry.now) (rows_of (found_of matches))) }
-    ensures usage { IsErrOf result WordsFault.Usage → (length line.entry.now ≡ 0) ⊎ (4 < length line.entry.now) }
+    ensures usage { IsErrOf result WordsFault.Usage → (length line.entry.now ≡ 0) ⊎ (6 < length line.entry.now) }
 {
     let parser = parser(alloc)?;
     match parser.try_get_matches_from(line) {
@@ -48,7 +52,8 @@ fn divided<'a>(alloc: Global, line: &'a [&'a str]) -> Result<ArgMatches<'a>, Wor
 
 /// The fault for an error of `clap`.
 fn fault_of(error: &Error) -> WordsFault
-    ensures { result ≡ WordsFault.Usage → kind_of error.now ≢ ErrorKind.OutOfMemory }
+    ensures usage { result ≡ WordsFault.Usage → kind_of error.now ≢ ErrorKind.OutOfMemory }
+    ensures memory { result ≡ WordsFault.OutOfMemory → kind_of error.now ≡ ErrorKind.OutOfMemory }
 {
     match error.kind() {
         ErrorKind::OutOfMemory => WordsFault::OutOfMemory,
@@ -56,14 +61,24 @@ fn fault_of(error: &Error) -> WordsFault
     }
 }
 
-/// What `clap` reads: a command, and up to three words after it.
+/// What `clap` reads: a command, and up to five words after it.
 fn parser<'a>(alloc: Global) -> Result<Parser<'a>, AllocError>
     ensures { IfOk result (λ parser. app_of parser ≡ program) }
+{
+    let third = Arg::new(alloc, "third");
+    let fourth = Arg::new(alloc, "fourth");
+    let fifth = Arg::new(alloc, "fifth");
+    let named = short_parser(alloc)?;
+    named.arg(third)?.arg(fourth)?.arg(fifth)
+}
+
+/// A command, and up to two words after it.
+fn short_parser<'a>(alloc: Global) -> Result<Parser<'a>, AllocError>
+    ensures { IfOk result (λ parser. app_of parser ≡ short_program) }
 {
     let command = Arg::new(alloc, "command").required(true);
     let first = Arg::new(alloc, "first");
     let second = Arg::new(alloc, "second");
-    let third = Arg::new(alloc, "third");
     let named = Parser::new(alloc, "allocation_cli").no_binary_name(true);
-    named.arg(command)?.arg(first)?.arg(second)?.arg(third)
+    named.arg(command)?.arg(first)?.arg(second)
 }

@@ -1,8 +1,10 @@
 // What the words of a command line ask for.
-ghost use Rattle.std.specs.Prelude.{◌≡◌, [], ◌∷◌, ℕ, List, true, IsErrOf, IfNone, IfOk, IfSome, OnOk, map};
-ghost use Rattle.command_words.specs.Parts.{ArePlain, AreParts, is_plain};
-ghost use Rattle.command_words.specs.Words.{IsNamed, Spell, SpellNothing, word_of, word_out};
+ghost use Rattle.std.specs.Prelude.{◌≡◌, ◌≤◌, [], ◌∷◌, ℕ, List, true, IsErrOf, IfNone, IfOk, IfSome, OnOk, codes, map};
+ghost use Rattle.std.specs.Fmt.{decimal};
+ghost use Rattle.command_words.specs.Parts.{ArePlain, AreParts, NamePlain, is_plain};
+ghost use Rattle.command_words.specs.Words.{AreServiceWords, IsNamed, Spell, SpellNothing, word_of, word_out, word_start};
 ghost use Rattle.command_words.specs.declared.words.OutKind.{OutKind as AnyOutKind};
+ghost use Rattle.command_words.specs.declared.words.Start.{Start as AnyStart};
 ghost use Rattle.command_words.specs.declared.words.WordsFault.TheVariants.{OutOfMemory as NoMemory};
 
 use crate::parts::{Parts, parts_of};
@@ -13,6 +15,13 @@ use std::alloc::{AllocError, AllocFailed, Global};
 
 // How many candidates a generated season may have.
 const MOST_CANDIDATES: u32 = 100_000;
+
+// How many connections each worker of a served office may take, how many workers there may be, and the last port.
+const MOST_CONNECTIONS: u32 = 100_000;
+
+const MOST_WORKERS: u32 = 64;
+
+const LAST_PORT: u32 = 65_535;
 
 /// A command of the office.
 #[derive(Debug, Drop)]
@@ -29,8 +38,32 @@ pub enum Command {
     Units(Store),
     /// Goes on with the office that a keeper holds, reads lists, and gives the seats that its final cut left vacant in a special round.
     Special(Store),
+    /// Answers requests over HTTP at a port of this machine: `workers` of them, 1 to 64, side by side, each of which takes at most `conns` connections, 1 to
+    /// 100,000. `start` says how the office begins; the port is 1 to 65,535.
+    Serve {
+        conns: u32,
+        workers: u8,
+        start: Start,
+        port: u16,
+        store: Store,
+    },
+    /// Reads a dossier, which is a season bundle with requests and what was published, and writes whether what was published is what the rules give.
+    Audit,
     /// Generates a season bundle of 1 to 100,000 candidates from a seed, and writes it or runs it.
-    Generate { n: u32, seed: u32, out: OutKind },
+    Generate {
+        n: u32,
+        seed: u32,
+        out: OutKind,
+    },
+}
+
+/// How a served office begins.
+#[derive(Clone, Copy, Debug, PartialEq, Eq)]
+pub enum Start {
+    /// From a season bundle without requests, over a keeper that holds no season.
+    New,
+    /// From what the keeper holds.
+    Kept,
 }
 
 /// Where a keeper keeps its records.
@@ -84,8 +117,9 @@ impl<T: Drop> From<AllocFailed<T>> for WordsFault {
     }
 }
 
-/// The command that the words spell: its name alone; `run`, `resume`, `units` or `special` with `memory` or the name of a file; or `generate` with how many
-/// candidates, a seed, and `text` or `run`. `Usage` comes exactly where they spell none, but for want of memory.
+/// The command that the words spell: its name alone; `run`, `resume`, `units` or `special` with `memory` or the name of a file; `serve` with how many
+/// connections, how many workers, `new` or `kept`, a port, and `memory` or the name of a file; or `generate` with how many candidates, a seed, and `text` or
+/// `run`. `Usage` comes exactly where they spell none, but for want of memory.
 pub fn read_words(alloc: Global, words: &Words) -> Result<Command, WordsFault>
     ensures command { IfOk result (Spell words.now) }
     ensures usage { IsErrOf result WordsFault.Usage → SpellNothing words.now }
@@ -138,31 +172,43 @@ fn is_plain(word: &str) -> bool
     }
 }
 
-/// The command of these words, of which the second is not empty and does not begin with `-`.
+/// The command of these words, of which the second and the last of six are not empty and do not begin with `-`.
 fn command_of(alloc: Global, parts: Parts<'_>) -> Result<Command, WordsFault>
-    requires { IfSome parts.first (λ word. is_plain word.now ≡ true) }
+    requires { NamePlain parts }
     ensures some { IfOk result (λ command. (words : List (List ℕ)) → AreParts words parts.entry → Spell words command) }
     ensures none { IsErrOf result WordsFault.Usage → (words : List (List ℕ)) → AreParts words parts.entry → SpellNothing words }
 {
-    match (parts.command, parts.first, parts.second, parts.third) {
-        (Some(name), None, None, None) => read_name(name).ok_or(WordsFault::Usage),
-        (Some(name), Some(store), None, None) => read_store(alloc, name, store),
-        (Some(name), Some(first), Some(second), Some(out)) => {
-            read_season(name, first, second, out).ok_or(WordsFault::Usage)
-        }
-        _ => Err(WordsFault::Usage),
-    }
+    let Some(name) = parts.command else {
+        return Err(WordsFault::Usage);
+    };
+    let Some(first) = parts.first else {
+        return read_name(name);
+    };
+    let Some(second) = parts.second else {
+        return read_store(alloc, name, first);
+    };
+    let Some(third) = parts.third else {
+        return Err(WordsFault::Usage);
+    };
+    let Some(fourth) = parts.fourth else {
+        return read_season(name, first, second, third);
+    };
+    let Some(fifth) = parts.fifth else {
+        return Err(WordsFault::Usage);
+    };
+    read_service(alloc, name, first, second, third, fourth, fifth)
 }
 
 /// The command of this name alone.
-fn read_name(name: &str) -> Option<Command>
-    ensures command { IfSome result (Spell (name.now ∷ [])) }
-    ensures none { IfNone result (SpellNothing (name.now ∷ [])) }
+fn read_name(name: &str) -> Result<Command, WordsFault>
+    ensures command { IfOk result (Spell (name.now ∷ [])) }
+    ensures none { IsErrOf result WordsFault.Usage → SpellNothing (name.now ∷ []) }
 {
     match name {
-        "step" => Some(Command::Step),
-        "check" => Some(Command::Check),
-        _ => None,
+        "step" => Ok(Command::Step),
+        "check" => Ok(Command::Check),
+        "audit" => Ok(Command::Audit),
+        _ => Err(WordsFault::Usage),
     }
 }
 
@@ -197,7 +243,15 @@ fn store_of(alloc: Global, word: &str) -> Result<Store, OutOfMemory>
 }
 
 /// The command of this name with two numbers and this last word.
-fn read_season(name: &str, first: &str, second: &str, out: &str) -> Option<Command>
+fn read_season(name: &str, first: &str, second: &str, out: &str) -> Result<Command, WordsFault>
+    ensures command { IfOk result (Spell (name.now ∷ first.now ∷ second.now ∷ out.now ∷ [])) }
+    ensures none { IsErrOf result WordsFault.Usage → SpellNothing (name.now ∷ first.now ∷ second.now ∷ out.now ∷ []) }
+{
+    season_of(name, first, second, out).ok_or(WordsFault::Usage)
+}
+
+/// The same, and None where there is none.
+fn season_of(name: &str, first: &str, second: &str, out: &str) -> Option<Command>
     ensures command { IfSome result (Spell (name.now ∷ first.now ∷ second.now ∷ out.now ∷ [])) }
     ensures none { IfNone result (SpellNothing (name.now ∷ first.now ∷ second.now ∷ out.now ∷ [])) }
 {
@@ -209,6 +263,83 @@ fn read_season(name: &str, first: &str, second: &str, out: &str) -> Option<Comma
     let seed = read_number(second.as_bytes(), 0, u32::MAX)?;
     let out = read_out(out)?;
     Some(Command::Generate { n, seed, out })
+}
+
+// How an office is served: how many connections a worker takes, how many workers there are, how the office begins, and at which port.
+#[derive(Clone, Copy, Debug)]
+struct Service {
+    conns: u32,
+    workers: u8,
+    start: Start,
+    port: u16,
+}
+
+/// The command of this name with these words, of which the last is not empty and does not begin with `-`.
+fn read_service(
+    alloc: Global,
+    name: &str,
+    conns: &str,
+    workers: &str,
+    start: &str,
+    port: &str,
+    store: &str,
+) -> Result<Command, WordsFault>
+    requires { is_plain store.now ≡ true }
+    ensures command { IfOk result (Spell (name.now ∷ conns.now ∷ workers.now ∷ start.now ∷ port.now ∷ store.now ∷ [])) }
+    ensures none { IsErrOf result WordsFault.Usage → SpellNothing (name.now ∷ conns.now ∷ workers.now ∷ start.now ∷ port.now ∷ store.now ∷ []) }
+{
+    let Some(service) = service_of(name, conns, workers, start, port) else {
+        return Err(WordsFault::Usage);
+    };
+    let store = store_of(alloc, store)?;
+    Ok(Command::Serve {
+        conns: service.conns,
+        workers: service.workers,
+        start: service.start,
+        port: service.port,
+        store,
+    })
+}
+
+/// How an office is served, by the words of `serve`. None where no store makes them a command.
+fn service_of(name: &str, conns: &str, workers: &str, start: &str, port: &str) -> Option<Service>
+    ensures some { IfSome result (λ service. (name.now ≡ codes "serve") × AreServiceWords service conns.now workers.now start.now port.now) }
+    ensures none { IfNone result ((store : List ℕ) → SpellNothing (name.now ∷ conns.now ∷ workers.now ∷ start.now ∷ port.now ∷ store ∷ [])) }
+{
+    if name != "serve" {
+        return None;
+    }
+    let conns = read_within(conns, MOST_CONNECTIONS)?;
+    let workers = read_within(workers, MOST_WORKERS)? as u8;
+    let start = read_start(start)?;
+    let port = read_within(port, LAST_PORT)? as u16;
+    Some(Service {
+        conns,
+        workers,
+        start,
+        port,
+    })
+}
+
+/// The number from 1 to the highest that a word spells.
+fn read_within(word: &str, high: u32) -> Option<u32>
+    ensures some { IfSome result (λ n. (word.now ≡ decimal n) × (1 ≤ n) × (n ≤ high)) }
+    ensures none { IfNone result ((n : ℕ) → 1 ≤ n → n ≤ high → word.now ≡ decimal n → ⊥) }
+{
+    numbers_are_inverse();
+    read_number(word.as_bytes(), 1, high)
+}
+
+/// How a served office begins, by its word.
+fn read_start(word: &str) -> Option<Start>
+    ensures some { IfSome result (λ start. word.now ≡ word_start start) }
+    ensures none { IfNone result ((start : AnyStart) → word.now ≡ word_start start → ⊥) }
+{
+    match word {
+        "new" => Some(Start::New),
+        "kept" => Some(Start::Kept),
+        _ => None,
+    }
 }
 
 /// What is written, by its word.

@@ -1,16 +1,17 @@
 -- How a command that answers with one text ends, and leaves the tables as before.
-use Rattle.std.proofs.Common.{◌≡◌, ◌∙◌, ◌≤◌, inl, inr, ℕ, List, Option, Result, Ok, Err, refl, sym, arith}
+use Rattle.std.proofs.Common.{◌≡◌, ◌∙◌, inl, inr, ℕ, List, Option, Result, Ok, Err, refl, sym, arith}
 use Rattle.std.specs.Prelude.{IfOk, IfErr, IsErrOf}
 use Rattle.office_base.specs.Outside.{Appends, Rose}
 use Rattle.keeper_mem.specs.Tables.{Tables}
 use Rattle.command_answers.specs.Answers.{Answers, HasLeft, IsFailureOf}
 use Rattle.command_answers.specs.Writes.{IsTold, status_of, text_of}
-use Rattle.command_answers.specs.Blames.{Blames, Counts}
+use Rattle.office_commands.specs.Blames.{Blames}
 use Rattle.command_answers.specs.declared.failure.Failure.{Failure}
 use Rattle.command_answers.specs.declared.failure.Failure.TheVariants.{Read, Bad, NoMemory}
 use Rattle.command_answers.specs.declared.status.Status.{Status}
-use Rattle.command_answers.specs.declared.status.Status.TheVariants.{Ok as Done, BadInput, ReadFault, WriteFault, KeeperFault, OutOfMemory}
+use Rattle.command_answers.specs.declared.status.Status.TheVariants.{ReadFault, WriteFault, KeeperFault, DoorFault}
 use Rattle.command_answers.proofs.Ended.{answer_is_written, source_held}
+use Rattle.office_commands.proofs.Blaming.{blames}
 use Rattle.office_commands.specs.Program.{EndsText}
 
 -- The text of an answer was written, and the tables are as before.
@@ -39,23 +40,33 @@ no_keeper (Err Read) same = cc same
 no_keeper (Err (Bad line)) same = cc same
 no_keeper (Err NoMemory) same = cc same
 
--- What was written of an answer blames the source and the sink where they failed, and no keeper.
-pub answer_blames : (answers : Answers) (left : Option (List ℕ)) (source source_now sink sink_now keeper : ℕ) (answer : Result (List ℕ) Failure) (result : Status) (before after : Option (List ℕ))
+-- a fault of a door is none of an answer's statuses
+no_door : (answer : Result (List ℕ) Failure) → DoorFault ≡ status_of answer → ⊥
+no_door (Ok output) same = cc same
+no_door (Err Read) same = cc same
+no_door (Err (Bad line)) same = cc same
+no_door (Err NoMemory) same = cc same
+
+-- What was written of an answer blames the source and the sink where they failed, and no keeper and no door.
+pub answer_blames : (serves : Type 0) (answers : Answers) (left : Option (List ℕ)) (source source_now sink sink_now keeper : ℕ) (doors : List ℕ) (answer : Result (List ℕ) Failure) (result : Status) (before after : Option (List ℕ))
     → IfErr answer (IsFailureOf answers left (Rose source source_now)) → ((IsErrOf answer Read → ⊥) → source_now ≡ source)
     → IsTold (status_of answer) (text_of answer) before after (Rose sink sink_now) result → ((result ≡ WriteFault → ⊥) → sink_now ≡ sink)
-    → Blames result (record { source = source; sink = sink; keeper = keeper }) (record { source = source_now; sink = sink_now; keeper = keeper })
-answer_blames answers left source source_now sink sink_now keeper answer result before after cause steady told held = record {
-  read = λ is. elim told [
-    | inl whole ↦ read_alone answers left (Rose source source_now) answer cause (sym is ∙ whole.0)
-    | inr cut ↦ let wrong : ReadFault ≡ WriteFault = sym is ∙ cut.0 in absurd (cc wrong)
-  ];
-  write = λ is. elim told [ inl whole ↦ absurd (no_write answer (sym is ∙ whole.0)) | inr cut ↦ cut.1 ];
-  keeper = λ is. elim told [
-    | inl whole ↦ absurd (no_keeper answer (sym is ∙ whole.0))
-    | inr cut ↦ let wrong : KeeperFault ≡ WriteFault = sym is ∙ cut.0 in absurd (cc wrong)
-  ];
-  source_steady = λ read write. source_held answer result before after (Rose sink sink_now) (source_now ≡ source) steady told read write;
-  sink_steady = held;
-  keeper_steady = λ failed write. refl;
-  keeper_count = omega arith;
-}
+    → Blames serves result (record { source = source; sink = sink; keeper = keeper; doors = doors }) (record { source = source_now; sink = sink_now; keeper = keeper; doors = doors })
+answer_blames serves answers left source source_now sink sink_now keeper doors answer result before after cause steady told held = blames serves source source_now sink sink_now keeper keeper doors result
+    (λ is. elim told [
+      | inl whole ↦ no_door answer (sym is ∙ whole.0)
+      | inr cut ↦ let wrong : DoorFault ≡ WriteFault = sym is ∙ cut.0 in cc wrong
+    ])
+    (λ is. elim told [
+      | inl whole ↦ read_alone answers left (Rose source source_now) answer cause (sym is ∙ whole.0)
+      | inr cut ↦ let wrong : ReadFault ≡ WriteFault = sym is ∙ cut.0 in absurd (cc wrong)
+    ])
+    (λ is. elim told [ inl whole ↦ absurd (no_write answer (sym is ∙ whole.0)) | inr cut ↦ cut.1 ])
+    (λ is. elim told [
+      | inl whole ↦ absurd (no_keeper answer (sym is ∙ whole.0))
+      | inr cut ↦ let wrong : KeeperFault ≡ WriteFault = sym is ∙ cut.0 in absurd (cc wrong)
+    ])
+    (λ read write. source_held answer result before after (Rose sink sink_now) (source_now ≡ source) steady told read write)
+    held
+    (λ failed write. refl)
+    (omega arith)

@@ -1,2 +1,3 @@
+mod Blaming
 mod Ended
 mod GeneratedEnds

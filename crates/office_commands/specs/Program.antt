@@ -1,6 +1,7 @@
 -- What the program writes and how it ends.
 use Rattle.std.specs.Prelude.{◌≡◌, ◌⊎◌, ℕ, List, Option, codes}
 use Rattle.keeper_mem.specs.Tables.{Tables}
+use Rattle.audit_command.specs.Audit.{AreDossier, AreFaultyDossier, EndsWell, IsAuditText}
 use Rattle.command_answers.specs.Answers.{Answers, Tells}
 use Rattle.season_commands.specs.Check.{IsBundle, IsFaultyBundle, check_answers}
 use Rattle.season_commands.specs.Generated.{EndsGeneratedRun}
@@ -8,6 +9,8 @@ use Rattle.season_commands.specs.Resume.{EndsResume, IsScript, TellsSound}
 use Rattle.season_commands.specs.Run.{EndsRun, TellsNoSeason}
 use Rattle.special_command.specs.Special.{EndsSpecial}
 use Rattle.units_command.specs.Units.{EndsUnits, IsFaultyUnits, IsUnitsInput}
+use Rattle.serve_command.specs.Doors.{Doors}
+use Rattle.serve_command.specs.Serve.{EndsServe, EndsServeKept, IsFaultySeason, IsSeasonBundle}
 use Rattle.step_command.specs.Step.{IsFaultySheet, IsSheet, step_answers}
 use Rattle.command_words.specs.Words.{Spell, SpellNothing}
 use Rattle.season_generator.specs.Bundle.{generated}
@@ -16,8 +19,10 @@ use Rattle.command_answers.specs.Writes.{IsTextOf, Writes}
 use Rattle.command_answers.specs.declared.status.Status.{Status}
 use Rattle.command_answers.specs.declared.status.Status.TheVariants.{Ok as Done, Usage, OutOfMemory}
 use Rattle.command_words.specs.declared.words.Command.{Command}
-use Rattle.command_words.specs.declared.words.Command.TheVariants.{Step, Check, Run, Resume, Units, Special, Generate}
+use Rattle.command_words.specs.declared.words.Command.TheVariants.{Step, Check, Run, Resume, Units, Special, Serve, Audit, Generate}
+use Rattle.command_words.specs.declared.words.OutKind.{OutKind}
 use Rattle.command_words.specs.declared.words.OutKind.TheVariants as out_kind
+use Rattle.command_words.specs.declared.words.Start.TheVariants as start
 
 abbrev pub usage_line : List ℕ
 usage_line = codes "fault: usage\n"
@@ -46,29 +51,41 @@ IsGeneratedText n seed other text = ⊥
 abbrev pub EndsGenerated : ℕ → ℕ → Tables → Tables → Status → List ℕ → Type 0
 EndsGenerated n seed before after status output = Writes (IsGeneratedText n seed) status output × (after ≡ before)
 
--- what a command writes, the status with which it ends, and what the tables of the keeper stand for, by what they told before
-abbrev pub Ends : Command → Option (List ℕ) → Tables → Tables → Status → List ℕ → Type 0
-Ends Step left before after = EndsText step_answers left before after
-Ends Check left before after = EndsText check_answers left before after
-Ends (Run store) left before after = EndsRun left before after
-Ends (Resume store) left before after = EndsResume left before after
-Ends (Units store) left before after = EndsUnits left before after
-Ends (Special store) left before after = EndsSpecial left before after
-Ends (Generate n seed out_kind.Text) left before after = EndsGenerated n seed before after
-Ends (Generate n seed out_kind.Run) left before after = EndsGeneratedRun n seed before after
+-- the same of a generated season, whatever is written of it
+abbrev pub EndsGenerate : ℕ → ℕ → OutKind → Tables → Tables → Status → List ℕ → Type 0
+EndsGenerate n seed out_kind.Text before after = EndsGenerated n seed before after
+EndsGenerate n seed out_kind.Run before after = EndsGeneratedRun n seed before after
+
+-- what is written of a dossier, with its status; the tables are as before
+abbrev pub EndsAudit : Option (List ℕ) → Tables → Tables → Status → List ℕ → Type 0
+EndsAudit left before after status output = Writes (IsAuditText left) status output × (after ≡ before)
+
+-- what a command writes, the status with which it ends, what the tables of the keeper stand for, by what they told before, and what became of the doors
+abbrev pub Ends : Command → Option (List ℕ) → Tables → Tables → Doors → Status → List ℕ → Type 0
+Ends Step left before after doors = EndsText step_answers left before after
+Ends Check left before after doors = EndsText check_answers left before after
+Ends (Run store) left before after doors = EndsRun left before after
+Ends (Resume store) left before after doors = EndsResume left before after
+Ends (Units store) left before after doors = EndsUnits left before after
+Ends (Special store) left before after doors = EndsSpecial left before after
+Ends (Serve conns workers start.New port store) left before after doors = EndsServe left before after doors
+Ends (Serve conns workers start.Kept port store) left before after doors = EndsServeKept before after doors
+Ends Audit left before after doors = EndsAudit left before after
+Ends (Generate n seed out) left before after doors = EndsGenerate n seed out before after
 
 -- the same for words that spell no command: the tables are as before
 abbrev pub EndsUsage : Tables → Tables → Status → List ℕ → Type 0
 EndsUsage before after status output = Writes IsUsageText status output × (after ≡ before)
 
--- the same where there was no memory to divide the words
-abbrev pub EndsUnread : Tables → Tables → Status → List ℕ → Type 0
-EndsUnread before after status output = Writes IsWantText status output × (after ≡ before)
+-- the same where there was no memory to divide the words: the doors are as before too
+abbrev pub EndsUnread : Tables → Tables → Doors → Status → List ℕ → Type 0
+EndsUnread before after doors status output = Writes IsWantText status output × (after ≡ before) × doors.spared
 
--- what is written, the status with it, and what the tables stand for, for the words, the bytes that the source had left and the tables before
-abbrev pub IsWritten : List (List ℕ) → Option (List ℕ) → Tables → Tables → Status → List ℕ → Type 0
-IsWritten words left before after status output = EndsUnread before after status output
-    ⊎ ((SpellNothing words × EndsUsage before after status output) ⊎ ((command : Command) × Spell words command × Ends command left before after status output))
+-- what is written, the status with it, what the tables stand for, and what became of the doors, for the words, the bytes that the source had left and the
+-- tables before
+abbrev pub IsWritten : List (List ℕ) → Option (List ℕ) → Tables → Tables → Doors → Status → List ℕ → Type 0
+IsWritten words left before after doors status output = EndsUnread before after doors status output
+    ⊎ ((SpellNothing words × EndsUsage before after status output) ⊎ ((command : Command) × Spell words command × Ends command left before after doors status output))
 
 -- the source tells its bytes, and they are the command's input without faults; what `special` takes hangs on the tables too, and is told beside them
 abbrev pub TellsInput : Command → Option (List ℕ) → Type 0
@@ -78,10 +95,13 @@ TellsInput (Run store) left = Tells IsBundle left
 TellsInput (Resume store) left = Tells IsScript left
 TellsInput (Units store) left = Tells IsUnitsInput left
 TellsInput (Special store) left = ⊥
+TellsInput (Serve conns workers start.New port store) left = Tells IsSeasonBundle left
+TellsInput (Serve conns workers start.Kept port store) left = Unit {0}
+TellsInput Audit left = Tells AreDossier left
 TellsInput (Generate n seed out) left = Unit {0}
 
--- the source tells its bytes, and they have a fault as the command's input, which is read before all else; under `resume` and
--- `special` the records are judged first, and a generated season that is run has its own bundle for the input
+-- the source tells its bytes, and they have a fault as the command's input, which is read before all else; under `resume` and `special` the records are
+-- judged first, under `serve` with `kept` there is no input, and a generated season that is run has its own bundle for the input
 abbrev pub TellsFault : Command → Option (List ℕ) → Type 0
 TellsFault Step left = Tells IsFaultySheet left
 TellsFault Check left = Tells IsFaultyBundle left
@@ -89,11 +109,14 @@ TellsFault (Run store) left = Tells IsFaultyBundle left
 TellsFault (Resume store) left = ⊥
 TellsFault (Units store) left = Tells IsFaultyUnits left
 TellsFault (Special store) left = ⊥
+TellsFault (Serve conns workers start.New port store) left = Tells IsFaultySeason left
+TellsFault (Serve conns workers start.Kept port store) left = ⊥
+TellsFault Audit left = Tells AreFaultyDossier left
 TellsFault (Generate n seed out_kind.Text) left = ⊥
 TellsFault (Generate n seed out_kind.Run) left = IsFaultyBundle (generated n seed)
 
--- the keeper is as the command needs it: under `run` and `units` it tells that it holds no season, under `resume` and `special` records without a fault; and a
--- generated season is run where its bundle has no fault
+-- the keeper is as the command needs it: under `run`, `units` and `serve` with `new` it tells that it holds no season, under `resume`, `special` and `serve` with
+-- `kept` records without a fault; and a generated season is run where its bundle has no fault
 abbrev pub IsReady : Command → Tables → Type 0
 IsReady Step tables = Unit {0}
 IsReady Check tables = Unit {0}
@@ -101,6 +124,9 @@ IsReady (Run store) tables = TellsNoSeason tables
 IsReady (Resume store) tables = TellsSound tables
 IsReady (Units store) tables = TellsNoSeason tables
 IsReady (Special store) tables = TellsSound tables
+IsReady (Serve conns workers start.New port store) tables = TellsNoSeason tables
+IsReady (Serve conns workers start.Kept port store) tables = TellsSound tables
+IsReady Audit tables = Unit {0}
 IsReady (Generate n seed out_kind.Text) tables = Unit {0}
 IsReady (Generate n seed out_kind.Run) tables = IsBundle (generated n seed) × TellsNoSeason tables
 
@@ -112,6 +138,9 @@ BeginsOffice (Run store) = Unit {0}
 BeginsOffice (Resume store) = ⊥
 BeginsOffice (Units store) = Unit {0}
 BeginsOffice (Special store) = ⊥
+BeginsOffice (Serve conns workers start.New port store) = Unit {0}
+BeginsOffice (Serve conns workers start.Kept port store) = ⊥
+BeginsOffice Audit = ⊥
 BeginsOffice (Generate n seed out_kind.Text) = ⊥
 BeginsOffice (Generate n seed out_kind.Run) = Unit {0}
 
@@ -123,6 +152,9 @@ Resumes (Run store) = ⊥
 Resumes (Resume store) = Unit {0}
 Resumes (Units store) = ⊥
 Resumes (Special store) = Unit {0}
+Resumes (Serve conns workers start.New port store) = ⊥
+Resumes (Serve conns workers start.Kept port store) = Unit {0}
+Resumes Audit = ⊥
 Resumes (Generate n seed out) = ⊥
 
 -- the command neither begins an office nor goes on with one
@@ -133,6 +165,8 @@ BeginsNone (Run store) = ⊥
 BeginsNone (Resume store) = ⊥
 BeginsNone (Units store) = ⊥
 BeginsNone (Special store) = ⊥
+BeginsNone (Serve conns workers start port store) = ⊥
+BeginsNone Audit = Unit {0}
 BeginsNone (Generate n seed out_kind.Text) = Unit {0}
 BeginsNone (Generate n seed out_kind.Run) = ⊥
 
@@ -144,6 +178,9 @@ ReadsSource (Run store) = Unit {0}
 ReadsSource (Resume store) = Unit {0}
 ReadsSource (Units store) = Unit {0}
 ReadsSource (Special store) = Unit {0}
+ReadsSource (Serve conns workers start.New port store) = Unit {0}
+ReadsSource (Serve conns workers start.Kept port store) = ⊥
+ReadsSource Audit = Unit {0}
 ReadsSource (Generate n seed out) = ⊥
 
 -- the command reads no source
@@ -154,4 +191,35 @@ ReadsNone (Run store) = ⊥
 ReadsNone (Resume store) = ⊥
 ReadsNone (Units store) = ⊥
 ReadsNone (Special store) = ⊥
+ReadsNone (Serve conns workers start.New port store) = ⊥
+ReadsNone (Serve conns workers start.Kept port store) = Unit {0}
+ReadsNone Audit = ⊥
 ReadsNone (Generate n seed out) = Unit {0}
+
+-- the command answers through the doors
+abbrev pub Serves : Command → Type 0
+Serves Step = ⊥
+Serves Check = ⊥
+Serves (Run store) = ⊥
+Serves (Resume store) = ⊥
+Serves (Units store) = ⊥
+Serves (Special store) = ⊥
+Serves (Serve conns workers start port store) = Unit {0}
+Serves Audit = ⊥
+Serves (Generate n seed out) = ⊥
+
+-- the words spell such a command
+abbrev pub SpellServing : List (List ℕ) → Type 0
+SpellServing words = (command : Command) × Spell words command × Serves command
+
+-- the status with which the command ends well: an audit also where a clause is broken
+abbrev pub Succeeds : Command → Status → Type 0
+Succeeds Step status = status ≡ Done
+Succeeds Check status = status ≡ Done
+Succeeds (Run store) status = status ≡ Done
+Succeeds (Resume store) status = status ≡ Done
+Succeeds (Units store) status = status ≡ Done
+Succeeds (Special store) status = status ≡ Done
+Succeeds (Serve conns workers start port store) status = status ≡ Done
+Succeeds Audit status = EndsWell status
+Succeeds (Generate n seed out) status = status ≡ Done

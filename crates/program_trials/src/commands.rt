@@ -1,16 +1,19 @@
 // The commands on worked inputs and on a failing outside, over objects in memory.
 //
 // `over` is the one place where these modules run the program over objects in memory: a test hands it a row of a table, and compares what comes back.
-ghost use Rattle.std.specs.Prelude.{◌<◌};
+ghost use Rattle.std.specs.Prelude.{◌<◌, ◌≤◌, length};
 
 use command_answers::Status;
 use keeper_mem::{Keeper, MemKeeper, SureKeeper};
-use office_base::{MemSink, MemSource, SureSink, SureSource, Words};
+use office_base::{MemSink, MemSource, Sink, Source, SureSink, SureSource, Words};
 use office_commands::allocate;
+use office_links::MemDoor;
 use standard_streams::{StandardInput, StandardOutput};
 use std::alloc::Global;
 use std::io;
+use std::sync::Wait;
 use std::test::Fail;
+use std::thread::Threads;
 
 fn words_of(alloc: Global, text: &[&str]) -> Result<Words, Fail> {
     let mut words = Words::new(alloc);
@@ -20,12 +23,26 @@ fn words_of(alloc: Global, text: &[&str]) -> Result<Words, Fail> {
     Ok(words)
 }
 
+// Runs the words with no door, as a command that serves nobody is run.
+fn without_doors<R: Threads + Wait + Sync, S: Source, K: Sink, P: Keeper + Send>(
+    rt: &R,
+    alloc: Global,
+    words: &Words,
+    source: &mut S,
+    sink: &mut K,
+    keeper: P,
+) -> (Status, P) {
+    let mut none: [MemDoor; 0] = [];
+    allocate(rt, alloc, words, source, sink, keeper, &mut none)
+}
+
 // More bytes than any command of these tests writes.
 const ROOM: usize = 1_000_000;
 
 // Runs the words on an input, in pieces of so many bytes, over a keeper: how that ends, what is written, and the keeper. The numbers are those of the
 // calls of the source and of the sink that fail, 0 for none.
-pub(crate) fn over<P: Keeper + Drop>(
+pub(crate) fn over<R: Threads + Wait + Sync, P: Keeper + Drop + Send>(
+    rt: &R,
     alloc: Global,
     words: &[&str],
     input: &str,
@@ -39,9 +56,37 @@ pub(crate) fn over<P: Keeper + Drop>(
     let words = words_of(alloc, words)?;
     let mut source = MemSource::new(alloc, input.as_bytes(), piece, &[source_at])?;
     let mut sink = MemSink::new(alloc, ROOM, &[sink_at])?;
-    let (status, keeper) = allocate(alloc, &words, &mut source, &mut sink, keeper);
+    let (status, keeper) = without_doors(rt, alloc, &words, &mut source, &mut sink, keeper);
     let output = String::from_utf8(Vec::from_slice(alloc, sink.bytes())?)?;
     Ok((status, output, keeper))
+}
+
+// Runs the words on an input, over a keeper, at one door: how that ends, and what is written.
+pub(crate) fn at_door<R: Threads + Wait + Sync, P: Keeper + Drop + Send>(
+    rt: &R,
+    alloc: Global,
+    words: &[&str],
+    input: &str,
+    keeper: P,
+    door: MemDoor,
+) -> Result<(Status, String), Fail>
+    requires { length door.coming ≤ 100000 }
+{
+    let words = words_of(alloc, words)?;
+    let mut source = MemSource::new(alloc, input.as_bytes(), 40, &[])?;
+    let mut sink = MemSink::new(alloc, ROOM, &[])?;
+    let mut doors = [door];
+    let (status, _) = allocate(
+        rt,
+        alloc,
+        &words,
+        &mut source,
+        &mut sink,
+        keeper,
+        &mut doors,
+    );
+    let output = String::from_utf8(Vec::from_slice(alloc, sink.bytes())?)?;
+    Ok((status, output))
 }
 
 // The season of five candidates up to its requests.
@@ -55,7 +100,7 @@ fn the_source_of_a_command_fails(rt: HostRuntime) -> Result<(), Fail> {
     let alloc = rt.alloc();
     for (command, input) in [("step", EMPTY_SHEET), ("check", SEASON)] {
         let keeper = SureKeeper::new(alloc);
-        let (ended, line, _) = over(alloc, &[command], input, 3, 2, 0, keeper)?;
+        let (ended, line, _) = over(&rt, alloc, &[command], input, 3, 2, 0, keeper)?;
         assert!(rt; ended == Status::ReadFault, "{command}");
         assert!(rt; line.as_str() == "fault: read\n", "{command}");
     }
@@ -66,7 +111,7 @@ fn the_source_of_a_command_fails(rt: HostRuntime) -> Result<(), Fail> {
 fn the_sink_of_a_command_fails(rt: HostRuntime) -> Result<(), Fail> {
     let alloc = rt.alloc();
     let keeper = SureKeeper::new(alloc);
-    let (ended, _, _) = over(alloc, &["step"], EMPTY_SHEET, 4, 0, 1, keeper)?;
+    let (ended, _, _) = over(&rt, alloc, &["step"], EMPTY_SHEET, 4, 0, 1, keeper)?;
     assert!(rt; ended == Status::WriteFault);
     Ok(())
 }
@@ -77,7 +122,14 @@ fn nothing_of_the_outside_fails(rt: HostRuntime) -> Result<(), Fail> {
     let words = words_of(alloc, &["step"])?;
     let mut source = SureSource::new(alloc, EMPTY_SHEET.as_bytes(), 4)?;
     let keeper = SureKeeper::new(alloc);
-    let (ended, _) = allocate(alloc, &words, &mut source, &mut SureSink::new(), keeper);
+    let (ended, _) = without_doors(
+        &rt,
+        alloc,
+        &words,
+        &mut source,
+        &mut SureSink::new(),
+        keeper,
+    );
     assert!(rt; ended == Status::Ok);
     Ok(())
 }
@@ -150,7 +202,12 @@ const FAILING: [Failing; 9] = [
 ];
 
 // Whether `step` over such streams ends so, and writes so much.
-fn fails_once(alloc: Global, at_once: bool, failing: Failing) -> Result<bool, Fail> {
+fn fails_once<R: Threads + Wait + Sync>(
+    rt: &R,
+    alloc: Global,
+    at_once: bool,
+    failing: Failing,
+) -> Result<bool, Fail> {
     let (read, write, nothing, status, text, count) = failing;
     let words = words_of(alloc, &["step"])?;
     let mut source = StandardInput::new(Pieces {
@@ -168,7 +225,7 @@ fn fails_once(alloc: Global, at_once: bool, failing: Failing) -> Result<bool, Fa
         return Err(Fail::new("no block"));
     };
     let keeper = SureKeeper::new(alloc);
-    let (ended, _) = allocate(alloc, &words, &mut source, &mut sink, keeper);
+    let (ended, _) = without_doors(rt, alloc, &words, &mut source, &mut sink, keeper);
     let ended = if sink.finish().is_ok() {
         ended
     } else {
@@ -181,7 +238,7 @@ fn fails_once(alloc: Global, at_once: bool, failing: Failing) -> Result<bool, Fa
 fn the_real_streams_fail_once(rt: HostRuntime) -> Result<(), Fail> {
     for failing in FAILING {
         for at_once in [false, true] {
-            assert!(rt; fails_once(rt.alloc(), at_once, failing)?);
+            assert!(rt; fails_once(&rt, rt.alloc(), at_once, failing)?);
         }
     }
     Ok(())
@@ -206,7 +263,8 @@ pub(crate) fn asked_season(alloc: Global) -> Result<String, Fail> {
 
 // Whether the words run over these bytes and records in memory end with this status and output, and leave so many answers and cuts kept, or no season.
 // The numbers are those of the calls of the source, the sink and the keeper that fail, 0 for none.
-pub(crate) fn ends_so(
+pub(crate) fn ends_so<R: Threads + Wait + Sync>(
+    rt: &R,
     alloc: Global,
     words: &[&str],
     input: &str,
@@ -216,7 +274,9 @@ pub(crate) fn ends_so(
     kept: Option<(usize, u16)>,
 ) -> Result<bool, Fail> {
     let keeper = MemKeeper::new(alloc, &[keeper_at])?;
-    let (ended, written, mut keeper) = over(alloc, words, input, 40, source_at, sink_at, keeper)?;
+    let (ended, written, mut keeper) = over(
+        rt, alloc, words, input, 40, source_at, sink_at, keeper,
+    )?;
     let held = match keeper.load(alloc) {
         Ok(Some(held)) => Some((held.answers.len(), held.cuts)),
         Ok(None) => None,
@@ -328,7 +388,7 @@ const FAILED: [Failed; 23] = [
 ];
 
 // Whether that season ends so where these calls fail.
-fn fails_so(alloc: Global, failed: Failed) -> Result<bool, Fail> {
+fn fails_so<R: Threads + Wait + Sync>(rt: &R, alloc: Global, failed: Failed) -> Result<bool, Fail> {
     let (fail_at, status, count, line, kept) = failed;
     let season = asked_season(alloc)?;
     let output = first_replies(alloc, count, line)?;
@@ -337,6 +397,7 @@ fn fails_so(alloc: Global, failed: Failed) -> Result<bool, Fail> {
         None => None,
     };
     ends_so(
+        rt,
         alloc,
         &["run", "memory"],
         season.as_str(),
@@ -350,12 +411,12 @@ fn fails_so(alloc: Global, failed: Failed) -> Result<bool, Fail> {
 #[test]
 fn the_outside_of_a_run_fails_at_each_call(rt: HostRuntime) -> Result<(), Fail> {
     for failed in FAILED {
-        assert!(rt; fails_so(rt.alloc(), failed)?, "{:?}", failed.0);
+        assert!(rt; fails_so(&rt, rt.alloc(), failed)?, "{:?}", failed.0);
     }
     // thirteen reads take the bytes, and the fourteenth finds their end
     for call in 1..=14 {
         let failed = ([call, 0, 0], Status::ReadFault, 0, "fault: read\n", None);
-        assert!(rt; fails_so(rt.alloc(), failed)?, "{call}");
+        assert!(rt; fails_so(&rt, rt.alloc(), failed)?, "{call}");
     }
     Ok(())
 }

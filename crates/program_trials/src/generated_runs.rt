@@ -25,7 +25,18 @@ fn the_outside_of_a_generated_run_fails(rt: HostRuntime) -> Result<(), Fail> {
         ([0, 1, 0], Status::WriteFault, "", Some((8, 7))),
     ];
     for (fail_at, status, output, kept) in cases {
-        assert!(rt; ends_so(rt.alloc(), &TWO_WORDS, "", fail_at, status, output, kept)?);
+        assert!(rt;
+            ends_so(
+                &rt,
+                rt.alloc(),
+                &TWO_WORDS,
+                "",
+                fail_at,
+                status,
+                output,
+                kept
+            )?
+        );
     }
     Ok(())
 }
@@ -34,9 +45,9 @@ fn the_outside_of_a_generated_run_fails(rt: HostRuntime) -> Result<(), Fail> {
 fn no_generated_season_takes_the_place_of_a_kept_one(rt: HostRuntime) -> Result<(), Fail> {
     let alloc = rt.alloc();
     let keeper = SureKeeper::new(alloc);
-    let (ended, _, keeper) = over(alloc, &TWO_WORDS, "", 1, 0, 0, keeper)?;
+    let (ended, _, keeper) = over(&rt, alloc, &TWO_WORDS, "", 1, 0, 0, keeper)?;
     assert!(rt; ended == Status::Ok);
-    let (ended, line, _) = over(alloc, &TWO_WORDS, "", 1, 0, 0, keeper)?;
+    let (ended, line, _) = over(&rt, alloc, &TWO_WORDS, "", 1, 0, 0, keeper)?;
     assert!(rt; ended == Status::BadInput);
     assert!(rt; line.as_str() == "fault: keeper holds a season\n");
     Ok(())

@@ -11,4 +11,6 @@ mod generated_runs;
 #[cfg(test)]
 mod resumes;
 #[cfg(test)]
+mod services;
+#[cfg(test)]
 mod unspelt;

@@ -3,14 +3,21 @@ use crate::commands::{REQUESTS, asked_season, first_replies, over};
 use command_answers::Status;
 use keeper_mem::{Keeper, Kept, MemKeeper};
 use std::alloc::Global;
+use std::sync::Wait;
 use std::test::Fail;
+use std::thread::Threads;
 
 // The keeper of the season of everybody moving up, where these calls of the sink and of the keeper fail, 0 for none.
-fn run_over(alloc: Global, sink_at: u32, keeper_at: u32) -> Result<MemKeeper, Fail> {
+fn run_over<R: Threads + Wait + Sync>(
+    rt: &R,
+    alloc: Global,
+    sink_at: u32,
+    keeper_at: u32,
+) -> Result<MemKeeper, Fail> {
     let season = asked_season(alloc)?;
     let keeper = MemKeeper::new(alloc, &[keeper_at])?;
     let words = ["run", "memory"];
-    let (_, _, keeper) = over(alloc, &words, season.as_str(), 40, 0, sink_at, keeper)?;
+    let (_, _, keeper) = over(rt, alloc, &words, season.as_str(), 40, 0, sink_at, keeper)?;
     Ok(keeper)
 }
 
@@ -32,11 +39,16 @@ fn are_same(one: &Kept, other: &Kept) -> bool {
 
 // What is kept where the office goes on from what stands after these failing calls, and is asked everything again: each request has its reply of the
 // undisturbed run, which is its receipt where it was answered before.
-fn kept_again(alloc: Global, sink_at: u32, keeper_at: u32) -> Result<Kept, Fail> {
+fn kept_again<R: Threads + Wait + Sync>(
+    rt: &R,
+    alloc: Global,
+    sink_at: u32,
+    keeper_at: u32,
+) -> Result<Kept, Fail> {
     let replies = first_replies(alloc, 6, "")?;
-    let keeper = run_over(alloc, sink_at, keeper_at)?;
+    let keeper = run_over(rt, alloc, sink_at, keeper_at)?;
     let words = ["resume", "season.db"];
-    let (ended, written, keeper) = over(alloc, &words, REQUESTS, 7, 0, 0, keeper)?;
+    let (ended, written, keeper) = over(rt, alloc, &words, REQUESTS, 7, 0, 0, keeper)?;
     if ended != Status::Ok || written.as_str() != replies.as_str() {
         return Err(Fail::new("another reply"));
     }
@@ -44,20 +56,25 @@ fn kept_again(alloc: Global, sink_at: u32, keeper_at: u32) -> Result<Kept, Fail>
 }
 
 // Whether that leaves the tables of the undisturbed run.
-fn is_undisturbed(alloc: Global, sink_at: u32, keeper_at: u32) -> Result<bool, Fail> {
-    let undisturbed = held_by(alloc, run_over(alloc, 0, 0)?)?;
-    let kept = kept_again(alloc, sink_at, keeper_at)?;
+fn is_undisturbed<R: Threads + Wait + Sync>(
+    rt: &R,
+    alloc: Global,
+    sink_at: u32,
+    keeper_at: u32,
+) -> Result<bool, Fail> {
+    let undisturbed = held_by(alloc, run_over(rt, alloc, 0, 0)?)?;
+    let kept = kept_again(rt, alloc, sink_at, keeper_at)?;
     Ok(are_same(&kept, &undisturbed))
 }
 
 #[test]
 fn an_office_goes_on_after_each_failing_call(rt: HostRuntime) -> Result<(), Fail> {
     for call in 4..=12 {
-        assert!(rt; is_undisturbed(rt.alloc(), 0, call)?, "{call}");
+        assert!(rt; is_undisturbed(&rt, rt.alloc(), 0, call)?, "{call}");
     }
     // of the sink, one for each reply
     for call in 1..=6 {
-        assert!(rt; is_undisturbed(rt.alloc(), call, 0)?, "{call}");
+        assert!(rt; is_undisturbed(&rt, rt.alloc(), call, 0)?, "{call}");
     }
     Ok(())
 }

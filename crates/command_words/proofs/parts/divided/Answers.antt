@@ -25,7 +25,7 @@ returns-in-Err-clause-usage c usage =
     let has = c.in-Err.ensures.kinds (ap is_simple_and_free parser_is ∙ is_free_program) in
     let told : c.fault_of.result ≡ Usage = cc usage in
     let many = (divides words c.requires).1 (λ none. elim has [
-      | inl memory ↦ c.fault_of.ensures told memory
+      | inl memory ↦ c.fault_of.ensures.usage told memory
       | inr among ↦ subst (λ (kinds : Kinds). IsAmong c.in-Err.error.kind kinds) (ap (λ (a : App). fault_of a words) parser_is ∙ none) among
     ]) in
     let same : length words ≡ length c.args.line.now = length-map c.args.line.now (λ word. word.now) in

@@ -1,22 +1,16 @@
-use Rattle.std.proofs.Common.{rules, ap, ap₂, codes, true, false, ◌≡◌, ◌∙◌}
+use Rattle.std.proofs.Common.{rules, ap₂, codes, false, ◌≡◌, ◌∙◌}
 use Rattle.std.proofs.lemmas.Result.{IfOk-weaker}
-use Rattle.clap.specs.Simple.{Shape, app_of_fields, on_top}
-use Rattle.clap.specs.Words.{app_of, new_app, new_rule, rule_of, with_rule}
+use Rattle.clap.specs.Words.{app_of, new_rule, rule_of, with_rule}
+use Rattle.command_words.specs.Parts.{short_program}
 use Rattle.command_words.proofs.parts.parser.Goals as goal
-
-abbrev unnamed : Shape → Shape
-unnamed s = record s { no_binary_name = true }
 
 pub returns : goal.returns
 returns c =
-    let command_is : rule_of c.required-command.result ≡ record (new_rule (codes "command")) { required = true } = search rules in
-    let first_is : rule_of c.new-first.result ≡ new_rule (codes "first") = search rules in
-    let second_is : rule_of c.new-second.result ≡ new_rule (codes "second") = search rules in
     let third_is : rule_of c.new-third.result ≡ new_rule (codes "third") = search rules in
-    let third_local : c.new-third.result.global ≡ false = search rules in
-    let named_is : app_of c.no_binary_name-named.result ≡ on_top unnamed (new_app (codes "allocation_cli")) =
-    ap app_of_fields c.no_binary_name-named.ensures ∙ ap (on_top unnamed) c.new-2.ensures.app in
-    let one = c.in_ok-arg.ensures.shape (search rules) ∙ ap₂ with_rule named_is command_is in
-    let two = c.in_ok-arg-2.ensures.shape (search rules) ∙ ap₂ with_rule one first_is in
-    let three = c.in_ok-arg-3.ensures.shape (search rules) ∙ ap₂ with_rule two second_is in
-    IfOk-weaker c.arg-4.result _ _ (λ r added. added.shape third_local ∙ ap₂ with_rule three third_is) c.arg-4.ensures
+    let fourth_is : rule_of c.new-fourth.result ≡ new_rule (codes "fourth") = search rules in
+    let fifth_is : rule_of c.new-fifth.result ≡ new_rule (codes "fifth") = search rules in
+    let fifth_local : c.new-fifth.result.global ≡ false = search rules in
+    let named_is : app_of c.in_ok-named.named ≡ short_program = c.in_ok-named.ensures in
+    let one = c.in_ok-arg.ensures.shape (search rules) ∙ ap₂ with_rule named_is third_is in
+    let two = c.in_ok-arg-2.ensures.shape (search rules) ∙ ap₂ with_rule one fourth_is in
+    IfOk-weaker c.arg-3.result _ _ (λ r added. added.shape fifth_local ∙ ap₂ with_rule two fifth_is) c.arg-3.ensures

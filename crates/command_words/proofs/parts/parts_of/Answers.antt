@@ -14,4 +14,6 @@ returns-clause-parts c =
       first = c.get_str-2.ensures ∙ (first_value-rows found (codes "first") ∙ rows.first);
       second = c.get_str-3.ensures ∙ (first_value-rows found (codes "second") ∙ rows.second);
       third = c.get_str-4.ensures ∙ (first_value-rows found (codes "third") ∙ rows.third);
+      fourth = c.get_str-5.ensures ∙ (first_value-rows found (codes "fourth") ∙ rows.fourth);
+      fifth = c.get_str-6.ensures ∙ (first_value-rows found (codes "fifth") ∙ rows.fifth);
     }

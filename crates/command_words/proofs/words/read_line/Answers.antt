@@ -1,7 +1,7 @@
 use Rattle.std.proofs.Common.{Err, ◌≡◌, ◌∙◌, inl, inr, ap, arith, length, map}
 use Rattle.std.proofs.lemmas.List.{length-map}
 use Rattle.command_words.specs.declared.words.WordsFault.TheVariants.{Usage}
-use Rattle.command_words.proofs.Spelling.{first_is_plain, many_spell_nothing}
+use Rattle.command_words.proofs.Spelling.{many_spell_nothing, named_plain}
 use Rattle.command_words.proofs.words.read_line.Goals as goal
 
 pub returns-in-Err-clause-usage : goal.returns-in-Err-clause-usage
@@ -11,7 +11,7 @@ returns-in-Err-clause-usage c usage =
     many_spell_nothing (map (λ word. word.now) c.args.line.now) (elim (c.in-Err.ensures.usage (ap Err told)) [ inl none ↦ inl (same ∙ none) | inr more ↦ inr (omega (arith, same, more)) ])
 
 pub command_of-requires : goal.command_of-requires
-command_of-requires c = first_is_plain (map (λ word. word.now) c.args.line.now) c.in-Ok.parts c.requires c.in-Ok.ensures.parts
+command_of-requires c = named_plain (map (λ word. word.now) c.args.line.now) c.in-Ok.parts c.requires c.in-Ok.ensures.parts
 
 pub returns-in-Ok-clause-usage : goal.returns-in-Ok-clause-usage
 returns-in-Ok-clause-usage c usage = c.command_of.ensures.none usage (map (λ word. word.now) c.args.line.now) c.in-Ok.ensures.parts
