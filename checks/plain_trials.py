@@ -8,8 +8,10 @@ import sqlite3
 import sys
 import tempfile
 
+import plain_dossiers
 import plain_scripts
 from cases import READS_STORES, ROOMS, called, first_difference
+from plain_audit import verdict
 from plain_office import MOST_SEATS, TRAITS, Office, Season, lists_of, sheet_text
 from plain_special import drawn_lists, drawn_season, office_after, special_text, wrongs_of
 from plain_units import Fault, plain_bundle
@@ -17,10 +19,11 @@ from plain_units import Fault, plain_bundle
 sys.path.append(f"{os.path.dirname(os.path.dirname(os.path.realpath(__file__)))}/bench")
 import generated  # noqa: E402
 
-# how much is drawn: scripts for each season, markets, sheets, programmes, each how-many-th damaged script, and the candidates and seeds of generated texts
-Drawn = collections.namedtuple("Drawn", "scripts markets sheets programmes damaged texts")
-ALL = Drawn(200, 1000, 2000, 1000, 1, ((1, 0), (1, 2**32 - 1), (2, 7), (20, 0), (20, 7), (800, 7), (801, 3), (100_000, 7)))
-FEW = Drawn(3, 40, 40, 20, 100, ((2, 7), (20, 7)))
+# how much is drawn: scripts for each season, markets, sheets, programmes, each how-many-th damaged script, seasons with twenty dossiers each, and the
+# candidates and seeds of seasons whose dossiers are sound, and of generated texts
+Drawn = collections.namedtuple("Drawn", "scripts markets sheets programmes damaged dossiers sound texts")
+ALL = Drawn(200, 1000, 2000, 1000, 1, 60, ((2, 1), (800, 7)), ((1, 0), (1, 2**32 - 1), (2, 7), (20, 0), (20, 7), (800, 7), (801, 3), (100_000, 7)))
+FEW = Drawn(3, 40, 40, 20, 100, 2, ((2, 1),), ((2, 7), (20, 7)))
 MOST_INPUT = 134_217_728
 REQUESTS = 40
 
@@ -437,11 +440,16 @@ def trials(program, texts, drawn):
         yield functools.partial(fault_of_special, program, *special)
     for count, seed in ((2, 1), (40, 7)):
         yield functools.partial(fault_of_summary, program, count, seed)
+    dossiers = plain_dossiers.drawn_dossiers(Draw(5), in_order, drawn.dossiers, 20)
+    if drawn == ALL:
+        yield lambda: plain_dossiers.lacking(dossiers)
+        yield functools.partial(plain_dossiers.fault_of_length, program)
+    yield from plain_dossiers.trials(program, dossiers, drawn.sound)
 
 
 def plainly(call, kept):
-    """What a call without a fault comes to by the plain office: the list of a sheet, the replies to requests, or the special round over what a call before it
-    kept. None where it tells none of these."""
+    """What a call without a fault comes to by the plain office: the list of a sheet, the replies to requests, the verdict on a dossier, or the special round
+    over what a call before it kept. None where it tells none of these."""
     given = b"".join(call.source)
     if call.words[:1] == ["units"]:
         try:
@@ -455,6 +463,8 @@ def plainly(call, kept):
     if call.status == 0 and call.words[:1] in (["run"], ["units"]) and begin:
         office = Office(Season(season))
         return "".join(office.reply(it) for it in script.split("\n") if it)
+    if call.words[:1] == ["audit"]:
+        return verdict(b"".join(call.source))[0].decode()
     if call.words[:1] == ["special"] and kept and len(given) <= MOST_INPUT:
         return special_text(office_after(kept), given)[0]
     return None

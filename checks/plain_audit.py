@@ -1,0 +1,356 @@
+"""A plain auditor, outside of the program and its proofs: what is wrong with a published season, by going through the clauses one after another.
+
+It reads a dossier, which is a bundle with its requests and the texts that were published for it, and replays the season with the rounds that it finds there. Whom a
+step should have admitted is not made: each clause is tried on what is listed, and each exchange by trying every placement. So it serves for small dossiers, and for a season of
+some hundred candidates. Of the faults of a season it knows the few
+that are drawn in checks/plain_dossiers.py or stand in cases/audit.txt."""
+import itertools
+import re
+
+from plain_office import STAYS, STEPS, TRAITS, Office, Season, greatest
+from plain_scripts import is_request
+
+MOST_INPUT = 134_217_728
+MOST_32_BITS = 4_294_967_295
+NUMBER_OF_32_BITS = None
+SECTIONS = ("[season]", "[register]", "[matrix]", "[choices]")
+
+
+class Fault(Exception):
+    """A dossier that cannot be read, by the rest of the line that says so."""
+
+
+# ---- the three parts of a dossier
+
+
+def lines_of(given):
+    """The lines of bytes, each with its end, and with it."""
+    at = 0
+    while at < len(given):
+        end = given.find(b"\n", at) + 1 or len(given)
+        yield at, end, given[at:end]
+        at = end
+
+
+def title(line):
+    """A line without its end and its commas."""
+    return line.removesuffix(b"\n").removesuffix(b"\r").rstrip(b",")
+
+
+def parts_of(given):
+    """The bundle, the requests and what is published."""
+    if len(given) > MOST_INPUT:
+        raise Fault("dossier TooLong")
+    marks, names = [], [b"[requests]", b"[published]"]
+    for at, end, line in lines_of(given):
+        if title(line.removeprefix(b"\xef\xbb\xbf") if at == 0 else line) == names[0]:
+            marks += [at, end]
+            names.pop(0)
+            if not names:
+                return given[: marks[0]], given[marks[1] : marks[2]], given[marks[3] :]
+    raise Fault("dossier NoSection")
+
+
+# ---- the season and its script
+
+
+def season_of(bundle):
+    """The season of a bundle without a fault, but for the few faults that are known here."""
+    try:
+        text = bundle.decode().removeprefix("\ufeff")
+    except UnicodeDecodeError:
+        raise Fault("bundle NotUtf8") from None
+    lines = [title(it).decode() for _, _, it in lines_of(text.encode())]
+    if not lines or lines[0] not in ("office bundle 1", "office bundle 2"):
+        raise Fault("bundle BadFirstLine")
+    named = [(number, it) for number, it in enumerate(lines, 1) if it.startswith("[")]
+    early = next((number for number, it in enumerate(lines[1:], 2) if it), None)
+    for at, name in enumerate(SECTIONS):
+        if at < len(named) and named[at][1] != name or at == 0 and early and not lines[early - 1].startswith("["):
+            raise Fault(f"bundle line {early if at == 0 else named[at][0]} Section")
+        if at >= len(named):
+            raise Fault(f"bundle line {len(lines) + 1} Section")
+    if len(named) > len(SECTIONS):
+        raise Fault(f"bundle line {named[len(SECTIONS)][0]} Section")
+    body = {name: [it.split(",") for it in lines[number : end - 1] if it] for (number, name), (end, _) in zip(named, [*named[1:], (len(lines) + 1, "")])}
+    for number, row in enumerate(body["[season]"], 1):
+        if row[0] == "rounds" and (len(row) != 2 or row[1] not in [str(it) for it in range(1, 11)]):
+            raise Fault(f"season row {number} BadSeason")
+    codes, people = {row[0] for row in body["[matrix]"][1:]}, {row[0] for row in body["[register]"][1:]}
+    for number, row in enumerate(body["[choices]"][1:], 2):
+        if row[0] not in people:
+            raise Fault(f"choices row {number} UnknownCandidate")
+        if not codes.issuperset(row[1:]):
+            raise Fault(f"choices row {number} UnknownProgramme")
+    return Season("\n".join(lines))
+
+
+def script_of(requests):
+    """The rows of a script without quotes."""
+    try:
+        text = requests.decode().removeprefix("\ufeff")
+    except UnicodeDecodeError:
+        raise Fault("bundle NotUtf8") from None
+    rows = [row for row in (it.rstrip(",").split(",") for it in re.split("[\r\n]", text)) if row != [""]]
+    for number, row in enumerate(rows, 1):
+        if not is_request(row):
+            raise Fault(f"requests row {number} BadRequest")
+    return rows
+
+
+def cuts_of(season, rows):
+    """How many cuts of the script are accepted."""
+    now = 0
+    for row in rows:
+        now += row == ["cut", "clerk", str(now)] and now <= season.rounds
+    return now
+
+
+# ---- what is published: each text by the lines that may come next, and what has then been said
+
+
+def is_number(word):
+    return re.fullmatch("0|[1-9][0-9]*", word) is not None and int(word) <= MOST_32_BITS
+
+
+def fits(form, line):
+    """Whether a line is of a form: each of its words is one of those that may stand there."""
+    words = line.split(" ")
+    return len(words) == len(form) and all(is_number(it) if may is NUMBER_OF_32_BITS else it in may for it, may in zip(words, form))
+
+
+def could_fit(form, piece):
+    """Whether more letters may make a line of the form of what stands there."""
+    *whole, last = piece.split(" ")
+    if len(whole) >= len(form) or not fits(form[: len(whole)], " ".join(whole)) and whole:
+        return False
+    may = form[len(whole)]
+    return not last or is_number(last) if may is NUMBER_OF_32_BITS else any(it.startswith(last) for it in may)
+
+
+def words(*texts):
+    return [{it} for text in texts for it in text.split()]
+
+
+def rows_text(season, name, row, end, found):
+    """A text of rows: its number, its rows by rising candidates, and its end. Each line that may come next is given, and the one that came is taken."""
+    ids = [it.id for it in season.people]
+    line = yield (*name, {str(it) for it in range(len(ids) + 1 if season.programmes else 1)})
+    left = int(line.split(" ")[-1])
+    while left:
+        line = yield ({row}, {str(it) for it in ids[: len(ids) - left + 1]}, season.programmes, STEPS)
+        _, cand, code, step = line.split(" ")
+        ids = ids[ids.index(int(cand)) + 1 :]
+        found.append((int(cand), code, step))
+        left -= 1
+    yield tuple(words(end))
+
+
+def list_text(season, number, code, found):
+    """The list of a programme: its steps, each with its numbers, its persons by the letters of their positions, and as many of these as it says."""
+    ids = [str(it.id) for it in season.people]
+    yield tuple(words(f"list {number} {code}"))
+    for step in STEPS:
+        up_to = [str(it) for it in range(len(ids) + 1)]
+        line = yield (*words(f"step {step} seats"), NUMBER_OF_32_BITS, {"candidates"}, NUMBER_OF_32_BITS, {"admitted"}, set(up_to))
+        seats, candidates, admitted = (int(it) for it in line.split(" ")[3::2])
+        line = yield ({"honoured"}, set(up_to[:1] if step == "D" else up_to[: admitted + 1]))
+        honoured, persons = int(line.split(" ")[1]), []
+        for left in range(admitted, 0, -1):
+            may = {*(TRAITS if honoured else ""), *("-" if honoured < left else "")}
+            line = yield (set(ids).difference(it for it, _ in persons), may)
+            persons.append(tuple(line.split(" ")))
+            honoured -= not line.endswith("-")
+        found[step] = Listed(seats, candidates, [int(it) for it, _ in persons], [it for _, it in persons])
+    yield tuple(words("end list"))
+
+
+class Listed:
+    """A step as it is listed."""
+
+    def __init__(self, seats, candidates, admitted, letters):
+        self.seats, self.candidates, self.admitted, self.letters = seats, candidates, admitted, letters
+
+
+class Papers:
+    """What is published: the rows of each round, its lists by programme and step, and the final rows."""
+
+    def __init__(self, season, cuts):
+        count = min(cuts, season.rounds)
+        self.rounds = [[] for _ in range(count)]
+        self.lists = [{code: {} for code in season.programmes} for _ in range(count)]
+        self.finals = [] if cuts > season.rounds else None
+
+    def texts(self, season):
+        for at, (rows, lists) in enumerate(zip(self.rounds, self.lists), 1):
+            yield rows_text(season, words(f"round {at} seated"), "allot", "end round", rows)
+            for code, found in lists.items():
+                yield list_text(season, at, code, found)
+        if self.finals is not None:
+            yield rows_text(season, words("final"), "admit", "end final", self.finals)
+
+
+def papers_of(season, cuts, published):
+    """What is published, or the first line with which it begins nothing that may be."""
+    papers, number = Papers(season, cuts), 0
+    lines = iter([it.decode("latin-1") for _, _, it in lines_of(published)])
+    for text in papers.texts(season):
+        form, line = next(text), None
+        while form is not None:
+            number, line = number + 1, next(lines, "")
+            if not line.endswith("\n"):
+                raise Fault(f"published line {number + 1 if line and could_fit(form, line) else number}")
+            line = line[:-1]
+            if not fits(form, line):
+                raise Fault(f"published line {number}")
+            try:
+                form = text.send(line)
+            except StopIteration:
+                form = None
+    if next(lines, None) is not None:
+        raise Fault(f"published line {number + 1}")
+    return papers
+
+
+# ---- the replay
+
+
+class Published:
+    """A round as it is published."""
+
+    def __init__(self, rows, lists):
+        self.rows, self.lists, self.seats = rows, lists, {cand: seat for cand, *seat in rows}
+
+
+class Audited(Office):
+    """An office that takes each round from the papers and makes none. It stops at the first clause that is broken."""
+
+    def __init__(self, season, papers):
+        super().__init__(season)
+        self.papers, self.broken, self.known, self.seen = papers, None, {}, 0
+
+    def kept(self, cand, window):
+        for it in self.answers[self.seen :]:
+            self.known.setdefault(it[:2], []).append(it)
+        self.seen = len(self.answers)
+        return self.known.get((window, cand), [])
+
+    def reply_to_cut(self, by, window):
+        if by == "clerk" and window == self.cuts <= self.season.rounds:
+            if window < self.season.rounds:
+                found = Published(self.papers.rounds[window], self.papers.lists[window])
+                self.broken = next(broken_in(self, found), None)
+                self.rounds.append(found)
+            elif self.papers.finals != self.admitted():
+                self.broken = "FinalDiffers - -"
+            self.cuts += 1
+
+    def reply_to_list(self, *_):
+        pass
+
+    reply_to_why = reply_to_state = reply_to_seat = reply_to_list
+
+
+def broken_in(office, found):
+    """The clauses that are broken in a round, in their order, each with the programme and the candidate that it names."""
+    season, sought = office.season, {it.id: office.sought(it.id) for it in office.season.people}
+    for cand, code, _ in found.rows:
+        if code not in sought[cand]:
+            yield f"NotSought {code} {cand}"
+    for it in season.people:
+        if office.standing(it.id, office.cuts) in STAYS and it.id not in found.seats:
+            yield f"Fell - {it.id}"
+    for code, lists in found.lists.items():
+        named = {}
+        for step, listed in lists.items():
+            for cand in listed.admitted:
+                named.setdefault(cand, []).append(step)
+        told = {cand: [step] for cand, (of, step) in found.seats.items() if of == code}
+        for it in season.people:
+            if named.get(it.id) != told.get(it.id):
+                yield f"Unlisted {code} {it.id}"
+    for code, lists in found.lists.items():
+        yield from broken_in_lists(office, code, lists, [it for it in season.people if applies(it.id, code, sought, found.seats)])
+
+
+def applies(cand, code, sought, seats):
+    """Whether a candidate seeks a programme and has no seat, or it, or one that is sought less."""
+    own = sought[cand]
+    return code in own and (cand not in seats or seats[cand][0] in own[own.index(code) :])
+
+
+def broken_in_lists(office, code, lists, applicants):
+    """The clauses that are broken in the lists of one programme."""
+    season, seats = office.season, office.seats()
+    merit, named = season.merit(code), set()
+    by_merit = sorted(applicants, key=lambda it: it.place(merit))
+    for step, listed in lists.items():
+        people = [it for it in by_merit if it.id not in named and (it.is_common(merit) if step in ("OPEN", "D") else it.category == step)]
+        given = seats.get((code, step), 0)
+        if step == "D":
+            of = ("OBC", "EWS") if season.version == 2 else ("OBC",)
+            given = sum(seats.get((code, it), 0) - len(lists[it].admitted) for it in of)
+        clause = broken_in_step(listed, people, given, merit, season.protections.get((code, step), (0,) * 6))
+        if clause:
+            name, cand = clause
+            yield f"{name} {code} {cand}"
+            return
+        named.update(listed.admitted)
+
+
+def broken_in_step(listed, people, seats, merit, protections):
+    """The first clause that is broken in a step whose people, best first, and seats are these, with the candidate that it names."""
+    if (listed.seats, listed.candidates) != (seats, len(people)):
+        return "WrongNumbers", "-"
+    persons, last = [], 0
+    for cand in listed.admitted:
+        person = next((it for it in people if it.id == cand), None)
+        if person is None or person.place(merit) < last:
+            return "NotCandidate", cand
+        last = person.place(merit)
+        persons.append(person)
+    if len(persons) != min(seats, len(people)):
+        return "WrongSize", "-"
+    pairs = [(person, letter) for person, letter in zip(persons, listed.letters) if letter != "-"]
+    is_placed = all(letter in person.traits for person, letter in pairs) and all(listed.letters.count(it) <= most for it, most in zip(TRAITS, protections))
+    if not is_placed or len(pairs) != honoured(people, protections):
+        return "BadCertificate", "-"
+    for it in people:
+        if it not in persons and overtakes(it, persons, merit, protections):
+            return "Overtaken", it.id
+    return None
+
+
+def overtakes(person, persons, merit, protections):
+    """Whether the persons with this one in the place of a worse one honour no less."""
+    now = honoured(persons, protections)
+    worse = [it for it in persons if it.place(merit) > person.place(merit)]
+    return any(honoured([person, *(other for other in persons if other is not it)], protections) >= now for it in worse)
+
+
+def honoured(people, protections):
+    """How much people honour: of those with the same traits no more than there are protected seats can stand on one."""
+    most, kinds = sum(protections), sorted(it.traits for it in people if it.traits)
+    few = [it for _, same in itertools.groupby(kinds) for it in itertools.islice(same, most)]
+    return greatest(tuple(few), protections)
+
+
+# ---- the verdict
+
+
+def verdict(given):
+    """What the audit of a dossier comes to: its line, and the status."""
+    try:
+        bundle, requests, published = parts_of(given)
+        season = season_of(bundle)
+        rows = script_of(requests)
+        cuts = cuts_of(season, rows)
+        papers = papers_of(season, cuts, published)
+    except Fault as fault:
+        return f"fault: {fault}\n".encode(), 3
+    office = Audited(season, papers)
+    for row in rows:
+        office.reply(",".join(row))
+        if office.broken:
+            return f"audit broken round {office.cuts} {office.broken}\n".encode(), 10
+    return f"audit sound rounds {len(papers.rounds)}\n".encode(), 0

@@ -1,0 +1,336 @@
+"""Drawn dossiers, each damaged in one place or in none: the program's verdict on them is held against that of the plain auditor."""
+import functools
+import itertools
+import os
+import re
+import runpy
+
+from cases import called, first_difference
+from plain_audit import MOST_INPUT, applies, verdict
+from plain_office import STEPS, Office, Season, certificate
+from plain_special import drawn_season
+
+OF_BUNDLE = runpy.run_path(f"{os.path.dirname(os.path.dirname(os.path.realpath(__file__)))}/tools/dossier")["of_bundle"]
+
+# ---- dossiers that can be damaged
+
+
+class Dossier:
+    """A dossier that can be damaged: the season and its script, and what the plain office published for it."""
+
+    def __init__(self, text):
+        season, _, script = text.partition("[requests]\n")
+        self.bundle, self.requests = season, script
+        self.season, self.before = Season(season), []
+        office = Office(self.season)
+        for row in filter(None, script.split("\n")):
+            if row.startswith("cut,clerk") and office.cuts <= self.season.rounds:
+                self.before.append((office.cuts, list(office.answers), list(office.raises)))
+            office.reply(row)
+        self.office = office
+        self.rounds = [(dict(it.seats), {code: [*lists] for code, lists in it.lists.items()}) for it in office.rounds]
+        self.texts = [self.round_lines(at, *it) for at, it in enumerate(self.rounds)]
+        self.last = office.final_text().split("\n")[1:-1] if office.cuts > self.season.rounds else []
+
+    def round_lines(self, at, seats, lists):
+        rows = [f"allot {cand} {code} {step}" for cand, (code, step) in sorted(seats.items())]
+        return [f"round {at + 1} seated {len(rows)}", *rows, "end round", *(line for code in self.season.programmes for line in list_lines(at + 1, code, lists[code]))]
+
+    def published(self):
+        return [*(line for lines in self.texts for line in lines), *self.last]
+
+    def given(self, lines=None):
+        lines = self.published() if lines is None else lines
+        return f"{self.bundle}[requests]\n{self.requests}[published]\n{''.join(f'{it}{chr(10)}' for it in lines)}".encode()
+
+    def with_seats(self, at, seats):
+        """The same with other seats in a round, and its lists made anew for them."""
+        office = Office(self.season)
+        office.cuts, office.answers, office.raises = self.before[at]
+        office.rounds = self.office.rounds[:at]
+        sought, given = {it.id: office.sought(it.id) for it in self.season.people}, office.seats()
+        self.texts[at] = self.round_lines(at, seats, {code: [*lists_for(self.season, given, code, sought, seats)] for code in self.season.programmes})
+        return self.given()
+
+
+def list_lines(number, code, lists):
+    yield f"list {number} {code}"
+    for it in lists:
+        yield f"step {it.step} seats {it.seats} candidates {it.candidates} admitted {len(it.admitted)}"
+        yield f"honoured {len(it.letters) - it.letters.count('-')}"
+        yield from (f"{person.id} {letter}" for person, letter in zip(it.admitted, it.letters))
+    yield "end list"
+
+
+class Made:
+    """A step made anew for those who have its seats."""
+
+    def __init__(self, step, seats, candidates, admitted, letters):
+        self.step, self.seats, self.candidates, self.admitted, self.letters = step, seats, candidates, admitted, letters
+
+
+def lists_for(season, given, code, sought, seats):
+    """The lists of a programme that name those who have its seats, by merit and with the best certificate, and with numbers as they come to then."""
+    merit, named, held = season.merit(code), set(), {}
+    by_merit = sorted((it for it in season.people if it.place(merit)), key=lambda it: it.place(merit))
+    for step in STEPS:
+        people = [it for it in by_merit if applies(it.id, code, sought, seats) and it.id not in named and (it.is_common(merit) if step in ("OPEN", "D") else it.category == step)]
+        admitted = [it for it in by_merit if tuple(seats.get(it.id, ())) == (code, step)]
+        held[step] = len(admitted)
+        count = given.get((code, step), 0)
+        if step == "D":
+            count = max(sum(given.get((code, it), 0) - held[it] for it in (("OBC", "EWS") if season.version == 2 else ("OBC",))), 0)
+        letters = [*certificate(tuple(it.traits for it in admitted), season.protections.get((code, step), (0,) * 6))]
+        named.update(it.id for it in admitted)
+        yield Made(step, count, len(people), admitted, letters)
+
+
+def one_of(draw, items):
+    items = [*items]
+    return items[draw.below(len(items))] if items else None
+
+
+# ---- the damages; each gives the bytes of a damaged dossier, or None where there is nothing of its kind
+
+
+def nothing(draw, dossier):
+    return dossier.given()
+
+
+def seats_changed(draw, dossier):
+    """One seat of a round is given, taken, handed on, exchanged or told under another step; the lists are made anew."""
+    at = draw.below(len(dossier.texts) or 1)
+    if not dossier.texts:
+        return None
+    seats, ids = dict(dossier.rounds[at][0]), [it.id for it in dossier.season.people]
+    one, other = one_of(draw, ids), one_of(draw, ids)
+    kind = draw.below(5)
+    if kind == 0:
+        seats[one] = (one_of(draw, dossier.season.programmes), one_of(draw, STEPS))
+    elif kind == 1:
+        seats.pop(one, None)
+    elif kind == 2 and one in seats:
+        seats[other] = seats.pop(one)
+    elif kind == 3 and one in seats and other in seats:
+        seats[one], seats[other] = seats[other], seats[one]
+    elif one in seats:
+        seats[one] = (seats[one][0], one_of(draw, STEPS))
+    return dossier.with_seats(at, seats)
+
+
+def round_changed(draw, dossier):
+    """A round's text tells another seat of somebody, or none, and the lists stay."""
+    if not dossier.texts:
+        return None
+    at = draw.below(len(dossier.texts))
+    seats, lines = dict(dossier.rounds[at][0]), dossier.texts[at]
+    cand = one_of(draw, [it.id for it in dossier.season.people])
+    if draw.below(2) and cand in seats:
+        del seats[cand]
+    elif dossier.season.choices.get(cand):
+        seats[cand] = (one_of(draw, dossier.season.choices[cand]), one_of(draw, STEPS))
+    rows = [f"allot {cand} {code} {step}" for cand, (code, step) in sorted(seats.items())]
+    dossier.texts[at] = [f"round {at + 1} seated {len(rows)}", *rows, *lines[lines.index("end round") :]]
+    return dossier.given()
+
+
+def best_handed_on(draw, dossier):
+    """A seat goes to somebody worse who wants it too; the lists are made anew."""
+    if not dossier.texts:
+        return None
+    at = draw.below(len(dossier.texts))
+    seats = dict(dossier.rounds[at][0])
+    one = one_of(draw, seats)
+    other = one_of(draw, [it.id for it in dossier.season.people if it.id not in seats and one and seats[one][0] in dossier.season.choices.get(it.id, [])])
+    if other:
+        seats[other] = seats.pop(one)
+    return dossier.with_seats(at, seats)
+
+
+def nobody_stays(draw, dossier):
+    """Somebody has no seat any more, and the lists are made anew; where somebody else can have it, that one has."""
+    at = draw.below(len(dossier.texts) or 1)
+    if len(dossier.texts) < 2 or not at or not dossier.rounds[at][0]:
+        return None
+    seats = dict(dossier.rounds[at][0])
+    seats.pop(one_of(draw, seats))
+    return dossier.with_seats(at, seats)
+
+
+def line_changed(draw, dossier):
+    """A line is left out, told twice, moved, or has one of its words changed."""
+    lines = dossier.published()
+    if not lines:
+        return dossier.given(["end round"])
+    at, kind = draw.below(len(lines)), draw.below(8)
+    parts = lines[at].split(" ")
+    if kind == 0:
+        del lines[at]
+    elif kind == 1:
+        lines.insert(at, lines[at])
+    elif kind == 2:
+        lines.insert(at, lines.pop())
+    else:
+        word = draw.below(len(parts))
+        parts[word] = one_of(draw, ("0", "1", "2", "7", "8", "01", "A", "B", "OPEN", "OBC", "D", "W", "-", "", "4294967296", str(int(parts[word]) + 1) if parts[word].isdigit() else "x"))
+        lines[at] = " ".join(parts)
+    return dossier.given(lines)
+
+
+def cut_short(draw, dossier):
+    """The end is missing, or there is more."""
+    given = dossier.given()
+    start = given.index(b"[published]\n") + 12
+    return given[: start + draw.below(len(given) - start + 1)] + (b"", b"x", b"\n")[draw.below(3)]
+
+
+def number_changed(draw, dossier):
+    """The seats or the candidates of a listed step are other ones."""
+    lines = dossier.published()
+    at = one_of(draw, [at for at, it in enumerate(lines) if it.startswith("step ")])
+    if at is None:
+        return None
+    parts = lines[at].split(" ")
+    word = (3, 5)[draw.below(2)]
+    parts[word] = str(int(parts[word]) + 1)
+    lines[at] = " ".join(parts)
+    return dossier.given(lines)
+
+
+def letter_changed(draw, dossier):
+    """Who is listed fills another position, or none, or one more."""
+    lines = dossier.published()
+    at = one_of(draw, [at for at, it in enumerate(lines) if re.fullmatch(r"\d+ \S", it)])
+    if at is None:
+        return None
+    cand, letter = lines[at].split(" ")
+    lines[at] = f"{cand} {one_of(draw, 'WD-')}"
+    above = max(it for it in range(at) if lines[it].startswith("honoured "))
+    count = sum(not it.endswith("-") for it in itertools.takewhile(lambda it: re.fullmatch(r"\d+ \S", it), lines[above + 1 :]))
+    lines[above] = f"honoured {count}"
+    return dossier.given(lines)
+
+
+def order_changed(draw, dossier):
+    """Two who are listed next to each other have changed places."""
+    lines = dossier.published()
+    at = one_of(draw, [at for at in range(len(lines) - 1) if all(re.fullmatch(r"\d+ \S", it) for it in lines[at : at + 2])])
+    if at is None:
+        return None
+    lines[at : at + 2] = lines[at + 1], lines[at]
+    return dossier.given(lines)
+
+
+def final_changed(draw, dossier):
+    """A final row is missing, or tells another seat."""
+    rows = dossier.last[1:-1]
+    if not rows:
+        return None
+    at = draw.below(len(rows))
+    if draw.below(2):
+        del rows[at]
+    else:
+        cand = rows[at].split(" ")[1]
+        rows[at] = f"admit {cand} {one_of(draw, dossier.season.programmes)} {one_of(draw, STEPS)}"
+    dossier.last = [f"final {len(rows)}", *rows, "end final"]
+    return dossier.given()
+
+
+def season_changed(draw, dossier):
+    """The register, the matrix, a choice list or a request is another one than that for which the texts were published."""
+    text = dossier.bundle + "[requests]\n" + dossier.requests
+    lines = text.split("\n")
+    of = [at for at, it in enumerate(lines) if re.match(r"\d+,[A-Z]|answer,|raise,|[AB],I1,\d,", it)]
+    at = one_of(draw, of)
+    if re.match(r"\d+,[AB]", lines[at]):
+        cand, *codes = lines[at].split(",")
+        lines[at] = ",".join([cand, *codes[::-1]][: draw.below(3) + 1])
+    elif lines[at].startswith(("answer,", "raise,")):
+        lines.pop(at)
+    elif re.match(r"\d+,", lines[at]):
+        lines[at] = lines[at].replace(",W,", ",-,") if ",W," in lines[at] else lines[at].replace(",-,", ",W,")
+    else:
+        parts = lines[at].split(",")
+        parts[4] = str(int(parts[4]) + 1)
+        lines[at] = ",".join(parts)
+    dossier.bundle, _, dossier.requests = "\n".join(lines).partition("[requests]\n")
+    return dossier.given()
+
+
+def season_broken(draw, dossier):
+    """The bundle or the requests have a fault, or one of the marks between the parts is not there."""
+    given = dossier.given()
+    old, new = one_of(draw, (
+        (b"office bundle", b"office bundles"),
+        (b"rounds,", b"rounds,0"),
+        (b"[matrix]", b"[matrices]"),
+        (b"[season]", b"0\n[season]"),
+        (b"candidate,programmes\n", b"candidate,programmes\n8,A\n"),
+        (b"candidate,programmes\n", b"candidate,programmes\n1,C\n"),
+        (b"cut,clerk,0", b"cut,clerk,-1"),
+        (b"cut,clerk,0", b"cut,clerk,\xff"),
+        (b"office bundle", b"office bundle\xff"),
+        (b"[requests]", b"[request]"),
+        (b"[published]", b"[publish]"),
+        (b"[requests]\n", b"[requests],,\r\n"),
+        (b"[requests]\n", b""),
+        (b"[published]\n", b"[published],\r\n"),
+    ))
+    return given.replace(old, new, 1)
+
+
+DAMAGES = (nothing, seats_changed, seats_changed, round_changed, best_handed_on, best_handed_on, nobody_stays, line_changed, line_changed, cut_short, number_changed, letter_changed, order_changed, final_changed, season_changed, season_broken)
+CLAUSES = ("NotSought", "Fell", "Unlisted", "WrongNumbers", "NotCandidate", "WrongSize", "BadCertificate", "Overtaken", "FinalDiffers")
+FAULTS = ("dossier NoSection", "bundle NotUtf8", "bundle BadFirstLine", "bundle line", "season row", "choices row", "requests row", "published line")
+
+
+def drawn_dossiers(draw, in_order, seasons, count):
+    """From each of some seasons so many dossiers, each damaged in one place or in none, with what the plain auditor tells of them."""
+    found = []
+    for number in range(seasons):
+        text = drawn_season(draw, in_order)
+        for other in range(count):
+            dossier, damage = Dossier(text), DAMAGES[draw.below(len(DAMAGES))]
+            given = damage(draw, dossier) or dossier.given()
+            found.append((f"dossier {number}.{other} ({damage.__name__})", given, *verdict(given)))
+    return found
+
+
+def lacking(dossiers):
+    """Which clause or fault none of the dossiers has."""
+    told = [wrote.decode() for _, _, wrote, _ in dossiers]
+    lost = [it for it in CLAUSES if not any(f" {it} " in line for line in told)] + [it for it in FAULTS if not any(line.startswith(f"fault: {it}") for line in told)]
+    return f"drawn dossiers: none has {', '.join(lost)}" if lost else None
+
+
+# ---- the trials
+
+
+def fault_of_audit(program, label, given, told, status):
+    """Why the program's verdict is not the plain one, or None."""
+    found = called(program, ["audit"], given, "/")
+    return None if found == (told, status) else f"{label}: audit ended with status {found[1]}: {first_difference(found[0], told)}"
+
+
+def fault_of_length(program):
+    """Why a dossier with one byte more than may be read is not refused for it, or None."""
+    return fault_of_audit(program, "a dossier that is too long", b"\n" * (MOST_INPUT + 1), b"fault: dossier TooLong\n", 3)
+
+
+def fault_of_generated(program, count, seed, plainly):
+    """Why the dossier of a generated season, as tools/dossier makes it of what the program publishes, is not sound, or None. The plain auditor is asked too."""
+    bundle, _ = called(program, ["generate", str(count), str(seed), "text"], b"", "/")
+    given = OF_BUNDLE(lambda words, it: called(program, words, it, "/"), bundle)
+    told = b"audit sound rounds 6\n", 0
+    if plainly and verdict(given) != told:
+        return f"the dossier of generate {count} {seed}: the plain auditor tells {verdict(given)[0]!r}"
+    return fault_of_audit(program, f"the dossier of generate {count} {seed}", given, *told)
+
+
+def trials(program, dossiers, seasons):
+    """What is tried, each a call that gives a fault or None: the verdict on each of these dossiers, and that the dossiers of seasons that are generated from these
+    numbers are sound."""
+    for dossier in dossiers:
+        yield functools.partial(fault_of_audit, program, *dossier)
+    for count, seed in seasons:
+        yield functools.partial(fault_of_generated, program, count, seed, count <= 1000)
