@@ -1,0 +1,163 @@
+// The season over two files whose disk stops at a call: each later call on that file fails, and a crash leaves what was synced. What is opened then holds
+// the requests that were told as accepted, perhaps one more, and goes on from there.
+use crate::seasons::{goes_on, run_told, whole};
+use keeper_mem::Kept;
+use keeper_sqlite::SqliteKeeper;
+use sqlite::{Connection, FileStore, Files, Options};
+use sqlite_disk::{Crash, Disk, Fuse, Memory};
+use std::alloc::Global;
+use std::test::Fail;
+
+/// Files in memory, each of which stops after a number of calls.
+type Stopping = Files<Fuse<Memory>>;
+
+type Store = SqliteKeeper<FileStore<Fuse<Memory>>>;
+
+/// Which file stops.
+#[derive(Clone, Copy)]
+enum Stop {
+    Log,
+    Database,
+}
+
+fn empty_files(alloc: Global, stop: Stop, calls: u64) -> Stopping {
+    let (log, db) = match stop {
+        Stop::Log => (calls, u64::MAX),
+        Stop::Database => (u64::MAX, calls),
+    };
+    Files {
+        log: Fuse::new(Memory::new(alloc), log),
+        db: Fuse::new(Memory::new(alloc), db),
+    }
+}
+
+// The log is copied into the database at almost each commit.
+fn options() -> Options {
+    let mut options = Options::new(1);
+    options.cache_pages = 16;
+    options.spill_pages = 16;
+    options.checkpoint_frames = 2;
+    options
+}
+
+// A keeper over these files, or the files where they cannot be opened.
+fn opened(alloc: Global, files: Stopping) -> Result<Store, Stopping> {
+    if !files.log.may_be_used() || !files.db.may_be_used() {
+        return Err(files);
+    }
+    match Connection::open_files(alloc, files, options()) {
+        Ok(connection) => Ok(SqliteKeeper::new(connection)),
+        Err((_, left)) => Err(left.into_files()),
+    }
+}
+
+fn files_of(keeper: Store) -> Stopping {
+    keeper.into_connection().into_store().close()
+}
+
+// The files after a crash. They stop no more.
+fn crashed(mut files: Stopping) -> Stopping {
+    files.log.crash();
+    files.db.crash();
+    files
+}
+
+// The keeper with its tables, or what a crash leaves where they cannot be made.
+fn with_tables(mut keeper: Store) -> Result<Store, Stopping> {
+    match keeper.make_tables() {
+        Ok(()) => Ok(keeper),
+        Err(_) => Err(crashed(files_of(keeper))),
+    }
+}
+
+// A keeper over these files with its tables, or what a crash leaves.
+fn begun(alloc: Global, files: Stopping) -> Result<Store, Stopping> {
+    match opened(alloc, files) {
+        Ok(keeper) => with_tables(keeper),
+        Err(files) => Err(crashed(files)),
+    }
+}
+
+/// What a crash leaves of a run.
+struct Leaving {
+    files: Stopping,
+    /// How many requests were told as accepted.
+    told: usize,
+    /// Whether the run ended well.
+    is_well: bool,
+}
+
+// Runs the season over the keeper, and crashes.
+fn run_to_crash(alloc: Global, keeper: Store) -> Result<Leaving, Fail> {
+    match run_told(alloc, keeper) {
+        Ok((is_well, told, keeper)) => Ok(Leaving {
+            files: crashed(files_of(keeper)),
+            told,
+            is_well,
+        }),
+        Err(fail) => Err(fail),
+    }
+}
+
+// The same over these files, where a run may not even begin.
+fn run_and_crash(alloc: Global, files: Stopping) -> Result<Leaving, Fail> {
+    match begun(alloc, files) {
+        Ok(keeper) => run_to_crash(alloc, keeper),
+        Err(files) => Ok(Leaving {
+            files,
+            told: 0,
+            is_well: false,
+        }),
+    }
+}
+
+// Lets the files go. It stands alone, since what it proves is much.
+fn let_go(_files: Stopping) {}
+
+// Whether what a crash left is opened again, and goes on.
+fn survives(alloc: Global, files: Stopping, told: usize, whole: &Kept) -> Result<bool, Fail> {
+    match begun(alloc, files) {
+        Ok(keeper) => goes_on(alloc, keeper, told, whole),
+        Err(files) => {
+            let_go(files);
+            Ok(false)
+        }
+    }
+}
+
+// Whether the season survives a stop at this call, and whether it ended well before.
+fn survives_one(alloc: Global, stop: Stop, calls: u64, whole: &Kept) -> Result<(bool, bool), Fail> {
+    let Leaving {
+        files,
+        told,
+        is_well,
+    } = run_and_crash(alloc, empty_files(alloc, stop, calls))?;
+    Ok((survives(alloc, files, told, whole)?, is_well))
+}
+
+// Whether the season survives a stop at each call, up to the number of calls that a run makes.
+fn survives_each(alloc: Global, stop: Stop) -> Result<bool, Fail> {
+    let whole = whole(alloc)?;
+    for calls in 0..100_000 {
+        let (has_survived, is_well) = survives_one(alloc, stop, calls, &whole)?;
+        if !has_survived {
+            return Ok(false);
+        }
+        if is_well {
+            return Ok(true);
+        }
+    }
+    Ok(false)
+}
+
+#[test]
+fn the_log_stops(rt: HostRuntime) -> Result<(), Fail> {
+    assert!(rt; survives_each(rt.alloc(), Stop::Log)?);
+    Ok(())
+}
+
+#[test]
+fn the_database_stops(rt: HostRuntime) -> Result<(), Fail> {
+    assert!(rt; survives_each(rt.alloc(), Stop::Database)?);
+    Ok(())
+}
