@@ -44,20 +44,21 @@ def want(holds, label, what):
 # ---- a server
 
 
+def rows_of_sockets():
+    with open("/proc/net/tcp", encoding="ascii") as table:
+        return [it.split() for it in table.readlines()[1:]]
+
+
 def free_port():
-    """A port that nobody has, below those from which clients get theirs; no two calls give the same one."""
-    while True:
-        port = next(PORTS)
-        with socket.socket() as it, contextlib.suppress(OSError):
-            it.bind(("127.0.0.1", port))
-            return port
+    """A port that nobody has, below those from which clients get theirs; no two calls give the same one. It is looked up and not tried, since a socket bound for
+    that would stay with each program that another thread is just starting."""
+    taken = {row[1].split(":")[1] for row in rows_of_sockets()}
+    return next(port for port in PORTS if f"{port:04X}" not in taken)
 
 
 def listeners(port):
     """The addresses at which somebody listens on a port."""
-    with open("/proc/net/tcp", encoding="ascii") as table:
-        rows = [it.split() for it in table.readlines()[1:]]
-    return {row[1].split(":")[0] for row in rows if row[3] == LISTENS and row[1].endswith(f":{port:04X}")}
+    return {row[1].split(":")[0] for row in rows_of_sockets() if row[3] == LISTENS and row[1].endswith(f":{port:04X}")}
 
 
 class Server:
@@ -85,11 +86,13 @@ class Server:
         return link
 
     def talk(self, pieces):
-        """What comes back over one connection on which these pieces are written, and then no more."""
+        """What comes back over one connection on which these pieces are written, until it is ended from the other side, and then no more."""
         with self.connected() as link:
-            for piece in pieces:
-                link.sendall(piece)
-            link.shutdown(socket.SHUT_WR)
+            with contextlib.suppress(BrokenPipeError, ConnectionResetError):
+                for piece in pieces:
+                    link.sendall(piece)
+            with contextlib.suppress(OSError):
+                link.shutdown(socket.SHUT_WR)
             return rest_of(link)
 
     def ended(self):
