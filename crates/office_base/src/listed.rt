@@ -81,6 +81,13 @@ impl<T: Drop> Listed<T> {
         Ok(())
     }
 
+    /// Gives back the room that no value takes, where the allocator takes it; the values stay. It takes no memory.
+    pub fn shrink_to_fit(&mut self)
+        ensures { self.new ≡ self.old }
+    {
+        self.items.shrink_to_fit();
+    }
+
     /// Keeps the first `len` values, or all where there are no more, and drops the others. It takes no memory.
     pub fn truncate(&mut self, len: usize)
         ensures { self.new ≡ take len self.old }

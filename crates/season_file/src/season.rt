@@ -74,7 +74,7 @@ impl Season {
     }
 
     /// The season and the requests of a bundle, as `read` gives them, or its first fault. The text is taken over: the season keeps
-    /// what stands before the section of the requests. It never answers `ReadFault`.
+    /// what stands before the section of the requests, and the room behind it is given back. It never answers `ReadFault`.
     pub fn of_text(
         alloc: Global,
         text: Text,
@@ -94,6 +94,7 @@ impl Season {
             Err(fault) => return Err(fault),
         };
         text.truncate(end);
+        text.shrink_to_fit();
         Ok((Season::with_text(content, text), script))
     }
 
