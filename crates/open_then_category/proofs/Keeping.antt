@@ -23,9 +23,9 @@ use Rattle.seat_matrix.specs.Unfilled.{left_unfilled}
 use Rattle.seat_matrix.specs.declared.seats.ProgrammeSeats.{ProgrammeSeats}
 use Rattle.programme_lists.specs.Chosen.{AreApplicants, ChoosesFrom, everybody}
 use Rattle.programme_lists.specs.Programme.{Admissions, admitted_by, is_of, left_over, people_of, step_with, unfilled, without}
-use Rattle.open_then_category.specs.State.{IsAnswered, IsPassed, IsProgrammeKept, LeavesOut, ProgrammeKept, count, nobody, step_kept}
+use Rattle.open_then_category.specs.State.{IsAnswered, IsOffer, IsProgrammeKept, LeavesOut, ProgrammeKept, nobody, step_kept}
 use Rattle.open_then_category.specs.StepLaws.{AreLawful}
-use Rattle.open_then_category.proofs.Leaving.{falls_by_one, has_number, passed_count, passed_size}
+use Rattle.open_then_category.proofs.Leaving.{count, falls_by_one, has_number, offered_count, offered_size}
 use Rattle.open_then_category.proofs.Once.{in_everybody}
 use Rattle.open_then_category.proofs.Passing.{Joins, key_apart, new_to, passes, starts, without_joins}
 use Rattle.open_then_category.proofs.ProgrammeLaws.{last_sublist, rest_of}
@@ -34,7 +34,7 @@ use Rattle.open_then_category.proofs.Walk.{members_sublist, obc_there, sc_there,
 
 -- what a step does in its turn: whoever goes on, and those it holds
 abbrev pub Out : ProgrammeSeats → (Person → Bool) → StepKind → List Person → Option Person → Type 0
-Out seats test kind held coming = (leaver : Option Person) × (after : List Person) × IsPassed test seats.list (seats_of seats kind) held coming leaver after
+Out seats test kind held coming = (leaver : Option Person) × (after : List Person) × IsOffer test (step_kept seats kind held) coming leaver after
 
 -- those admitted before, by merit, and with one person more
 abbrev old_people : ProgrammeSeats → Admissions → List Person
@@ -146,13 +146,13 @@ module _ (laws : AreLawful) (version : ℕ) (seats : ProgrammeSeats) (before : A
       → length before.dereserved + count e.0 ≤ left_unfilled version (seats_of seats EwsStep).seats (length b.1) (seats_of seats ObcStep).seats (length c.1) + 1
   few_last a b c d e ews_few obc_few =
       let list = seats.list in
-      let s1 = passed_size (is_of Ews) list (seats_of seats EwsStep) before.ews a.0 b.0 b.1 b.2 in
-      let s2 = passed_size (is_of Obc) list (seats_of seats ObcStep) before.obc b.0 c.0 c.1 c.2 in
-      let z0 = passed_count (is_common list) list (seats_of seats Open) before.open_step (Some person) a.0 a.1 a.2 in
-      let z1 = passed_count (is_of Ews) list (seats_of seats EwsStep) before.ews a.0 b.0 b.1 b.2 in
-      let z2 = passed_count (is_of Obc) list (seats_of seats ObcStep) before.obc b.0 c.0 c.1 c.2 in
-      let z3 = passed_count (is_of Sc) list (seats_of seats ScStep) before.sc c.0 d.0 d.1 d.2 in
-      let z4 = passed_count (is_of St) list (seats_of seats StStep) before.st d.0 e.0 e.1 e.2 in
+      let s1 = offered_size (is_of Ews) list (seats_of seats EwsStep) before.ews a.0 b.0 b.1 b.2 in
+      let s2 = offered_size (is_of Obc) list (seats_of seats ObcStep) before.obc b.0 c.0 c.1 c.2 in
+      let z0 = offered_count (is_common list) list (seats_of seats Open) before.open_step (Some person) a.0 a.1 a.2 in
+      let z1 = offered_count (is_of Ews) list (seats_of seats EwsStep) before.ews a.0 b.0 b.1 b.2 in
+      let z2 = offered_count (is_of Obc) list (seats_of seats ObcStep) before.obc b.0 c.0 c.1 c.2 in
+      let z3 = offered_count (is_of Sc) list (seats_of seats ScStep) before.sc c.0 d.0 d.1 d.2 in
+      let z4 = offered_count (is_of St) list (seats_of seats StStep) before.st d.0 e.0 e.1 e.2 in
       let z24 : count e.0 ≤ count c.0 = omega arith in
       let held_last : length before.dereserved ≤ unfilled version seats before = (
       let size = ap length choice.dereserved in

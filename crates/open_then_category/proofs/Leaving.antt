@@ -1,6 +1,6 @@
 -- At most one is left without a seat by an offer to a programme.
 use Rattle.std.proofs.Common.{◌≡◌, ◌≤◌, ◌-◌, ◌+◌, ◌⊎◌, ℕ, zero, suc, Bool, true, false, cond, List, [], ◌∷◌, ◌++◌, Option, Some, None, take, length, length-append, refl, sym, ap, subst, inl, inr, arith}
-use Rattle.std.specs.Prelude.{◌==◌, slice_get}
+use Rattle.std.specs.Prelude.{◌==◌, MatchOption, slice_get}
 use Rattle.std.proofs.lemmas.List.{length-take}
 use Rattle.office_base.specs.Lists.{AnyByRecursion, IsAmong}
 use Rattle.office_base.specs.Merit.{in_merit, is_better, with_person}
@@ -19,12 +19,17 @@ use Rattle.seat_matrix.specs.declared.seats.ProgrammeSeats.{ProgrammeSeats}
 use Rattle.seat_matrix.specs.declared.seats.Seating.{Seating}
 use Rattle.programme_lists.specs.Chosen.{AreApplicants, everybody}
 use Rattle.programme_lists.specs.Programme.{Admissions, admitted_by, is_of, people_of, unfilled}
-use Rattle.open_then_category.specs.State.{HandsOn, IsPassed, IsTried, LeavesOut, OffersLeaveOne, count, entered, left_last, passing}
+use Rattle.open_then_category.specs.State.{HoldsAllBut, IsLastOffer, IsOffer, LeavesOut, OffersLeaveOne, joining}
 use Rattle.open_then_category.specs.StepLaws.{AreLawful}
 use Rattle.open_then_category.proofs.Once.{from_everybody, in_everybody, ranked_once}
-use Rattle.open_then_category.proofs.Passing.{Joins, course, last_joins, offers_keep_choices, starts}
+use Rattle.open_then_category.proofs.Passing.{Joins, Stays, Takes, course, entered, joining_some, last_joins, offers_keep_choices, starts, step_at}
 
 -- ---- lengths
+
+-- one where somebody comes
+abbrev pub count : Option Person → ℕ
+count None = 0
+count (Some person) = 1
 
 pub length_with : (list : ListId) (person : Person) (people : List Person) → length (with_person list person people) ≡ suc (length people)
 length_with list person [] = refl
@@ -38,7 +43,7 @@ pub has_number : (person : Person) (people : List Person) → IsAmong person peo
 has_number person [] there = absurd there
 has_number person (other ∷ people) there = elim there [ inl here ↦ inl (ap (λ (p : Person). p.id) (sym here)) | inr later ↦ inr (has_number person people later) ]
 
-handed_size : (list : ListId) (before : List Person) (person : Person) (leaver : Option Person) (after : List Person) → HandsOn list before person leaver after → length after + count leaver ≡ length before + 1
+handed_size : (list : ListId) (before : List Person) (person : Person) (leaver : Option Person) (after : List Person) → HoldsAllBut leaver (with_person list person before) after → length after + count leaver ≡ length before + 1
 handed_size list before person None after hands = let size = ap length hands in omega (arith, size, length_with list person before)
 handed_size list before person (Some leaver) after hands =
     let size = ap length hands.1 in
@@ -46,21 +51,23 @@ handed_size list before person (Some leaver) after hands =
     omega (arith, size, whole, length_with list person before)
 
 -- those held and whoever goes are as many as those held before and whoever comes
-pub passed_size : (test : Person → Bool) (list : ListId) (seats : Seating) (before : List Person) (coming leaver : Option Person) (after : List Person) → IsPassed test list seats before coming leaver after
-    → length after + count leaver ≡ length before + count coming
-passed_size test list seats before None leaver after p = let size = ap length p.1 in let none = ap count p.0 in omega arith
-passed_size test list seats before (Some person) leaver after p = by (test person) p
+pub offered_size : (test : Person → Bool) (list : ListId) (seats : Seating) (before : List Person) (coming leaver : Option Person) (after : List Person)
+    → IsOffer test (step_at list seats before) coming leaver after → length after + count leaver ≡ length before + count coming
+offered_size test list seats before coming leaver after p = by (joining test coming) refl p
   where
-    by : (b : Bool) → IsTried b list seats before person leaver after → length after + count leaver ≡ length before + 1
-    by true h = handed_size list before person leaver after h.hands_on
-    by false h = let size = ap length h.1 in let one = ap count h.0 in omega arith
+    by : (joins : Option Person) → joining test coming ≡ joins → MatchOption joins (Stays before coming leaver after) (Takes list seats before leaver after) → length after + count leaver ≡ length before + count coming
+    by None nobody h = let size = ap length h.1 in let same = ap count h.0 in omega (arith, size, same)
+    by (Some person) somebody h =
+        let one = ap count (joining_some test coming person somebody).0 in
+        let size = handed_size list before person leaver after h.1 in
+        omega (arith, one, size)
 
 -- nobody goes where nobody comes
-pub passed_count : (test : Person → Bool) (list : ListId) (seats : Seating) (before : List Person) (coming leaver : Option Person) (after : List Person) → IsPassed test list seats before coming leaver after
-    → count leaver ≤ count coming
-passed_count test list seats before None leaver after p = let none = ap count p.0 in omega arith
-passed_count test list seats before (Some person) None after p = omega arith
-passed_count test list seats before (Some person) (Some leaver) after p = omega arith
+pub offered_count : (test : Person → Bool) (list : ListId) (seats : Seating) (before : List Person) (coming leaver : Option Person) (after : List Person)
+    → IsOffer test (step_at list seats before) coming leaver after → count leaver ≤ count coming
+offered_count test list seats before None leaver after p = let none = ap count p.0 in omega arith
+offered_count test list seats before (Some person) None after p = omega arith
+offered_count test list seats before (Some person) (Some leaver) after p = omega arith
 
 -- the seats that are left to the de-reserved step fall by at most one, and by none where somebody comes there
 pub falls_by_one : (b : Bool) (ews_seats ews ews_now obc_seats obc obc_now c0 c1 c2 c4 held : ℕ) → ews_now + c1 ≡ ews + c0 → obc_now + c2 ≡ obc + c1 → c0 ≤ 1 → c1 ≤ c0 → c2 ≤ c1 → c4 ≤ c2
@@ -98,35 +105,41 @@ record Last (before : List Person) (coming leaver : Option Person) (after : List
   back : (person : Person) → leaver ≡ Some person → IsAmong person before ⊎ (coming ≡ Some person)
   sizes : length after + count leaver ≡ length before + count coming
 
-last_of : (list : ListId) (n : ℕ) (before : List Person) (coming : Option Person) → Joins list before (entered list before (passing (is_common list) coming)) (passing (is_common list) coming)
-    → length before + count coming ≤ n + 1 → Last before coming (left_last n list before coming) (take n (entered list before (passing (is_common list) coming)))
-last_of list n before None j few = record {
+-- the same of whoever goes and of those held, told otherwise
+told : (before : List Person) (coming leaver other : Option Person) (after people : List Person) → leaver ≡ other → after ≡ people → Last before coming other people → Last before coming leaver after
+told before coming leaver other after people goes held last = subst (λ (o : Option Person). Last before coming o after) (sym goes) (subst (Last before coming other) (sym held) last)
+
+last_of : (list : ListId) (n : ℕ) (before : List Person) (coming leaver : Option Person) (after : List Person)
+    → Joins list before (entered list before (joining (is_common list) coming)) (joining (is_common list) coming) → length before + count coming ≤ n + 1
+    → IsLastOffer list n before coming leaver after → Last before coming leaver after
+last_of list n before None leaver after j few p = told before None leaver (slice_get before n) after (take n before) p.0 p.1 (record {
   stay = λ person h. elim h [ inl there ↦ taken_or_next before n person (omega arith) there | inr came ↦ cc came ];
   back = λ person e. inl (next_among before n person e);
   sizes = let size = next_size before n (omega arith) in omega arith;
-}
-last_of list n before (Some person) j few = by (is_common list person) j
+})
+last_of list n before (Some person) leaver after j few p = by (is_common list person) j p
   where
     by : (b : Bool) → Joins list before (entered list before (cond b (Some person) None)) (cond b (Some person) None)
-        → Last before (Some person) (cond b (slice_get (with_person list person before) n) (Some person)) (take n (entered list before (cond b (Some person) None)))
-    by true joins =
+        → MatchOption (cond b (Some person) None) ((leaver ≡ Some person) × (after ≡ take n before)) (λ one. (leaver ≡ slice_get (with_person list one before) n) × (after ≡ take n (with_person list one before)))
+        → Last before (Some person) leaver after
+    by true joins h =
         let joined = with_person list person before in
         let long = length_with list person before in
-        record {
+        told before (Some person) leaver (slice_get joined n) after (take n joined) h.0 h.1 (record {
           stay = λ other h. taken_or_next joined n other (omega arith) (elim h [ inl there ↦ widen other before joined joins.part there | inr came ↦ joins.here other came ]);
           back = λ other e. joins.nobody_else other (next_among joined n other e);
           sizes = let size = next_size joined n (omega arith) in omega arith;
-        }
-    by false joins =
+        })
+    by false joins h =
         let room : length before ≤ n = omega arith in
-        record {
+        told before (Some person) leaver (Some person) after (take n before) h.0 h.1 (record {
           stay = λ other h. elim h [
             | inl there ↦ elim (taken_or_next before n other (omega arith) there) [ inl taken ↦ inl taken | inr next ↦ absurd (past before n other room next) ]
             | inr came ↦ inr came
           ];
           back = λ other e. inr e;
           sizes = let size = length-take n before in omega (arith, size);
-        }
+        })
       where
         past : (people : List Person) (n : ℕ) (other : Person) → length people ≤ n → slice_get people n ≡ Some other → ⊥
         past [] n other few e = cc e
@@ -167,30 +180,29 @@ module _ (laws : AreLawful) where
       let once = ranked_once version seats more after ranks.0.distinct new_choice in
       let within : AreAmong now all = among_again now more all once.within ranks.2 in
       let n = unfilled version seats after in
-      let leaver = left_last n list before.dereserved offered.left_by_st in
+      let leaver = offered.left_out in
       let joins = last_joins laws version seats people more before after person j held_ranks.2 choice offered way in
       let held_last : length before.dereserved ≤ unfilled version seats before = (
       let size = ap length choice.dereserved in
       let whole = people_of list people before Dereserved in
       omega (arith, size, length-take (unfilled version seats before) whole)
       ) in
-      let s0 = passed_size (is_common list) list (seats_of seats Open) before.open_step (Some person) offered.left_by_open after.open_step offered.open_step in
-      let s1 = passed_size (is_of Ews) list (seats_of seats EwsStep) before.ews offered.left_by_open offered.left_by_ews after.ews offered.ews in
-      let s2 = passed_size (is_of Obc) list (seats_of seats ObcStep) before.obc offered.left_by_ews offered.left_by_obc after.obc offered.obc in
-      let s3 = passed_size (is_of Sc) list (seats_of seats ScStep) before.sc offered.left_by_obc offered.left_by_sc after.sc offered.sc in
-      let s4 = passed_size (is_of St) list (seats_of seats StStep) before.st offered.left_by_sc offered.left_by_st after.st offered.st in
-      let z0 = passed_count (is_common list) list (seats_of seats Open) before.open_step (Some person) offered.left_by_open after.open_step offered.open_step in
-      let z1 = passed_count (is_of Ews) list (seats_of seats EwsStep) before.ews offered.left_by_open offered.left_by_ews after.ews offered.ews in
-      let z2 = passed_count (is_of Obc) list (seats_of seats ObcStep) before.obc offered.left_by_ews offered.left_by_obc after.obc offered.obc in
-      let z3 = passed_count (is_of Sc) list (seats_of seats ScStep) before.sc offered.left_by_obc offered.left_by_sc after.sc offered.sc in
-      let z4 = passed_count (is_of St) list (seats_of seats StStep) before.st offered.left_by_sc offered.left_by_st after.st offered.st in
+      let s0 = offered_size (is_common list) list (seats_of seats Open) before.open_step (Some person) offered.left_by_open after.open_step offered.open_step in
+      let s1 = offered_size (is_of Ews) list (seats_of seats EwsStep) before.ews offered.left_by_open offered.left_by_ews after.ews offered.ews in
+      let s2 = offered_size (is_of Obc) list (seats_of seats ObcStep) before.obc offered.left_by_ews offered.left_by_obc after.obc offered.obc in
+      let s3 = offered_size (is_of Sc) list (seats_of seats ScStep) before.sc offered.left_by_obc offered.left_by_sc after.sc offered.sc in
+      let s4 = offered_size (is_of St) list (seats_of seats StStep) before.st offered.left_by_sc offered.left_by_st after.st offered.st in
+      let z0 = offered_count (is_common list) list (seats_of seats Open) before.open_step (Some person) offered.left_by_open after.open_step offered.open_step in
+      let z1 = offered_count (is_of Ews) list (seats_of seats EwsStep) before.ews offered.left_by_open offered.left_by_ews after.ews offered.ews in
+      let z2 = offered_count (is_of Obc) list (seats_of seats ObcStep) before.obc offered.left_by_ews offered.left_by_obc after.obc offered.obc in
+      let z3 = offered_count (is_of Sc) list (seats_of seats ScStep) before.sc offered.left_by_obc offered.left_by_sc after.sc offered.sc in
+      let z4 = offered_count (is_of St) list (seats_of seats StStep) before.st offered.left_by_sc offered.left_by_st after.st offered.st in
       let z24 : count offered.left_by_st ≤ count offered.left_by_obc = omega arith in
       let few : length before.dereserved + count offered.left_by_st ≤ n + 1 =
       falls_by_one (version == 2) (seats_of seats EwsStep).seats (length before.ews) (length after.ews) (seats_of seats ObcStep).seats (length before.obc) (length after.obc)
       (count offered.left_by_open) (count offered.left_by_ews) (count offered.left_by_obc) (count offered.left_by_st) (length before.dereserved) s1 s2 z0 z1 z2 z24
       choice.ews.may.seats new_choice.ews.may.seats choice.obc.may.seats new_choice.obc.may.seats held_last in
-      let last : Last before.dereserved offered.left_by_st leaver after.dereserved =
-      subst (Last before.dereserved offered.left_by_st leaver) (sym offered.dereserved) (last_of list n before.dereserved offered.left_by_st joins few) in
+      let last = last_of list n before.dereserved offered.left_by_st leaver after.dereserved joins few offered.dereserved in
       let stays = λ (other : Person) (kind : StepKind) (there : IsAmong other (admitted_by after kind)).
       let found : IsAmong other now ⊎ (leaver ≡ Some other) = inl (widen other (admitted_by after kind) now (in_everybody after kind) there) in found in
       let from4 = λ (other : Person) (e : IsAmong other before.dereserved ⊎ (offered.left_by_st ≡ Some other)).

@@ -1,5 +1,5 @@
 -- A person comes down the steps of a programme, told by what each step keeps and what it does in its turn.
-use Rattle.std.proofs.Common.{◌≡◌, ◌≤◌, ◌+◌, ℕ, Bool, List, ◌∷◌, Option, Some, take, length, sym, ap, ◌∙◌, subst}
+use Rattle.std.proofs.Common.{◌≡◌, ◌≤◌, ◌+◌, ℕ, Bool, List, ◌∷◌, Option, Some, length, sym, ap, ◌∙◌, subst}
 use Rattle.office_base.specs.Lists.{IsAmong}
 use Rattle.office_base.specs.Merit.{IsNewTo}
 use Rattle.office_base.specs.Person.{is_common}
@@ -15,13 +15,14 @@ use Rattle.seat_matrix.specs.declared.seats.ProgrammeSeats.{ProgrammeSeats}
 use Rattle.programme_lists.specs.Chosen.{AreApplicants, ChoosesFrom, IsWith, everybody}
 use Rattle.programme_lists.specs.Programme.{Admissions, is_of}
 use Rattle.open_then_category.specs.Laws.{Resumes}
-use Rattle.open_then_category.specs.State.{IsOffered, IsPassed, IsProgrammeKept, IsStateKept, LeavesOut, OffersKeepChoices, OffersLeaveOne, ProgrammeKept, count, entered, left_last, passing, step_kept}
+use Rattle.open_then_category.specs.State.{IsLastOffer, IsOffer, IsOffered, IsProgrammeKept, IsStateKept, LeavesOut, OffersKeepChoices, OffersLeaveOne, ProgrammeKept, step_kept}
 use Rattle.open_then_category.specs.StepLaws.{AreLawful}
+use Rattle.open_then_category.proofs.Leaving.{count}
 use Rattle.open_then_category.proofs.Keeping.{Out, few_last, new_ews, new_last, new_obc, new_open, new_sc, new_st, settled}
 
 -- what a step does in its turn with whoever comes: whom it hands on, and those it holds then
 abbrev pub Turn : (Person → Bool) → StepKept → Option Person → Type 0
-Turn test step coming = (leaver : Option Person) × (after : List Person) × IsPassed test step.list (record { seats = step.seats; protections = step.protections }) step.held coming leaver after
+Turn test step coming = (leaver : Option Person) × (after : List Person) × IsOffer test step coming leaver after
 
 -- the turn of a step that keeps its own of a programme
 abbrev turn_of : (seats : ProgrammeSeats) (kind : StepKind) (held : List Person) (test : Person → Bool) (step : StepKept) (coming : Option Person) → step ≡ step_kept seats kind held → Turn test step coming
@@ -29,7 +30,7 @@ abbrev turn_of : (seats : ProgrammeSeats) (kind : StepKind) (held : List Person)
 turn_of seats kind held test step coming is turn = (
   turn.0,
   turn.1,
-  subst (λ (k : StepKept). IsPassed test k.list (record { seats = k.seats; protections = k.protections }) k.held coming turn.0 turn.1) is turn.2,
+  subst (λ (k : StepKept). IsOffer test k coming turn.0 turn.1) is turn.2,
 )
 
 module _ (laws : AreLawful) (state now : ProgrammeKept) (person : Person) (o e b s t : StepKept) (size : ℕ) (kept : IsStateKept state o e b s t size) (is : state ≡ now)
@@ -93,7 +94,7 @@ module _ (laws : AreLawful) (state now : ProgrammeKept) (person : Person) (o e b
               few ews_few obc_few = subst (λ (n : ℕ). length state.admissions.dereserved + count g.0 ≤ n + 1) (sym empty)
                   (few_last laws state.version state.seats state.admissions person may_come kept.kept.choice (by_open a) (by_ews a.0 c) (by_obc c.0 d) (by_sc d.0 f) (by_st f.0 g) ews_few obc_few)
 
-              module _ (last : List Person) (best : last ≡ take seats (entered state.seats.list state.admissions.dereserved (passing (is_common state.seats.list) g.0))) where
+              module _ (out : Option Person) (last : List Person) (best : IsLastOffer state.seats.list seats state.admissions.dereserved g.0 out last) where
                 abbrev after : Admissions
                 after = record { open_step = a.1; ews = c.1; obc = d.1; sc = f.1; st = g.1; dereserved = last }
 
@@ -104,12 +105,13 @@ module _ (laws : AreLawful) (state now : ProgrammeKept) (person : Person) (o e b
                   left_by_obc = d.0;
                   left_by_sc = f.0;
                   left_by_st = g.0;
+                  left_out = out;
                   open_step = (by_open a).2;
                   ews = (by_ews a.0 c).2;
                   obc = (by_obc c.0 d).2;
                   sc = (by_sc d.0 f).2;
                   st = (by_st f.0 g).2;
-                  dereserved = best ∙ ap (λ (n : ℕ). take n (entered state.seats.list state.admissions.dereserved (passing (is_common state.seats.list) g.0))) empty;
+                  dereserved = subst (λ (n : ℕ). IsLastOffer state.seats.list n state.admissions.dereserved g.0 out last) empty best;
                 }
 
                 -- the steps hold the choice from those whom they held and the person
@@ -121,10 +123,8 @@ module _ (laws : AreLawful) (state now : ProgrammeKept) (person : Person) (o e b
                 settles law = settled laws state.version state.seats (person ∷ everybody state.admissions) after kept.kept.is_version kept.kept.are_seats may_come (chosen law)
 
                 -- whoever is left without a seat
-                pub leaves : OffersLeaveOne → (leaver : Option Person) → leaver ≡ left_last seats state.seats.list state.admissions.dereserved g.0 → LeavesOut state.admissions person leaver after
-                leaves law leaver given =
-                    subst (λ (p : Option Person). LeavesOut state.admissions person p after) (sym (given ∙ ap (λ (n : ℕ). left_last n state.seats.list state.admissions.dereserved g.0) empty))
-                    (law state.version state.seats state.admissions after person kept.kept.are_seats may_come kept.kept.choice offered)
+                pub leaves : OffersLeaveOne → LeavesOut state.admissions person out after
+                leaves law = law state.version state.seats state.admissions after person kept.kept.are_seats may_come kept.kept.choice offered
 
                 -- the same of the programme as it was at the call
                 pub chooses : OffersKeepChoices → ChoosesFrom now.version now.seats (person ∷ everybody now.admissions) after

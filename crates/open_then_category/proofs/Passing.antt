@@ -2,7 +2,8 @@
 use Rattle.std.proofs.Common.{◌≡◌, ◌≢◌, ◌⊎◌, ℕ, Bool, true, false, cond, List, [], ◌∷◌, Option, Some, None, take, refl, sym, ap, ◌∙◌, subst, inl, inr}
 use Rattle.std.proofs.lemmas.Bool.{cases_Bool, cond-true, cond-false}
 use Rattle.std.specs.List.{AllByRecursion, filter}
-use Rattle.std.specs.Prelude.{IsSome}
+use Rattle.std.specs.Prelude.{IsSome, MatchOption, slice_get}
+use Rattle.std.specs.Option.{option_or}
 use Rattle.office_base.specs.Lists.{IsAmong, IsSublist, Pairwise}
 use Rattle.office_base.specs.Merit.{IsNewTo, in_merit, with_person}
 use Rattle.office_base.specs.Person.{IsList, IsTraitSet, is_common, number_in}
@@ -19,12 +20,13 @@ use Rattle.placements.specs.Ranks as words
 use Rattle.placements.proofs.Ranks.{among_again, among_itself, among_sublist, any_all, ranked_sublist, are_among, widen}
 use Rattle.placements.proofs.Without.{among_without as among_others, without_among as others_among, without_apart}
 use Rattle.placements.proofs.Filters.{filter-sublist, among_filter, among_filter_from}
+use Rattle.merit_choice.specs.State.{StepKept}
 use Rattle.seat_matrix.specs.Seats.{AreProgrammeSeats, IsSeated, seats_of}
 use Rattle.seat_matrix.specs.declared.seats.ProgrammeSeats.{ProgrammeSeats}
 use Rattle.seat_matrix.specs.declared.seats.Seating.{Seating}
 use Rattle.programme_lists.specs.Chosen.{AreApplicants, everybody}
 use Rattle.programme_lists.specs.Programme.{Admissions, IsProgrammeChoice, admitted_by, is_of, left_over, people_of, step_with, unfilled, without}
-use Rattle.open_then_category.specs.State.{HandsOn, IsOffered, IsPassed, IsTried, OffersKeepChoices, entered, passing}
+use Rattle.open_then_category.specs.State.{HoldsAllBut, IsLastOffer, IsOffer, IsOffered, OffersKeepChoices, joining}
 use Rattle.open_then_category.specs.StepLaws.{AreLawful}
 use Rattle.open_then_category.proofs.Decide.{is_among_or_not}
 use Rattle.open_then_category.proofs.Lists.{among_without, among_without_from}
@@ -32,25 +34,25 @@ use Rattle.open_then_category.proofs.Once.{from_everybody}
 use Rattle.open_then_category.proofs.ProgrammeLaws.{is_left, last_sublist, rest_of}
 use Rattle.open_then_category.proofs.Walk.{members_sublist, obc_there, ranked_without, same_category, sc_there, st_there}
 
--- ---- whoever passes a test
+-- ---- whoever joins
 
-pub passing_some : (test : Person → Bool) (coming : Option Person) (person : Person) → passing test coming ≡ Some person → (coming ≡ Some person) × (test person ≡ true)
-passing_some test None person e = cc e
-passing_some test (Some other) person e = by (test other) refl e
+pub joining_some : (test : Person → Bool) (coming : Option Person) (person : Person) → joining test coming ≡ Some person → (coming ≡ Some person) × (test person ≡ true)
+joining_some test None person e = cc e
+joining_some test (Some other) person e = by (test other) refl e
   where
     by : (b : Bool) → test other ≡ b → cond b (Some other) None ≡ Some person → (Some other ≡ Some person) × (test person ≡ true)
     by true holds h = let same : other ≡ person = cc h in (h, subst (λ (one : Person). test one ≡ true) same holds)
     by false fails h = cc h
 
-some_passing : (test : Person → Bool) (coming : Option Person) (person : Person) → coming ≡ Some person → test person ≡ true → passing test coming ≡ Some person
-some_passing test None person e holds = cc e
-some_passing test (Some other) person e holds =
+some_joining : (test : Person → Bool) (coming : Option Person) (person : Person) → coming ≡ Some person → test person ≡ true → joining test coming ≡ Some person
+some_joining test None person e holds = cc e
+some_joining test (Some other) person e holds =
     let same : other ≡ person = cc e in
     cond-true (test other) (Some other) None (subst (λ (one : Person). test one ≡ true) (sym same) holds) ∙ e
 
-none_passing : (test : Person → Bool) (coming : Option Person) → ((person : Person) → coming ≡ Some person → test person ≡ false) → passing test coming ≡ None
-none_passing test None fails = refl
-none_passing test (Some person) fails = cond-false (test person) (Some person) None (fails person refl)
+none_joining : (test : Person → Bool) (coming : Option Person) → ((person : Person) → coming ≡ Some person → test person ≡ false) → joining test coming ≡ None
+none_joining test None fails = refl
+none_joining test (Some person) fails = cond-false (test person) (Some person) None (fails person refl)
 
 -- ---- sets of people
 
@@ -101,21 +103,21 @@ pub record Passes (before : List Person) (coming leaver : Option Person) (after 
   pub out : (person : Person) → leaver ≡ Some person → IsAmong person after → ⊥
 
 -- those who pass a test, joined by whoever comes and passes it
-filter_joins : (list : ListId) (test : Person → Bool) (before after : List Person) (coming : Option Person) → Joins list before after coming → Joins list (filter test before) (filter test after) (passing test coming)
+filter_joins : (list : ListId) (test : Person → Bool) (before after : List Person) (coming : Option Person) → Joins list before after coming → Joins list (filter test before) (filter test after) (joining test coming)
 filter_joins list test before after coming j = record {
   ranked = ranked_sublist list (filter test before) before j.ranked (filter-sublist test before);
   more_ranked = ranked_sublist list (filter test after) after j.more_ranked (filter-sublist test after);
   part = are_among (filter test before) (filter test after) (λ person here.
       let found = among_filter test person before here in
       among_filter_from test person after (widen person before after j.part found.0) found.1);
-  here = λ person e. let found = passing_some test coming person e in among_filter_from test person after (j.here person found.0) found.1;
+  here = λ person e. let found = joining_some test coming person e in among_filter_from test person after (j.here person found.0) found.1;
   nobody_else = λ person here.
       let found = among_filter test person after here in
       elim (j.nobody_else person found.0) [
         | inl old ↦ inl (among_filter_from test person before old found.1)
-        | inr new ↦ inr (some_passing test coming person new found.1)
+        | inr new ↦ inr (some_joining test coming person new found.1)
       ];
-  fresh = λ person e here. j.fresh person (passing_some test coming person e).0 (among_filter test person before here).0;
+  fresh = λ person e here. j.fresh person (joining_some test coming person e).0 (among_filter test person before here).0;
 }
 
 -- the people who are left, joined by whoever goes
@@ -157,15 +159,41 @@ abbrev ChosenWith : ListId → Seating → List Person → Option Person → Lis
 ChosenWith list seats old None new = new ≡ old
 ChosenWith list seats old (Some person) new = IsStepChoice (step_with list seats (with_person list person old)) new
 
--- what a step holds after whoever came to it and passed its test
-passed_choice : (test : Person → Bool) (list : ListId) (seats : Seating) (old : List Person) (coming leaver : Option Person) (new : List Person) → IsPassed test list seats old coming leaver new
-    → ChosenWith list seats old (passing test coming) new
-passed_choice test list seats old None leaver new p = p.1
-passed_choice test list seats old (Some person) leaver new p = by (test person) p
+-- the people with whoever joins them
+abbrev pub entered : ListId → List Person → Option Person → List Person
+entered list people None = people
+entered list people (Some person) = with_person list person people
+
+-- a step that holds these people
+abbrev pub step_at : ListId → Seating → List Person → StepKept
+step_at list seats held = record { list = list; seats = seats.seats; protections = seats.protections; held = held }
+
+-- what a step does where nobody joins it, and where somebody does
+abbrev pub Stays : List Person → Option Person → Option Person → List Person → Type 0
+Stays old coming leaver new = (leaver ≡ coming) × (new ≡ old)
+
+abbrev pub Takes : ListId → Seating → List Person → Option Person → List Person → Person → Type 0
+Takes list seats old leaver new person = IsStepChoice (step_with list seats (with_person list person old)) new × HoldsAllBut leaver (with_person list person old) new
+
+-- what a step holds after whoever came to it
+offered_choice : (test : Person → Bool) (list : ListId) (seats : Seating) (old : List Person) (coming leaver : Option Person) (new : List Person)
+    → IsOffer test (step_at list seats old) coming leaver new → ChosenWith list seats old (joining test coming) new
+offered_choice test list seats old coming leaver new p = by (joining test coming) p
   where
-    by : (b : Bool) → IsTried b list seats old person leaver new → ChosenWith list seats old (cond b (Some person) None) new
-    by true h = h.choice
-    by false h = h.1
+    by : (joins : Option Person) → MatchOption joins (Stays old coming leaver new) (Takes list seats old leaver new) → ChosenWith list seats old joins new
+    by None h = h.1
+    by (Some person) h = h.0
+
+-- whom the de-reserved step holds after whoever came to it
+last_best : (list : ListId) (n : ℕ) (old : List Person) (coming leaver : Option Person) (new : List Person)
+    → IsLastOffer list n old coming leaver new → new ≡ take n (entered list old (joining (is_common list) coming))
+last_best list n old coming leaver new p = by (joining (is_common list) coming) p
+  where
+    by : (joins : Option Person) → MatchOption joins ((leaver ≡ option_or coming (slice_get old n)) × (new ≡ take n old))
+        (λ person. (leaver ≡ slice_get (with_person list person old) n) × (new ≡ take n (with_person list person old)))
+        → new ≡ take n (entered list old joins)
+    by None h = h.1
+    by (Some person) h = h.1
 
 -- what each step does in its turn, and the people who are left after the open step and after all categories
 pub record Course (version : ℕ) (seats : ProgrammeSeats) (people more : List Person) (before after : Admissions) (person : Person) (offered : IsOffered version seats before person after) : Type 0 where
@@ -199,7 +227,7 @@ module _ (laws : AreLawful) where
 
   -- those held and whoever came are those held after and whoever left
   handed_passes : (list : ListId) (seats : Seating) (all old new : List Person) (person : Person) (leaver : Option Person) → AreRanked list all → AreRanked list old → AreAmong old all → IsAmong person all
-      → (IsAmong person old → ⊥) → HandsOn list old person leaver new → Passes old (Some person) leaver new
+      → (IsAmong person old → ⊥) → HoldsAllBut leaver (with_person list person old) new → Passes old (Some person) leaver new
   handed_passes list seats all old new person None ranked old_ranked within here free hands =
       let with_one = laws.with_person_ranks list old person old_ranked (new_to list all old person ranked within here free) in
       let joined = with_person list person old in
@@ -237,24 +265,22 @@ module _ (laws : AreLawful) where
             );
       }
 
-  -- and so it is of each step, whether it was offered or not
+  -- and so it is of each step, whoever comes
   pub passes : (test : Person → Bool) (list : ListId) (seats : Seating) (before after old new : List Person) (coming leaver : Option Person) → Joins list before after coming → AreAmong old before → AreRanked list old
-      → IsPassed test list seats old coming leaver new → Passes old coming leaver new
-  passes test list seats before after old new None leaver j within old_ranked p = record {
-    stay = λ other h. elim h [ inl held ↦ inl (subst (IsAmong other) (sym p.1) held) | inr came ↦ cc came ];
-    back = λ other h. elim h [ inl held ↦ inl (subst (IsAmong other) p.1 held) | inr left ↦ cc (p.0, left) ];
-    out = λ other e held. cc (p.0, e);
-  }
-  passes test list seats before after old new (Some person) leaver j within old_ranked p = by (test person) p
+      → IsOffer test (step_at list seats old) coming leaver new → Passes old coming leaver new
+  passes test list seats before after old new coming leaver j within old_ranked p = by (joining test coming) refl p
     where
-      by : (b : Bool) → IsTried b list seats old person leaver new → Passes old (Some person) leaver new
-      by true h = handed_passes list seats after old new person leaver j.more_ranked old_ranked (among_again old before after within j.part) (j.here person refl)
-          (λ held. j.fresh person refl (widen person old before within held)) h.hands_on
-      by false h = record {
+      by : (joins : Option Person) → joining test coming ≡ joins → MatchOption joins (Stays old coming leaver new) (Takes list seats old leaver new) → Passes old coming leaver new
+      by None nobody h = record {
         stay = λ other e. elim e [ inl held ↦ inl (subst (IsAmong other) (sym h.1) held) | inr came ↦ inr (h.0 ∙ came) ];
         back = λ other e. elim e [ inl held ↦ inl (subst (IsAmong other) h.1 held) | inr left ↦ inr (sym h.0 ∙ left) ];
         out = λ other e held. j.fresh other (sym h.0 ∙ e) (widen other old before within (subst (IsAmong other) h.1 held));
       }
+      by (Some person) somebody h =
+          let came = (joining_some test coming person somebody).0 in
+          subst (λ (o : Option Person). Passes old o leaver new) (sym came)
+          (handed_passes list seats after old new person leaver j.more_ranked old_ranked (among_again old before after within j.part) (j.here person came)
+          (λ held. j.fresh person came (widen person old before within held)) h.1)
 
   -- the choice from those held and whoever comes is that from all the people
   joined_choice : (list : ListId) (seats : Seating) (before after old new : List Person) (coming : Option Person) → IsList list → IsSeated seats → Joins list before after coming
@@ -304,10 +330,9 @@ module _ (laws : AreLawful) where
 
   -- ---- whoever a category leaves out is none of another category
 
-  passing_later : (one other : Category) (list : ListId) (seats : Seating) (people old new : List Person) (coming leaver : Option Person) → (one ≡ other → ⊥) → IsSublist old (filter (is_of one) people)
-      → Passes old coming leaver new → IsPassed (is_of one) list seats old coming leaver new → passing (is_of other) leaver ≡ passing (is_of other) coming
-  passing_later one other list seats people old new None leaver differ sub p passed = ap (passing (is_of other)) passed.0
-  passing_later one other list seats people old new (Some person) leaver differ sub p passed = by (is_of one person) refl passed
+  joining_later : (one other : Category) (list : ListId) (seats : Seating) (people old new : List Person) (coming leaver : Option Person) → (one ≡ other → ⊥) → IsSublist old (filter (is_of one) people)
+      → Passes old coming leaver new → IsOffer (is_of one) (step_at list seats old) coming leaver new → joining (is_of other) leaver ≡ joining (is_of other) coming
+  joining_later one other list seats people old new coming leaver differ sub p offered = by (joining (is_of one) coming) refl offered
     where
       not_other : (someone : Person) → is_of one someone ≡ true → is_of other someone ≡ false
       not_other someone holds = elim (cases_Bool (is_of other someone)) [
@@ -315,14 +340,19 @@ module _ (laws : AreLawful) where
         | inr fails ↦ fails
       ]
 
-      by : (b : Bool) → is_of one person ≡ b → IsTried b list seats old person leaver new → passing (is_of other) leaver ≡ passing (is_of other) (Some person)
-      by true holds h =
-          none_passing (is_of other) leaver (λ someone e. not_other someone (elim (p.back someone (inr e)) [
+      by : (joins : Option Person) → joining (is_of one) coming ≡ joins → MatchOption joins (Stays old coming leaver new) (Takes list seats old leaver new) → joining (is_of other) leaver ≡ joining (is_of other) coming
+      by None nobody h = ap (joining (is_of other)) h.0
+      by (Some person) somebody h =
+          let found = joining_some (is_of one) coming person somebody in
+          let is_one = λ (someone : Person) (came : coming ≡ Some someone).
+          let same : Some person ≡ Some someone = sym found.0 ∙ came in
+          let is : person ≡ someone = cc same in
+          let holds : is_of one someone ≡ true = subst (λ (p : Person). is_of one p ≡ true) is found.1 in holds in
+          none_joining (is_of other) leaver (λ someone e. not_other someone (elim (p.back someone (inr e)) [
             | inl held ↦ (among_filter (is_of one) someone people (widen someone old (filter (is_of one) people) (among_sublist old (filter (is_of one) people) sub) held)).1
-            | inr came ↦ (let is : person ≡ someone = cc came in subst (λ (p : Person). is_of one p ≡ true) is holds)
+            | inr came ↦ is_one someone came
           ]))
-          ∙ sym (none_passing (is_of other) (Some person) (λ someone e. (let is : person ≡ someone = cc e in not_other someone (subst (λ (p : Person). is_of one p ≡ true) is holds))))
-      by false fails h = ap (passing (is_of other)) h.0
+          ∙ sym (none_joining (is_of other) coming (λ someone came. not_other someone (is_one someone came)))
 
   -- ---- the whole programme
 
@@ -394,10 +424,10 @@ module _ (laws : AreLawful) where
   -- whoever comes to the de-reserved step joins those it has
   pub last_joins : (version : ℕ) (seats : ProgrammeSeats) (people more : List Person) (before after : Admissions) (person : Person) → Joins seats.list people more (Some person)
       → AreAmong people (everybody before) → IsProgrammeChoice version seats people before → (offered : IsOffered version seats before person after) → Course version seats people more before after person offered
-      → Joins seats.list before.dereserved (entered seats.list before.dereserved (passing (is_common seats.list) offered.left_by_st)) (passing (is_common seats.list) offered.left_by_st)
+      → Joins seats.list before.dereserved (entered seats.list before.dereserved (joining (is_common seats.list) offered.left_by_st)) (joining (is_common seats.list) offered.left_by_st)
   last_joins version seats people more before after person j all choice offered course =
       let list = seats.list in
-      let coming = passing (is_common list) offered.left_by_st in
+      let coming = joining (is_common list) offered.left_by_st in
       let joined = filter_joins list (is_common list) (left_over people before) (left_over more after) offered.left_by_st course.last in
       let whole = last_whole version seats people before j.ranked all choice in
       let there : Joins list before.dereserved (people_of list more after Dereserved) coming = subst (λ (some : List Person). Joins list some (people_of list more after Dereserved) coming) (sym whole) joined in
@@ -415,39 +445,40 @@ module _ (laws : AreLawful) where
       let sc_passes = way.sc_passes in
       let old = rest_of people before in
       let new = rest_of more after in
-      let to_obc : passing (is_of Obc) offered.left_by_ews ≡ passing (is_of Obc) offered.left_by_open =
-      passing_later Ews Obc list (seats_of seats EwsStep) old before.ews after.ews offered.left_by_open offered.left_by_ews (λ e. cc e) choice.ews.may.people ews_passes offered.ews in
-      let to_sc : passing (is_of Sc) offered.left_by_obc ≡ passing (is_of Sc) offered.left_by_open =
-      passing_later Obc Sc list (seats_of seats ObcStep) old before.obc after.obc offered.left_by_ews offered.left_by_obc (λ e. cc e) choice.obc.may.people obc_passes offered.obc
-      ∙ passing_later Ews Sc list (seats_of seats EwsStep) old before.ews after.ews offered.left_by_open offered.left_by_ews (λ e. cc e) choice.ews.may.people ews_passes offered.ews in
-      let to_st : passing (is_of St) offered.left_by_sc ≡ passing (is_of St) offered.left_by_open =
-      passing_later Sc St list (seats_of seats ScStep) old before.sc after.sc offered.left_by_obc offered.left_by_sc (λ e. cc e) choice.sc.may.people sc_passes offered.sc
-      ∙ passing_later Obc St list (seats_of seats ObcStep) old before.obc after.obc offered.left_by_ews offered.left_by_obc (λ e. cc e) choice.obc.may.people obc_passes offered.obc
-      ∙ passing_later Ews St list (seats_of seats EwsStep) old before.ews after.ews offered.left_by_open offered.left_by_ews (λ e. cc e) choice.ews.may.people ews_passes offered.ews in
-      let last : people_of list more after Dereserved ≡ entered list before.dereserved (passing (is_common list) offered.left_by_st) =
-      joined_people list (filter (is_common list) (left_over people before)) (filter (is_common list) (left_over more after)) (passing (is_common list) offered.left_by_st)
+      let to_obc : joining (is_of Obc) offered.left_by_ews ≡ joining (is_of Obc) offered.left_by_open =
+      joining_later Ews Obc list (seats_of seats EwsStep) old before.ews after.ews offered.left_by_open offered.left_by_ews (λ e. cc e) choice.ews.may.people ews_passes offered.ews in
+      let to_sc : joining (is_of Sc) offered.left_by_obc ≡ joining (is_of Sc) offered.left_by_open =
+      joining_later Obc Sc list (seats_of seats ObcStep) old before.obc after.obc offered.left_by_ews offered.left_by_obc (λ e. cc e) choice.obc.may.people obc_passes offered.obc
+      ∙ joining_later Ews Sc list (seats_of seats EwsStep) old before.ews after.ews offered.left_by_open offered.left_by_ews (λ e. cc e) choice.ews.may.people ews_passes offered.ews in
+      let to_st : joining (is_of St) offered.left_by_sc ≡ joining (is_of St) offered.left_by_open =
+      joining_later Sc St list (seats_of seats ScStep) old before.sc after.sc offered.left_by_obc offered.left_by_sc (λ e. cc e) choice.sc.may.people sc_passes offered.sc
+      ∙ joining_later Obc St list (seats_of seats ObcStep) old before.obc after.obc offered.left_by_ews offered.left_by_obc (λ e. cc e) choice.obc.may.people obc_passes offered.obc
+      ∙ joining_later Ews St list (seats_of seats EwsStep) old before.ews after.ews offered.left_by_open offered.left_by_ews (λ e. cc e) choice.ews.may.people ews_passes offered.ews in
+      let last : people_of list more after Dereserved ≡ entered list before.dereserved (joining (is_common list) offered.left_by_st) =
+      joined_people list (filter (is_common list) (left_over people before)) (filter (is_common list) (left_over more after)) (joining (is_common list) offered.left_by_st)
       (filter_joins list (is_common list) (left_over people before) (left_over more after) offered.left_by_st rest4)
-      ∙ ap (λ (some : List Person). entered list some (passing (is_common list) offered.left_by_st)) (sym (last_whole version seats people before j.ranked all choice)) in
+      ∙ ap (λ (some : List Person). entered list some (joining (is_common list) offered.left_by_st)) (sym (last_whole version seats people before j.ranked all choice)) in
       record {
-        open_step = joined_choice list (seats_of seats Open) (filter (is_common list) people) (filter (is_common list) more) before.open_step after.open_step (passing (is_common list) (Some person)) ok.list (ok.steps Open)
+        open_step = joined_choice list (seats_of seats Open) (filter (is_common list) people) (filter (is_common list) more) before.open_step after.open_step (joining (is_common list) (Some person)) ok.list (ok.steps Open)
             (filter_joins list (is_common list) people more (Some person) j) choice.open_step
-            (passed_choice (is_common list) list (seats_of seats Open) before.open_step (Some person) offered.left_by_open after.open_step offered.open_step);
-        ews = joined_choice list (seats_of seats EwsStep) (filter (is_of Ews) old) (filter (is_of Ews) new) before.ews after.ews (passing (is_of Ews) offered.left_by_open) ok.list (ok.steps EwsStep)
+            (offered_choice (is_common list) list (seats_of seats Open) before.open_step (Some person) offered.left_by_open after.open_step offered.open_step);
+        ews = joined_choice list (seats_of seats EwsStep) (filter (is_of Ews) old) (filter (is_of Ews) new) before.ews after.ews (joining (is_of Ews) offered.left_by_open) ok.list (ok.steps EwsStep)
             (filter_joins list (is_of Ews) old new offered.left_by_open rest) choice.ews
-            (passed_choice (is_of Ews) list (seats_of seats EwsStep) before.ews offered.left_by_open offered.left_by_ews after.ews offered.ews);
-        obc = joined_choice list (seats_of seats ObcStep) (filter (is_of Obc) old) (filter (is_of Obc) new) before.obc after.obc (passing (is_of Obc) offered.left_by_open) ok.list (ok.steps ObcStep)
+            (offered_choice (is_of Ews) list (seats_of seats EwsStep) before.ews offered.left_by_open offered.left_by_ews after.ews offered.ews);
+        obc = joined_choice list (seats_of seats ObcStep) (filter (is_of Obc) old) (filter (is_of Obc) new) before.obc after.obc (joining (is_of Obc) offered.left_by_open) ok.list (ok.steps ObcStep)
             (filter_joins list (is_of Obc) old new offered.left_by_open rest) choice.obc
             (subst (λ (o : Option Person). ChosenWith list (seats_of seats ObcStep) before.obc o after.obc) to_obc
-            (passed_choice (is_of Obc) list (seats_of seats ObcStep) before.obc offered.left_by_ews offered.left_by_obc after.obc offered.obc));
-        sc = joined_choice list (seats_of seats ScStep) (filter (is_of Sc) old) (filter (is_of Sc) new) before.sc after.sc (passing (is_of Sc) offered.left_by_open) ok.list (ok.steps ScStep)
+            (offered_choice (is_of Obc) list (seats_of seats ObcStep) before.obc offered.left_by_ews offered.left_by_obc after.obc offered.obc));
+        sc = joined_choice list (seats_of seats ScStep) (filter (is_of Sc) old) (filter (is_of Sc) new) before.sc after.sc (joining (is_of Sc) offered.left_by_open) ok.list (ok.steps ScStep)
             (filter_joins list (is_of Sc) old new offered.left_by_open rest) choice.sc
             (subst (λ (o : Option Person). ChosenWith list (seats_of seats ScStep) before.sc o after.sc) to_sc
-            (passed_choice (is_of Sc) list (seats_of seats ScStep) before.sc offered.left_by_obc offered.left_by_sc after.sc offered.sc));
-        st = joined_choice list (seats_of seats StStep) (filter (is_of St) old) (filter (is_of St) new) before.st after.st (passing (is_of St) offered.left_by_open) ok.list (ok.steps StStep)
+            (offered_choice (is_of Sc) list (seats_of seats ScStep) before.sc offered.left_by_obc offered.left_by_sc after.sc offered.sc));
+        st = joined_choice list (seats_of seats StStep) (filter (is_of St) old) (filter (is_of St) new) before.st after.st (joining (is_of St) offered.left_by_open) ok.list (ok.steps StStep)
             (filter_joins list (is_of St) old new offered.left_by_open rest) choice.st
             (subst (λ (o : Option Person). ChosenWith list (seats_of seats StStep) before.st o after.st) to_st
-            (passed_choice (is_of St) list (seats_of seats StStep) before.st offered.left_by_sc offered.left_by_st after.st offered.st));
-        dereserved = offered.dereserved ∙ ap (λ (some : List Person). take (unfilled version seats after) some) (sym last);
+            (offered_choice (is_of St) list (seats_of seats StStep) before.st offered.left_by_sc offered.left_by_st after.st offered.st));
+        dereserved = last_best list (unfilled version seats after) before.dereserved offered.left_by_st offered.left_out after.dereserved offered.dereserved
+            ∙ ap (λ (some : List Person). take (unfilled version seats after) some) (sym last);
       }
 
   -- one applicant more, by merit

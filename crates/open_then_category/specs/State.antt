@@ -1,5 +1,6 @@
 -- What a programme keeps while applicants come one at a time, and what comes of one of them.
-use Rattle.std.specs.Prelude.{◌≡◌, ◌<◌, ◌+◌, ◌↔◌, [], ◌∷◌, ℕ, Bool, true, false, List, Option, Some, None, slice_get, take, if◌then◌else◌}
+use Rattle.std.specs.Prelude.{◌≡◌, ◌<◌, ◌+◌, ◌↔◌, [], ◌∷◌, ℕ, Bool, List, Option, Some, None, MatchOption, slice_get, take, if◌then◌else◌}
+use Rattle.std.specs.Option.{option_or}
 use Rattle.office_base.specs.Lists.{AnyByRecursion, IsAmong}
 use Rattle.office_base.specs.Merit.{with_person}
 use Rattle.office_base.specs.StepChoice.{IsStepChoice}
@@ -10,15 +11,14 @@ use Rattle.office_base.specs.declared.person.Person.{Person}
 use Rattle.office_base.specs.Person.{is_common}
 use Rattle.placements.specs.Ranks.{without}
 use Rattle.office_base.specs.declared.step.StepKind.{StepKind}
-use Rattle.merit_choice.specs.State.{StepKept}
+use Rattle.merit_choice.specs.State.{StepKept, step_with}
 use Rattle.merit_choice.specs.declared.state.Offered.{Offered}
 use Rattle.merit_choice.specs.declared.state.Offered.TheVariants.{Taken, Displaced, Refused}
 use Rattle.office_base.specs.declared.step.StepKind.TheVariants.{Open, Ews as EwsStep, Obc as ObcStep, Sc as ScStep, St as StStep}
 use Rattle.seat_matrix.specs.Seats.{AreProgrammeSeats, seats_of}
 use Rattle.seat_matrix.specs.declared.seats.ProgrammeSeats.{ProgrammeSeats}
-use Rattle.seat_matrix.specs.declared.seats.Seating.{Seating}
 use Rattle.programme_lists.specs.Chosen.{AreApplicants, ChoosesFrom, everybody}
-use Rattle.programme_lists.specs.Programme.{Admissions, is_of, step_with, unfilled}
+use Rattle.programme_lists.specs.Programme.{Admissions, is_of, unfilled}
 
 -- the version, the seats, and whom each step admits of all who were offered
 pub record ProgrammeKept : Type 0 where
@@ -66,60 +66,43 @@ IsAnswered before person Refused after = after ≡ before
 
 -- ---- within
 
--- one where somebody comes
-abbrev pub count : Option Person → ℕ
-count None = 0
-count (Some person) = 1
+-- whoever comes, where it passes the test
+abbrev pub joining : (Person → Bool) → Option Person → Option Person
+joining test None = None
+joining test (Some person) = if test person then Some person else None
 
--- whoever is left where one is too many: whoever has no common place, or the last
-abbrev pub left_last : ℕ → ListId → List Person → Option Person → Option Person
-left_last seats list people None = slice_get people seats
-left_last seats list people (Some person) = if is_common list person then slice_get (with_person list person people) seats else Some person
+-- all of the people are held, but for the one who is left out
+abbrev pub HoldsAllBut : Option Person → List Person → List Person → Type 0
+HoldsAllBut None people held = held ≡ people
+HoldsAllBut (Some gone) people held = IsAmong gone people × (held ≡ without gone.id people)
 
--- whoever came is held where nobody left; else one of those held or the one who came left
-abbrev pub HandsOn : ListId → List Person → Person → Option Person → List Person → Type 0
-HandsOn list before person None after = after ≡ with_person list person before
-HandsOn list before person (Some gone) after = IsAmong gone (with_person list person before) × (after ≡ without gone.id (with_person list person before))
+-- a step is offered whoever comes: one of its people joins, and the one left out goes on; anybody else goes on
+abbrev pub IsOffer : (Person → Bool) → StepKept → Option Person → Option Person → List Person → Type 0
+IsOffer test step come gone after =
+    MatchOption (joining test come) ((gone ≡ come) × (after ≡ step.held))
+    (λ person. IsStepChoice (step_with step person) after × HoldsAllBut gone (with_person step.list person step.held) after)
 
--- One step, offered a person, holds the choice from those it held and the person, and hands on who is left out.
-pub record IsHanded (list : ListId) (seats : Seating) (before : List Person) (person : Person) (gone : Option Person) (after : List Person) : Type 0 where
-  pub choice : IsStepChoice (step_with list seats (with_person list person before)) after
-  pub hands_on : HandsOn list before person gone after
+-- the de-reserved step keeps the best on its seats: the next one is left out, or whoever comes and has no common place
+abbrev pub IsLastOffer : ListId → ℕ → List Person → Option Person → Option Person → List Person → Type 0
+IsLastOffer list seats before come gone after =
+    MatchOption (joining (is_common list) come) ((gone ≡ option_or come (slice_get before seats)) × (after ≡ take seats before))
+    (λ person. (gone ≡ slice_get (with_person list person before) seats) × (after ≡ take seats (with_person list person before)))
 
--- whoever does not pass the step's test goes on
-abbrev pub IsTried : Bool → ListId → Seating → List Person → Person → Option Person → List Person → Type 0
-IsTried true list seats before person gone after = IsHanded list seats before person gone after
-IsTried false list seats before person gone after = (gone ≡ Some person) × (after ≡ before)
-
--- a step for those who pass a test is offered whoever comes and passes it
-abbrev pub IsPassed : (Person → Bool) → ListId → Seating → List Person → Option Person → Option Person → List Person → Type 0
-IsPassed test list seats before None gone after = (gone ≡ None) × (after ≡ before)
-IsPassed test list seats before (Some person) gone after = IsTried (test person) list seats before person gone after
-
--- whoever comes, where the test is passed
-abbrev pub passing : (Person → Bool) → Option Person → Option Person
-passing test None = None
-passing test (Some person) = if test person then Some person else None
-
--- the people with whoever comes
-abbrev pub entered : ListId → List Person → Option Person → List Person
-entered list people None = people
-entered list people (Some person) = with_person list person people
-
--- A person comes to the steps in their order: whoever one leaves out goes on to the next. The de-reserved step keeps the best of those it had and
--- whoever comes last, on the seats that are left to it now.
+-- A person comes to the steps in their order: whoever one leaves out goes on to the next. The de-reserved step comes last, with the seats that are left
+-- to it now, and whoever it leaves out is left without a seat.
 pub record IsOffered (version : ℕ) (seats : ProgrammeSeats) (before : Admissions) (person : Person) (after : Admissions) : Type 0 where
   pub left_by_open : Option Person
   pub left_by_ews : Option Person
   pub left_by_obc : Option Person
   pub left_by_sc : Option Person
   pub left_by_st : Option Person
-  pub open_step : IsPassed (is_common seats.list) seats.list (seats_of seats Open) before.open_step (Some person) left_by_open after.open_step
-  pub ews : IsPassed (is_of Ews) seats.list (seats_of seats EwsStep) before.ews left_by_open left_by_ews after.ews
-  pub obc : IsPassed (is_of Obc) seats.list (seats_of seats ObcStep) before.obc left_by_ews left_by_obc after.obc
-  pub sc : IsPassed (is_of Sc) seats.list (seats_of seats ScStep) before.sc left_by_obc left_by_sc after.sc
-  pub st : IsPassed (is_of St) seats.list (seats_of seats StStep) before.st left_by_sc left_by_st after.st
-  pub dereserved : after.dereserved ≡ take (unfilled version seats after) (entered seats.list before.dereserved (passing (is_common seats.list) left_by_st))
+  pub left_out : Option Person
+  pub open_step : IsOffer (is_common seats.list) (step_kept seats Open before.open_step) (Some person) left_by_open after.open_step
+  pub ews : IsOffer (is_of Ews) (step_kept seats EwsStep before.ews) left_by_open left_by_ews after.ews
+  pub obc : IsOffer (is_of Obc) (step_kept seats ObcStep before.obc) left_by_ews left_by_obc after.obc
+  pub sc : IsOffer (is_of Sc) (step_kept seats ScStep before.sc) left_by_obc left_by_sc after.sc
+  pub st : IsOffer (is_of St) (step_kept seats StStep before.st) left_by_sc left_by_st after.st
+  pub dereserved : IsLastOffer seats.list (unfilled version seats after) before.dereserved left_by_st left_out after.dereserved
 
 -- What an offer keeps: the steps admit the choice from those whom they admitted and the person.
 abbrev pub OffersKeepChoices : Type 0
@@ -130,4 +113,4 @@ OffersKeepChoices = (version : ℕ) (seats : ProgrammeSeats) (before after : Adm
 abbrev pub OffersLeaveOne : Type 0
 OffersLeaveOne = (version : ℕ) (seats : ProgrammeSeats) (before after : Admissions) (person : Person) → AreProgrammeSeats seats → AreApplicants seats.list (person ∷ everybody before)
     → ChoosesFrom version seats (everybody before) before → (offered : IsOffered version seats before person after)
-    → LeavesOut before person (left_last (unfilled version seats after) seats.list before.dereserved offered.left_by_st) after
+    → LeavesOut before person offered.left_out after

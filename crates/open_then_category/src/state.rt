@@ -13,7 +13,7 @@ ghost use Rattle.seat_matrix.specs.Matrix.{seats_in};
 ghost use Rattle.seat_matrix.specs.Seats.{AreProgrammeSeats};
 ghost use Rattle.programme_lists.specs.Chosen.{AreApplicants, ChoosesFrom, IsWith, everybody};
 ghost use Rattle.programme_lists.specs.Programme.{admitted_by, is_of};
-ghost use Rattle.open_then_category.specs.State.{IsAnswered, IsPassed, IsProgrammeKept, count, entered, left_last, nobody, passing, step_kept};
+ghost use Rattle.open_then_category.specs.State.{IsAnswered, IsLastOffer, IsOffer, IsProgrammeKept, nobody, step_kept};
 
 use crate::filters::is_of;
 use crate::laws::{offers_keep_choices, offers_leave_one, resumes, step_laws};
@@ -200,7 +200,7 @@ fn hand_common(step: &mut StepState, list: ListId, person: &Person) -> Option<Pe
     requires list { IsList list }
     requires new { IsNewTo step.old.list step.old.held person.now }
     ensures stays { step.new ≡ record step.old { held = step.new.held } }
-    ensures passed { IsPassed (is_common list) step.old.list (record { seats = step.old.seats; protections = step.old.protections }) step.old.held (Some person.now) result step.new.held }
+    ensures offered { IsOffer (is_common list) step.old (Some person.now) result step.new.held }
 {
     if !is_common(person, list) {
         return Some(*person);
@@ -212,7 +212,7 @@ fn hand_common(step: &mut StepState, list: ListId, person: &Person) -> Option<Pe
 fn hand_member(step: &mut StepState, category: Category, coming: Option<Person>) -> Option<Person>
     requires { (person : AnyPerson) → coming ≡ Some person → IsNewTo step.old.list step.old.held person }
     ensures stays { step.new ≡ record step.old { held = step.new.held } }
-    ensures passed { IsPassed (is_of category) step.old.list (record { seats = step.old.seats; protections = step.old.protections }) step.old.held coming result step.new.held }
+    ensures offered { IsOffer (is_of category) step.old coming result step.new.held }
 {
     let Some(person) = coming else {
         return None;
@@ -235,9 +235,9 @@ fn keep_best(
     requires ranked { AreRanked list people.old.items }
     requires new { (person : AnyPerson) → coming ≡ Some person → IsNewTo list people.old.items person }
     requires room { vec_len people.old < vec_capacity people.old }
-    requires few { length people.old.items + count coming ≤ seats + 1 }
-    ensures items { people.new.items ≡ take seats (entered list people.old.items (passing (is_common list) coming)) }
-    ensures out { result ≡ left_last seats list people.old.items coming }
+    requires few { length people.old.items ≤ seats + 1 }
+    requires free { (person : AnyPerson) → coming ≡ Some person → length people.old.items ≤ seats }
+    ensures last { IsLastOffer list seats people.old.items coming result people.new.items }
     ensures room { vec_capacity people.old ≤ vec_capacity people.new }
 {
     let Some(person) = coming else {

@@ -1,7 +1,6 @@
 use Rattle.std.proofs.Common.{◌≡◌, ◌≤◌, ◌∙◌, ℕ, length, ap, sym, subst, refl, arith}
 use Rattle.std.proofs.lemmas.Bool.{eqb-true, eqb-false}
 use Rattle.office_base.specs.declared.person.CandId.{CandId}
-use Rattle.office_base.specs.declared.person.Person.{Person}
 use Rattle.office_base.specs.declared.step.StepKind.TheVariants.{Ews as EwsStep, Obc as ObcStep}
 use Rattle.merit_choice.specs.State.{StepKept}
 use Rattle.merit_choice.specs.declared.state.Offered.{Offered}
@@ -9,6 +8,7 @@ use Rattle.merit_choice.specs.declared.state.Offered.TheVariants.{Displaced, Ref
 use Rattle.seat_matrix.specs.Seats.{seats_of}
 use Rattle.programme_lists.specs.Programme.{Admissions}
 use Rattle.open_then_category.specs.State.{IsAnswered, ProgrammeKept}
+use Rattle.open_then_category.proofs.Leaving.{count}
 use Rattle.open_then_category.proofs.Keeping.{answer_displaced, answer_refused, answer_taken, last_ranked}
 use Rattle.open_then_category.proofs.Offering.{chooses, chosen, few, goes_on, leaves, may_come, settles, to_ews, to_last, to_obc, to_open, to_sc, to_st}
 use Rattle.open_then_category.proofs.state.ProgrammeState.offer.Goals as goal
@@ -20,28 +20,28 @@ hand_common-by_open-requires-clause-new g c = to_open c.step_laws.ensures _ _ _ 
 pub hand_member-by_ews-requires : goal.hand_member-by_ews-requires
 hand_member-by_ews-requires g c =
     to_ews c.step_laws.ensures _ _ _ _ _ _ _ _ _ c.self.invariant c.self.view_is c.requires
-    (c.hand_common-by_open.result, c.hand_common-by_open.new.step.held, c.hand_common-by_open.ensures.passed)
+    (c.hand_common-by_open.result, c.hand_common-by_open.new.step.held, c.hand_common-by_open.ensures.offered)
 
 pub hand_member-by_obc-requires : goal.hand_member-by_obc-requires
 hand_member-by_obc-requires g c =
     to_obc c.step_laws.ensures _ _ _ _ _ _ _ _ _ c.self.invariant c.self.view_is c.requires
-    (c.hand_common-by_open.result, c.hand_common-by_open.new.step.held, c.hand_common-by_open.ensures.passed)
-    (c.hand_member-by_ews.result, c.hand_member-by_ews.new.step.held, c.hand_member-by_ews.ensures.passed)
+    (c.hand_common-by_open.result, c.hand_common-by_open.new.step.held, c.hand_common-by_open.ensures.offered)
+    (c.hand_member-by_ews.result, c.hand_member-by_ews.new.step.held, c.hand_member-by_ews.ensures.offered)
 
 pub hand_member-by_sc-requires : goal.hand_member-by_sc-requires
 hand_member-by_sc-requires g c =
     to_sc c.step_laws.ensures _ _ _ _ _ _ _ _ _ c.self.invariant c.self.view_is c.requires
-    (c.hand_common-by_open.result, c.hand_common-by_open.new.step.held, c.hand_common-by_open.ensures.passed)
-    (c.hand_member-by_ews.result, c.hand_member-by_ews.new.step.held, c.hand_member-by_ews.ensures.passed)
-    (c.hand_member-by_obc.result, c.hand_member-by_obc.new.step.held, c.hand_member-by_obc.ensures.passed)
+    (c.hand_common-by_open.result, c.hand_common-by_open.new.step.held, c.hand_common-by_open.ensures.offered)
+    (c.hand_member-by_ews.result, c.hand_member-by_ews.new.step.held, c.hand_member-by_ews.ensures.offered)
+    (c.hand_member-by_obc.result, c.hand_member-by_obc.new.step.held, c.hand_member-by_obc.ensures.offered)
 
 pub hand_member-by_st-requires : goal.hand_member-by_st-requires
 hand_member-by_st-requires g c =
     to_st c.step_laws.ensures _ _ _ _ _ _ _ _ _ c.self.invariant c.self.view_is c.requires
-    (c.hand_common-by_open.result, c.hand_common-by_open.new.step.held, c.hand_common-by_open.ensures.passed)
-    (c.hand_member-by_ews.result, c.hand_member-by_ews.new.step.held, c.hand_member-by_ews.ensures.passed)
-    (c.hand_member-by_obc.result, c.hand_member-by_obc.new.step.held, c.hand_member-by_obc.ensures.passed)
-    (c.hand_member-by_sc.result, c.hand_member-by_sc.new.step.held, c.hand_member-by_sc.ensures.passed)
+    (c.hand_common-by_open.result, c.hand_common-by_open.new.step.held, c.hand_common-by_open.ensures.offered)
+    (c.hand_member-by_ews.result, c.hand_member-by_ews.new.step.held, c.hand_member-by_ews.ensures.offered)
+    (c.hand_member-by_obc.result, c.hand_member-by_obc.new.step.held, c.hand_member-by_obc.ensures.offered)
+    (c.hand_member-by_sc.result, c.hand_member-by_sc.new.step.held, c.hand_member-by_sc.ensures.offered)
 
 pub held_by-requires : goal.held_by-requires
 held_by-requires g c =
@@ -65,11 +65,11 @@ keep_best-requires-clause-ranked g c =
 pub keep_best-requires-clause-new : goal.keep_best-requires-clause-new
 keep_best-requires-clause-new g c =
     to_last c.step_laws.ensures _ _ _ _ _ _ _ _ _ c.self.invariant c.self.view_is c.requires
-    (c.hand_common-by_open.result, c.hand_common-by_open.new.step.held, c.hand_common-by_open.ensures.passed)
-    (c.hand_member-by_ews.result, c.hand_member-by_ews.new.step.held, c.hand_member-by_ews.ensures.passed)
-    (c.hand_member-by_obc.result, c.hand_member-by_obc.new.step.held, c.hand_member-by_obc.ensures.passed)
-    (c.hand_member-by_sc.result, c.hand_member-by_sc.new.step.held, c.hand_member-by_sc.ensures.passed)
-    (c.hand_member-by_st.result, c.hand_member-by_st.new.step.held, c.hand_member-by_st.ensures.passed)
+    (c.hand_common-by_open.result, c.hand_common-by_open.new.step.held, c.hand_common-by_open.ensures.offered)
+    (c.hand_member-by_ews.result, c.hand_member-by_ews.new.step.held, c.hand_member-by_ews.ensures.offered)
+    (c.hand_member-by_obc.result, c.hand_member-by_obc.new.step.held, c.hand_member-by_obc.ensures.offered)
+    (c.hand_member-by_sc.result, c.hand_member-by_sc.new.step.held, c.hand_member-by_sc.ensures.offered)
+    (c.hand_member-by_st.result, c.hand_member-by_st.new.step.held, c.hand_member-by_st.ensures.offered)
 
 pub keep_best-requires-clause-few : goal.keep_best-requires-clause-few
 keep_best-requires-clause-few g c =
@@ -80,25 +80,45 @@ keep_best-requires-clause-few g c =
     let obc_was = ap (λ (k : StepKept). k.seats) c.self.invariant.of_obc in
     let ews_few : length c.hand_member-by_ews.new.step.held ≤ (seats_of seats EwsStep).seats = omega (arith, ews_stays, ews_was, c.held_by.ensures.few) in
     let obc_few : length c.hand_member-by_obc.new.step.held ≤ (seats_of seats ObcStep).seats = omega (arith, obc_stays, obc_was, c.held_by-2.ensures.few) in
-    few c.step_laws.ensures _ _ _ _ _ _ _ _ _ c.self.invariant c.self.view_is c.requires
-    (c.hand_common-by_open.result, c.hand_common-by_open.new.step.held, c.hand_common-by_open.ensures.passed)
-    (c.hand_member-by_ews.result, c.hand_member-by_ews.new.step.held, c.hand_member-by_ews.ensures.passed)
-    (c.hand_member-by_obc.result, c.hand_member-by_obc.new.step.held, c.hand_member-by_obc.ensures.passed)
-    (c.hand_member-by_sc.result, c.hand_member-by_sc.new.step.held, c.hand_member-by_sc.ensures.passed)
-    (c.hand_member-by_st.result, c.hand_member-by_st.new.step.held, c.hand_member-by_st.ensures.passed)
-    _ _ _ c.left_unfilled-empty.ensures c.held_by.ensures.held c.held_by-2.ensures.held ews_few obc_few
+    let most = few c.step_laws.ensures _ _ _ _ _ _ _ _ _ c.self.invariant c.self.view_is c.requires
+    (c.hand_common-by_open.result, c.hand_common-by_open.new.step.held, c.hand_common-by_open.ensures.offered)
+    (c.hand_member-by_ews.result, c.hand_member-by_ews.new.step.held, c.hand_member-by_ews.ensures.offered)
+    (c.hand_member-by_obc.result, c.hand_member-by_obc.new.step.held, c.hand_member-by_obc.ensures.offered)
+    (c.hand_member-by_sc.result, c.hand_member-by_sc.new.step.held, c.hand_member-by_sc.ensures.offered)
+    (c.hand_member-by_st.result, c.hand_member-by_st.new.step.held, c.hand_member-by_st.ensures.offered)
+    _ _ _ c.left_unfilled-empty.ensures c.held_by.ensures.held c.held_by-2.ensures.held ews_few obc_few in
+    omega (arith, most)
+
+pub keep_best-requires-clause-free : goal.keep_best-requires-clause-free
+keep_best-requires-clause-free g c other comes =
+    let seats = c.self.inside.seats in
+    let ews_stays = ap (λ (k : StepKept). k.seats) c.hand_member-by_ews.ensures.stays in
+    let ews_was = ap (λ (k : StepKept). k.seats) c.self.invariant.of_ews in
+    let obc_stays = ap (λ (k : StepKept). k.seats) c.hand_member-by_obc.ensures.stays in
+    let obc_was = ap (λ (k : StepKept). k.seats) c.self.invariant.of_obc in
+    let ews_few : length c.hand_member-by_ews.new.step.held ≤ (seats_of seats EwsStep).seats = omega (arith, ews_stays, ews_was, c.held_by.ensures.few) in
+    let obc_few : length c.hand_member-by_obc.new.step.held ≤ (seats_of seats ObcStep).seats = omega (arith, obc_stays, obc_was, c.held_by-2.ensures.few) in
+    let most = few c.step_laws.ensures _ _ _ _ _ _ _ _ _ c.self.invariant c.self.view_is c.requires
+    (c.hand_common-by_open.result, c.hand_common-by_open.new.step.held, c.hand_common-by_open.ensures.offered)
+    (c.hand_member-by_ews.result, c.hand_member-by_ews.new.step.held, c.hand_member-by_ews.ensures.offered)
+    (c.hand_member-by_obc.result, c.hand_member-by_obc.new.step.held, c.hand_member-by_obc.ensures.offered)
+    (c.hand_member-by_sc.result, c.hand_member-by_sc.new.step.held, c.hand_member-by_sc.ensures.offered)
+    (c.hand_member-by_st.result, c.hand_member-by_st.new.step.held, c.hand_member-by_st.ensures.offered)
+    _ _ _ c.left_unfilled-empty.ensures c.held_by.ensures.held c.held_by-2.ensures.held ews_few obc_few in
+    let one = ap count comes in
+    omega (arith, most, one)
 
 pub invariant_of-self : goal.invariant_of-self
 invariant_of-self g c =
     let room = c.self.invariant.room in
     let grown = c.keep_best.ensures.room in
     let kept = settles c.step_laws.ensures _ _ _ _ _ _ _ _ _ c.self.invariant c.self.view_is c.requires
-    (c.hand_common-by_open.result, c.hand_common-by_open.new.step.held, c.hand_common-by_open.ensures.passed)
-    (c.hand_member-by_ews.result, c.hand_member-by_ews.new.step.held, c.hand_member-by_ews.ensures.passed)
-    (c.hand_member-by_obc.result, c.hand_member-by_obc.new.step.held, c.hand_member-by_obc.ensures.passed)
-    (c.hand_member-by_sc.result, c.hand_member-by_sc.new.step.held, c.hand_member-by_sc.ensures.passed)
-    (c.hand_member-by_st.result, c.hand_member-by_st.new.step.held, c.hand_member-by_st.ensures.passed)
-    _ _ _ c.left_unfilled-empty.ensures c.held_by.ensures.held c.held_by-2.ensures.held _ c.keep_best.ensures.items c.offers_keep_choices.ensures in
+    (c.hand_common-by_open.result, c.hand_common-by_open.new.step.held, c.hand_common-by_open.ensures.offered)
+    (c.hand_member-by_ews.result, c.hand_member-by_ews.new.step.held, c.hand_member-by_ews.ensures.offered)
+    (c.hand_member-by_obc.result, c.hand_member-by_obc.new.step.held, c.hand_member-by_obc.ensures.offered)
+    (c.hand_member-by_sc.result, c.hand_member-by_sc.new.step.held, c.hand_member-by_sc.ensures.offered)
+    (c.hand_member-by_st.result, c.hand_member-by_st.new.step.held, c.hand_member-by_st.ensures.offered)
+    _ _ _ c.left_unfilled-empty.ensures c.held_by.ensures.held c.held_by-2.ensures.held c.keep_best.result c.keep_best.new.people.items c.keep_best.ensures.last c.offers_keep_choices.ensures in
     record {
       kept = kept;
       of_open = c.hand_common-by_open.ensures.stays ∙ ap (λ (k : StepKept). let kept : StepKept = record k { held = c.hand_common-by_open.new.step.held } in kept) c.self.invariant.of_open;
@@ -112,22 +132,22 @@ invariant_of-self g c =
 pub returns-clause-choice : goal.returns-clause-choice
 returns-clause-choice g c =
     chooses c.step_laws.ensures _ _ _ _ _ _ _ _ _ c.self.invariant c.self.view_is c.requires
-    (c.hand_common-by_open.result, c.hand_common-by_open.new.step.held, c.hand_common-by_open.ensures.passed)
-    (c.hand_member-by_ews.result, c.hand_member-by_ews.new.step.held, c.hand_member-by_ews.ensures.passed)
-    (c.hand_member-by_obc.result, c.hand_member-by_obc.new.step.held, c.hand_member-by_obc.ensures.passed)
-    (c.hand_member-by_sc.result, c.hand_member-by_sc.new.step.held, c.hand_member-by_sc.ensures.passed)
-    (c.hand_member-by_st.result, c.hand_member-by_st.new.step.held, c.hand_member-by_st.ensures.passed)
-    _ _ _ c.left_unfilled-empty.ensures c.held_by.ensures.held c.held_by-2.ensures.held _ c.keep_best.ensures.items c.offers_keep_choices.ensures
+    (c.hand_common-by_open.result, c.hand_common-by_open.new.step.held, c.hand_common-by_open.ensures.offered)
+    (c.hand_member-by_ews.result, c.hand_member-by_ews.new.step.held, c.hand_member-by_ews.ensures.offered)
+    (c.hand_member-by_obc.result, c.hand_member-by_obc.new.step.held, c.hand_member-by_obc.ensures.offered)
+    (c.hand_member-by_sc.result, c.hand_member-by_sc.new.step.held, c.hand_member-by_sc.ensures.offered)
+    (c.hand_member-by_st.result, c.hand_member-by_st.new.step.held, c.hand_member-by_st.ensures.offered)
+    _ _ _ c.left_unfilled-empty.ensures c.held_by.ensures.held c.held_by-2.ensures.held c.keep_best.result c.keep_best.new.people.items c.keep_best.ensures.last c.offers_keep_choices.ensures
 
 pub returns-clause-all : goal.returns-clause-all
 returns-clause-all g c =
     goes_on c.step_laws.ensures _ _ _ _ _ _ _ _ _ c.self.invariant c.self.view_is c.requires
-    (c.hand_common-by_open.result, c.hand_common-by_open.new.step.held, c.hand_common-by_open.ensures.passed)
-    (c.hand_member-by_ews.result, c.hand_member-by_ews.new.step.held, c.hand_member-by_ews.ensures.passed)
-    (c.hand_member-by_obc.result, c.hand_member-by_obc.new.step.held, c.hand_member-by_obc.ensures.passed)
-    (c.hand_member-by_sc.result, c.hand_member-by_sc.new.step.held, c.hand_member-by_sc.ensures.passed)
-    (c.hand_member-by_st.result, c.hand_member-by_st.new.step.held, c.hand_member-by_st.ensures.passed)
-    _ _ _ c.left_unfilled-empty.ensures c.held_by.ensures.held c.held_by-2.ensures.held _ c.keep_best.ensures.items c.offers_keep_choices.ensures c.resumes.ensures
+    (c.hand_common-by_open.result, c.hand_common-by_open.new.step.held, c.hand_common-by_open.ensures.offered)
+    (c.hand_member-by_ews.result, c.hand_member-by_ews.new.step.held, c.hand_member-by_ews.ensures.offered)
+    (c.hand_member-by_obc.result, c.hand_member-by_obc.new.step.held, c.hand_member-by_obc.ensures.offered)
+    (c.hand_member-by_sc.result, c.hand_member-by_sc.new.step.held, c.hand_member-by_sc.ensures.offered)
+    (c.hand_member-by_st.result, c.hand_member-by_st.new.step.held, c.hand_member-by_st.ensures.offered)
+    _ _ _ c.left_unfilled-empty.ensures c.held_by.ensures.held c.held_by-2.ensures.held c.keep_best.result c.keep_best.new.people.items c.keep_best.ensures.last c.offers_keep_choices.ensures c.resumes.ensures
 
 pub returns-clause-answer : goal.returns-clause-answer
 returns-clause-answer g c =
@@ -144,19 +164,19 @@ returns-clause-answer g c =
     } in
     let may = may_come c.step_laws.ensures _ _ _ _ _ _ _ _ _ c.self.invariant c.self.view_is c.requires in
     let choice = chosen c.step_laws.ensures _ _ _ _ _ _ _ _ _ c.self.invariant c.self.view_is c.requires
-    (c.hand_common-by_open.result, c.hand_common-by_open.new.step.held, c.hand_common-by_open.ensures.passed)
-    (c.hand_member-by_ews.result, c.hand_member-by_ews.new.step.held, c.hand_member-by_ews.ensures.passed)
-    (c.hand_member-by_obc.result, c.hand_member-by_obc.new.step.held, c.hand_member-by_obc.ensures.passed)
-    (c.hand_member-by_sc.result, c.hand_member-by_sc.new.step.held, c.hand_member-by_sc.ensures.passed)
-    (c.hand_member-by_st.result, c.hand_member-by_st.new.step.held, c.hand_member-by_st.ensures.passed)
-    _ _ _ c.left_unfilled-empty.ensures c.held_by.ensures.held c.held_by-2.ensures.held _ c.keep_best.ensures.items c.offers_keep_choices.ensures in
+    (c.hand_common-by_open.result, c.hand_common-by_open.new.step.held, c.hand_common-by_open.ensures.offered)
+    (c.hand_member-by_ews.result, c.hand_member-by_ews.new.step.held, c.hand_member-by_ews.ensures.offered)
+    (c.hand_member-by_obc.result, c.hand_member-by_obc.new.step.held, c.hand_member-by_obc.ensures.offered)
+    (c.hand_member-by_sc.result, c.hand_member-by_sc.new.step.held, c.hand_member-by_sc.ensures.offered)
+    (c.hand_member-by_st.result, c.hand_member-by_st.new.step.held, c.hand_member-by_st.ensures.offered)
+    _ _ _ c.left_unfilled-empty.ensures c.held_by.ensures.held c.held_by-2.ensures.held c.keep_best.result c.keep_best.new.people.items c.keep_best.ensures.last c.offers_keep_choices.ensures in
     let out = leaves c.step_laws.ensures _ _ _ _ _ _ _ _ _ c.self.invariant c.self.view_is c.requires
-    (c.hand_common-by_open.result, c.hand_common-by_open.new.step.held, c.hand_common-by_open.ensures.passed)
-    (c.hand_member-by_ews.result, c.hand_member-by_ews.new.step.held, c.hand_member-by_ews.ensures.passed)
-    (c.hand_member-by_obc.result, c.hand_member-by_obc.new.step.held, c.hand_member-by_obc.ensures.passed)
-    (c.hand_member-by_sc.result, c.hand_member-by_sc.new.step.held, c.hand_member-by_sc.ensures.passed)
-    (c.hand_member-by_st.result, c.hand_member-by_st.new.step.held, c.hand_member-by_st.ensures.passed)
-    _ _ _ c.left_unfilled-empty.ensures c.held_by.ensures.held c.held_by-2.ensures.held _ c.keep_best.ensures.items c.offers_leave_one.ensures c.keep_best.result c.keep_best.ensures.out in
+    (c.hand_common-by_open.result, c.hand_common-by_open.new.step.held, c.hand_common-by_open.ensures.offered)
+    (c.hand_member-by_ews.result, c.hand_member-by_ews.new.step.held, c.hand_member-by_ews.ensures.offered)
+    (c.hand_member-by_obc.result, c.hand_member-by_obc.new.step.held, c.hand_member-by_obc.ensures.offered)
+    (c.hand_member-by_sc.result, c.hand_member-by_sc.new.step.held, c.hand_member-by_sc.ensures.offered)
+    (c.hand_member-by_st.result, c.hand_member-by_st.new.step.held, c.hand_member-by_st.ensures.offered)
+    _ _ _ c.left_unfilled-empty.ensures c.held_by.ensures.held c.held_by-2.ensures.held c.keep_best.result c.keep_best.new.people.items c.keep_best.ensures.last c.offers_leave_one.ensures in
     let old : ProgrammeKept = record { version = inside.version; seats = inside.seats; admissions = before } in
     let now : ProgrammeKept = record { version = inside.version; seats = inside.seats; admissions = after } in
     let done = λ (result : Offered) (answered : IsAnswered old person result now).
