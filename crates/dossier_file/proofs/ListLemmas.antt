@@ -10,7 +10,7 @@ use Rattle.programme_lists.specs.declared.programme.Programme.{Programme}
 use Rattle.programme_lists.specs.declared.programme.StepList.{StepList}
 use Rattle.published_texts.specs.Texts.{code_in, list_head, list_step, list_text}
 use Rattle.seat_matrix.specs.Matrix.{SeatTable}
-use Rattle.publish.specs.ListLines.{CanStand, IsLineThen, IsListEnd, IsListHead, IsStepHead, Said, entry_words, honoured_text, honoured_words, last_words, lines_text, list_words, most_slots, rows_text, slots_in, step_list, step_text, step_words, steps_text}
+use Rattle.publish.specs.ListLines.{CanStand, IsLineThen, IsListEnd, IsListHead, IsStepHead, Said, entry_words, honoured_text, honoured_words, last_words, lines_text, list_words, most_slots, rows_text, slots_in, step_list, step_text, step_words, steps_text, with_step}
 use Rattle.publish.specs.ListReader.{AreKnown}
 use Rattle.publish.specs.Listing.{AreStepLists, Entry, IsListText, pair_of, step_kinds}
 use Rattle.publish.specs.Reading.{Begins, Grammar, HasNo}
@@ -80,15 +80,14 @@ module _ (table : SeatTable) (people : List Person) (known : AreKnown table peop
       (honoured-clear (most_slots kind part.2) fits) (λ slots few e. let first = heads 104 101 _ _ e in omega (arith, first))
       (λ slots few. rows-once (λ admitted pairs. after (step_list kind part.0 part.1 admitted pairs)) (λ admitted pairs. all (step_list kind part.0 part.1 admitted pairs)) part.2 slots [] []))
 
-  steps-once : (number prog : ℕ) (kinds : List StepKind) (done : List StepList) → EndsOnce last_line (steps_text people number prog kinds done)
-  steps-once number prog [] done = end-once (number, prog, done)
-  steps-once number prog (kind ∷ kinds) done =
-      step-once kind (λ list. steps_text people number prog kinds (done ++ list ∷ [])) (λ list. steps-once number prog kinds (done ++ list ∷ []))
+  steps-once : (kinds : List StepKind) (said : Said) → EndsOnce last_line (steps_text people kinds said)
+  steps-once [] said = end-once said
+  steps-once (kind ∷ kinds) said = step-once kind (λ list. steps_text people kinds (with_step said list)) (λ list. steps-once kinds (with_step said list))
 
   lines-once : EndsOnce last_line (lines_text table people)
   lines-once =
-      then-once (list_words table) (IsListHead table) (λ part. steps_text people part.0 part.1 step_kinds []) (list-clear table known.spelled)
-      (λ part may e. let first = heads 108 101 _ _ e in omega (arith, first)) (λ part may. steps-once part.0 part.1 step_kinds [])
+      then-once (list_words table) (IsListHead table) (λ part. steps_text people step_kinds (part.0, part.1, [])) (list-clear table known.spelled)
+      (λ part may e. let first = heads 108 101 _ _ e in omega (arith, first)) (λ part may. steps-once step_kinds (part.0, part.1, []))
 
   -- the text of a list has its last line once
   pub list-once : EndsOnce (codes "end list") (IsListText table people)

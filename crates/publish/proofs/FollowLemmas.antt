@@ -7,7 +7,7 @@ use Rattle.office_base.specs.declared.step.StepKind.{StepKind}
 use Rattle.office_base.specs.declared.step.StepKind.TheVariants.{Open, Ews, Obc, Sc, St, Dereserved}
 use Rattle.programme_lists.specs.declared.programme.StepList.{StepList}
 use Rattle.seat_matrix.specs.Matrix.{SeatTable}
-use Rattle.publish.specs.ListLines.{CanStand, IsListEnd, IsListHead, IsStepHead, Said, entry_words, honoured_text, honoured_words, last_words, lines_text, list_words, most_slots, rows_text, slots_in, step_list, step_words, steps_text}
+use Rattle.publish.specs.ListLines.{CanStand, IsListEnd, IsListHead, IsStepHead, Said, entry_words, honoured_text, honoured_words, last_words, lines_text, list_words, most_slots, rows_text, slots_in, step_list, step_words, steps_text, with_step}
 use Rattle.publish.specs.ListReader.{AreRising, free_in}
 use Rattle.publish.specs.Listing.{pair_of, step_kinds}
 use Rattle.publish.specs.Reading.{Begins, Grammar}
@@ -22,19 +22,19 @@ no-slots kind rows = omega arith
 pub some-end : (said : Said) → Begins (IsListEnd said) []
 some-end said = ([], said, record { all = refl; empty = refl })
 
-pub some-steps : (people : List Person) (number prog : ℕ) (kinds : List StepKind) (done : List StepList) → Begins (steps_text people number prog kinds done) []
-some-steps people number prog [] done = then-some last_words (λ _. Unit {0}) (λ _. IsListEnd (number, prog, done)) tt tt (some-end (number, prog, done))
-some-steps people number prog (kind ∷ kinds) done =
-    let after : StepList → Grammar Said = λ list. steps_text people number prog kinds (done ++ list ∷ []) in
+pub some-steps : (people : List Person) (kinds : List StepKind) (said : Said) → Begins (steps_text people kinds said) []
+some-steps people [] said = then-some last_words (λ _. Unit {0}) (λ _. IsListEnd said) tt tt (some-end said)
+some-steps people (kind ∷ kinds) said =
+    let after : StepList → Grammar Said = λ list. steps_text people kinds (with_step said list) in
     let rows : List Person → List Pair → Grammar Said = λ admitted pairs. after (step_list kind 0 0 admitted pairs) in
     then-some (step_words kind) (IsStepHead (length people)) (λ part. honoured_text people (λ admitted pairs. after (step_list kind part.0 part.1 admitted pairs)) kind part.2) (0, 0, 0)
     (omega arith, omega arith, omega arith)
     (then-some honoured_words (λ slots. slots ≤ most_slots kind 0) (λ slots. rows_text people rows 0 slots [] []) 0 (no-slots kind 0)
-    (some-steps people number prog kinds (done ++ step_list kind 0 0 [] [] ∷ [])))
+    (some-steps people kinds (with_step said (step_list kind 0 0 [] []))))
 
 pub some-text : (table : SeatTable) (people : List Person) → 0 < length table.programmes → Begins (lines_text table people) []
 some-text table people some =
-    then-some (list_words table) (IsListHead table) (λ part. steps_text people part.0 part.1 step_kinds []) (0, 0) (omega arith, some) (some-steps people 0 0 step_kinds [])
+    then-some (list_words table) (IsListHead table) (λ part. steps_text people step_kinds (part.0, part.1, [])) (0, 0) (omega arith, some) (some-steps people step_kinds (0, 0, []))
 
 -- ---- rows
 

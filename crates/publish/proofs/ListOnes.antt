@@ -5,7 +5,7 @@ use Rattle.office_base.specs.declared.step.Pair.{Pair}
 use Rattle.office_base.specs.declared.step.StepKind.{StepKind}
 use Rattle.programme_lists.specs.declared.programme.StepList.{StepList}
 use Rattle.seat_matrix.specs.Matrix.{SeatTable}
-use Rattle.publish.specs.ListLines.{CanStand, IsLineThen, IsListEnd, IsListHead, IsStepHead, Said, entry_words, honoured_text, honoured_words, last_words, lines_text, list_words, most_slots, rows_text, slots_in, step_list, step_text, step_words, steps_text}
+use Rattle.publish.specs.ListLines.{CanStand, IsLineThen, IsListEnd, IsListHead, IsStepHead, Said, entry_words, honoured_text, honoured_words, last_words, lines_text, list_words, most_slots, rows_text, slots_in, step_list, step_text, step_words, steps_text, with_step}
 use Rattle.publish.specs.ListReader.{AreKnown}
 use Rattle.publish.specs.Listing.{IsListText, pair_of, step_kinds}
 use Rattle.publish.specs.Reading.{Grammar, HasNo}
@@ -51,16 +51,14 @@ module _ (table : SeatTable) (people : List Person) (known : AreKnown table peop
       (honoured-clear (most_slots kind part.2) fits) (honoured-one (most_slots kind part.2) fits)
       (λ slots few. rows-one (λ admitted pairs. after (step_list kind part.0 part.1 admitted pairs)) (λ admitted pairs. all (step_list kind part.0 part.1 admitted pairs)) part.2 slots [] []))
 
-  steps-one : (number prog : ℕ) (kinds : List StepKind) (done : List StepList) → IsOne (steps_text people number prog kinds done)
-  steps-one number prog [] done =
-      then-one last_words (λ _. Unit {0}) (λ _. IsListEnd (number, prog, done)) (λ p may. last-clear p) (λ p q may can e. refl) (λ p may. end-one (number, prog, done))
-  steps-one number prog (kind ∷ kinds) done =
-      step-text-one kind (λ list. steps_text people number prog kinds (done ++ list ∷ [])) (λ list. steps-one number prog kinds (done ++ list ∷ []))
+  steps-one : (kinds : List StepKind) (said : Said) → IsOne (steps_text people kinds said)
+  steps-one [] said = then-one last_words (λ _. Unit {0}) (λ _. IsListEnd said) (λ p may. last-clear p) (λ p q may can e. refl) (λ p may. end-one said)
+  steps-one (kind ∷ kinds) said = step-text-one kind (λ list. steps_text people kinds (with_step said list)) (λ list. steps-one kinds (with_step said list))
 
   lines-one : IsOne (lines_text table people)
   lines-one =
-      then-one (list_words table) (IsListHead table) (λ part. steps_text people part.0 part.1 step_kinds []) (list-clear table known.spelled) (list-one table known.codes)
-      (λ part may. steps-one part.0 part.1 step_kinds [])
+      then-one (list_words table) (IsListHead table) (λ part. steps_text people step_kinds (part.0, part.1, [])) (list-clear table known.spelled) (list-one table known.codes)
+      (λ part may. steps-one step_kinds (part.0, part.1, []))
 
   pub list-text-one : (text : List ℕ) (a b : ListRead) → IsListText table people text a → IsListText table people text b → a ≡ b
   unfolding IsOne read_of

@@ -279,7 +279,7 @@ record AreStepsOf (people : List Person) (number prog : ℕ) (kinds : List StepK
   same : text ≡ flat_map list_step lists ++ codes "end list\n"
   all : said ≡ (number, prog, done ++ lists)
 
-steps-read : (people : List Person) (number prog : ℕ) (kinds : List StepKind) (done : List StepList) (text : List ℕ) (said : Said) → steps_text people number prog kinds done text said → AreStepsOf people number prog kinds done text said
+steps-read : (people : List Person) (number prog : ℕ) (kinds : List StepKind) (done : List StepList) (text : List ℕ) (said : Said) → steps_text people kinds (number, prog, done) text said → AreStepsOf people number prog kinds done text said
 steps-read people number prog [] done text said is = record {
   lists = [];
   are = tt;
@@ -287,7 +287,7 @@ steps-read people number prog [] done text said is = record {
   all = is.later.all ∙ ap (λ z. (number, prog, z)) (sym (append-nil done));
 }
 steps-read people number prog (kind ∷ kinds) done text said is =
-    let s = step-read people kind (λ list. steps_text people number prog kinds (done ++ list ∷ [])) text said is in
+    let s = step-read people kind (λ list. steps_text people kinds (number, prog, done ++ list ∷ [])) text said is in
     let r = steps-read people number prog kinds (done ++ s.list ∷ []) s.rest said s.later in
     record {
       lists = s.list ∷ r.lists;
@@ -297,16 +297,16 @@ steps-read people number prog (kind ∷ kinds) done text said is =
     }
 
 steps-write : (people : List Person) (number prog : ℕ) (kinds : List StepKind) (done lists : List StepList) → AreRising people → AreStepLists people kinds lists
-    → steps_text people number prog kinds done (flat_map list_step lists ++ codes "end list\n") (number, prog, done ++ lists)
+    → steps_text people kinds (number, prog, done) (flat_map list_step lists ++ codes "end list\n") (number, prog, done ++ lists)
 steps-write people number prog [] done [] rising are = record { part = tt; may = tt; rest = []; same = refl; later = record { all = ap (λ z. (number, prog, z)) (append-nil done); empty = refl } }
 steps-write people number prog [] done (list ∷ lists) rising are = absurd are
 steps-write people number prog (kind ∷ kinds) done [] rising are = absurd are
 steps-write people number prog (kind ∷ kinds) done (list ∷ lists) rising are =
-    let after : StepList → Grammar Said = λ l. steps_text people number prog kinds (done ++ l ∷ []) in
+    let after : StepList → Grammar Said = λ l. steps_text people kinds (number, prog, done ++ l ∷ []) in
     let rest = flat_map list_step lists ++ codes "end list\n" in
     subst (λ z. step_text people kind after z (number, prog, done ++ (list ∷ lists))) (sym (append_assoc (list_step list) (flat_map list_step lists) (codes "end list\n")))
     (step-write people kind after list rest (number, prog, done ++ (list ∷ lists)) rising are.0
-    (subst (λ z. steps_text people number prog kinds (done ++ list ∷ []) rest (number, prog, z)) (append_assoc done (list ∷ []) lists) (steps-write people number prog kinds (done ++ list ∷ []) lists rising are.1)))
+    (subst (λ z. steps_text people kinds (number, prog, done ++ list ∷ []) rest (number, prog, z)) (append_assoc done (list ∷ []) lists) (steps-write people number prog kinds (done ++ list ∷ []) lists rising are.1)))
 
 -- ---- a whole text
 

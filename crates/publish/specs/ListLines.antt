@@ -12,6 +12,7 @@ use Rattle.step_lines.specs.Lines.{slot_letter, step_name}
 use Rattle.publish.specs.Listing.{Entry, IsEntry, pair_of, step_kinds}
 use Rattle.publish.specs.Parts.{is_prefix}
 use Rattle.publish.specs.Reading.{Grammar}
+use Rattle.publish.specs.declared.list_stage.OpenStep.{OpenStep}
 
 -- A text begins with one of these lines, and what follows it may follow it.
 pub record IsLineThen {P V : Type 0} (words : P → List ℕ) (can : P → Type 0) (next : P → Grammar V) (text : List ℕ) (value : V) : Type 0 where
@@ -106,15 +107,19 @@ abbrev pub step_text : List Person → StepKind → (StepList → Grammar Said) 
 step_text people kind after =
     IsLineThen (step_words kind) (IsStepHead (length people)) (λ part. honoured_text people (λ admitted pairs. after (step_list kind part.0 part.1 admitted pairs)) kind part.2)
 
--- these steps after those that are done, and the last line
-abbrev pub steps_text : List Person → ℕ → ℕ → List StepKind → List StepList → Grammar Said
-steps_text people number prog [] done = IsLineThen last_words (λ _. Unit {0}) (λ _. IsListEnd (number, prog, done))
-steps_text people number prog (kind ∷ kinds) done = step_text people kind (λ list. steps_text people number prog kinds (done ++ list ∷ []))
+-- what is said with the list of one more step
+abbrev pub with_step : Said → StepList → Said
+with_step said list = (said.0, said.1, said.2 ++ list ∷ [])
+
+-- these steps after what was said, and the last line
+abbrev pub steps_text : List Person → List StepKind → Said → Grammar Said
+steps_text people [] said = IsLineThen last_words (λ _. Unit {0}) (λ _. IsListEnd said)
+steps_text people (kind ∷ kinds) said = step_text people kind (λ list. steps_text people kinds (with_step said list))
 
 -- a whole text
 abbrev pub lines_text : SeatTable → List Person → Grammar Said
-lines_text table people = IsLineThen (list_words table) (IsListHead table) (λ part. steps_text people part.0 part.1 step_kinds [])
+lines_text table people = IsLineThen (list_words table) (IsListHead table) (λ part. steps_text people step_kinds (part.0, part.1, []))
 
--- what follows the rows of a step
-abbrev pub after_rows : List Person → ℕ → ℕ → List StepKind → List StepList → StepKind → ℕ → ℕ → List Person → List Pair → Grammar Said
-after_rows people number prog kinds done kind seats candidates admitted pairs = steps_text people number prog kinds (done ++ step_list kind seats candidates admitted pairs ∷ [])
+-- what follows the rows of a step: the steps after it, with its list among what was said
+abbrev pub after_rows : List Person → List StepKind → Said → OpenStep → List Person → List Pair → Grammar Said
+after_rows people kinds said step admitted pairs = steps_text people kinds (with_step said (step_list step.kind step.seats step.candidates admitted pairs))

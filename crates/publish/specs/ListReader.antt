@@ -16,6 +16,7 @@ use Rattle.publish.specs.Reading.{Grammar}
 use Rattle.publish.specs.declared.list_reader.ListReader.{ListReader}
 use Rattle.publish.specs.declared.list_stage.ListStage.{ListStage}
 use Rattle.publish.specs.declared.list_stage.ListStage.TheVariants.{Head, Steps, Honoured, Rows, Done}
+use Rattle.publish.specs.declared.list_stage.OpenStep.{OpenStep}
 
 -- the people are in rising order of id
 abbrev pub AreRising : List Person → Type 0
@@ -26,17 +27,25 @@ abbrev pub free_in : List Person → List Person → ℕ
 free_in [] used = 0
 free_in (person ∷ people) used = (if is_listed person.id.0 used then 0 else 1) + free_in people used
 
--- what completes a text at each stage
-abbrev pub list_at : ListStage → SeatTable → List Person → ℕ → ℕ → List StepKind → List StepList → StepKind → ℕ → ℕ → List Person → List Pair → ℕ → ℕ → Grammar Said
-list_at Head table people number prog kinds done kind seats candidates admitted pairs rows slots = lines_text table people
-list_at Steps table people number prog kinds done kind seats candidates admitted pairs rows slots = steps_text people number prog kinds done
-list_at Honoured table people number prog kinds done kind seats candidates admitted pairs rows slots = honoured_text people (after_rows people number prog kinds done kind seats candidates) kind rows
-list_at Rows table people number prog kinds done kind seats candidates admitted pairs rows slots = rows_text people (after_rows people number prog kinds done kind seats candidates) rows slots admitted pairs
-list_at Done table people number prog kinds done kind seats candidates admitted pairs rows slots = IsListEnd (number, prog, done)
+-- what the text of a reader said so far
+abbrev pub said_by : ListReader → Said
+said_by r = (r.number, r.prog.0, r.steps.items)
 
--- what completes the text of a reader
+-- what follows the rows of the step that is read
+abbrev pub after_step : ListReader → OpenStep → List Person → List Pair → Grammar Said
+after_step r step = after_rows r.register.now.people r.kinds.now (said_by r) step
+
+-- what completes the text of a reader at each stage
+abbrev pub list_at : ListStage → ListReader → Grammar Said
+list_at Head r = lines_text r.matrix.now r.register.now.people
+list_at Steps r = steps_text r.register.now.people r.kinds.now (said_by r)
+list_at (Honoured step rows) r = honoured_text r.register.now.people (after_step r step) step.kind rows
+list_at (Rows step rows slots) r = rows_text r.register.now.people (after_step r step) rows slots r.admitted r.pairs
+list_at Done r = IsListEnd (said_by r)
+
+-- what completes the text of a reader at the stage where it is
 abbrev pub list_grammar : ListReader → Grammar Said
-list_grammar r = list_at r.stage r.matrix.now r.register.now.people r.number r.prog.0 r.kinds.now r.steps.items r.kind r.seats r.candidates r.admitted r.pairs r.rows r.slots
+list_grammar r = list_at r.stage r
 
 -- nobody was read of the next step
 pub record IsUnread (admitted : List Person) (pairs : List Pair) : Type 0 where
@@ -55,13 +64,13 @@ pub record CanFollow (people admitted : List Person) (rows slots : ℕ) : Type 0
   pub few : rows ≤ free_in people admitted
   pub enough : slots ≤ rows
 
--- what is kept at each stage
-abbrev pub IsInStage : ListStage → List Person → List StepKind → List StepList → List Person → List Pair → ℕ → ℕ → Type 0
-IsInStage Head people kinds done admitted pairs rows slots = IsUnbegun kinds done admitted pairs
-IsInStage Steps people kinds done admitted pairs rows slots = IsUnread admitted pairs
-IsInStage Honoured people kinds done admitted pairs rows slots = IsUnread admitted pairs × (rows ≤ length people)
-IsInStage Rows people kinds done admitted pairs rows slots = CanFollow people admitted rows slots
-IsInStage Done people kinds done admitted pairs rows slots = Unit {0}
+-- what a reader keeps at each stage
+abbrev pub IsInStage : ListStage → ListReader → Type 0
+IsInStage Head r = IsUnbegun r.kinds.now r.steps.items r.admitted r.pairs
+IsInStage Steps r = IsUnread r.admitted r.pairs
+IsInStage (Honoured step rows) r = IsUnread r.admitted r.pairs × (rows ≤ length r.register.now.people)
+IsInStage (Rows step rows slots) r = CanFollow r.register.now.people r.admitted rows slots
+IsInStage Done r = Unit {0}
 
 -- What a matrix and a register keep: the codes are spelled and distinct, and the ids are small and distinct.
 pub record AreKnown (table : SeatTable) (people : List Person) : Type 0 where
@@ -77,16 +86,20 @@ abbrev pub most_lines : ℕ → List StepKind → ℕ
 most_lines people [] = 2
 most_lines people (kind ∷ kinds) = people + 3 + most_lines people kinds
 
+-- a number above that of the lines to come at each stage, where there are so many people, before these steps
+abbrev pub left_at : ListStage → ℕ → List StepKind → ℕ
+left_at Head people kinds = most_lines people step_kinds + 1
+left_at Steps people kinds = most_lines people kinds
+left_at (Honoured step rows) people kinds = most_lines people kinds + rows + 1
+left_at (Rows step rows slots) people kinds = most_lines people kinds + rows
+left_at Done people kinds = 1
+
 -- a number above that of the lines to come
-abbrev pub list_left : ListStage → ℕ → List StepKind → ℕ → ℕ
-list_left Head people kinds rows = most_lines people step_kinds + 1
-list_left Steps people kinds rows = most_lines people kinds
-list_left Honoured people kinds rows = most_lines people kinds + rows + 1
-list_left Rows people kinds rows = most_lines people kinds + rows
-list_left Done people kinds rows = 1
+abbrev pub list_left : ListReader → ℕ
+list_left r = left_at r.stage (length r.register.now.people) r.kinds.now
 
 -- What a reader keeps.
 pub record KeepsList (r : ListReader) : Type 0 where
   pub known : AreKnown r.matrix.now r.register.now.people
   pub used : (id : ℕ) → contains nat_cmp r.used id ≡ is_listed id r.admitted
-  pub stage : IsInStage r.stage r.register.now.people r.kinds.now r.steps.items r.admitted r.pairs r.rows r.slots
+  pub stage : IsInStage r.stage r

@@ -1,13 +1,12 @@
 // The reader of lists.
 ghost use Rattle.std.specs.Prelude.{◌≡◌, ◌<◌, ◌≤◌, ◌+◌, ◌-◌, ◌^◌, ◌∷◌, [], ◌++◌, ℕ, List, IfNone, IfOk, IfSome, OnOk, IsTrue, ◌↔◌, length};
-ghost use Rattle.programme_lists.specs.declared.programme.StepList.{StepList as AnyList};
-ghost use Rattle.publish.specs.ListLines.{slots_in, step_list, steps_text};
+ghost use Rattle.publish.specs.ListLines.{Said, slots_in, step_list, steps_text};
 ghost use Rattle.publish.specs.ListReader.{AreKnown, KeepsList, list_grammar, list_left};
 ghost use Rattle.publish.specs.Listing.{pair_of};
 ghost use Rattle.publish.specs.Reading.{Begins, EndsWithLines, HasNo, IsAnswered, IsWhole};
 
 use crate::list_pieces::{begins_entries, begins_list_head, begins_step_head};
-use crate::list_stage::ListStage;
+use crate::list_stage::{ListStage, OpenStep};
 use crate::list_words::{honoured_slots, list_head, next_entry, slots_within, step_head};
 use crate::numbers::begins_count;
 use crate::pieces::begins_whole;
@@ -34,17 +33,12 @@ pub(crate) struct ListReader<'a> {
     pub(crate) kinds: &'a [StepKind],
     /// The steps that were read.
     pub(crate) steps: Vec<StepList>,
-    pub(crate) kind: StepKind,
-    pub(crate) seats: u32,
-    pub(crate) candidates: u32,
+    /// The persons of the rows that were read of the step.
     pub(crate) admitted: People,
+    /// The pairs of those with a slot.
     pub(crate) pairs: Pairs,
     /// The ids of the admitted.
     pub(crate) used: BTreeSet<u32>,
-    /// The rows to come in the step.
-    pub(crate) rows: u32,
-    /// How many of them have a slot.
-    pub(crate) slots: u32,
 }
 
 /// The first of these steps, and those after it.
@@ -96,8 +90,7 @@ impl ListReader<'_> {
         requires line { HasNo 10 line.now }
         ensures answered { IsAnswered (list_grammar self.old) (list_grammar self.new) line.now result }
         ensures keeps { IsTrue result → KeepsList self.new }
-        ensures left { IsTrue result → list_left self.new.stage (length self.new.register.now.people) self.new.kinds.now self.new.rows
-            < list_left self.old.stage (length self.old.register.now.people) self.old.kinds.now self.old.rows }
+        ensures left { IsTrue result → list_left self.new < list_left self.old }
     {
         let Some((number, prog)) = list_head(self.matrix, line) else {
             return false;
@@ -116,8 +109,7 @@ impl ListReader<'_> {
         requires line { HasNo 10 line.now }
         ensures answered { IsAnswered (list_grammar self.old) (list_grammar self.new) line.now result }
         ensures keeps { IsTrue result → KeepsList self.new }
-        ensures left { IsTrue result → list_left self.new.stage (length self.new.register.now.people) self.new.kinds.now self.new.rows
-            < list_left self.old.stage (length self.old.register.now.people) self.old.kinds.now self.old.rows }
+        ensures left { IsTrue result → list_left self.new < list_left self.old }
     {
         if line == b"end list".as_slice() {
             self.stage = ListStage::Done;
@@ -134,8 +126,7 @@ impl ListReader<'_> {
         requires line { HasNo 10 line.now }
         ensures answered { IsAnswered (list_grammar self.old) (list_grammar self.new) line.now result }
         ensures keeps { IsTrue result → KeepsList self.new }
-        ensures left { IsTrue result → list_left self.new.stage (length self.new.register.now.people) self.new.kinds.now self.new.rows
-            < list_left self.old.stage (length self.old.register.now.people) self.old.kinds.now self.old.rows }
+        ensures left { IsTrue result → list_left self.new < list_left self.old }
     {
         let Some((kind, later)) = first_step(self.kinds) else {
             return self.take_last(line);
@@ -143,37 +134,38 @@ impl ListReader<'_> {
         let Some(head) = step_head(kind, count_people(self.register), line) else {
             return false;
         };
-        self.kind = kind;
         self.kinds = later;
-        self.seats = head.seats;
-        self.candidates = head.candidates;
-        self.rows = head.admitted;
-        self.stage = ListStage::Honoured;
+        self.stage = ListStage::Honoured {
+            step: OpenStep {
+                kind,
+                seats: head.seats,
+                candidates: head.candidates,
+            },
+            rows: head.admitted,
+        };
         true
     }
 
-    /// Takes the line of the slots of a step.
-    fn take_honoured(&mut self, line: &[u8]) -> Result<bool, OutOfMemory>
+    /// Takes the line of the slots of a step with so many rows.
+    fn take_honoured(&mut self, step: OpenStep, rows: u32, line: &[u8]) -> Result<bool, OutOfMemory>
         requires keeps { KeepsList self.old }
-        requires stage { self.old.stage ≡ ListStage.Honoured }
+        requires stage { self.old.stage ≡ ListStage.Honoured step rows }
         requires line { HasNo 10 line.now }
         ensures answered { IfOk result (λ taken. IsAnswered (list_grammar self.old) (list_grammar self.new) line.now taken) }
         ensures keeps { IfOk result (λ taken. IsTrue taken → KeepsList self.new) }
-        ensures left { IfOk result (λ taken. IsTrue taken → list_left self.new.stage (length self.new.register.now.people) self.new.kinds.now self.new.rows
-            < list_left self.old.stage (length self.old.register.now.people) self.old.kinds.now self.old.rows) }
+        ensures left { IfOk result (λ taken. IsTrue taken → list_left self.new < list_left self.old) }
     {
-        let Some(slots) = honoured_slots(slots_within(self.kind, self.rows), line) else {
+        let Some(slots) = honoured_slots(slots_within(step.kind, rows), line) else {
             return Ok(false);
         };
-        if self.rows > 0 {
-            self.slots = slots;
-            self.stage = ListStage::Rows;
+        if rows > 0 {
+            self.stage = ListStage::Rows { step, rows, slots };
             return Ok(true);
         }
         let list = StepList {
-            kind: self.kind,
-            seats: self.seats,
-            candidates: self.candidates,
+            kind: step.kind,
+            seats: step.seats,
+            candidates: step.candidates,
             admitted: People::new(self.alloc),
             cert: Cert {
                 pairs: Pairs::new(self.alloc),
@@ -184,33 +176,40 @@ impl ListReader<'_> {
         Ok(true)
     }
 
-    /// Takes a row.
-    fn take_row(&mut self, line: &[u8]) -> Result<bool, OutOfMemory>
+    /// Takes a row of a step, where so many are to come, so many of them with a slot.
+    fn take_row(
+        &mut self,
+        step: OpenStep,
+        rows: u32,
+        slots: u32,
+        line: &[u8],
+    ) -> Result<bool, OutOfMemory>
         requires keeps { KeepsList self.old }
-        requires stage { self.old.stage ≡ ListStage.Rows }
+        requires stage { self.old.stage ≡ ListStage.Rows step rows slots }
         requires line { HasNo 10 line.now }
         ensures answered { IfOk result (λ taken. IsAnswered (list_grammar self.old) (list_grammar self.new) line.now taken) }
         ensures keeps { IfOk result (λ taken. IsTrue taken → KeepsList self.new) }
-        ensures left { IfOk result (λ taken. IsTrue taken → list_left self.new.stage (length self.new.register.now.people) self.new.kinds.now self.new.rows
-            < list_left self.old.stage (length self.old.register.now.people) self.old.kinds.now self.old.rows) }
+        ensures left { IfOk result (λ taken. IsTrue taken → list_left self.new < list_left self.old) }
     {
-        let left = self.rows - 1;
-        let Some((person, slot)) = next_entry(self.register, &self.used, left, self.slots, line)
-        else {
+        let left = rows - 1;
+        let Some((person, slot)) = next_entry(self.register, &self.used, left, slots, line) else {
             return Ok(false);
         };
         self.admitted.push(person)?;
         put_pair(&mut self.pairs, &person, slot)?;
         if left > 0 {
             self.used.insert(person.id.0)?;
-            self.slots = slots_after(self.slots, slot);
-            self.rows = left;
+            self.stage = ListStage::Rows {
+                step,
+                rows: left,
+                slots: slots_after(slots, slot),
+            };
             return Ok(true);
         }
         let list = StepList {
-            kind: self.kind,
-            seats: self.seats,
-            candidates: self.candidates,
+            kind: step.kind,
+            seats: step.seats,
+            candidates: step.candidates,
             admitted: mem::replace(&mut self.admitted, People::new(self.alloc)),
             cert: Cert {
                 pairs: mem::replace(&mut self.pairs, Pairs::new(self.alloc)),
@@ -224,17 +223,16 @@ impl ListReader<'_> {
 }
 
 impl Lines for ListReader<'_> {
-    ghost use Rattle.std.specs.Prelude.{length};
     ghost use Rattle.publish.specs.ListLines.{Said};
-    ghost use Rattle.publish.specs.ListReader.{KeepsList, list_grammar, list_left};
+    ghost use Rattle.publish.specs.ListReader.{KeepsList, list_grammar, list_left, said_by};
 
     ghost Value = { Said };
 
     ghost grammar = { list_grammar };
 
-    ghost value = { λ r. (r.number, r.prog.0, r.steps.items) };
+    ghost value = { said_by };
 
-    ghost left = { λ r. list_left r.stage (length r.register.now.people) r.kinds.now r.rows };
+    ghost left = { list_left };
 
     ghost keeps = { KeepsList };
 
@@ -242,8 +240,8 @@ impl Lines for ListReader<'_> {
         match self.stage {
             ListStage::Head => Ok(self.take_head(line)),
             ListStage::Steps => Ok(self.take_step(line)),
-            ListStage::Honoured => self.take_honoured(line),
-            ListStage::Rows => self.take_row(line),
+            ListStage::Honoured { step, rows } => self.take_honoured(step, rows, line),
+            ListStage::Rows { step, rows, slots } => self.take_row(step, rows, slots, line),
             ListStage::Done => Ok(false),
         }
     }
@@ -252,12 +250,16 @@ impl Lines for ListReader<'_> {
         match self.stage {
             ListStage::Head => begins_list_head(self.matrix, piece),
             ListStage::Steps => begins_next_step(self.matrix, self.register, self.kinds, piece),
-            ListStage::Honoured => {
-                begins_count(b"honoured ", slots_within(self.kind, self.rows), piece)
+            ListStage::Honoured { step, rows } => {
+                begins_count(b"honoured ", slots_within(step.kind, rows), piece)
             }
-            ListStage::Rows => {
+            ListStage::Rows {
+                step: _,
+                rows,
+                slots,
+            } => {
                 let people = self.register.people();
-                begins_entries(people, &self.used, self.rows - 1, self.slots, piece)
+                begins_entries(people, &self.used, rows - 1, slots, piece)
             }
             ListStage::Done => false,
         }
@@ -267,8 +269,8 @@ impl Lines for ListReader<'_> {
         match self.stage {
             ListStage::Head => false,
             ListStage::Steps => false,
-            ListStage::Honoured => false,
-            ListStage::Rows => false,
+            ListStage::Honoured { .. } => false,
+            ListStage::Rows { .. } => false,
             ListStage::Done => true,
         }
     }
@@ -278,7 +280,7 @@ impl Lines for ListReader<'_> {
 fn begins_next_step(matrix: &Matrix, register: &Register, kinds: &[StepKind], piece: &[u8]) -> bool
     requires known { AreKnown matrix.now register.now.people }
     requires piece { HasNo 10 piece.now }
-    ensures { (number prog : ℕ) (done : List AnyList) → IsTrue result ↔ Begins (steps_text register.now.people number prog kinds.now done) piece.now }
+    ensures { (said : Said) → IsTrue result ↔ Begins (steps_text register.now.people kinds.now said) piece.now }
 {
     match first_step(kinds) {
         Some((kind, _)) => begins_step_head(kind, count_people(register), piece),

@@ -77,14 +77,9 @@ fn begin<'a>(alloc: Global, matrix: &'a Matrix, register: &'a Register) -> ListR
         prog: ProgId(0),
         kinds: &STEPS,
         steps: Vec::new(alloc),
-        kind: StepKind::Open,
-        seats: 0,
-        candidates: 0,
         admitted: People::new(alloc),
         pairs: Pairs::new(alloc),
         used: BTreeSet::new(alloc),
-        rows: 0,
-        slots: 0,
     }
 }
 

@@ -3,7 +3,7 @@ use Rattle.std.proofs.lemmas.Bool.{false≢true}
 use Rattle.std.proofs.lemmas.Bool.Decides.{Decides-eqb}
 use Rattle.std.proofs.lemmas.Slice.Eq.{slice_eq-Decides}
 use Rattle.publish.specs.ListLines.{IsListEnd, last_words, steps_text}
-use Rattle.publish.specs.ListReader.{list_at, list_left, most_lines}
+use Rattle.publish.specs.ListReader.{left_at, list_at, most_lines, said_by}
 use Rattle.publish.specs.Reading.{IsRefused, Leads}
 use Rattle.publish.proofs.StageLines.{last-leads, last-refused}
 use Rattle.publish.proofs.list_reader.ListReader.take_last.Goals as goal
@@ -12,20 +12,20 @@ pub returns-then-eq-clause-answered : goal.returns-then-eq-clause-answered
 returns-then-eq-clause-answered c =
     let s = c.args.self.now in
     let same : c.args.line.now ≡ last_words tt = (slice_eq-Decides Decides-eqb _ _ _ c.eq.ensures).0 c.if-eq.true ∙ c.as_slice.ensures in
-    subst (λ st. Leads (list_at st s.matrix.now s.register.now.people s.number s.prog.0 s.kinds.now s.steps.items s.kind s.seats s.candidates s.admitted s.pairs s.rows s.slots) (IsListEnd (s.number, s.prog.0, s.steps.items)) c.args.line.now) (sym c.requires.stage)
-    (subst (λ z. Leads (steps_text s.register.now.people s.number s.prog.0 z s.steps.items) (IsListEnd (s.number, s.prog.0, s.steps.items)) c.args.line.now) (sym c.requires.kinds)
-    (last-leads s.matrix.now s.register.now.people c.requires.keeps.known s.number s.prog.0 s.steps.items c.args.line.now c.requires.line same))
+    subst (λ st. Leads (list_at st s) (IsListEnd (said_by s)) c.args.line.now) (sym c.requires.stage)
+    (subst (λ z. Leads (steps_text s.register.now.people z (said_by s)) (IsListEnd (said_by s)) c.args.line.now) (sym c.requires.kinds)
+    (last-leads s.matrix.now s.register.now.people c.requires.keeps.known (said_by s) c.args.line.now c.requires.line same))
 
 pub returns-else-eq-clause-answered : goal.returns-else-eq-clause-answered
 returns-else-eq-clause-answered c =
     let s = c.args.self.now in
     let other : c.args.line.now ≡ last_words tt → ⊥ = λ same. false≢true (sym c.if-eq.false ∙ (slice_eq-Decides Decides-eqb _ _ _ c.eq.ensures).1 (same ∙ sym c.as_slice.ensures)) in
-    subst (λ st. IsRefused (list_at st s.matrix.now s.register.now.people s.number s.prog.0 s.kinds.now s.steps.items s.kind s.seats s.candidates s.admitted s.pairs s.rows s.slots) c.args.line.now) (sym c.requires.stage)
-    (subst (λ z. IsRefused (steps_text s.register.now.people s.number s.prog.0 z s.steps.items) c.args.line.now) (sym c.requires.kinds)
-    (last-refused s.matrix.now s.register.now.people c.requires.keeps.known s.number s.prog.0 s.steps.items c.args.line.now c.requires.line other))
+    subst (λ st. IsRefused (list_at st s) c.args.line.now) (sym c.requires.stage)
+    (subst (λ z. IsRefused (steps_text s.register.now.people z (said_by s)) c.args.line.now) (sym c.requires.kinds)
+    (last-refused s.matrix.now s.register.now.people c.requires.keeps.known (said_by s) c.args.line.now c.requires.line other))
 
 pub returns-then-eq-clause-left : goal.returns-then-eq-clause-left
 returns-then-eq-clause-left c = λ _.
     let s = c.args.self.now in
     let n = length s.register.now.people in
-    subst (λ st. 1 < list_left st n s.kinds.now s.rows) (sym c.requires.stage) (subst (λ z. 1 < most_lines n z) (sym c.requires.kinds) (omega arith))
+    subst (λ st. 1 < left_at st n s.kinds.now) (sym c.requires.stage) (subst (λ z. 1 < most_lines n z) (sym c.requires.kinds) (omega arith))

@@ -1,8 +1,8 @@
 use Rattle.std.proofs.Common.{◌<◌, ◌≤◌, ◌+◌, length, sym, subst, arith}
 use Rattle.publish.specs.ListLines.{IsStepHead, after_rows, honoured_text, steps_text}
-use Rattle.publish.specs.ListReader.{IsInStage, list_at, list_left, most_lines}
+use Rattle.publish.specs.ListReader.{IsInStage, left_at, list_at, most_lines, said_by}
 use Rattle.publish.specs.Reading.{IsRefused, Leads}
-use Rattle.publish.proofs.StageLines.{step-leads, step-refused}
+use Rattle.publish.proofs.StageLines.{open_step, step-leads, step-refused}
 use Rattle.publish.proofs.list_reader.ListReader.take_step.Goals as goal
 
 pub returns-in_default-step_head-clause-answered : goal.returns-in_default-step_head-clause-answered
@@ -10,9 +10,9 @@ returns-in_default-step_head-clause-answered c =
     let s = c.args.self.now in
     let kind = c.in-Some.kind in
     let later = c.in-Some.later.now in
-    subst (λ st. IsRefused (list_at st s.matrix.now s.register.now.people s.number s.prog.0 s.kinds.now s.steps.items s.kind s.seats s.candidates s.admitted s.pairs s.rows s.slots) c.args.line.now) (sym c.requires.stage)
-    (subst (λ z. IsRefused (steps_text s.register.now.people s.number s.prog.0 z s.steps.items) c.args.line.now) (sym c.in-Some.ensures.some)
-    (step-refused s.matrix.now s.register.now.people c.requires.keeps.known s.number s.prog.0 s.steps.items kind later c.args.line.now c.requires.line
+    subst (λ st. IsRefused (list_at st s) c.args.line.now) (sym c.requires.stage)
+    (subst (λ z. IsRefused (steps_text s.register.now.people z (said_by s)) c.args.line.now) (sym c.in-Some.ensures.some)
+    (step-refused s.matrix.now s.register.now.people c.requires.keeps.known (said_by s) kind later c.args.line.now c.requires.line
     (λ part may. c.in_default-step_head.ensures.none part (subst (λ n. IsStepHead n part) (sym c.count_people.ensures) may))))
 
 pub returns-clause-answered : goal.returns-clause-answered
@@ -21,16 +21,16 @@ returns-clause-answered c =
     let kind = c.in-Some.kind in
     let later = c.in-Some.later.now in
     let head = c.in-Some-step_head.head in
-    let next = honoured_text s.register.now.people (after_rows s.register.now.people s.number s.prog.0 later s.steps.items kind head.seats head.candidates) kind head.admitted in
-    subst (λ st. Leads (list_at st s.matrix.now s.register.now.people s.number s.prog.0 s.kinds.now s.steps.items s.kind s.seats s.candidates s.admitted s.pairs s.rows s.slots) next c.args.line.now) (sym c.requires.stage)
-    (subst (λ z. Leads (steps_text s.register.now.people s.number s.prog.0 z s.steps.items) next c.args.line.now) (sym c.in-Some.ensures.some)
-    (step-leads s.matrix.now s.register.now.people c.requires.keeps.known s.number s.prog.0 s.steps.items kind later c.args.line.now c.requires.line (head.seats, head.candidates, head.admitted)
+    let next = honoured_text s.register.now.people (after_rows s.register.now.people later (said_by s) (open_step kind (head.seats, head.candidates, head.admitted))) kind head.admitted in
+    subst (λ st. Leads (list_at st s) next c.args.line.now) (sym c.requires.stage)
+    (subst (λ z. Leads (steps_text s.register.now.people z (said_by s)) next c.args.line.now) (sym c.in-Some.ensures.some)
+    (step-leads s.matrix.now s.register.now.people c.requires.keeps.known (said_by s) kind later c.args.line.now c.requires.line (head.seats, head.candidates, head.admitted)
     (subst (λ n. IsStepHead n (head.seats, head.candidates, head.admitted)) c.count_people.ensures c.in-Some-step_head.ensures.may) c.in-Some-step_head.ensures.some))
 
 pub returns-clause-keeps : goal.returns-clause-keeps
 returns-clause-keeps c = λ _.
     let s = c.args.self.now in
-    let unread = subst (λ st. IsInStage st s.register.now.people s.kinds.now s.steps.items s.admitted s.pairs s.rows s.slots) c.requires.stage c.requires.keeps.stage in
+    let unread = subst (λ st. IsInStage st s) c.requires.stage c.requires.keeps.stage in
     record {
       known = c.requires.keeps.known;
       used = c.requires.keeps.used;
@@ -43,5 +43,5 @@ returns-clause-left c = λ _.
     let n = length s.register.now.people in
     let later = c.in-Some.later.now in
     let few : c.in-Some-step_head.head.admitted ≤ n = omega (arith, c.in-Some-step_head.ensures.may.2, c.count_people.ensures) in
-    subst (λ st. most_lines n later + c.in-Some-step_head.head.admitted + 1 < list_left st n s.kinds.now s.rows) (sym c.requires.stage)
+    subst (λ st. most_lines n later + c.in-Some-step_head.head.admitted + 1 < left_at st n s.kinds.now) (sym c.requires.stage)
     (subst (λ z. most_lines n later + c.in-Some-step_head.head.admitted + 1 < most_lines n z) (sym c.in-Some.ensures.some) (omega (arith, few)))
