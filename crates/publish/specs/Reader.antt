@@ -5,7 +5,7 @@ use Rattle.keeper_mem.specs.declared.rows.AllotRow.{AllotRow}
 use Rattle.office_base.specs.declared.person.Person.{Person}
 use Rattle.publish.specs.Parts.{AreSpelled}
 use Rattle.publish.specs.Reading.{Grammar}
-use Rattle.publish.specs.Rows.{Read, grammar_at}
+use Rattle.publish.specs.Rows.{IsEnd, IsRest, IsRowsText, Read}
 use Rattle.publish.specs.declared.rows.RowsReader.{RowsReader}
 use Rattle.publish.specs.declared.stage.Stage.{Stage}
 use Rattle.publish.specs.declared.stage.Stage.TheVariants.{Head, Rows, Done}
@@ -14,9 +14,15 @@ use Rattle.publish.specs.declared.stage.Stage.TheVariants.{Head, Rows, Done}
 abbrev pub AreSmall : List Person → Type 0
 AreSmall people = AllByRecursion (λ person. person.id.0 < 2 ^ 32) people
 
--- what completes the text of a reader
+-- what completes the text of a reader at each stage
+abbrev pub grammar_at : Stage → RowsReader → Grammar Read
+grammar_at Head r = IsRowsText r.sort r.matrix.now r.people.now r.number
+grammar_at Rows r = IsRest r.sort r.matrix.now r.people.now r.number r.left r.rows
+grammar_at Done r = IsEnd r.number r.rows
+
+-- what completes the text of a reader at the stage where it is
 abbrev pub grammar_of : RowsReader → Grammar Read
-grammar_of r = grammar_at r.stage r.sort r.matrix.now r.people.now r.number r.left r.rows
+grammar_of r = grammar_at r.stage r
 
 -- a number above that of the lines to come
 abbrev pub lines_left : Stage → ℕ → ℕ → ℕ

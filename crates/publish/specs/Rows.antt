@@ -8,13 +8,10 @@ use Rattle.office_base.specs.declared.person.Person.{Person}
 use Rattle.published_texts.specs.Texts.{final_text, round_head, seat_line}
 use Rattle.seat_matrix.specs.Matrix.{SeatTable}
 use Rattle.publish.specs.Parts.{row_words}
-use Rattle.publish.specs.Reading.{Grammar}
 use Rattle.publish.specs.declared.reads.FinalRead.{FinalRead}
 use Rattle.publish.specs.declared.reads.RoundRead.{RoundRead}
 use Rattle.publish.specs.declared.sort.Sort.{Sort}
 use Rattle.publish.specs.declared.sort.Sort.TheVariants.{Round, Final}
-use Rattle.publish.specs.declared.stage.Stage.{Stage}
-use Rattle.publish.specs.declared.stage.Stage.TheVariants.{Head, Rows, Done}
 
 -- The candidates of the rows are some of these people, in their order; each row is of a programme of the matrix, and has this
 -- number as its round.
@@ -104,9 +101,3 @@ pub record IsEnd (number : ℕ) (rows : List AllotRow) (text : List ℕ) (read :
   pub numbered : read.0 ≡ number
   pub all : read.1 ≡ rows
   pub empty : text ≡ []
-
--- what completes a text at each stage
-abbrev pub grammar_at : Stage → Sort → SeatTable → List Person → ℕ → ℕ → List AllotRow → Grammar Read
-grammar_at Head sort table people number left rows = IsRowsText sort table people number
-grammar_at Rows sort table people number left rows = IsRest sort table people number left rows
-grammar_at Done sort table people number left rows = IsEnd number rows

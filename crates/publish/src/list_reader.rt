@@ -27,7 +27,9 @@ pub(crate) struct ListReader<'a> {
     pub(crate) matrix: &'a Matrix,
     pub(crate) register: &'a Register,
     pub(crate) stage: ListStage,
+    /// The round that the first line told; 0 before it.
     pub(crate) number: u16,
+    /// The programme that it told; the first one before it.
     pub(crate) prog: ProgId,
     /// The steps to come after the one that is read.
     pub(crate) kinds: &'a [StepKind],
