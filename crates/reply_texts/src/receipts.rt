@@ -6,35 +6,47 @@ ghost use Rattle.reply_texts.specs.Replies.{final_line, noted_line, published_li
 
 use crate::refusals::{push_named, push_numbered};
 use crate::words::{choice_name, standing_name};
-use keeper_mem::{AnswerRow, RaiseRow};
-use office_base::{CandId, OutOfMemory, Seat, Text};
+use office_base::{CandId, Choice, OutOfMemory, ProgId, Seat, StepKind, Text};
 use office_text::push_number;
 use round_options::Standing;
 use seat_matrix::Matrix;
 use step_lines::step_name;
 
 /// Puts the line of an accepted answer.
-pub(crate) fn push_noted(out: &mut Text, row: AnswerRow) -> Result<(), OutOfMemory>
-    ensures { OnOk result (out.new ≡ out.old ++ noted_line row.cand.0 row.window row.turn row.choice) }
+pub(crate) fn push_noted(
+    out: &mut Text,
+    cand: CandId,
+    window: u16,
+    turn: u16,
+    choice: Choice,
+) -> Result<(), OutOfMemory>
+    ensures { OnOk result (out.new ≡ out.old ++ noted_line cand.0 window turn choice) }
 {
-    push_numbered(out, b"noted ", row.cand.0)?;
-    push_numbered(out, b" window ", u32::from(row.window))?;
-    push_numbered(out, b" turn ", u32::from(row.turn))?;
-    push_named(out, b" ", choice_name(row.choice))?;
+    push_numbered(out, b"noted ", cand.0)?;
+    push_numbered(out, b" window ", u32::from(window))?;
+    push_numbered(out, b" turn ", u32::from(turn))?;
+    push_named(out, b" ", choice_name(choice))?;
     out.extend_from_slice(b"\n")
 }
 
 /// Puts the line of an accepted raise, whose programme is of the matrix.
-pub(crate) fn push_raised(out: &mut Text, matrix: &Matrix, row: RaiseRow) -> Result<(), OutOfMemory>
-    requires { row.prog.0 < length matrix.now.programmes }
-    ensures { OnOk result (out.new ≡ out.old ++ raised_line matrix.now row.window row.prog.0 (step_name row.step) row.seats) }
+pub(crate) fn push_raised(
+    out: &mut Text,
+    matrix: &Matrix,
+    window: u16,
+    prog: ProgId,
+    step: StepKind,
+    seats: u16,
+) -> Result<(), OutOfMemory>
+    requires { prog.0 < length matrix.now.programmes }
+    ensures { OnOk result (out.new ≡ out.old ++ raised_line matrix.now window prog.0 (step_name step) seats) }
 {
-    let code = matrix.code(row.prog);
+    let code = matrix.code(prog);
     out.extend_from_slice(b"raised ")?;
     out.extend_from_slice(code.bytes())?;
-    push_named(out, b" ", step_name(row.step))?;
-    push_numbered(out, b" window ", u32::from(row.window))?;
-    push_numbered(out, b" seats ", u32::from(row.seats))?;
+    push_named(out, b" ", step_name(step))?;
+    push_numbered(out, b" window ", u32::from(window))?;
+    push_numbered(out, b" seats ", u32::from(seats))?;
     out.extend_from_slice(b"\n")
 }
 
