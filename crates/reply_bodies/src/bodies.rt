@@ -11,8 +11,7 @@ use crate::refusals::refused_value;
 use crate::texts::{
     answers_are_ascii, code_value, codes_are_ascii, programme_of, step_of, text_value,
 };
-use keeper_mem::{AnswerRow, RaiseRow};
-use office_base::{CandId, OutOfMemory, ProgId, Seat, Text};
+use office_base::{CandId, Choice, OutOfMemory, ProgId, Seat, StepKind, Text};
 use office_moves::Reply;
 use programme_lists::Programme;
 use published_texts::{list_text, reason_text};
@@ -53,30 +52,13 @@ fn reply_value(alloc: Global, matrix: &Matrix, reply: &Reply) -> Result<Value, O
             window,
             turn,
             choice,
-        } => noted_value(
-            alloc,
-            AnswerRow {
-                window: *window,
-                cand: *cand,
-                turn: *turn,
-                choice: *choice,
-            },
-        ),
+        } => noted_value(alloc, *cand, *window, *turn, *choice),
         Reply::Raised {
             window,
             prog,
             step,
             seats,
-        } => raised_value(
-            alloc,
-            matrix,
-            RaiseRow {
-                window: *window,
-                prog: *prog,
-                step: *step,
-                seats: *seats,
-            },
-        ),
+        } => raised_value(alloc, matrix, *window, *prog, *step, *seats),
         Reply::Published { round, seated } => published_value(alloc, *round, *seated),
         Reply::Final { admitted } => final_value(alloc, *admitted),
         Reply::SeatIs {
@@ -101,27 +83,36 @@ fn reply_value(alloc: Global, matrix: &Matrix, reply: &Reply) -> Result<Value, O
 }
 
 /// The receipt of an answer.
-fn noted_value(alloc: Global, row: AnswerRow) -> Result<Value, OutOfMemory>
-    ensures { IfOk result (λ value. view value ≡ noted_data row.cand.0 row.window row.turn row.choice) }
+fn noted_value(
+    alloc: Global,
+    cand: CandId,
+    window: u16,
+    turn: u16,
+    choice: Choice,
+) -> Result<Value, OutOfMemory>
+    ensures { IfOk result (λ value. view value ≡ noted_data cand.0 window turn choice) }
 {
-    let cand = row.cand.0;
-    let choice = choice_name(row.choice);
-    let turn = row.turn;
-    let window = row.window;
+    let cand = cand.0;
+    let choice = choice_name(choice);
     Ok(
         json!(in alloc; {"cand": cand, "choice": choice, "reply": "noted", "turn": turn, "window": window})?,
     )
 }
 
 /// The receipt of a raise, whose programme is of the matrix.
-fn raised_value(alloc: Global, matrix: &Matrix, row: RaiseRow) -> Result<Value, OutOfMemory>
-    requires { row.prog.0 < length matrix.now.programmes }
-    ensures { IfOk result (λ value. view value ≡ raised_data matrix.now row.window row.prog.0 row.step row.seats) }
+fn raised_value(
+    alloc: Global,
+    matrix: &Matrix,
+    window: u16,
+    prog: ProgId,
+    step: StepKind,
+    seats: u16,
+) -> Result<Value, OutOfMemory>
+    requires { prog.0 < length matrix.now.programmes }
+    ensures { IfOk result (λ value. view value ≡ raised_data matrix.now window prog.0 step seats) }
 {
-    let code = code_value(alloc, matrix, row.prog)?;
-    let seats = row.seats;
-    let step = step_name(row.step);
-    let window = row.window;
+    let code = code_value(alloc, matrix, prog)?;
+    let step = step_name(step);
     Ok(
         json!(in alloc; {"programme": &code, "reply": "raised", "seats": seats, "step": step, "window": window})?,
     )
