@@ -1,0 +1,11 @@
+mod Chosen
+mod Cut
+mod Lengths
+mod Numbers
+mod Places
+mod Plain
+mod Ranges
+mod Registered
+mod Requested
+mod Seated
+mod Whole
