@@ -73,7 +73,8 @@ fn main(rt: HostRuntime) -> ExitCode {
         Ok(status) => status,
         Err(unopened) => return tell_unopened(&rt, unopened),
     };
-    let status = match sink.finish() {
+    let (_, given) = sink.finish();
+    let status = match given {
         Ok(()) => status,
         Err(_) => Status::WriteFault,
     };

@@ -226,7 +226,8 @@ fn fails_once<R: Threads + Wait + Sync>(
     };
     let keeper = SureKeeper::new(alloc);
     let (ended, _) = without_doors(rt, alloc, &words, &mut source, &mut sink, keeper);
-    let ended = if sink.finish().is_ok() {
+    let (_, given) = sink.finish();
+    let ended = if given.is_ok() {
         ended
     } else {
         Status::WriteFault

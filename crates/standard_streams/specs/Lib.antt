@@ -1,0 +1,2 @@
+-- What the streams of a program tell.
+pub mod Streams

@@ -1,16 +1,19 @@
-// Standard input and output as a source and a sink. They are the trusted edge: they tell no bytes, and raise a counter,
-// which begins with 0, at each error.
-ghost use Rattle.std.specs.Prelude.{◌≡◌, ◌≤◌, ◌⊎◌, IfOk, OnOk, None, length};
-ghost use Rattle.std.specs.Io.KnownBytes.{Appends};
+// Standard input and output as a source and a sink. To the office they are the trusted edge: they tell it no bytes, and raise a counter, which begins
+// with 0, at each error. What they do to a reader and a writer that tell their bytes stands in clauses of their own.
+ghost use Rattle.std.specs.Prelude.{◌≡◌, ◌<◌, ◌≤◌, ◌⊎◌, [], ℕ, List, Option, IfOk, OnOk, OnErr, None, length, take, true};
+ghost use Rattle.std.specs.Io.KnownBytes.{Appends, Keeps, ReadConsumes};
 ghost use Rattle.office_base.specs.FaultLines.{memory_line};
+ghost use Rattle.office_base.specs.Memory.{counted};
+ghost use Rattle.office_base.specs.Outside.{AppendsPrefix, ComesAtTheEnd, Rose, TakesPrefix};
 ghost use Rattle.command_answers.specs.declared.status.Status.TheVariants as status;
+ghost use Rattle.standard_streams.specs.Streams.{AppendsFront, AreFront, given_or_held, held, inner_writer};
 
 use command_answers::Status;
 use office_base::{Failed, OutOfMemory, Sink, Source};
 use std::alloc::Global;
 use std::io::{self, BufWriter, Read, Write};
 
-/// A reader whose bytes are not told.
+/// A reader whose bytes are not told to the office.
 #[derive(Drop)]
 pub struct StandardInput<R: Read> {
     reader: R,
@@ -19,7 +22,8 @@ pub struct StandardInput<R: Read> {
 
 impl<R: Read> StandardInput<R> {
     pub fn new(reader: R) -> StandardInput<R>
-        ensures { result.faults ≡ 0 }
+        ensures reader { result.reader ≡ reader }
+        ensures faults { result.faults ≡ 0 }
     {
         StandardInput { reader, faults: 0 }
     }
@@ -30,7 +34,18 @@ impl<R: Read> Source for StandardInput<R> {
 
     ghost faults = { λ input. input.faults };
 
-    fn read(&mut self, buf: &mut [u8]) -> Result<usize, Failed> {
+    fn read(&mut self, buf: &mut [u8]) -> Result<usize, Failed>
+        ensures within { IfOk result (λ n. n ≤ length buf.old) }
+        ensures taken { IfOk result (λ n. TakesPrefix n None None buf.new) }
+        ensures ended { IfOk result (λ n. ComesAtTheEnd n (length buf.old) None) }
+        ensures kept { OnErr result (◌≡◌ {A = Option (List ℕ)} None None) }
+        ensures count { self.old.faults ≤ self.new.faults }
+        ensures steady { OnOk result (self.new.faults ≡ self.old.faults) }
+        ensures cause { OnErr result (Rose self.old.faults self.new.faults) }
+        // what the reader gives is what is read: its end is one only where nothing is left in it, and a failure, which is one fault more, takes nothing
+        ensures bytes { ReadConsumes (R.remaining self.old.reader) (R.remaining self.new.reader) result buf.new }
+        ensures raised { OnErr result (self.new.faults ≡ counted self.old.faults) }
+    {
         match self.reader.read(buf) {
             Ok(count) => Ok(count),
             Err(_) => {
@@ -44,7 +59,7 @@ impl<R: Read> Source for StandardInput<R> {
 // How many bytes are held before they are given on.
 const BLOCK_LEN: usize = 65_536;
 
-/// A writer whose bytes are not told. They are held in a block, and given on where it is full, at the end, and where `at_once` is set at each write.
+/// A writer whose bytes are not told to the office. They are held in a block, and given on where it is full, at the end, and where `at_once` is set at each write.
 #[derive(Drop)]
 pub struct StandardOutput<W: Write + Drop> {
     writer: BufWriter<W>,
@@ -55,7 +70,10 @@ pub struct StandardOutput<W: Write + Drop> {
 impl<W: Write + Drop> StandardOutput<W> {
     /// It takes the memory of the block. `at_once` is for a terminal, where what is written should be seen before more is read.
     pub fn new(alloc: Global, writer: W, at_once: bool) -> Result<StandardOutput<W>, OutOfMemory>
-        ensures { IfOk result (λ output. output.faults ≡ 0) }
+        ensures faults { IfOk result (λ output. output.faults ≡ 0) }
+        ensures at_once { IfOk result (λ output. output.at_once ≡ at_once) }
+        ensures writer { IfOk result (λ output. inner_writer output ≡ writer) }
+        ensures empty { IfOk result (λ output. held output ≡ []) }
     {
         let Ok(writer) = BufWriter::with_capacity(alloc, BLOCK_LEN, writer) else {
             return Err(OutOfMemory);
@@ -67,26 +85,36 @@ impl<W: Write + Drop> StandardOutput<W> {
         })
     }
 
-    /// Gives on what is held. After an error, here or before, what is still held is given up.
-    pub fn finish(self) -> Result<(), Failed>
-        ensures ok { OnOk result (self.faults ≡ 0) }
+    /// Gives on what is held, and gives the writer back. After an error, here or before, what is still held is given up.
+    pub fn finish(self) -> (W, Result<(), Failed>)
+        ensures steady { OnOk result.1 (self.faults ≡ 0) }
+        // all that was held follows what the writer had, in order and once
+        ensures whole { OnOk result.1 (Keeps (given_or_held W.contents self) (W.contents result.0)) }
+        // at an error a front of it does
+        ensures front { AreFront (W.contents result.0) (given_or_held W.contents self) }
     {
         let StandardOutput {
             mut writer,
             at_once: _,
             faults,
         } = self;
-        if faults == 0 && writer.flush().is_ok() {
-            return Ok(());
+        let is_given = faults == 0 && writer.flush().is_ok();
+        let (writer, _) = writer.into_parts();
+        if is_given {
+            (writer, Ok(()))
+        } else {
+            (writer, Err(Failed))
         }
-        let (_, _) = writer.into_parts();
-        Err(Failed)
     }
 
-    // Takes a prefix of the piece into the block.
+    // Takes a prefix of the piece into the block, and gives on the block where nothing is to be held. At an error that prefix may be held.
     fn hold(&mut self, piece: &[u8]) -> io::Result<usize>
         ensures within { IfOk result (λ n. n ≤ length piece.now) }
         ensures faults { self.new.faults ≡ self.old.faults }
+        ensures at_once { self.new.at_once ≡ self.old.at_once }
+        ensures bytes { IfOk result (λ n. Appends (given_or_held W.contents self.old) (given_or_held W.contents self.new) (take n piece.now)) }
+        ensures front { AppendsFront (given_or_held W.contents self.old) (given_or_held W.contents self.new) piece.now }
+        ensures seen { OnOk result (self.old.at_once ≡ true → held self.new ≡ []) }
     {
         let count = self.writer.write(piece)?;
         if self.at_once {
@@ -101,7 +129,21 @@ impl<W: Write + Drop> Sink for StandardOutput<W> {
 
     ghost faults = { λ output. output.faults };
 
-    fn write(&mut self, piece: &[u8]) -> Result<usize, Failed> {
+    fn write(&mut self, piece: &[u8]) -> Result<usize, Failed>
+        ensures within { IfOk result (λ n. n ≤ length piece.now) }
+        ensures some { IfOk result (λ n. 0 < length piece.now → 0 < n) }
+        ensures appended { IfOk result (λ n. AppendsPrefix n piece.now None None) }
+        ensures kept { OnErr result (◌≡◌ {A = Option (List ℕ)} None None) }
+        ensures count { self.old.faults ≤ self.new.faults }
+        ensures steady { OnOk result (self.new.faults ≡ self.old.faults) }
+        ensures cause { OnErr result (Rose self.old.faults self.new.faults) }
+        // the prefix that is told follows what was given on and held, once; with `at_once` all of it is given on. A failure is one fault more
+        ensures bytes { IfOk result (λ n. Appends (given_or_held W.contents self.old) (given_or_held W.contents self.new) (take n piece.now)) }
+        ensures front { AppendsFront (given_or_held W.contents self.old) (given_or_held W.contents self.new) piece.now }
+        ensures seen { OnOk result (self.old.at_once ≡ true → held self.new ≡ []) }
+        ensures at_once { self.new.at_once ≡ self.old.at_once }
+        ensures raised { OnErr result (self.new.faults ≡ counted self.old.faults) }
+    {
         match self.hold(piece) {
             Ok(count) if 0 < count || piece.is_empty() => Ok(count),
             _ => {

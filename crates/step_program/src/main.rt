@@ -27,7 +27,8 @@ fn main(rt: HostRuntime) -> ExitCode {
         Ok(false) => write_answer(&mut sink, b"fault: usage\n", Status::Usage),
         Err(OutOfMemory) => tell_no_memory(&mut sink),
     };
-    let status = match sink.finish() {
+    let (_, given) = sink.finish();
+    let status = match given {
         Ok(()) => status,
         Err(_) => Status::WriteFault,
     };
