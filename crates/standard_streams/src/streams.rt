@@ -90,8 +90,9 @@ impl<W: Write + Drop> StandardOutput<W> {
         ensures steady { OnOk result.1 (self.faults ≡ 0) }
         // all that was held follows what the writer had, in order and once
         ensures whole { OnOk result.1 (Keeps (given_or_held W.contents self) (W.contents result.0)) }
-        // at an error a front of it does
+        // else a front of it does; where a write failed before, nothing more is given on
         ensures front { AreFront (W.contents result.0) (given_or_held W.contents self) }
+        ensures given_up { 0 < self.faults → result.0 ≡ inner_writer self }
     {
         let StandardOutput {
             mut writer,
