@@ -1,12 +1,11 @@
 -- Each answer is noted or refused, and no other request is counted.
-use Rattle.std.proofs.Common.{◌≡◌, ◌+◌, ◌-◌, ◌==◌, ◌&&◌, ◌||◌, ℕ, Bool, true, false, not, nat_le, nat_lt, length, List, [], ◌∷◌, Option, Some, None, cond, if◌then◌else◌, arith, refl, sym, ap, subst, ◌∙◌}
+use Rattle.std.proofs.Common.{◌≡◌, ◌+◌, ◌-◌, ◌==◌, ◌&&◌, ◌||◌, ℕ, Bool, true, false, not, nat_le, nat_lt, length, [], ◌∷◌, Option, Some, None, cond, if◌then◌else◌, arith, refl, ap, ◌∙◌}
 use Rattle.std.proofs.lemmas.List.Sums.{sum_by-cons}
 use Rattle.office_base.specs.Limits.{most_matrix_seats, most_step_seats, most_turns}
 use Rattle.office_base.specs.declared.asks.Ask.{Ask}
 use Rattle.office_base.specs.declared.asks.Ask.TheVariants.{Answer, Cut, Seat, Why, List as AskList, State as AskState, Raise}
 use Rattle.office_base.specs.declared.asks.By.{By}
 use Rattle.office_base.specs.declared.asks.Choice.{Choice}
-use Rattle.office_base.specs.declared.asks.Request.{Request}
 use Rattle.office_base.specs.declared.person.CandId.{CandId}
 use Rattle.office_base.specs.declared.person.ProgId.{ProgId}
 use Rattle.keeper_mem.specs.declared.rows.AnswerRow.{AnswerRow}
@@ -17,7 +16,7 @@ use Rattle.office_moves.specs.Facts.{SeasonFacts, find_programme}
 use Rattle.office_moves.specs.State.{State, view_of}
 use Rattle.office_moves.specs.Decided.{answer_looks, decide_raise_of, decided_by, is_chosen_by, is_known, raise_looks}
 use Rattle.office_moves.specs.Judge.{choice_of, is_candidate, is_clerk, is_gone, is_withdraw, judge_answer, judge_cut, judge_list, judge_raise, judge_seat, judge_why, may_ask, not_open, once_more, refuse_as, refuse_if, same_choice, with_programme}
-use Rattle.office_moves.specs.Moves.{Does, receipt}
+use Rattle.office_moves.specs.Moves.{Does}
 use Rattle.office_moves.specs.declared.decide.AnswerLooks.{AnswerLooks}
 use Rattle.office_moves.specs.declared.decide.Decision.{Decision}
 use Rattle.office_moves.specs.declared.decide.Decision.TheVariants.{Refuse, NotedAgain, RaisedAgain, CutAgain, Note, Lift, Publish, Finish, TellSeat, TellWhy, TellList, TellState}
@@ -27,7 +26,7 @@ use Rattle.office_moves.specs.declared.moves.Reply.TheVariants.{Published, Final
 use Rattle.office_moves.specs.declared.refusal.Refusal.{Refusal}
 use Rattle.office_moves.specs.declared.refusal.Refusal.TheVariants.{UnknownCandidate, Denied, TurnUsed, Ahead, Gap, Gone, NoSeat, Widening, TooManyTurns, NotChosen, NoSuchRound, LastWindow, StepFixed, Falling, SeatLimit}
 use Rattle.script_runs.specs.Laws.{EachAnswerIsCounted}
-use Rattle.script_runs.specs.Tally.{Handled, answers_in, is_answer, is_receipt, is_refusal, is_refused_answer, noted_in, refused_in, requests_of}
+use Rattle.script_runs.specs.Tally.{is_answer, is_receipt, is_refusal, is_refused_answer, requests_of}
 
 -- ---- decisions and their replies
 

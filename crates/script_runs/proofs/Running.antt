@@ -1,7 +1,7 @@
 -- A run from request to request.
 use Rattle.std.proofs.Common.{◌≡◌, ◌<◌, ◌+◌, ◌⊎◌, inl, inr, ℕ, zero, suc, List, [], ◌∷◌, ◌++◌, Option, Some, None, Result, Ok, Err, length, take, get_or, map, arith, refl, sym, ap, subst, ◌∙◌, append_assoc, append-nil}
 use Rattle.std.specs.Prelude.{IfOk, OnOk, OnErr, slice_get}
-use Rattle.std.proofs.lemmas.List.{take_more}
+use Rattle.std.proofs.lemmas.List.{take_all, take_more}
 use Rattle.office_base.specs.Numbered.{last_of}
 use Rattle.office_base.specs.Outside.{Appends}
 use Rattle.office_base.specs.declared.asks.Request.{Request}
@@ -18,9 +18,9 @@ use Rattle.office_moves.specs.declared.moves.Reply.{Reply}
 use Rattle.histories.specs.Laws.{HistoryGrows}
 use Rattle.proceedings.specs.Proceeding.{last_of as last_number}
 use Rattle.round_cut.specs.declared.fault.OfficeFault.{OfficeFault}
-use Rattle.script_runs.specs.Runs.{Accepts, AfterSome, Answers, EndsBefore, EndsWell, EndsWithin, reply_bytes}
-use Rattle.script_runs.specs.declared.run.RunEnd.{RunEnd}
-use Rattle.script_runs.specs.declared.run.RunEnd.TheVariants.{Done, KeeperFault, OutOfMemory, WriteFault}
+use Rattle.script_runs.specs.Runs.{Accepts, AfterSome, Answers, EndsBefore, EndsWell, EndsWithin, Moment, reply_bytes}
+use Rattle.script_runs.specs.declared.fault.RunFault.{RunFault}
+use Rattle.script_runs.specs.declared.fault.RunFault.TheVariants.{KeeperFault, OutOfMemory, WriteFault}
 use Rattle.script_runs.specs.Steps.{HasAccepted, IsAnswered, IsAnsweredInPart, IsUnanswered}
 use Rattle.script_runs.proofs.RunLemmas.{goes_on}
 
@@ -65,31 +65,26 @@ next_at script j request less is = record {
   more = take_more script j request less ∙ ap (λ r. take j script ++ r ∷ []) (sym is);
 }
 
--- The first j requests are answered and their replies are written; no count rose.
-pub record IsRunning (facts : SeasonFacts) (start : State) (begun : List Entry) (script : List Request) (j : ℕ) (season : SeasonFacts) (entries : List Entry) (state : State) (tables : Tables)
-    (before after : Option (List ℕ)) (keeper_then keeper_now sink_then sink_now : ℕ) : Type 0 where
+-- The first j requests are answered and their replies are written.
+pub record IsRunning (facts : SeasonFacts) (script : List Request) (j : ℕ) (season : SeasonFacts) (old now : Moment) : Type 0 where
   pub same : season ≡ facts
-  pub history : IsHistory season entries state
-  pub stands : Stand season state tables
+  pub history : IsHistory season now.entries now.state
+  pub stands : Stand season now.state now.tables
   pub output : List ℕ
-  pub run : AfterSome facts start script j output state tables
-  pub accepted : Accepts facts start begun (take j script) state entries
-  pub written : Appends output before after
-  pub keeper : keeper_now ≡ keeper_then
-  pub sink : sink_now ≡ sink_then
+  pub run : AfterSome facts old.state (take j script) output now.state now.tables
+  pub accepted : Accepts facts old.state old.entries (take j script) now.state now.entries
+  pub written : Appends output old.written now.written
 
-pub begins : (facts : SeasonFacts) (start : State) (script : List Request) (entries : List Entry) (tables : Tables) (written : Option (List ℕ)) (keeper sink : ℕ) → IsHistory facts entries start
-    → KeepsItsWord facts start → Stand facts start tables → IsRunning facts start entries script 0 facts entries start tables written written keeper keeper sink sink
-begins facts start script entries tables written keeper sink history word stands = record {
+pub begins : (facts : SeasonFacts) (script : List Request) (start : Moment) → IsHistory facts start.entries start.state → KeepsItsWord facts start.state → Stand facts start.state start.tables
+    → IsRunning facts script 0 facts start start
+begins facts script start history word stands = record {
   same = refl;
   history = history;
   stands = stands;
   output = [];
-  run = record { answers = (refl, refl); history = (entries, history); promise = word; stands = stands };
+  run = record { answers = (refl, refl); history = (start.entries, history); promise = word; stands = stands };
   accepted = (refl, refl);
-  written = nothing_written written written refl;
-  keeper = refl;
-  sink = refl;
+  written = nothing_written start.written start.written refl;
 }
 
 -- what is known of the office after a request
@@ -101,8 +96,8 @@ pub record IsLeft (facts season : SeasonFacts) (entries : List Entry) (state : S
 
 -- the run is longer by one request, which led to this state
 longer : (facts : SeasonFacts) (start mid new : State) (script : List Request) (j : ℕ) (request : Request) (output : List ℕ) (reply : Reply) (season : SeasonFacts) (entries : List Entry) (told tables : Tables)
-    → AfterSome facts start script j output mid told → IsNext script j request → IsMove facts mid request reply new → IsLeft facts season entries new tables
-    → AfterSome facts start script (j + 1) (output ++ reply_bytes facts new reply) new tables
+    → AfterSome facts start (take j script) output mid told → IsNext script j request → IsMove facts mid request reply new → IsLeft facts season entries new tables
+    → AfterSome facts start (take (j + 1) script) (output ++ reply_bytes facts new reply) new tables
 longer facts start mid new script j request output reply season entries told tables some next moves left = record {
   answers = subst (λ rs. Answers facts start rs (output ++ reply_bytes facts new reply) new) (sym next.more)
       (goes_on facts start mid new (take j script) request reply output some.answers moves);
@@ -133,107 +128,119 @@ pub accepts_next : (facts : SeasonFacts) (start : State) (begun : List Entry) (s
 accepts_next facts start begun script j request mid new kept after reply next before moves grows =
     subst (λ rs. Accepts facts start begun rs new after) (sym next.more) (accepts_more facts start mid new begun kept after (take j script) request reply before moves grows)
 
+-- all bytes of the reply are written
+pub answered_whole : (facts : SeasonFacts) (request : Request) (old new : Moment) (reply : Reply) → IsMove facts old.state request reply new.state → HasAccepted facts old.state request old.entries new.entries
+    → Appends (reply_bytes facts new.state reply) old.written new.written → IsAnswered facts request old new
+answered_whole facts request old new reply moves accepted written =
+    let bytes = reply_bytes facts new.state reply in
+    let all : take (length bytes) bytes ≡ bytes = take_all (length bytes) bytes (omega arith) in
+    (length bytes, record { reply = reply; moves = moves; accepted = accepted; written = subst (λ xs. Appends xs old.written new.written) (sym all) written }, refl)
+
+-- what is answered, by the season of the run
+abbrev answered_at : (facts season : SeasonFacts) (request : Request) (n : ℕ) (now new : Moment) → season ≡ facts → IsAnsweredInPart season request n now new → IsAnsweredInPart facts request n now new
+answered_at facts season request n now new same part = record {
+  reply = part.reply;
+  moves = subst (λ f. IsMove f now.state request part.reply new.state) same part.moves;
+  accepted = subst (λ f. HasAccepted f now.state request now.entries new.entries) same part.accepted;
+  written = subst (λ f. Appends (take n (reply_bytes f new.state part.reply)) now.written new.written) same part.written;
+}
+
+left_at : (facts season season' : SeasonFacts) (new : Moment) → season ≡ facts → IsLeft season season' new.entries new.state new.tables → IsLeft facts season' new.entries new.state new.tables
+left_at facts season season' new same left = record { same = left.same ∙ same; history = left.history; word = left.word; stands = left.stands }
+
 -- a reply is written
-pub goes : (facts : SeasonFacts) (start : State) (begun : List Entry) (script : List Request) (j : ℕ) (request : Request) (season season' : SeasonFacts) (entries entries' : List Entry) (state state' : State) (tables tables' : Tables)
-    (before after after' : Option (List ℕ)) (keeper keeper_now keeper_new sink sink_now sink_new : ℕ) → IsRunning facts start begun script j season entries state tables before after keeper keeper_now sink sink_now
-    → IsNext script j request → IsAnswered season state entries request state' entries' after after' → IsLeft season season' entries' state' tables' → keeper_new ≡ keeper_now → sink_new ≡ sink_now
-    → IsRunning facts start begun script (j + 1) season' entries' state' tables' before after' keeper keeper_new sink sink_new
-goes facts start begun script j request season season' entries entries' state state' tables tables' before after after' keeper keeper_now keeper_new sink sink_now sink_new running next answered left kept steady =
-    let moves : IsMove facts state request answered.reply state' = subst (λ f. IsMove f state request answered.reply state') running.same answered.moves in
-    let now : IsLeft facts season' entries' state' tables' = record { same = left.same ∙ running.same; history = left.history; word = left.word; stands = left.stands } in
+pub goes : (facts : SeasonFacts) (script : List Request) (j : ℕ) (request : Request) (season season' : SeasonFacts) (old now new : Moment) → IsRunning facts script j season old now → IsNext script j request
+    → IsAnswered season request now new → IsLeft season season' new.entries new.state new.tables → IsRunning facts script (j + 1) season' old new
+goes facts script j request season season' old now new running next (n, some, all) left =
+    let part = answered_at facts season request n now new running.same some in
+    let bytes = reply_bytes facts new.state part.reply in
+    let whole : n ≡ length bytes = subst (λ f. n ≡ length (reply_bytes f new.state some.reply)) running.same all in
+    let here = left_at facts season season' new running.same left in
     record {
-      same = left.same ∙ running.same;
-      history = left.history;
-      stands = left.stands;
-      output = running.output ++ reply_bytes facts state' answered.reply;
-      run = longer facts start state state' script j request running.output answered.reply season' entries' tables tables' running.run next moves now;
-      accepted = accepts_next facts start begun script j request state state' entries entries' answered.reply next running.accepted moves
-          (subst (λ f. HasAccepted f state request entries entries') running.same answered.accepted);
-      written = appends_on running.output (reply_bytes facts state' answered.reply) before after after' running.written
-          (subst (λ f. Appends (reply_bytes f state' answered.reply) after after') running.same answered.written);
-      keeper = kept ∙ running.keeper;
-      sink = steady ∙ running.sink;
+      same = here.same;
+      history = here.history;
+      stands = here.stands;
+      output = running.output ++ bytes;
+      run = longer facts old.state now.state new.state script j request running.output part.reply season' new.entries now.tables new.tables running.run next part.moves here;
+      accepted = accepts_next facts old.state old.entries script j request now.state new.state now.entries new.entries part.reply next running.accepted part.moves part.accepted;
+      written = appends_on running.output bytes old.written now.written new.written running.written
+          (subst (λ xs. Appends xs now.written new.written) (take_all n bytes (omega (arith, whole))) part.written);
     }
 
 -- ---- ends
 
 -- the request is not answered
-pub stops_before : (facts : SeasonFacts) (start : State) (begun : List Entry) (script : List Request) (j : ℕ) (season season' : SeasonFacts) (entries entries' : List Entry) (state state' : State) (tables tables' : Tables)
-    (before after after' : Option (List ℕ)) (keeper keeper_now sink sink_now : ℕ) → IsRunning facts start begun script j season entries state tables before after keeper keeper_now sink sink_now
-    → j < length script → IsUnanswered state entries state' entries' after after' → IsLeft season season' entries' state' tables'
-    → EndsBefore facts start script (record { state = state'; tables = tables'; before = before; after = after' })
-stops_before facts start begun script j season season' entries entries' state state' tables tables' before after after' keeper keeper_now sink sink_now running within unanswered left = (
+pub stops_before : (facts : SeasonFacts) (script : List Request) (j : ℕ) (season season' : SeasonFacts) (old now new : Moment) → IsRunning facts script j season old now → j < length script
+    → IsUnanswered now new → IsLeft season season' new.entries new.state new.tables → EndsBefore facts script old new
+stops_before facts script j season season' old now new running within unanswered left = (
   j,
   running.output,
   within,
   record {
-    answers = subst (λ s. Answers facts start (take j script) running.output s) (sym unanswered.same) running.run.answers;
-    history = subst (λ s. (es : List Entry) × IsHistory facts es s) (sym unanswered.same) running.run.history;
-    promise = subst (λ s. KeepsItsWord facts s) (sym unanswered.same) running.run.promise;
-    stands = subst (λ f. Stand f state' tables') (left.same ∙ running.same) left.stands;
+    answers = subst (λ s. Answers facts old.state (take j script) running.output s) (sym unanswered.state) running.run.answers;
+    history = subst (λ s. (es : List Entry) × IsHistory facts es s) (sym unanswered.state) running.run.history;
+    promise = subst (λ s. KeepsItsWord facts s) (sym unanswered.state) running.run.promise;
+    stands = subst (λ f. Stand f new.state new.tables) (left.same ∙ running.same) left.stands;
   },
-  subst (λ o. Appends running.output before o) (sym unanswered.written) running.written,
+  subst (λ o. Appends running.output old.written o) (sym unanswered.written) running.written,
 )
 
 -- the request is answered, and its reply is not written whole
-pub stops_within : (facts : SeasonFacts) (start : State) (begun : List Entry) (script : List Request) (j : ℕ) (request : Request) (season season' : SeasonFacts) (entries entries' : List Entry) (state state' : State)
-    (tables tables' : Tables) (before after after' : Option (List ℕ)) (keeper keeper_now sink sink_now n : ℕ) → IsRunning facts start begun script j season entries state tables before after keeper keeper_now sink sink_now
-    → IsNext script j request → IsAnsweredInPart season state entries request state' entries' n after after' → IsLeft season season' entries' state' tables'
-    → EndsWithin facts start script (record { state = state'; tables = tables'; before = before; after = after' }) n
-stops_within facts start begun script j request season season' entries entries' state state' tables tables' before after after' keeper keeper_now sink sink_now n running next answered left =
-    let moves : IsMove facts state request answered.reply state' = subst (λ f. IsMove f state request answered.reply state') running.same answered.moves in
-    let now : IsLeft facts season' entries' state' tables' = record { same = left.same ∙ running.same; history = left.history; word = left.word; stands = left.stands } in (
-      j,
+pub stops_within : (facts : SeasonFacts) (script : List Request) (j : ℕ) (request : Request) (season season' : SeasonFacts) (n : ℕ) (old now new : Moment) → IsRunning facts script j season old now
+    → IsNext script j request → IsAnsweredInPart season request n now new → IsLeft season season' new.entries new.state new.tables → EndsWithin facts script n old new
+stops_within facts script j request season season' n old now new running next some left =
+    let part = answered_at facts season request n now new running.same some in
+    let here = left_at facts season season' new running.same left in (
       running.output,
-      answered.reply,
       record {
-        mid = state;
+        j = j;
+        mid = now.state;
         request = request;
+        reply = part.reply;
         before = running.run.answers;
         there = next.there;
-        moves = moves;
-        after = longer facts start state state' script j request running.output answered.reply season' entries' tables tables' running.run next moves now;
+        moves = part.moves;
+        after = longer facts old.state now.state new.state script j request running.output part.reply season' new.entries now.tables new.tables running.run next part.moves here;
       },
-      appends_on running.output (take n (reply_bytes facts state' answered.reply)) before after after' running.written
-          (subst (λ f. Appends (take n (reply_bytes f state' answered.reply)) after after') running.same answered.written),
+      appends_on running.output (take n (reply_bytes facts new.state part.reply)) old.written now.written new.written running.written part.written,
     )
 
 -- all requests are answered
-pub ends_well : (facts : SeasonFacts) (start : State) (begun : List Entry) (script : List Request) (j : ℕ) (season : SeasonFacts) (entries : List Entry) (state : State) (tables : Tables) (before after : Option (List ℕ))
-    (keeper keeper_now sink sink_now : ℕ) → IsRunning facts start begun script j season entries state tables before after keeper keeper_now sink sink_now → j ≡ length script
-    → EndsWell facts start script (record { state = state; tables = tables; before = before; after = after })
-ends_well facts start begun script j season entries state tables before after keeper keeper_now sink sink_now running whole =
-    (running.output, subst (λ n. AfterSome facts start script n running.output state tables) whole running.run, running.written)
-
--- an end that is no fault
-pub two_ends : (end : RunEnd) → (end ≡ KeeperFault → ⊥) → (end ≡ WriteFault → ⊥) → (end ≡ Done) ⊎ (end ≡ OutOfMemory)
-two_ends Done kept took = inl refl
-two_ends KeeperFault kept took = absurd (kept refl)
-two_ends OutOfMemory kept took = inr refl
-two_ends WriteFault kept took = absurd (took refl)
+pub ends_well : (facts : SeasonFacts) (script : List Request) (j : ℕ) (season : SeasonFacts) (old now : Moment) → IsRunning facts script j season old now → j ≡ length script → EndsWell facts script old now
+ends_well facts script j season old now running whole =
+    (running.output, subst (λ rs. AfterSome facts old.state rs running.output now.state now.tables) (take_all j script (omega (arith, whole))) running.run, running.written)
 
 -- ---- the entries at an end
 
-pub accepts_before : (facts : SeasonFacts) (start : State) (begun : List Entry) (script : List Request) (j : ℕ) (season : SeasonFacts) (entries entries' : List Entry) (state state' : State)
-    (tables : Tables) (before after after' : Option (List ℕ)) (keeper keeper_now sink sink_now : ℕ) → IsRunning facts start begun script j season entries state tables before after keeper keeper_now sink sink_now
-    → IsUnanswered state entries state' entries' after after' → (n : ℕ) × Accepts facts start begun (take n script) state' entries'
-accepts_before facts start begun script j season entries entries' state state' tables before after after' keeper keeper_now sink sink_now running unanswered = (
+accepts_before : (facts : SeasonFacts) (script : List Request) (j : ℕ) (season : SeasonFacts) (old now new : Moment) → IsRunning facts script j season old now → IsUnanswered now new
+    → (n : ℕ) × Accepts facts old.state old.entries (take n script) new.state new.entries
+accepts_before facts script j season old now new running unanswered = (
   j,
-  subst (λ s. Accepts facts start begun (take j script) s entries') (sym unanswered.same)
-      (subst (λ es. Accepts facts start begun (take j script) state es) (sym unanswered.entries) running.accepted),
+  subst (λ s. Accepts facts old.state old.entries (take j script) s new.entries) (sym unanswered.state)
+      (subst (λ es. Accepts facts old.state old.entries (take j script) now.state es) (sym unanswered.entries) running.accepted),
 )
 
-pub accepts_within : (facts : SeasonFacts) (start : State) (begun : List Entry) (script : List Request) (j : ℕ) (request : Request) (season : SeasonFacts) (entries entries' : List Entry) (state state' : State)
-    (tables : Tables) (before after after' : Option (List ℕ)) (keeper keeper_now sink sink_now n : ℕ) → IsRunning facts start begun script j season entries state tables before after keeper keeper_now sink sink_now
-    → IsNext script j request → IsAnsweredInPart season state entries request state' entries' n after after' → (m : ℕ) × Accepts facts start begun (take m script) state' entries'
-accepts_within facts start begun script j request season entries entries' state state' tables before after after' keeper keeper_now sink sink_now n running next answered = (
-  j + 1,
-  accepts_next facts start begun script j request state state' entries entries' answered.reply next running.accepted
-      (subst (λ f. IsMove f state request answered.reply state') running.same answered.moves) (subst (λ f. HasAccepted f state request entries entries') running.same answered.accepted),
-)
+accepts_within : (facts : SeasonFacts) (script : List Request) (j : ℕ) (request : Request) (season : SeasonFacts) (n : ℕ) (old now new : Moment) → IsRunning facts script j season old now
+    → IsNext script j request → IsAnsweredInPart season request n now new → (m : ℕ) × Accepts facts old.state old.entries (take m script) new.state new.entries
+accepts_within facts script j request season n old now new running next some =
+    let part = answered_at facts season request n now new running.same some in
+    (j + 1, accepts_next facts old.state old.entries script j request now.state new.state now.entries new.entries part.reply next running.accepted part.moves part.accepted)
 
-pub at_fault : (P : Type 0) (end : RunEnd) → (end ≡ Done → ⊥) → (end ≡ KeeperFault → P) → (end ≡ OutOfMemory → P) → (end ≡ WriteFault → P) → P
-at_fault P Done other keeper memory write = absurd (other refl)
-at_fault P KeeperFault other keeper memory write = keeper refl
-at_fault P OutOfMemory other keeper memory write = memory refl
-at_fault P WriteFault other keeper memory write = write refl
+-- by each fault of the next request
+pub accepts_at_fault : (facts : SeasonFacts) (script : List Request) (j : ℕ) (request : Request) (season : SeasonFacts) (old now new : Moment) (fault : RunFault) → IsRunning facts script j season old now
+    → IsNext script j request → (fault ≡ KeeperFault → IsUnanswered now new) → (fault ≡ OutOfMemory → IsUnanswered now new ⊎ IsAnsweredInPart season request 0 now new)
+    → (fault ≡ WriteFault → (n : ℕ) × IsAnsweredInPart season request n now new) → (m : ℕ) × Accepts facts old.state old.entries (take m script) new.state new.entries
+accepts_at_fault facts script j request season old now new KeeperFault running next keeper memory write = accepts_before facts script j season old now new running (keeper refl)
+accepts_at_fault facts script j request season old now new OutOfMemory running next keeper memory write =
+    elim (memory refl) [
+      | inl un ↦ accepts_before facts script j season old now new running un
+      | inr part ↦ accepts_within facts script j request season 0 old now new running next part
+    ]
+accepts_at_fault facts script j request season old now new WriteFault running next keeper memory write =
+    let part = write refl in accepts_within facts script j request season part.0 old now new running next part.1
+
+-- a fault that neither the keeper nor the sink has
+pub of_memory : (fault : RunFault) → (fault ≡ KeeperFault → ⊥) → (fault ≡ WriteFault → ⊥) → fault ≡ OutOfMemory
+of_memory KeeperFault kept took = absurd (kept refl)
+of_memory OutOfMemory kept took = refl
+of_memory WriteFault kept took = absurd (took refl)

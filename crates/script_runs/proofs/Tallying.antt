@@ -1,5 +1,5 @@
 -- A counted run from request to request.
-use Rattle.std.proofs.Common.{◌≡◌, ◌<◌, ◌≤◌, ◌+◌, ℕ, true, false, Bool, List, [], ◌∷◌, ◌++◌, Result, Err, cond, length, take, arith, refl, sym, ap, subst, ◌∙◌}
+use Rattle.std.proofs.Common.{◌≡◌, ◌<◌, ◌≤◌, ◌+◌, ℕ, true, false, Bool, List, [], ◌∷◌, ◌++◌, cond, length, take, arith, refl, sym, ap, subst, ◌∙◌}
 use Rattle.std.proofs.lemmas.List.{map-append, take_all}
 use Rattle.std.proofs.lemmas.List.Sums.{sum_by_push}
 use Rattle.office_base.specs.declared.asks.Request.{Request}
@@ -11,7 +11,6 @@ use Rattle.office_moves.specs.History.{IsHistory}
 use Rattle.office_moves.specs.Promise.{KeepsItsWord}
 use Rattle.office_moves.specs.Stands.{Stand}
 use Rattle.office_moves.specs.declared.moves.Entry.{Entry}
-use Rattle.office_moves.specs.declared.moves.Reply.{Reply}
 use Rattle.script_runs.specs.Tally.{AfterHandled, AreHandled, CountsAll, Handled, IsCounted, StopsWithin, is_receipt, is_refused_answer, noted_in, refused_in, requests_of}
 use Rattle.script_runs.specs.declared.tally.Tally.{Tally}
 use Rattle.script_runs.proofs.Running.{IsLeft, IsNext}

@@ -18,6 +18,7 @@ use Rattle.office_moves.specs.declared.moves.Reply.{Reply}
 use Rattle.office_moves.specs.declared.moves.Reply.TheVariants.{Noted, Raised, Published, Final, SeatIs, WhyIs, ListIs, StateIs, Refused}
 use Rattle.proceedings.specs.Proceeding.{last_of}
 use Rattle.reply_texts.specs.Replies.{IsReplyOf, reply_text}
+use Rattle.round_cut.specs.Office.{Opened}
 
 -- ---- the text of a reply
 
@@ -65,51 +66,56 @@ Accepts facts old held [] new kept = (new ≡ old) × (kept ≡ held)
 Accepts facts old held (request ∷ requests) new kept = (reply : Reply) × (mid : State) × IsMove facts old request reply mid
     × Accepts facts mid (grown held (last_of held + 1) (newly old.now (decided facts old request))) requests new kept
 
--- The first j requests are answered, with this output: a history leads to the state, in which the office keeps its word, and the tables stand for it.
-pub record AfterSome (facts : SeasonFacts) (start : State) (script : List Request) (j : ℕ) (output : List ℕ) (state : State) (tables : Tables) : Type 0 where
-  pub answers : Answers facts start (take j script) output state
+-- Requests are answered, with this output: a history leads to the state, in which the office keeps its word, and the tables stand for it.
+pub record AfterSome (facts : SeasonFacts) (start : State) (requests : List Request) (output : List ℕ) (state : State) (tables : Tables) : Type 0 where
+  pub answers : Answers facts start requests output state
   pub history : (entries : List Entry) × IsHistory facts entries state
   pub promise : KeepsItsWord facts state
   pub stands : Stand facts state tables
 
--- The first j requests are answered, with this output, and one more with this reply, whose text comes after it.
-pub record AfterOneMore (facts : SeasonFacts) (start : State) (script : List Request) (j : ℕ) (output : List ℕ) (reply : Reply) (state : State) (tables : Tables) : Type 0 where
+-- The first j requests are answered, with this output, and one more, with a reply whose text comes after it.
+pub record AfterOneMore (facts : SeasonFacts) (start : State) (script : List Request) (output : List ℕ) (state : State) (tables : Tables) : Type 0 where
+  pub j : ℕ
   pub mid : State
   pub request : Request
+  pub reply : Reply
   pub before : Answers facts start (take j script) output mid
   pub there : slice_get script j ≡ Some request
   pub moves : IsMove facts mid request reply state
-  pub after : AfterSome facts start script (j + 1) (output ++ reply_bytes facts state reply) state tables
+  pub after : AfterSome facts start (take (j + 1) script) (output ++ reply_bytes facts state reply) state tables
 
 -- ---- how a run ends
 
--- what is known of an end, by the state and the tables then, and what was written before and after
-pub record Ended : Type 0 where
+-- a moment of a run: the state of the office, its entries, the tables of its keeper, and what is written so far
+pub record Moment : Type 0 where
   pub state : State
+  pub entries : List Entry
   pub tables : Tables
-  pub before : Option (List ℕ)
-  pub after : Option (List ℕ)
+  pub written : Option (List ℕ)
+
+-- the moment of an office, whose keeper has such tables, where this is written
+abbrev pub moment_of : {K : Type 0} → (K → Tables) → Opened K → Option (List ℕ) → Moment
+moment_of tables office written = record { state = office.state; entries = office.entries; tables = tables office.keeper; written = written }
 
 -- all requests are answered, and all replies are written
-abbrev pub EndsWell : SeasonFacts → State → List Request → Ended → Type 0
-EndsWell facts start script ended =
-    (output : List ℕ) × AfterSome facts start script (length script) output ended.state ended.tables × Appends output ended.before ended.after
+abbrev pub EndsWell : SeasonFacts → List Request → Moment → Moment → Type 0
+EndsWell facts script old new = (output : List ℕ) × AfterSome facts old.state script output new.state new.tables × Appends output old.written new.written
 
 -- the next request after the first j is not answered, and their replies are written
-abbrev pub EndsBefore : SeasonFacts → State → List Request → Ended → Type 0
-EndsBefore facts start script ended =
-    (j : ℕ) × (output : List ℕ) × (j < length script) × AfterSome facts start script j output ended.state ended.tables × Appends output ended.before ended.after
+abbrev pub EndsBefore : SeasonFacts → List Request → Moment → Moment → Type 0
+EndsBefore facts script old new =
+    (j : ℕ) × (output : List ℕ) × (j < length script) × AfterSome facts old.state (take j script) output new.state new.tables × Appends output old.written new.written
 
--- one more is answered, and of its reply this many bytes are written
-abbrev pub EndsWithin : SeasonFacts → State → List Request → Ended → ℕ → Type 0
-EndsWithin facts start script ended n =
-    (j : ℕ) × (output : List ℕ) × (reply : Reply) × AfterOneMore facts start script j output reply ended.state ended.tables
-    × Appends (output ++ take n (reply_bytes facts ended.state reply)) ended.before ended.after
+-- one more is answered, and n bytes of its reply are written
+abbrev pub EndsWithin : SeasonFacts → List Request → ℕ → Moment → Moment → Type 0
+EndsWithin facts script n old new =
+    (output : List ℕ) × (more : AfterOneMore facts old.state script output new.state new.tables)
+    × Appends (output ++ take n (reply_bytes facts new.state more.reply)) old.written new.written
 
 -- for want of memory a request is not answered, or its reply is not written at all
-abbrev pub EndsShort : SeasonFacts → State → List Request → Ended → Type 0
-EndsShort facts start script ended = EndsBefore facts start script ended ⊎ EndsWithin facts start script ended 0
+abbrev pub EndsShort : SeasonFacts → List Request → Moment → Moment → Type 0
+EndsShort facts script old new = EndsBefore facts script old new ⊎ EndsWithin facts script 0 old new
 
 -- where the sink fails, of the reply to the last answered request a prefix is written
-abbrev pub EndsCut : SeasonFacts → State → List Request → Ended → Type 0
-EndsCut facts start script ended = (n : ℕ) × EndsWithin facts start script ended n
+abbrev pub EndsCut : SeasonFacts → List Request → Moment → Moment → Type 0
+EndsCut facts script old new = (n : ℕ) × EndsWithin facts script n old new

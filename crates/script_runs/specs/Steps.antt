@@ -1,5 +1,5 @@
--- One request of a run: the state, the entries and what is written, before it and after it.
-use Rattle.std.specs.Prelude.{◌≡◌, ◌+◌, ℕ, List, Option, take}
+-- One request of a run, from the moment before it to the moment after it.
+use Rattle.std.specs.Prelude.{◌≡◌, ◌+◌, ℕ, List, length, take}
 use Rattle.office_base.specs.Outside.{Appends}
 use Rattle.office_base.specs.declared.asks.Request.{Request}
 use Rattle.office_moves.specs.Facts.{SeasonFacts}
@@ -10,28 +10,26 @@ use Rattle.office_moves.specs.History.{grown, newly}
 use Rattle.office_moves.specs.declared.moves.Entry.{Entry}
 use Rattle.office_moves.specs.declared.moves.Reply.{Reply}
 use Rattle.proceedings.specs.Proceeding.{last_of}
-use Rattle.script_runs.specs.Runs.{reply_bytes}
+use Rattle.script_runs.specs.Runs.{Moment, reply_bytes}
 
 -- the entries have what the request newly accepted, under the number after the last one
 abbrev pub HasAccepted : SeasonFacts → State → Request → List Entry → List Entry → Type 0
 HasAccepted facts old request held kept = kept ≡ grown held (last_of held + 1) (newly old.now (decided facts old request))
 
--- the request led to this state, and its reply is written whole
-pub record IsAnswered (facts : SeasonFacts) (old : State) (held : List Entry) (request : Request) (new : State) (kept : List Entry) (before after : Option (List ℕ)) : Type 0 where
+-- the request is answered, and n bytes of its reply are written
+pub record IsAnsweredInPart (facts : SeasonFacts) (request : Request) (n : ℕ) (old new : Moment) : Type 0 where
   pub reply : Reply
-  pub moves : IsMove facts old request reply new
-  pub accepted : HasAccepted facts old request held kept
-  pub written : Appends (reply_bytes facts new reply) before after
+  pub moves : IsMove facts old.state request reply new.state
+  pub accepted : HasAccepted facts old.state request old.entries new.entries
+  pub written : Appends (take n (reply_bytes facts new.state reply)) old.written new.written
 
--- the request led to this state, and of its reply so many bytes are written
-pub record IsAnsweredInPart (facts : SeasonFacts) (old : State) (held : List Entry) (request : Request) (new : State) (kept : List Entry) (n : ℕ) (before after : Option (List ℕ)) : Type 0 where
-  pub reply : Reply
-  pub moves : IsMove facts old request reply new
-  pub accepted : HasAccepted facts old request held kept
-  pub written : Appends (take n (reply_bytes facts new reply)) before after
+-- the request is answered, and all bytes of its reply are written
+abbrev pub IsAnswered : SeasonFacts → Request → Moment → Moment → Type 0
+IsAnswered facts request old new =
+    (n : ℕ) × (part : IsAnsweredInPart facts request n old new) × (n ≡ length (reply_bytes facts new.state part.reply))
 
 -- the state and the entries are as before, and nothing is written
-pub record IsUnanswered (old : State) (held : List Entry) (new : State) (kept : List Entry) (before after : Option (List ℕ)) : Type 0 where
-  pub same : new ≡ old
-  pub entries : kept ≡ held
-  pub written : after ≡ before
+pub record IsUnanswered (old new : Moment) : Type 0 where
+  pub state : new.state ≡ old.state
+  pub entries : new.entries ≡ old.entries
+  pub written : new.written ≡ old.written

@@ -6,11 +6,13 @@
 // requests come from, how records are kept, nor what a sink is.
 #![tactic(auto)]
 
+mod fault;
 pub mod laws;
 mod line;
 mod run;
 mod tally;
 
+pub use fault::RunFault;
 pub use line::reply_line;
-pub use run::{RunEnd, answer_all};
+pub use run::answer_all;
 pub use tally::{Tally, count_all};

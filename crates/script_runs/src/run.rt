@@ -1,14 +1,15 @@
 // A script, answered request after request.
-ghost use Rattle.std.specs.Prelude.{◌≡◌, ◌≢◌, ◌≤◌, ◌⊎◌, ℕ, IfOk, OnOk, OnErr, IsErrOf, length, take};
+ghost use Rattle.std.specs.Prelude.{◌≡◌, ◌≤◌, ◌⊎◌, ℕ, IfOk, OnOk, OnErr, IsErrOf, IsOkUnless, take};
 ghost use Rattle.office_base.specs.Outside.{Rose};
 ghost use Rattle.histories.specs.Orderly.{IsOrderly};
 ghost use Rattle.keeper_mem.specs.Tables.{IsTold};
 ghost use Rattle.office_moves.specs.History.{IsHistory};
 ghost use Rattle.office_moves.specs.Moves.{IsMove};
 ghost use Rattle.office_moves.specs.Stands.{Stand};
-ghost use Rattle.script_runs.specs.Runs.{Accepts, CameOf, CanBeShown, EndsBefore, EndsCut, EndsShort, EndsWell};
+ghost use Rattle.script_runs.specs.Runs.{Accepts, CameOf, CanBeShown, EndsBefore, EndsCut, EndsShort, EndsWell, moment_of};
 ghost use Rattle.script_runs.specs.Steps.{HasAccepted, IsAnswered, IsAnsweredInPart, IsUnanswered};
 
+use crate::fault::RunFault;
 use crate::laws::replies_can_be_shown;
 use crate::line::reply_line;
 use keeper_mem::Keeper;
@@ -17,19 +18,6 @@ use office_moves::{Reply, says_what_is_sound};
 use round_cut::{Office, OfficeFault};
 use std::alloc::Global;
 
-/// How a run ended.
-#[derive(Clone, Copy, Debug, PartialEq, Eq)]
-pub enum RunEnd {
-    /// All requests are answered, and all replies are written.
-    Done,
-    /// The keeper failed at the next request: its count of faults rose. The replies before it are written.
-    KeeperFault,
-    /// There was no memory for the next request, or for the reply to the last one. The replies before it are written.
-    OutOfMemory,
-    /// The sink failed: its count of faults rose. Of the reply to the last answered request a prefix is written, and those before it whole.
-    WriteFault,
-}
-
 /// Answers the requests one after another, each under the number after the last one, and writes each reply before the next request is handled. The
 /// office has to be in the state to which its entries lead, and so it is at the end.
 pub fn answer_all<P: Keeper, K: Sink>(
@@ -37,39 +25,36 @@ pub fn answer_all<P: Keeper, K: Sink>(
     office: &mut Office<P>,
     script: &[Request],
     sink: &mut K,
-) -> RunEnd
+) -> Result<(), RunFault>
     requires history { IsHistory office.old.season office.old.entries office.old.state }
     requires stands { Stand office.old.season office.old.state (P.tables office.old.keeper) }
-    ensures done { result ≡ RunEnd.Done → EndsWell office.old.season office.old.state script.now
-        (record { state = office.new.state; tables = P.tables office.new.keeper; before = K.written sink.old; after = K.written sink.new }) }
-    ensures keeper { result ≡ RunEnd.KeeperFault → EndsBefore office.old.season office.old.state script.now
-        (record { state = office.new.state; tables = P.tables office.new.keeper; before = K.written sink.old; after = K.written sink.new }) }
-    ensures memory { result ≡ RunEnd.OutOfMemory → EndsShort office.old.season office.old.state script.now
-        (record { state = office.new.state; tables = P.tables office.new.keeper; before = K.written sink.old; after = K.written sink.new }) }
-    ensures write { result ≡ RunEnd.WriteFault → EndsCut office.old.season office.old.state script.now
-        (record { state = office.new.state; tables = P.tables office.new.keeper; before = K.written sink.old; after = K.written sink.new }) }
+    ensures done { OnOk result (EndsWell office.old.season script.now
+        (moment_of P.tables office.old (K.written sink.old)) (moment_of P.tables office.new (K.written sink.new))) }
+    ensures keeper { IsErrOf result RunFault.KeeperFault → EndsBefore office.old.season script.now
+        (moment_of P.tables office.old (K.written sink.old)) (moment_of P.tables office.new (K.written sink.new)) }
+    ensures memory { IsErrOf result RunFault.OutOfMemory → EndsShort office.old.season script.now
+        (moment_of P.tables office.old (K.written sink.old)) (moment_of P.tables office.new (K.written sink.new)) }
+    ensures write { IsErrOf result RunFault.WriteFault → EndsCut office.old.season script.now
+        (moment_of P.tables office.old (K.written sink.old)) (moment_of P.tables office.new (K.written sink.new)) }
     ensures entries { (j : ℕ) × Accepts office.old.season office.old.state office.old.entries (take j script.now) office.new.state office.new.entries }
     ensures season { office.new.season ≡ office.old.season }
     ensures history { IsHistory office.new.season office.new.entries office.new.state }
     ensures stands { Stand office.new.season office.new.state (P.tables office.new.keeper) }
     ensures told_before { IsTold (P.tables office.new.keeper) → IsTold (P.tables office.old.keeper) }
-    ensures keeper_cause { result ≡ RunEnd.KeeperFault → Rose (P.faults office.old.keeper) (P.faults office.new.keeper) }
+    ensures keeper_cause { IsErrOf result RunFault.KeeperFault → Rose (P.faults office.old.keeper) (P.faults office.new.keeper) }
     ensures keeper_count { P.faults office.old.keeper ≤ P.faults office.new.keeper }
-    ensures keeper_steady { result ≢ RunEnd.KeeperFault → P.faults office.new.keeper ≡ P.faults office.old.keeper }
-    ensures write_cause { result ≡ RunEnd.WriteFault → Rose (K.faults sink.old) (K.faults sink.new) }
+    ensures keeper_steady { ¬ IsErrOf result RunFault.KeeperFault → P.faults office.new.keeper ≡ P.faults office.old.keeper }
+    ensures write_cause { IsErrOf result RunFault.WriteFault → Rose (K.faults sink.old) (K.faults sink.new) }
     ensures write_count { K.faults sink.old ≤ K.faults sink.new }
-    ensures write_steady { result ≢ RunEnd.WriteFault → K.faults sink.new ≡ K.faults sink.old }
+    ensures write_steady { ¬ IsErrOf result RunFault.WriteFault → K.faults sink.new ≡ K.faults sink.old }
     ensures complete { ¬ Rose (P.faults office.old.keeper) (P.faults office.new.keeper) → ¬ Rose (K.faults sink.old) (K.faults sink.new)
-        → (result ≡ RunEnd.Done) ⊎ (result ≡ RunEnd.OutOfMemory) }
+        → IsOkUnless result RunFault.OutOfMemory }
 {
     check_order(office);
     'requests: for request in script {
-        match answer_one(alloc, office, request, sink) {
-            RunEnd::Done => {}
-            end => return end,
-        }
+        answer_one(alloc, office, request, sink)?;
     }
-    RunEnd::Done
+    Ok(())
 }
 
 /// All is in order in the state of the office, to which its entries lead. It takes no memory.
@@ -87,39 +72,34 @@ fn answer_one<P: Keeper, K: Sink>(
     office: &mut Office<P>,
     request: &Request,
     sink: &mut K,
-) -> RunEnd
+) -> Result<(), RunFault>
     requires history { IsHistory office.old.season office.old.entries office.old.state }
     requires stands { Stand office.old.season office.old.state (P.tables office.old.keeper) }
-    ensures done { result ≡ RunEnd.Done → IsAnswered office.old.season office.old.state office.old.entries request.now office.new.state office.new.entries (K.written sink.old) (K.written sink.new) }
-    ensures keeper { result ≡ RunEnd.KeeperFault → IsUnanswered office.old.state office.old.entries office.new.state office.new.entries (K.written sink.old) (K.written sink.new) }
-    ensures memory { result ≡ RunEnd.OutOfMemory → IsUnanswered office.old.state office.old.entries office.new.state office.new.entries (K.written sink.old) (K.written sink.new)
-        ⊎ IsAnsweredInPart office.old.season office.old.state office.old.entries request.now office.new.state office.new.entries 0 (K.written sink.old) (K.written sink.new) }
-    ensures write { result ≡ RunEnd.WriteFault → (n : ℕ) × IsAnsweredInPart office.old.season office.old.state office.old.entries request.now office.new.state office.new.entries n (K.written sink.old) (K.written sink.new) }
+    ensures done { OnOk result (IsAnswered office.old.season request.now
+        (moment_of P.tables office.old (K.written sink.old)) (moment_of P.tables office.new (K.written sink.new))) }
+    ensures keeper { IsErrOf result RunFault.KeeperFault → IsUnanswered
+        (moment_of P.tables office.old (K.written sink.old)) (moment_of P.tables office.new (K.written sink.new)) }
+    ensures memory { IsErrOf result RunFault.OutOfMemory → IsUnanswered
+        (moment_of P.tables office.old (K.written sink.old)) (moment_of P.tables office.new (K.written sink.new))
+        ⊎ IsAnsweredInPart office.old.season request.now 0 (moment_of P.tables office.old (K.written sink.old)) (moment_of P.tables office.new (K.written sink.new)) }
+    ensures write { IsErrOf result RunFault.WriteFault → (n : ℕ) × IsAnsweredInPart office.old.season request.now n
+        (moment_of P.tables office.old (K.written sink.old)) (moment_of P.tables office.new (K.written sink.new)) }
     ensures season { office.new.season ≡ office.old.season }
     ensures history { IsHistory office.new.season office.new.entries office.new.state }
     ensures orderly { IsOrderly office.new.season office.new.state }
     ensures stands { Stand office.new.season office.new.state (P.tables office.new.keeper) }
     ensures told_before { IsTold (P.tables office.new.keeper) → IsTold (P.tables office.old.keeper) }
-    ensures keeper_cause { result ≡ RunEnd.KeeperFault → Rose (P.faults office.old.keeper) (P.faults office.new.keeper) }
+    ensures keeper_cause { IsErrOf result RunFault.KeeperFault → Rose (P.faults office.old.keeper) (P.faults office.new.keeper) }
     ensures keeper_count { P.faults office.old.keeper ≤ P.faults office.new.keeper }
-    ensures keeper_steady { result ≢ RunEnd.KeeperFault → P.faults office.new.keeper ≡ P.faults office.old.keeper }
-    ensures write_cause { result ≡ RunEnd.WriteFault → Rose (K.faults sink.old) (K.faults sink.new) }
+    ensures keeper_steady { ¬ IsErrOf result RunFault.KeeperFault → P.faults office.new.keeper ≡ P.faults office.old.keeper }
+    ensures write_cause { IsErrOf result RunFault.WriteFault → Rose (K.faults sink.old) (K.faults sink.new) }
     ensures write_count { K.faults sink.old ≤ K.faults sink.new }
-    ensures write_steady { result ≢ RunEnd.WriteFault → K.faults sink.new ≡ K.faults sink.old }
+    ensures write_steady { ¬ IsErrOf result RunFault.WriteFault → K.faults sink.new ≡ K.faults sink.old }
 {
-    let reply = match next_reply(alloc, office, request) {
-        Ok(reply) => reply,
-        Err(OfficeFault::KeeperFault) => return RunEnd::KeeperFault,
-        Err(OfficeFault::OutOfMemory) => return RunEnd::OutOfMemory,
-    };
+    let reply = next_reply(alloc, office, request)?;
     show_reply(office, &reply);
-    let Ok(text) = reply_line(alloc, office, &reply) else {
-        return RunEnd::OutOfMemory;
-    };
-    match write_whole(sink, text.as_slice()) {
-        Ok(()) => RunEnd::Done,
-        Err(_) => RunEnd::WriteFault,
-    }
+    let text = reply_line(alloc, office, &reply)?;
+    Ok(write_whole(sink, text.as_slice())?)
 }
 
 /// The reply that led to the office's state, in which all has to be in order, can be shown. It takes no memory.

@@ -5,7 +5,7 @@ use Rattle.office_base.specs.declared.asks.Request.{Request}
 use Rattle.keeper_mem.specs.Tables.{Tables}
 use Rattle.office_moves.specs.Facts.{SeasonFacts}
 use Rattle.office_moves.specs.State.{State}
-use Rattle.script_runs.specs.Runs.{Ended, EndsBefore, EndsShort, EndsWithin}
+use Rattle.script_runs.specs.Runs.{EndsBefore, EndsCut, EndsShort, EndsWithin, Moment, reply_bytes}
 use Rattle.season_commands.specs.Office.{EndsOffice, FollowsOneMore, FollowsSome}
 use Rattle.office_base.specs.FaultLines.{memory_line}
 use Rattle.command_answers.specs.Writes.{IsTold, keeper_line}
@@ -27,62 +27,68 @@ as_result : (facts : SeasonFacts) (start : State) (script : List Request) (table
 as_result facts start script tables before after status result same end = subst (λ s. IsEnd facts start script tables before after s) (sym same) end
 
 -- a text after the output of the first requests
-follows_some : (facts : SeasonFacts) (start : State) (script : List Request) (ended : Ended) (after : Option (List ℕ)) (text : List ℕ) → EndsBefore facts start script ended → Appends text ended.after after
-    → (output : List ℕ) × Appends output ended.before after × FollowsSome facts start script ended.tables text output
-follows_some facts start script ended after text end told =
+follows_some : (facts : SeasonFacts) (script : List Request) (old new : Moment) (after : Option (List ℕ)) (text : List ℕ) → EndsBefore facts script old new → Appends text new.written after
+    → (output : List ℕ) × Appends output old.written after × FollowsSome facts old.state script new.tables text output
+follows_some facts script old new after text end told =
     let (j, some, fewer, answered, written) = end in
-    (some ++ text, appends_on some text ended.before ended.after after written told, record { j = j; some = some; state = ended.state; fewer = fewer; answered = answered; written = refl })
+    (some ++ text, appends_on some text old.written new.written after written told, record { j = j; some = some; state = new.state; fewer = fewer; answered = answered; written = refl })
 
 -- a text after the output of the first requests, where one more is answered
-follows_more : (facts : SeasonFacts) (start : State) (script : List Request) (ended : Ended) (after : Option (List ℕ)) (text : List ℕ) → EndsWithin facts start script ended 0 → Appends text ended.after after
-    → (output : List ℕ) × Appends output ended.before after × FollowsOneMore facts start script ended.tables text output
-follows_more facts start script ended after text end told =
-    let (j, some, reply, answered, written) = end in
-    let whole : Appends some ended.before ended.after = subst (λ bytes. Appends bytes ended.before ended.after) (append-nil some) written in
-    (some ++ text, appends_on some text ended.before ended.after after whole told, record { j = j; some = some; reply = reply; state = ended.state; answered = answered; written = refl })
+follows_more : (facts : SeasonFacts) (script : List Request) (old new : Moment) (after : Option (List ℕ)) (text : List ℕ) → EndsWithin facts script 0 old new → Appends text new.written after
+    → (output : List ℕ) × Appends output old.written after × FollowsOneMore facts old.state script new.tables text output
+follows_more facts script old new after text end told =
+    let (some, answered, written) = end in
+    let whole : Appends some old.written new.written = subst (λ bytes. Appends bytes old.written new.written) (append-nil some) written in
+    (some ++ text, appends_on some text old.written new.written after whole told, record { some = some; state = new.state; answered = answered; written = refl })
 
 -- The keeper failed.
-pub keeper_ends : (facts : SeasonFacts) (start : State) (script : List Request) (ended : Ended) (after : Option (List ℕ)) (broke : Type 0) (result : Status)
-    → EndsBefore facts start script ended → IsTold KeeperFault keeper_line ended.after after broke result → IsEnd facts start script ended.tables ended.before after result
-keeper_ends facts start script ended after broke result here told =
+pub keeper_ends : (facts : SeasonFacts) (script : List Request) (old new : Moment) (after : Option (List ℕ)) (broke : Type 0) (result : Status)
+    → EndsBefore facts script old new → IsTold KeeperFault keeper_line new.written after broke result → IsEnd facts old.state script new.tables old.written after result
+keeper_ends facts script old new after broke result here told =
     elim told [
-      | inl whole ↦ as_result facts start script ended.tables ended.before after KeeperFault result whole.0 (follows_some facts start script ended after keeper_line here whole.1)
+      | inl whole ↦ as_result facts old.state script new.tables old.written after KeeperFault result whole.0 (follows_some facts script old new after keeper_line here whole.1)
       | inr cut ↦
-          let some = follows_some facts start script ended after (take cut.2.0 keeper_line) here cut.2.1 in
-          as_result facts start script ended.tables ended.before after WriteFault result cut.0 (some.0, some.1, inr (cut.2.0, inl some.2))
+          let some = follows_some facts script old new after (take cut.2.0 keeper_line) here cut.2.1 in
+          as_result facts old.state script new.tables old.written after WriteFault result cut.0 (some.0, some.1, inr (cut.2.0, inl some.2))
     ]
 
 -- There was no memory for a request.
-short_before : (facts : SeasonFacts) (start : State) (script : List Request) (ended : Ended) (after : Option (List ℕ)) (broke : Type 0) (result : Status)
-    → EndsBefore facts start script ended → IsTold OutOfMemory memory_line ended.after after broke result → IsEnd facts start script ended.tables ended.before after result
-short_before facts start script ended after broke result here told =
+short_before : (facts : SeasonFacts) (script : List Request) (old new : Moment) (after : Option (List ℕ)) (broke : Type 0) (result : Status)
+    → EndsBefore facts script old new → IsTold OutOfMemory memory_line new.written after broke result → IsEnd facts old.state script new.tables old.written after result
+short_before facts script old new after broke result here told =
     elim told [
       | inl whole ↦
-          let some = follows_some facts start script ended after memory_line here whole.1 in
-          as_result facts start script ended.tables ended.before after OutOfMemory result whole.0 (some.0, some.1, inl some.2)
+          let some = follows_some facts script old new after memory_line here whole.1 in
+          as_result facts old.state script new.tables old.written after OutOfMemory result whole.0 (some.0, some.1, inl some.2)
       | inr cut ↦
-          let some = follows_some facts start script ended after (take cut.2.0 memory_line) here cut.2.1 in
-          as_result facts start script ended.tables ended.before after WriteFault result cut.0 (some.0, some.1, inr (cut.2.0, inr (inl some.2)))
+          let some = follows_some facts script old new after (take cut.2.0 memory_line) here cut.2.1 in
+          as_result facts old.state script new.tables old.written after WriteFault result cut.0 (some.0, some.1, inr (cut.2.0, inr (inl some.2)))
     ]
 
 -- there was no memory for a reply
-short_within : (facts : SeasonFacts) (start : State) (script : List Request) (ended : Ended) (after : Option (List ℕ)) (broke : Type 0) (result : Status)
-    → EndsWithin facts start script ended 0 → IsTold OutOfMemory memory_line ended.after after broke result → IsEnd facts start script ended.tables ended.before after result
-short_within facts start script ended after broke result here told =
+short_within : (facts : SeasonFacts) (script : List Request) (old new : Moment) (after : Option (List ℕ)) (broke : Type 0) (result : Status)
+    → EndsWithin facts script 0 old new → IsTold OutOfMemory memory_line new.written after broke result → IsEnd facts old.state script new.tables old.written after result
+short_within facts script old new after broke result here told =
     elim told [
       | inl whole ↦
-          let more = follows_more facts start script ended after memory_line here whole.1 in
-          as_result facts start script ended.tables ended.before after OutOfMemory result whole.0 (more.0, more.1, inr more.2)
+          let more = follows_more facts script old new after memory_line here whole.1 in
+          as_result facts old.state script new.tables old.written after OutOfMemory result whole.0 (more.0, more.1, inr more.2)
       | inr cut ↦
-          let more = follows_more facts start script ended after (take cut.2.0 memory_line) here cut.2.1 in
-          as_result facts start script ended.tables ended.before after WriteFault result cut.0 (more.0, more.1, inr (cut.2.0, inr (inr more.2)))
+          let more = follows_more facts script old new after (take cut.2.0 memory_line) here cut.2.1 in
+          as_result facts old.state script new.tables old.written after WriteFault result cut.0 (more.0, more.1, inr (cut.2.0, inr (inr more.2)))
     ]
 
 -- There was no memory.
-pub memory_ends : (facts : SeasonFacts) (start : State) (script : List Request) (ended : Ended) (after : Option (List ℕ)) (broke : Type 0) (result : Status)
-    → EndsShort facts start script ended → IsTold OutOfMemory memory_line ended.after after broke result → IsEnd facts start script ended.tables ended.before after result
-memory_ends facts start script ended after broke result end told =
+pub memory_ends : (facts : SeasonFacts) (script : List Request) (old new : Moment) (after : Option (List ℕ)) (broke : Type 0) (result : Status)
+    → EndsShort facts script old new → IsTold OutOfMemory memory_line new.written after broke result → IsEnd facts old.state script new.tables old.written after result
+memory_ends facts script old new after broke result end told =
     elim end [
-      | inl here ↦ short_before facts start script ended after broke result here told
-      | inr here ↦ short_within facts start script ended after broke result here told
+      | inl here ↦ short_before facts script old new after broke result here told
+      | inr here ↦ short_within facts script old new after broke result here told
     ]
+
+-- The sink failed within a reply.
+pub cut_ends : (facts : SeasonFacts) (script : List Request) (old new : Moment) → EndsCut facts script old new → IsEnd facts old.state script new.tables old.written new.written WriteFault
+cut_ends facts script old new end =
+    let (n, (some, answered, written)) = end in
+    (some ++ take n (reply_bytes facts new.state answered.reply), written, inl (record { n = n; some = some; state = new.state; answered = answered; written = refl }))

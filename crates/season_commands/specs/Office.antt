@@ -4,7 +4,6 @@ use Rattle.office_base.specs.declared.asks.Request.{Request}
 use Rattle.keeper_mem.specs.Tables.{Tables}
 use Rattle.office_moves.specs.Facts.{SeasonFacts}
 use Rattle.office_moves.specs.State.{State}
-use Rattle.office_moves.specs.declared.moves.Reply.{Reply}
 use Rattle.script_runs.specs.Runs.{AfterOneMore, AfterSome, reply_bytes}
 use Rattle.office_base.specs.FaultLines.{memory_line}
 use Rattle.command_answers.specs.Writes.{keeper_line}
@@ -18,27 +17,23 @@ pub record FollowsSome (facts : SeasonFacts) (start : State) (script : List Requ
   pub some : List ℕ
   pub state : State
   pub fewer : j < length script
-  pub answered : AfterSome facts start script j some state tables
+  pub answered : AfterSome facts start (take j script) some state tables
   pub written : output ≡ some ++ text
 
 -- The same, and one more is answered, of whose reply nothing is written.
 pub record FollowsOneMore (facts : SeasonFacts) (start : State) (script : List Request) (tables : Tables) (text output : List ℕ) : Type 0 where
-  pub j : ℕ
   pub some : List ℕ
-  pub reply : Reply
   pub state : State
-  pub answered : AfterOneMore facts start script j some reply state tables
+  pub answered : AfterOneMore facts start script some state tables
   pub written : output ≡ some ++ text
 
 -- The replies to the first j requests are written, and of the next one, which is answered, a prefix of n bytes.
 pub record EndsInReply (facts : SeasonFacts) (start : State) (script : List Request) (tables : Tables) (output : List ℕ) : Type 0 where
-  pub j : ℕ
   pub n : ℕ
   pub some : List ℕ
-  pub reply : Reply
   pub state : State
-  pub answered : AfterOneMore facts start script j some reply state tables
-  pub written : output ≡ some ++ take n (reply_bytes facts state reply)
+  pub answered : AfterOneMore facts start script some state tables
+  pub written : output ≡ some ++ take n (reply_bytes facts state answered.reply)
 
 -- a prefix of a fault's line follows the replies
 abbrev pub EndsInLine : SeasonFacts → State → List Request → Tables → List ℕ → Type 0
@@ -47,7 +42,7 @@ EndsInLine facts start script tables output = (n : ℕ) × (FollowsSome facts st
 
 -- how the requests end that are answered from a state, by the status: what is written, and what the tables stand for
 abbrev pub EndsOffice : SeasonFacts → State → List Request → Tables → Status → List ℕ → Type 0
-EndsOffice facts start script tables Done output = (state : State) × AfterSome facts start script (length script) output state tables
+EndsOffice facts start script tables Done output = (state : State) × AfterSome facts start script output state tables
 EndsOffice facts start script tables WriteFault output = EndsInReply facts start script tables output ⊎ EndsInLine facts start script tables output
 EndsOffice facts start script tables KeeperFault output = FollowsSome facts start script tables keeper_line output
 EndsOffice facts start script tables OutOfMemory output = FollowsSome facts start script tables memory_line output ⊎ FollowsOneMore facts start script tables memory_line output

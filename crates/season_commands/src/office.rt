@@ -10,7 +10,7 @@ use command_answers::{Status, tell_keeper_fault, tell_no_memory};
 use keeper_mem::Keeper;
 use office_base::{Request, Sink};
 use round_cut::Office;
-use script_runs::{RunEnd, answer_all};
+use script_runs::{RunFault, answer_all};
 use std::alloc::Global;
 
 /// Answers the requests over an office, which is in the state that its entries lead to, and gives back its keeper.
@@ -58,9 +58,9 @@ fn answer_script<K: Sink, P: Keeper>(
         → (result ≡ Status.Ok) ⊎ (result ≡ Status.OutOfMemory) }
 {
     match answer_all(alloc, office, script, sink) {
-        RunEnd::Done => Status::Ok,
-        RunEnd::WriteFault => Status::WriteFault,
-        RunEnd::KeeperFault => tell_keeper_fault(sink),
-        RunEnd::OutOfMemory => tell_no_memory(sink),
+        Ok(()) => Status::Ok,
+        Err(RunFault::WriteFault) => Status::WriteFault,
+        Err(RunFault::KeeperFault) => tell_keeper_fault(sink),
+        Err(RunFault::OutOfMemory) => tell_no_memory(sink),
     }
 }

@@ -1,9 +1,14 @@
+use Rattle.std.proofs.Common.{◌≡◌}
 use Rattle.keeper_mem.specs.Tables.{IsTold}
+use Rattle.script_runs.specs.Runs.{moment_of}
 use Rattle.script_runs.proofs.Running.{IsRunning}
 use Rattle.script_runs.proofs.run.answer_all.Given as goal
 
 abbrev pub invariant-requests : goal.invariant-requests
-invariant-requests g l =
-    IsRunning l.fn.office.season l.fn.office.state l.fn.office.entries l.script l.request-index l.office.season l.office.entries l.office.state (g.P.Keeper.tables l.office.keeper)
-    (g.K.Sink.written l.fn.sink) (g.K.Sink.written l.sink) (g.P.Keeper.faults l.fn.office.keeper) (g.P.Keeper.faults l.office.keeper) (g.K.Sink.faults l.fn.sink) (g.K.Sink.faults l.sink)
-    × (IsTold (g.P.Keeper.tables l.office.keeper) → IsTold (g.P.Keeper.tables l.fn.office.keeper))
+invariant-requests g l = record {
+  running : IsRunning l.fn.office.season l.script l.request-index l.office.season
+      (moment_of g.P.Keeper.tables l.fn.office (g.K.Sink.written l.fn.sink)) (moment_of g.P.Keeper.tables l.office (g.K.Sink.written l.sink));
+  keeper : g.P.Keeper.faults l.office.keeper ≡ g.P.Keeper.faults l.fn.office.keeper;
+  sink : g.K.Sink.faults l.sink ≡ g.K.Sink.faults l.fn.sink;
+  told_before : IsTold (g.P.Keeper.tables l.office.keeper) → IsTold (g.P.Keeper.tables l.fn.office.keeper);
+}

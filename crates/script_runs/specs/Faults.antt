@@ -1,0 +1,10 @@
+-- A fault of a lower call as a run tells it.
+use Rattle.round_cut.specs.declared.fault.OfficeFault.{OfficeFault}
+use Rattle.round_cut.specs.declared.fault.OfficeFault.TheVariants.{KeeperFault as KeeperFailed, OutOfMemory as NoMemory}
+use Rattle.script_runs.specs.declared.fault.RunFault.{RunFault}
+use Rattle.script_runs.specs.declared.fault.RunFault.TheVariants.{KeeperFault, OutOfMemory}
+
+-- where a request is not answered
+abbrev pub run_fault : OfficeFault → RunFault
+run_fault KeeperFailed = KeeperFault
+run_fault NoMemory = OutOfMemory
