@@ -15,7 +15,7 @@ use Rattle.step_command.specs.Step.{step_answers}
 use Rattle.audit_command.specs.Audit.{IsAuditText}
 use Rattle.door_histories.specs.Ending.{SomeRose}
 use Rattle.serve_command.specs.Doors.{Doors}
-use Rattle.office_commands.specs.Blames.{Blames, Counts, SomeCountRose}
+use Rattle.office_commands.specs.Blames.{Blames, Counts}
 use Rattle.command_answers.specs.Writes.{IsTextOf, Writes}
 use Rattle.command_answers.specs.declared.status.Status.{Status}
 use Rattle.command_answers.specs.declared.status.Status.TheVariants.{BadInput, ReadFault, WriteFault, KeeperFault, OutOfMemory, DoorFault, Differs}
@@ -97,8 +97,8 @@ blames serves source source_now sink sink_now keeper keeper_now doors result no_
   keeper_count = count;
 }
 
--- a door that failed has a count that rose
-counted : {D : Type 0} (faults : D → ℕ) (doors doors' : List D) → SomeRose faults doors doors' → SomeCountRose (map faults doors) (map faults doors')
+-- where one of the doors failed, one of their counts rose
+counted : {D : Type 0} (faults : D → ℕ) (doors doors' : List D) → SomeRose faults doors doors' → SomeRose (λ count. count) (map faults doors) (map faults doors')
 counted faults [] doors' rose = rose
 counted faults (door ∷ doors) [] rose = rose
 counted faults (door ∷ doors) (door' ∷ doors') (inl here) = inl here

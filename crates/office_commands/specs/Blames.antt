@@ -1,6 +1,7 @@
 -- Whom a status blames: each object of the outside that failed in a call, and no other.
-use Rattle.std.specs.Prelude.{◌≡◌, ◌≢◌, ◌≤◌, ◌⊎◌, ℕ, List, [], ◌∷◌}
+use Rattle.std.specs.Prelude.{◌≡◌, ◌≢◌, ◌≤◌, ◌⊎◌, ℕ, List}
 use Rattle.office_base.specs.Outside.{Rose}
+use Rattle.door_histories.specs.Ending.{SomeRose}
 use Rattle.command_answers.specs.declared.status.Status.{Status}
 use Rattle.command_answers.specs.declared.status.Status.TheVariants.{BadInput, ReadFault, WriteFault, KeeperFault, OutOfMemory, DoorFault, Differs}
 
@@ -11,12 +12,6 @@ pub record Counts : Type 0 where
   pub keeper : ℕ
   pub doors : List ℕ
 
--- one of the counts rose
-abbrev pub SomeCountRose : List ℕ → List ℕ → Type 0
-SomeCountRose [] now = ⊥
-SomeCountRose (before ∷ counts) [] = ⊥
-SomeCountRose (before ∷ counts) (after ∷ now) = Rose before after ⊎ SomeCountRose counts now
-
 -- A fault is told by its status, and only where that object failed: its count rose. Where no fault of an object is told, its count is as before; the sink's
 -- fault alone hides one of the source or of the keeper, and it and want of memory one of a door. An office that is served tells the keeper's faults to whoever
 -- asked: there the keeper's count is as before where the status tells a fault that is met before that.
@@ -24,7 +19,7 @@ pub record Blames (serves : Type 0) (status : Status) (old new : Counts) : Type 
   pub read : status ≡ ReadFault → Rose old.source new.source
   pub write : status ≡ WriteFault → Rose old.sink new.sink
   pub keeper : status ≡ KeeperFault → Rose old.keeper new.keeper
-  pub door : status ≡ DoorFault → SomeCountRose old.doors new.doors
+  pub door : status ≡ DoorFault → SomeRose (λ count. count) old.doors new.doors
   pub source_steady : status ≢ ReadFault → status ≢ WriteFault → new.source ≡ old.source
   pub sink_steady : status ≢ WriteFault → new.sink ≡ old.sink
   pub keeper_steady : (serves → ⊥) → status ≢ KeeperFault → status ≢ WriteFault → new.keeper ≡ old.keeper

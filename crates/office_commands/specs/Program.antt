@@ -106,107 +106,49 @@ abbrev pub TellsFault : Command → Option (List ℕ) → Type 0
 TellsFault Step left = Tells IsFaultySheet left
 TellsFault Check left = Tells IsFaultyBundle left
 TellsFault (Run store) left = Tells IsFaultyBundle left
-TellsFault (Resume store) left = ⊥
 TellsFault (Units store) left = Tells IsFaultyUnits left
-TellsFault (Special store) left = ⊥
 TellsFault (Serve conns workers start.New port store) left = Tells IsFaultySeason left
-TellsFault (Serve conns workers start.Kept port store) left = ⊥
 TellsFault Audit left = Tells AreFaultyDossier left
-TellsFault (Generate n seed out_kind.Text) left = ⊥
 TellsFault (Generate n seed out_kind.Run) left = IsFaultyBundle (generated n seed)
+TellsFault other left = ⊥
 
 -- the keeper is as the command needs it: under `run`, `units` and `serve` with `new` it tells that it holds no season, under `resume`, `special` and `serve` with
--- `kept` records without a fault; and a generated season is run where its bundle has no fault
+-- `kept` records without a fault; and a generated season is run where its bundle has no fault. The others need nothing of a keeper.
 abbrev pub IsReady : Command → Tables → Type 0
-IsReady Step tables = Unit {0}
-IsReady Check tables = Unit {0}
 IsReady (Run store) tables = TellsNoSeason tables
 IsReady (Resume store) tables = TellsSound tables
 IsReady (Units store) tables = TellsNoSeason tables
 IsReady (Special store) tables = TellsSound tables
 IsReady (Serve conns workers start.New port store) tables = TellsNoSeason tables
 IsReady (Serve conns workers start.Kept port store) tables = TellsSound tables
-IsReady Audit tables = Unit {0}
-IsReady (Generate n seed out_kind.Text) tables = Unit {0}
 IsReady (Generate n seed out_kind.Run) tables = IsBundle (generated n seed) × TellsNoSeason tables
+IsReady other tables = Unit {0}
 
 -- the command begins an office anew
 abbrev pub BeginsOffice : Command → Type 0
-BeginsOffice Step = ⊥
-BeginsOffice Check = ⊥
 BeginsOffice (Run store) = Unit {0}
-BeginsOffice (Resume store) = ⊥
 BeginsOffice (Units store) = Unit {0}
-BeginsOffice (Special store) = ⊥
 BeginsOffice (Serve conns workers start.New port store) = Unit {0}
-BeginsOffice (Serve conns workers start.Kept port store) = ⊥
-BeginsOffice Audit = ⊥
-BeginsOffice (Generate n seed out_kind.Text) = ⊥
 BeginsOffice (Generate n seed out_kind.Run) = Unit {0}
+BeginsOffice other = ⊥
 
 -- the command goes on with the office that the keeper holds
 abbrev pub Resumes : Command → Type 0
-Resumes Step = ⊥
-Resumes Check = ⊥
-Resumes (Run store) = ⊥
 Resumes (Resume store) = Unit {0}
-Resumes (Units store) = ⊥
 Resumes (Special store) = Unit {0}
-Resumes (Serve conns workers start.New port store) = ⊥
 Resumes (Serve conns workers start.Kept port store) = Unit {0}
-Resumes Audit = ⊥
-Resumes (Generate n seed out) = ⊥
-
--- the command neither begins an office nor goes on with one
-abbrev pub BeginsNone : Command → Type 0
-BeginsNone Step = Unit {0}
-BeginsNone Check = Unit {0}
-BeginsNone (Run store) = ⊥
-BeginsNone (Resume store) = ⊥
-BeginsNone (Units store) = ⊥
-BeginsNone (Special store) = ⊥
-BeginsNone (Serve conns workers start port store) = ⊥
-BeginsNone Audit = Unit {0}
-BeginsNone (Generate n seed out_kind.Text) = Unit {0}
-BeginsNone (Generate n seed out_kind.Run) = ⊥
+Resumes other = ⊥
 
 -- the command reads the source
 abbrev pub ReadsSource : Command → Type 0
-ReadsSource Step = Unit {0}
-ReadsSource Check = Unit {0}
-ReadsSource (Run store) = Unit {0}
-ReadsSource (Resume store) = Unit {0}
-ReadsSource (Units store) = Unit {0}
-ReadsSource (Special store) = Unit {0}
-ReadsSource (Serve conns workers start.New port store) = Unit {0}
 ReadsSource (Serve conns workers start.Kept port store) = ⊥
-ReadsSource Audit = Unit {0}
 ReadsSource (Generate n seed out) = ⊥
-
--- the command reads no source
-abbrev pub ReadsNone : Command → Type 0
-ReadsNone Step = ⊥
-ReadsNone Check = ⊥
-ReadsNone (Run store) = ⊥
-ReadsNone (Resume store) = ⊥
-ReadsNone (Units store) = ⊥
-ReadsNone (Special store) = ⊥
-ReadsNone (Serve conns workers start.New port store) = ⊥
-ReadsNone (Serve conns workers start.Kept port store) = Unit {0}
-ReadsNone Audit = ⊥
-ReadsNone (Generate n seed out) = Unit {0}
+ReadsSource other = Unit {0}
 
 -- the command answers through the doors
 abbrev pub Serves : Command → Type 0
-Serves Step = ⊥
-Serves Check = ⊥
-Serves (Run store) = ⊥
-Serves (Resume store) = ⊥
-Serves (Units store) = ⊥
-Serves (Special store) = ⊥
 Serves (Serve conns workers start port store) = Unit {0}
-Serves Audit = ⊥
-Serves (Generate n seed out) = ⊥
+Serves other = ⊥
 
 -- the words spell such a command
 abbrev pub SpellServing : List (List ℕ) → Type 0
@@ -214,12 +156,5 @@ SpellServing words = (command : Command) × Spell words command × Serves comman
 
 -- the status with which the command ends well: an audit also where a clause is broken
 abbrev pub Succeeds : Command → Status → Type 0
-Succeeds Step status = status ≡ Done
-Succeeds Check status = status ≡ Done
-Succeeds (Run store) status = status ≡ Done
-Succeeds (Resume store) status = status ≡ Done
-Succeeds (Units store) status = status ≡ Done
-Succeeds (Special store) status = status ≡ Done
-Succeeds (Serve conns workers start port store) status = status ≡ Done
 Succeeds Audit status = EndsWell status
-Succeeds (Generate n seed out) status = status ≡ Done
+Succeeds other status = status ≡ Done

@@ -3,7 +3,7 @@ ghost use Rattle.std.specs.Prelude.{◌≡◌, ◌≢◌, ◌≤◌, ◌⊎◌, 
 ghost use Rattle.std.specs.List.{AllByRecursion};
 ghost use Rattle.office_base.specs.Outside.{Rose, IsAtEnd, Appends};
 ghost use Rattle.keeper_mem.specs.Tables.{still};
-ghost use Rattle.office_commands.specs.Program.{BeginsNone, BeginsOffice, Ends, EndsGenerate, IsReady, IsWritten, ReadsNone, ReadsSource, Resumes, Serves, SpellServing, Succeeds, TellsFault, TellsInput};
+ghost use Rattle.office_commands.specs.Program.{BeginsOffice, Ends, EndsGenerate, IsReady, IsWritten, ReadsSource, Resumes, Serves, SpellServing, Succeeds, TellsFault, TellsInput};
 ghost use Rattle.command_answers.specs.Answers.{Tells};
 ghost use Rattle.office_commands.specs.Blames.{Blames};
 ghost use Rattle.season_commands.specs.Resume.{IsFaultyScript, TellsNoOffice, TellsRowFault, TellsSound, TellsTextFault};
@@ -74,10 +74,10 @@ pub fn allocate<
     ensures read_whole { (command : AnyCommand) → Spell words.now command → ReadsSource command → Succeeds command result.0 → IsAtEnd (S.left source.new) }
 
     // Words that spell no command leave the source as it was, as a command that reads none does; and the keeper, as a command that has no office does.
-    ensures spared { (command : AnyCommand) → Spell words.now command → ReadsNone command → (S.left source.new ≡ S.left source.old) × (S.faults source.new ≡ S.faults source.old) }
+    ensures spared { (command : AnyCommand) → Spell words.now command → ¬ ReadsSource command → (S.left source.new ≡ S.left source.old) × (S.faults source.new ≡ S.faults source.old) }
     ensures unread { SpellNothing words.now → (S.left source.new ≡ S.left source.old) × (S.faults source.new ≡ S.faults source.old) }
     ensures unkept { SpellNothing words.now → result.1 ≡ keeper }
-    ensures untouched { (command : AnyCommand) → Spell words.now command → BeginsNone command → result.1 ≡ keeper }
+    ensures untouched { (command : AnyCommand) → Spell words.now command → ¬ BeginsOffice command → ¬ Resumes command → result.1 ≡ keeper }
 
     // The doors are for `serve` alone: else they are as they were. Where that ends with success, no door has a connection still to come.
     ensures spared_doors { ¬ SpellServing words.now → doors.new ≡ doors.old }
@@ -150,8 +150,8 @@ fn run<R: Threads + Wait + Sync, S: Source, K: Sink, P: Keeper + Send, D: Door<C
         (P.holds_room keeper) (P.faults keeper) (P.faults result.1) doors.old doors.new)
         result.0 output }
     ensures read_whole { ReadsSource command → Succeeds command result.0 → IsAtEnd (S.left source.new) }
-    ensures spared { ReadsNone command → (S.left source.new ≡ S.left source.old) × (S.faults source.new ≡ S.faults source.old) }
-    ensures untouched { BeginsNone command → result.1 ≡ keeper }
+    ensures spared { ¬ ReadsSource command → (S.left source.new ≡ S.left source.old) × (S.faults source.new ≡ S.faults source.old) }
+    ensures untouched { ¬ BeginsOffice command → ¬ Resumes command → result.1 ≡ keeper }
     ensures spared_doors { ¬ Serves command → doors.new ≡ doors.old }
     ensures all_served { Serves command → result.0 ≡ Status.Ok → AllByRecursion (λ d. D.to_come d ≡ 0) doors.new }
     ensures records_first { Resumes command → (result.0 ≡ Status.Differs) ⊎ TellsNoOffice (still (P.tables keeper) (P.tables result.1))
@@ -224,7 +224,7 @@ fn served<
         (P.holds_room keeper) (P.faults keeper) (P.faults result.1) doors.old doors.new)
         result.0 output }
     ensures read_whole { (conns workers port : ℕ) (store : AnyStore) → ReadsSource (Serve conns workers start port store) → result.0 ≡ Status.Ok → IsAtEnd (S.left source.new) }
-    ensures spared { (conns workers port : ℕ) (store : AnyStore) → ReadsNone (Serve conns workers start port store) → (S.left source.new ≡ S.left source.old) × (S.faults source.new ≡ S.faults source.old) }
+    ensures spared { (conns workers port : ℕ) (store : AnyStore) → ¬ ReadsSource (Serve conns workers start port store) → (S.left source.new ≡ S.left source.old) × (S.faults source.new ≡ S.faults source.old) }
     ensures records_first { (conns workers port : ℕ) (store : AnyStore) → Resumes (Serve conns workers start port store) → (result.0 ≡ Status.Differs) ⊎ TellsNoOffice (still (P.tables keeper) (P.tables result.1))
         → (S.left source.new ≡ S.left source.old) × (S.faults source.new ≡ S.faults source.old) }
     ensures read_fault { result.0 ≡ Status.ReadFault → Rose (S.faults source.old) (S.faults source.new) }
@@ -274,7 +274,7 @@ fn generated<K: Sink, P: Keeper>(
     requires high { n ≤ 100000 }
     ensures written { (output : List ℕ) × Appends output (K.written sink.old) (K.written sink.new)
         × EndsGenerate n seed out (P.tables keeper) (P.tables result.1) result.0 output }
-    ensures untouched { BeginsNone (Generate n seed out) → result.1 ≡ keeper }
+    ensures untouched { ¬ BeginsOffice (Generate n seed out) → result.1 ≡ keeper }
     ensures no_read_fault { result.0 ≢ Status.ReadFault }
     ensures write_fault { result.0 ≡ Status.WriteFault → Rose (K.faults sink.old) (K.faults sink.new) }
     ensures keeper_fault { result.0 ≡ Status.KeeperFault → Rose (P.faults keeper) (P.faults result.1) }

@@ -1,13 +1,21 @@
-use Rattle.std.proofs.Common.{None, arith, refl, subst, sym}
+use Rattle.std.proofs.Common.{ℕ, None, arith, refl, subst, sym}
 use Rattle.command_words.specs.declared.words.Command.{Command}
-use Rattle.command_words.specs.declared.words.Command.TheVariants.{Audit, Generate, Resume, Run, Special, Units}
+use Rattle.command_words.specs.declared.words.Command.TheVariants.{Audit, Generate, Resume, Run, Serve, Special, Units}
+use Rattle.command_words.specs.declared.words.Start.{Start}
+use Rattle.command_words.specs.declared.words.Start.TheVariants as start
+use Rattle.command_words.specs.declared.words.Store.{Store}
 use Rattle.season_commands.specs.Check.{check_answers}
 use Rattle.step_command.specs.Step.{step_answers}
 use Rattle.command_answers.proofs.Ended.{fault_is_refused, input_is_answered}
 use Rattle.office_commands.proofs.Blaming.{blames, no_door_fault, serve_blames}
 use Rattle.office_commands.proofs.Ended.{answer_blames, text_is_written}
-use Rattle.office_commands.specs.Program.{Serves}
+use Rattle.office_commands.specs.Program.{BeginsOffice, Resumes, Serves}
 use Rattle.office_commands.proofs.program.run.Goals as goal
+
+-- an office that is served begins or goes on
+some_office : (conns workers port : ℕ) (way : Start) (store : Store) → (BeginsOffice (Serve conns workers way port store) → ⊥) → (Resumes (Serve conns workers way port store) → ⊥) → ⊥
+some_office conns workers port start.New store begins resumes = begins tt
+some_office conns workers port start.Kept store begins resumes = resumes tt
 
 pub returns-in-Step-clause-written : goal.returns-in-Step-clause-written
 returns-in-Step-clause-written g c =
@@ -117,7 +125,7 @@ pub returns-in-Serve-clause-spared_doors : goal.returns-in-Serve-clause-spared_d
 returns-in-Serve-clause-spared_doors g c other = absurd (other (subst (λ (k : Command). Serves k) (sym c.in-Serve.is) tt))
 
 pub returns-in-Serve-clause-untouched : goal.returns-in-Serve-clause-untouched
-returns-in-Serve-clause-untouched g c = rw c.in-Serve.is (λ none. absurd none)
+returns-in-Serve-clause-untouched g c = rw c.in-Serve.is (λ begins resumes. absurd (some_office c.in-Serve.conns c.in-Serve.workers c.in-Serve.port c.in-Serve.start c.in-Serve.store begins resumes))
 
 pub returns-in-Audit-clause-written : goal.returns-in-Audit-clause-written
 returns-in-Audit-clause-written g c =
