@@ -1,4 +1,3 @@
 pub mod Answers
-pub mod Blames
 pub mod Status
 pub mod Writes
