@@ -1,10 +1,14 @@
 -- How the command that runs a generated season ends.
 use Rattle.std.proofs.Common.{◌≡◌, ◌≢◌, ◌<◌, ◌+◌, ◌⊎◌, inl, inr, ℕ, zero, suc, true, false, List, [], ◌∷◌, ◌++◌, Option, Some, None, Result, Ok, Err, length, map, take, arith, refl, sym, ap, subst, ◌∙◌}
-use Rattle.std.specs.Prelude.{IfErr, IfOk, IsErrOf, OnOk, slice_get}
+use Rattle.std.specs.Prelude.{IfOk, IsErrOf, OnOk, slice_get}
 use Rattle.std.proofs.lemmas.List.{map-append}
-use Rattle.office_base.specs.Outside.{Appends, Rose}
+use Rattle.office_base.specs.FaultLines.{memory_line}
+use Rattle.office_base.specs.Outside.{Appends}
 use Rattle.office_base.specs.declared.asks.Request.{Request}
-use Rattle.season_file.specs.Season.{IsSeasonWith, content_of}
+use Rattle.season_file.specs.Laws.{HasFault}
+use Rattle.season_file.specs.Season.{IsSeasonFault, IsSeasonWith}
+use Rattle.season_file.specs.declared.fault.SeasonFault.{SeasonFault}
+use Rattle.season_file.specs.declared.fault.SeasonFault.TheVariants.{OutOfMemory as NoMemoryToRead}
 use Rattle.season_file.specs.declared.season.Season.{Season}
 use Rattle.keeper_mem.specs.Tables.{Tables, AreTold, IsFound, still}
 use Rattle.rounds.specs.declared.round.Round.{Round}
@@ -19,71 +23,33 @@ use Rattle.script_runs.specs.Tally.{CountsAll, StopsWithin}
 use Rattle.script_runs.specs.declared.tally.Tally.{Tally}
 use Rattle.season_generator.specs.Bundle.{generated}
 use Rattle.season_generator.specs.Summary.{summary_text}
-use Rattle.command_answers.specs.Answers.{HaveOneAnswer, IsFailureOf, IsInputFailure}
-use Rattle.command_answers.specs.Writes.{IsTold, Writes, status_of, text_of}
-use Rattle.command_answers.specs.declared.failure.Failure.{Failure}
-use Rattle.command_answers.specs.declared.failure.Failure.TheVariants.{Read, Bad, NoMemory as NoMemoryToRead}
+use Rattle.command_answers.specs.Writes.{IsTold, Writes}
 use Rattle.command_answers.specs.declared.status.Status.{Status}
-use Rattle.command_answers.specs.declared.status.Status.TheVariants.{Ok as Done, BadInput, ReadFault, WriteFault, KeeperFault, OutOfMemory}
+use Rattle.command_answers.specs.declared.status.Status.TheVariants.{Ok as Done, ReadFault, WriteFault, KeeperFault, OutOfMemory}
 use Rattle.season_commands.proofs.Still.{still_from}
-use Rattle.command_answers.proofs.Ended.{fault_is_refused, input_is_answered, left_failed, told_is_written}
-use Rattle.season_commands.specs.Check.{IsBundle, IsBundleFaultLine, IsFaultyBundle, IsLeftBundle, check_answers}
+use Rattle.command_answers.proofs.Ended.{told_is_written}
 use Rattle.season_commands.specs.Generated.{EndsGeneratedRun, EndsMade, IsCountedText, IsSummed, IsUnmadeText, StandsForAll, StandsForFirst, summary_of, summed_status, summed_text}
 use Rattle.season_commands.specs.Run.{IsUnbegunText, begin_status, begin_text}
 use Rattle.season_commands.proofs.RunEnds.{text_of_begin}
 
--- ---- the generated bundle is read
+-- ---- no season was made
 
--- the season that was read is that of these bytes
-pub bundle_of_bytes : (left bytes : List ℕ) (season : Season) (script : List Request) → left ≡ bytes → IsLeftBundle (Some left) season script → IsSeasonWith true bytes season script
-bundle_of_bytes left bytes season script same is = subst (λ b. IsSeasonWith true b season script) (is.1 ∙ same) is.2
-
--- a failure to read these bytes, whose source cannot fail
-pub failed_on_bytes : (left bytes : List ℕ) (failure : Failure) → left ≡ bytes → IsFailureOf check_answers (Some left) (Rose 0 0) failure → IsInputFailure check_answers bytes failure
-failed_on_bytes left bytes Read same cause = absurd (omega (arith, cause))
-failed_on_bytes left bytes (Bad line) same cause = subst (λ b. IsBundleFaultLine b line) (cause.1 ∙ same) cause.2
-failed_on_bytes left bytes NoMemoryToRead same cause = tt
-
--- ---- no season was read
-
--- the text of why goes with its status
-text_of_unmade : (n seed : ℕ) (failure : Failure) → IsInputFailure check_answers (generated n seed) failure → IsUnmadeText n seed (status_of (Err failure)) (text_of (Err failure))
-text_of_unmade n seed Read cause = absurd cause
-text_of_unmade n seed (Bad line) cause = cause
-text_of_unmade n seed NoMemoryToRead cause = refl
-
-pub unmade_ends : (n seed : ℕ) (failure : Failure) (tables : Tables) (written now : Option (List ℕ)) (broke : Type 0) (result : Status) → IsInputFailure check_answers (generated n seed) failure
-    → IsTold (status_of (Err failure)) (text_of (Err failure)) written now broke result → (output : List ℕ) × Appends output written now × EndsGeneratedRun n seed tables tables result output
-unmade_ends n seed failure tables written now broke result cause is =
-    let (output, appends, writes) = told_is_written (IsUnmadeText n seed) (status_of (Err failure)) result (text_of (Err failure)) written now broke (text_of_unmade n seed failure cause) is in
+pub unmade_ends : (n seed : ℕ) (tables : Tables) (written now : Option (List ℕ)) (broke : Type 0) (result : Status) → IsTold OutOfMemory memory_line written now broke result
+    → (output : List ℕ) × Appends output written now × EndsGeneratedRun n seed tables tables result output
+unmade_ends n seed tables written now broke result is =
+    let (output, appends, writes) = told_is_written IsUnmadeText OutOfMemory result memory_line written now broke refl is in
     (output, appends, inl (writes, refl))
 
--- a bundle without faults is read, or there was no memory
-pub unmade_of_bundle : (bytes : List ℕ) (failure : Failure) (written now : Option (List ℕ)) (broke : Type 0) (result : Status) → ((bs : List ℕ) → HaveOneAnswer check_answers bs)
-    → IsInputFailure check_answers bytes failure → IsTold (status_of (Err failure)) (text_of (Err failure)) written now broke result → IsBundle bytes → (broke → ⊥)
-    → (result ≡ Done) ⊎ (result ≡ OutOfMemory)
-unmade_of_bundle bytes failure written now broke result laws cause told is wrote =
-    input_is_answered check_answers (Some bytes) ⊥ (Err failure) result written now broke laws (left_failed check_answers bytes (Some bytes) ⊥ failure refl cause) told is (λ bad. bad) wrote
+-- where the sink takes all, want of memory is told
+pub unmade_is_told : (written now : Option (List ℕ)) (broke : Type 0) (result : Status) → IsTold OutOfMemory memory_line written now broke result → (broke → ⊥) → result ≡ OutOfMemory
+unmade_is_told written now broke result told wrote = elim told [ inl whole ↦ whole.0 | inr cut ↦ absurd (wrote cut.1) ]
 
--- a failure is told as a fault of the bundle, or as want of memory
-pub unmade_is_refused : (bytes : List ℕ) (failure : Failure) (written now : Option (List ℕ)) (broke : Type 0) (result : Status) → IsInputFailure check_answers bytes failure
-    → IsTold (status_of (Err failure)) (text_of (Err failure)) written now broke result → (broke → ⊥) → (result ≡ BadInput) ⊎ (result ≡ OutOfMemory)
-unmade_is_refused bytes Read written now broke result cause told wrote = absurd cause
-unmade_is_refused bytes (Bad line) written now broke result cause told wrote = elim told [ inl whole ↦ inl whole.0 | inr cut ↦ absurd (wrote cut.1) ]
-unmade_is_refused bytes NoMemoryToRead written now broke result cause told wrote = elim told [ inl whole ↦ inr whole.0 | inr cut ↦ absurd (wrote cut.1) ]
+-- bytes without a fault are not read for want of memory alone
+pub only_memory : (bytes : List ℕ) (fault : SeasonFault) → ((other : SeasonFault) → HasFault true bytes other → ⊥) → IsSeasonFault true bytes fault → fault ≡ NoMemoryToRead
+only_memory bytes NoMemoryToRead none is = refl
+only_memory bytes fault none is = absurd (none fault is)
 
--- the source does not fail
-pub unmade_without_read : (bytes : List ℕ) (failure : Failure) (written now : Option (List ℕ)) (broke : Type 0) (result : Status) → IsInputFailure check_answers bytes failure
-    → IsTold (status_of (Err failure)) (text_of (Err failure)) written now broke result → result ≡ ReadFault → ⊥
-unmade_without_read bytes Read written now broke result cause told is = cause
-unmade_without_read bytes (Bad line) written now broke result cause told is = elim told [ inl whole ↦ cc | inr cut ↦ cc ]
-unmade_without_read bytes NoMemoryToRead written now broke result cause told is = elim told [ inl whole ↦ cc | inr cut ↦ cc ]
-
--- ---- a season was read
-
--- the bundle has no fault then
-pub no_fault_made : (bytes : List ℕ) (season : Season) (script : List Request) → ((bs : List ℕ) → HaveOneAnswer check_answers bs) → IsSeasonWith true bytes season script → IsFaultyBundle bytes → ⊥
-no_fault_made bytes season script laws is faulty = (laws bytes).apart (content_of season is.row, script, is.given) faulty
+-- ---- a season was made
 
 pub made_ends : (n seed : ℕ) (before after : Tables) (season : Season) (script shown : List Request) (written now : Option (List ℕ)) (status : Status)
     → IsSeasonWith true (generated n seed) season script → shown ≡ script → (output : List ℕ) × Appends output written now × EndsMade n seed season shown before after status output
@@ -219,20 +185,3 @@ is_there (x ∷ xs) (suc i) less none = is_there xs i (omega (arith, less)) none
 pub mapped_on : {A : Type 0} (f : A → ℕ) (xs : List A) (i : ℕ) (x : A) (done more : List ℕ) → slice_get xs i ≡ Some x → done ≡ map f (take i xs) → more ≡ done ++ f x ∷ [] → more ≡ map f (take (i + 1) xs)
 mapped_on f xs i x done more there before on =
     on ∙ (ap (λ ys. ys ++ f x ∷ []) before ∙ (sym (map-append f (take i xs) (x ∷ [])) ∙ ap (map f) (sym (taken_on xs i x there))))
-
--- ---- what is read, by what came
-
-pub read_of_bytes : (left bytes : List ℕ) (read : Result (Season × List Request) Failure) → left ≡ bytes → IfOk read (λ r. IsLeftBundle (Some left) r.0 r.1)
-    → IfOk read (λ r. IsSeasonWith true bytes r.0 r.1)
-read_of_bytes left bytes (Ok read) same is = bundle_of_bytes left bytes read.0 read.1 same is
-read_of_bytes left bytes (Err failure) same is = tt
-
-pub failed_of_bytes : (left bytes : List ℕ) (read : Result (Season × List Request) Failure) → left ≡ bytes → IfErr read (IsFailureOf check_answers (Some left) (Rose 0 0))
-    → IfErr read (IsInputFailure check_answers bytes)
-failed_of_bytes left bytes (Ok read) same is = tt
-failed_of_bytes left bytes (Err failure) same is = failed_on_bytes left bytes failure same is
-
--- a source of these bytes
-pub source_of_bytes : {E : Type 0} (shown bytes : List ℕ) (piece : ℕ) (made : Result (List ℕ × ℕ) E) → shown ≡ bytes → IfOk made (λ source. source ≡ (shown, piece)) → IfOk made (λ source. source.0 ≡ bytes)
-source_of_bytes shown bytes piece (Ok source) same is = ap (λ s. s.0) is ∙ same
-source_of_bytes shown bytes piece (Err none) same is = tt

@@ -20,17 +20,15 @@ use Rattle.season_generator.specs.declared.summary.Summary.{Summary}
 use Rattle.office_base.specs.FaultLines.{memory_line}
 use Rattle.command_answers.specs.Writes.{Writes, keeper_line}
 use Rattle.command_answers.specs.declared.status.Status.{Status}
-use Rattle.command_answers.specs.declared.status.Status.TheVariants.{Ok as Done, BadInput, KeeperFault, OutOfMemory}
-use Rattle.season_commands.specs.Check.{IsBundleFaultLine}
+use Rattle.command_answers.specs.declared.status.Status.TheVariants.{Ok as Done, KeeperFault, OutOfMemory}
 use Rattle.season_commands.specs.Run.{IsUnbegunText}
 
--- ---- where no season is read
+-- ---- where no season is made
 
--- the whole text that goes with each status: the generated bundle has a fault, or there was no memory
-abbrev pub IsUnmadeText : ℕ → ℕ → Status → List ℕ → Type 0
-IsUnmadeText n seed BadInput text = IsBundleFaultLine (generated n seed) text
-IsUnmadeText n seed OutOfMemory text = text ≡ memory_line
-IsUnmadeText n seed other text = ⊥
+-- the whole text that goes with each status where there was no memory for the season
+abbrev pub IsUnmadeText : Status → List ℕ → Type 0
+IsUnmadeText OutOfMemory text = text ≡ memory_line
+IsUnmadeText other text = ⊥
 
 -- ---- where an office answers the requests
 
@@ -72,9 +70,9 @@ abbrev pub EndsMade : ℕ → ℕ → Season → List Request → Tables → Tab
 EndsMade n seed season script before after status output = (Writes (IsUnbegunText (still before after)) status output × AreTold before after)
     ⊎ (IsFound false (still before after) × Writes (IsCountedText n seed (facts_of season) script after) status output)
 
--- how the command ends: no season is read, and the tables are as before; or the generated bundle has no fault, and its season ends
+-- how the command ends: there is no memory for the season, and the tables are as before; or the season of the generated bundle ends
 abbrev pub EndsGeneratedRun : ℕ → ℕ → Tables → Tables → Status → List ℕ → Type 0
-EndsGeneratedRun n seed before after status output = (Writes (IsUnmadeText n seed) status output × (after ≡ before))
+EndsGeneratedRun n seed before after status output = (Writes IsUnmadeText status output × (after ≡ before))
     ⊎ ((season : Season) × (script : List Request) × IsSeasonWith true (generated n seed) season script × EndsMade n seed season script before after status output)
 
 -- ---- a summary, or why there is none

@@ -8,28 +8,22 @@ ghost use Rattle.office_moves.specs.History.{IsHistory};
 ghost use Rattle.office_moves.specs.Stands.{Stand};
 ghost use Rattle.office_moves.specs.State.{opening};
 ghost use Rattle.season_generator.specs.Bundle.{generated};
-ghost use Rattle.command_answers.specs.Answers.{IsInputFailure};
 ghost use Rattle.command_answers.specs.Writes.{Writes};
-ghost use Rattle.season_commands.specs.Check.{IsBundle, IsFaultyBundle, check_answers};
 ghost use Rattle.season_commands.specs.Generated.{EndsGeneratedRun, EndsMade, IsCountedText, IsSummed, StandsForAll, StandsForFirst};
 ghost use Rattle.season_commands.specs.Run.{TellsNoSeason, TellsSeason};
 
-use crate::bundle::read_bundle;
-use crate::laws::one_answer;
 use crate::run::tell_unbegun;
 use crate::summed::{tallied_text, write_summary};
-use command_answers::{Failure, Status, tell_failure};
+use command_answers::{Status, tell_no_memory};
+use generated_season::laws::generated_has_no_fault;
 use keeper_mem::Keeper;
-use office_base::{OutOfMemory, Request, Sink, SureSource, Text};
+use office_base::{OutOfMemory, Request, Sink, Text};
 use request_rows::Script;
 use round_cut::{Office, OfficeFault};
 use script_runs::count_all;
-use season_file::Season;
+use season_file::{Season, SeasonFault};
 use season_generator::generate;
 use std::alloc::Global;
-
-// The most bytes of a generated bundle that are taken at once where it is read.
-const PIECE: usize = 65_536;
 
 /// Runs the season of `n` candidates, from 1 to 100,000, that the seed gives over the keeper, which is handed back, and writes what it came to. Nothing is
 /// written before the last request is answered.
@@ -50,43 +44,38 @@ pub fn run_generated<K: Sink, P: Keeper>(
     ensures sink_steady { result.0 ≢ Status.WriteFault → K.faults sink.new ≡ K.faults sink.old }
     ensures keeper_count { P.faults keeper ≤ P.faults result.1 }
     ensures keeper_steady { result.0 ≢ Status.KeeperFault → result.0 ≢ Status.WriteFault → P.faults result.1 ≡ P.faults keeper }
-    ensures complete { IsBundle (generated n seed) → TellsNoSeason (still (P.tables keeper) (P.tables result.1)) → ¬ Rose (K.faults sink.old) (K.faults sink.new) → ¬ Rose (P.faults keeper) (P.faults result.1)
+    ensures complete { TellsNoSeason (still (P.tables keeper) (P.tables result.1)) → ¬ Rose (K.faults sink.old) (K.faults sink.new) → ¬ Rose (P.faults keeper) (P.faults result.1)
         → (result.0 ≡ Status.Ok) ⊎ (result.0 ≡ Status.OutOfMemory) }
-    ensures refused { IsFaultyBundle (generated n seed) → ¬ Rose (K.faults sink.old) (K.faults sink.new)
-        → (result.0 ≡ Status.BadInput) ⊎ (result.0 ≡ Status.OutOfMemory) }
     ensures not_empty { TellsSeason (still (P.tables keeper) (P.tables result.1)) → ¬ Rose (K.faults sink.old) (K.faults sink.new) → ¬ Rose (P.faults keeper) (P.faults result.1)
         → (result.0 ≡ Status.BadInput) ⊎ (result.0 ≡ Status.OutOfMemory) }
 {
-    one_answer();
     match read_generated(alloc, n, seed) {
         Ok((season, script)) => run_made(alloc, n, seed, season, script.as_slice(), sink, keeper),
-        Err(failure) => (tell_failure(sink, failure), keeper),
+        Err(OutOfMemory) => (tell_no_memory(sink), keeper),
     }
 }
 
-/// The season of the generated bundle, and its requests.
-fn read_generated(alloc: Global, n: u32, seed: u32) -> Result<(Season, Script), Failure>
+/// The season of the generated bundle, and its requests. The bundle has no fault.
+fn read_generated(alloc: Global, n: u32, seed: u32) -> Result<(Season, Script), OutOfMemory>
     requires low { 1 ≤ n }
     requires high { n ≤ 100000 }
     ensures season { IfOk result (λ read. IsSeasonWith true (generated n seed) read.0 read.1) }
     ensures text { IfOk result (λ read. IsSeason read.0.text read.0) }
-    ensures failure { IfErr result (IsInputFailure check_answers (generated n seed)) }
 {
-    let mut source = match source_of(alloc, n, seed) {
-        Ok(source) => source,
-        Err(OutOfMemory) => return Err(Failure::NoMemory),
-    };
-    read_bundle(alloc, &mut source)
+    generated_has_no_fault();
+    let bundle = generate(alloc, n, seed)?;
+    match Season::of_text(alloc, bundle, true) {
+        Ok(read) => Ok(read),
+        Err(fault) => Err(no_memory(fault)),
+    }
 }
 
-/// A source that gives the generated bundle.
-fn source_of(alloc: Global, n: u32, seed: u32) -> Result<SureSource, OutOfMemory>
-    requires low { 1 ≤ n }
-    requires high { n ≤ 100000 }
-    ensures { IfOk result (λ source. source.0 ≡ generated n seed) }
+/// The only fault of a bundle that has none.
+fn no_memory(fault: SeasonFault) -> OutOfMemory
+    requires { fault ≡ SeasonFault.OutOfMemory }
 {
-    let bundle = generate(alloc, n, seed)?;
-    SureSource::new(alloc, bundle.as_slice(), PIECE)
+    let _fault = fault;
+    OutOfMemory
 }
 
 /// Answers the requests in the season, which the keeper is to hold from now on, and writes what it came to.

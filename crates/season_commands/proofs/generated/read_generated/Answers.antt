@@ -1,9 +1,10 @@
+use Rattle.std.proofs.Common.{List, ℕ, true, subst}
+use Rattle.season_file.specs.Season.{IsSeasonFault}
 use Rattle.season_generator.specs.Bundle.{generated}
-use Rattle.season_commands.proofs.GeneratedEnds.{failed_of_bytes, read_of_bytes}
+use Rattle.season_commands.proofs.GeneratedEnds.{only_memory}
 use Rattle.season_commands.proofs.generated.read_generated.Goals as goal
 
-pub returns-clause-season : goal.returns-clause-season
-returns-clause-season c = read_of_bytes _ (generated c.args.n c.args.seed) c.read_bundle.result c.in-Ok.ensures c.read_bundle.ensures.bundle
-
-pub returns-clause-failure : goal.returns-clause-failure
-returns-clause-failure c = failed_of_bytes _ (generated c.args.n c.args.seed) c.read_bundle.result c.in-Ok.ensures c.read_bundle.ensures.failure
+pub no_memory-requires : goal.no_memory-requires
+no_memory-requires c =
+    only_memory (generated c.args.n c.args.seed) _ (λ other has. c.generated_has_no_fault.ensures c.args.n c.args.seed other c.requires.high has)
+    (subst (λ (b : List ℕ). IsSeasonFault true b c.in-Err.fault) c.in_ok-bundle.ensures c.in-Err.ensures.fault)
