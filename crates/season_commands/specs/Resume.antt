@@ -13,7 +13,7 @@ use Rattle.season_file.specs.declared.fault.SeasonFault.{SeasonFault}
 use Rattle.season_file.specs.declared.fault.SeasonFault.TheVariants.{TooLong, NotUtf8, BadRequest}
 use Rattle.season_file.specs.declared.season.Season.{Season}
 use Rattle.season_texts.specs.Texts.{fault_line}
-use Rattle.keeper_mem.specs.Tables.{Tables, Untold, NoSeason, Records, AreTold, IsFound, IsLoaded, still}
+use Rattle.keeper_mem.specs.Tables.{Tables, Records, AreTold, IsFound, IsLoaded, still}
 use Rattle.keeper_mem.specs.declared.rows.Kept.{Kept}
 use Rattle.office_moves.specs.Facts.{SeasonFacts}
 use Rattle.office_moves.specs.Season.{facts_of}
@@ -118,9 +118,8 @@ pub record HaveNoFault (records : Kept) : Type 0 where
 
 -- the keeper tells records that have no fault
 abbrev pub TellsSound : Tables → Type 0
-TellsSound Untold = ⊥
-TellsSound NoSeason = ⊥
 TellsSound (Records records) = HaveNoFault records
+TellsSound other = ⊥
 
 -- the text of the records is no bundle
 abbrev pub HaveTextFault : Kept → Type 0
@@ -128,9 +127,8 @@ HaveTextFault records = (fault : SeasonFault) × HasFault false records.season f
 
 -- the keeper tells records whose text is no bundle
 abbrev pub TellsTextFault : Tables → Type 0
-TellsTextFault Untold = ⊥
-TellsTextFault NoSeason = ⊥
 TellsTextFault (Records records) = HaveTextFault records
+TellsTextFault other = ⊥
 
 -- The text of the records is a bundle, and of each season that the text spells a row or a seat of theirs has a fault.
 pub record HaveRowFault (records : Kept) : Type 0 where
@@ -140,9 +138,8 @@ pub record HaveRowFault (records : Kept) : Type 0 where
 
 -- the keeper tells records that have such a fault
 abbrev pub TellsRowFault : Tables → Type 0
-TellsRowFault Untold = ⊥
-TellsRowFault NoSeason = ⊥
 TellsRowFault (Records records) = HaveRowFault records
+TellsRowFault other = ⊥
 
 -- the keeper tells that no office can go on: it holds no season, or records with a fault
 abbrev pub TellsNoOffice : Tables → Type 0

@@ -3,7 +3,7 @@
 use Rattle.std.specs.Prelude.{◌≡◌, ◌⊎◌, ℕ, true, false, List, Option, codes}
 use Rattle.office_base.specs.declared.asks.Request.{Request}
 use Rattle.season_file.specs.declared.season.Season.{Season}
-use Rattle.keeper_mem.specs.Tables.{Tables, Untold, NoSeason, Records, AreTold, IsFound, still}
+use Rattle.keeper_mem.specs.Tables.{Tables, NoSeason, Records, AreTold, IsFound, still}
 use Rattle.office_moves.specs.Season.{facts_of}
 use Rattle.office_moves.specs.State.{opening}
 use Rattle.round_cut.specs.declared.fault.BeginFault.{BeginFault}
@@ -63,12 +63,10 @@ EndsRun left before after status output = (Writes (IsUnreadText left) status out
 
 -- the keeper tells that it holds no season
 abbrev pub TellsNoSeason : Tables → Type 0
-TellsNoSeason Untold = ⊥
 TellsNoSeason NoSeason = Unit {0}
-TellsNoSeason (Records kept) = ⊥
+TellsNoSeason other = ⊥
 
 -- the keeper tells a season
 abbrev pub TellsSeason : Tables → Type 0
-TellsSeason Untold = ⊥
-TellsSeason NoSeason = ⊥
 TellsSeason (Records kept) = Unit {0}
+TellsSeason other = ⊥
