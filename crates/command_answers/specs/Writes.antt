@@ -29,6 +29,11 @@ IsTextOf answers left ReadFault text = text ≡ read_line
 IsTextOf answers left OutOfMemory text = text ≡ memory_line
 IsTextOf answers left other text = ⊥
 
+-- the whole text that goes with each status where there was no memory for what a command needs first
+abbrev pub IsWantText : Status → List ℕ → Type 0
+IsWantText OutOfMemory text = text ≡ memory_line
+IsWantText other text = ⊥
+
 -- the status of a command's answer, and the text that goes with it
 abbrev pub status_of : Result (List ℕ) Failure → Status
 status_of (Ok output) = Done

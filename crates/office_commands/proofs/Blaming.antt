@@ -5,7 +5,7 @@ use Rattle.keeper_mem.specs.Tables.{Tables, still}
 use Rattle.season_file.specs.declared.season.Season.{Season}
 use Rattle.office_base.specs.declared.asks.Request.{Request}
 use Rattle.season_commands.specs.Check.{check_answers}
-use Rattle.season_commands.specs.Generated.{IsCountedText, IsUnmadeText}
+use Rattle.season_commands.specs.Generated.{IsCountedText}
 use Rattle.season_commands.specs.Resume.{EndsResume, IsUnaskedText, IsUnresumedText}
 use Rattle.season_commands.specs.Run.{EndsSeason, IsUnbegunText, IsUnreadText}
 use Rattle.office_moves.specs.Season.{facts_of}
@@ -16,7 +16,7 @@ use Rattle.audit_command.specs.Audit.{IsAuditText}
 use Rattle.door_histories.specs.Ending.{SomeRose}
 use Rattle.serve_command.specs.Doors.{Doors}
 use Rattle.office_commands.specs.Blames.{Blames, Counts}
-use Rattle.command_answers.specs.Writes.{IsTextOf, Writes}
+use Rattle.command_answers.specs.Writes.{IsTextOf, IsWantText, Writes}
 use Rattle.command_answers.specs.declared.status.Status.{Status}
 use Rattle.command_answers.specs.declared.status.Status.TheVariants.{BadInput, ReadFault, WriteFault, KeeperFault, OutOfMemory, DoorFault, Differs}
 use Rattle.command_words.specs.declared.words.Command.{Command}
@@ -57,7 +57,7 @@ no_door (Special store) left before after doors output other ends = no_special l
 no_door (Serve conns workers start port store) left before after doors output other ends = other tt
 no_door Audit left before after doors output other ends = no_text (IsAuditText left) output (λ text h. h) ends.0
 no_door (Generate n seed out_kind.Text) left before after doors output other ends = no_text (IsGeneratedText n seed) output (λ text h. h) ends.0
-no_door (Generate n seed out_kind.Run) left before after doors output other (inl unmade) = no_text (IsUnmadeText n seed) output (λ text h. h) unmade.0
+no_door (Generate n seed out_kind.Run) left before after doors output other (inl unmade) = no_text IsWantText output (λ text h. h) unmade.0
 no_door (Generate n seed out_kind.Run) left before after doors output other (inr (season, script, is, inl unbegun)) = no_text (IsUnbegunText (still before after)) output (λ text h. h) unbegun.0
 no_door (Generate n seed out_kind.Run) left before after doors output other (inr (season, script, is, inr (found, writes))) =
     no_text (IsCountedText n seed (facts_of season) script after) output (λ text h. h) writes

@@ -15,7 +15,7 @@ use Rattle.step_command.specs.Step.{IsFaultySheet, IsSheet, step_answers}
 use Rattle.command_words.specs.Words.{Spell, SpellNothing}
 use Rattle.season_generator.specs.Bundle.{generated}
 use Rattle.office_base.specs.FaultLines.{memory_line}
-use Rattle.command_answers.specs.Writes.{IsTextOf, Writes}
+use Rattle.command_answers.specs.Writes.{IsTextOf, IsWantText, Writes}
 use Rattle.command_answers.specs.declared.status.Status.{Status}
 use Rattle.command_answers.specs.declared.status.Status.TheVariants.{Ok as Done, Usage, OutOfMemory}
 use Rattle.command_words.specs.declared.words.Command.{Command}
@@ -31,11 +31,6 @@ usage_line = codes "fault: usage\n"
 abbrev pub IsUsageText : Status → List ℕ → Type 0
 IsUsageText Usage text = text ≡ usage_line
 IsUsageText other text = ⊥
-
--- the whole text that goes with each status where there was no memory to divide the words
-abbrev pub IsWantText : Status → List ℕ → Type 0
-IsWantText OutOfMemory text = text ≡ memory_line
-IsWantText other text = ⊥
 
 -- what a command that answers with one text writes, with its status; the tables are as before
 abbrev pub EndsText : Answers → Option (List ℕ) → Tables → Tables → Status → List ℕ → Type 0
@@ -101,7 +96,7 @@ TellsInput Audit left = Tells AreDossier left
 TellsInput (Generate n seed out) left = Unit {0}
 
 -- the source tells its bytes, and they have a fault as the command's input, which is read before all else; under `resume` and `special` the records are
--- judged first, under `serve` with `kept` there is no input, and a generated season that is run has its own bundle for the input
+-- judged first, under `serve` with `kept` there is no input, and a generated season has none either: its own bundle has no fault
 abbrev pub TellsFault : Command → Option (List ℕ) → Type 0
 TellsFault Step left = Tells IsFaultySheet left
 TellsFault Check left = Tells IsFaultyBundle left
@@ -109,11 +104,10 @@ TellsFault (Run store) left = Tells IsFaultyBundle left
 TellsFault (Units store) left = Tells IsFaultyUnits left
 TellsFault (Serve conns workers start.New port store) left = Tells IsFaultySeason left
 TellsFault Audit left = Tells AreFaultyDossier left
-TellsFault (Generate n seed out_kind.Run) left = IsFaultyBundle (generated n seed)
 TellsFault other left = ⊥
 
--- the keeper is as the command needs it: under `run`, `units` and `serve` with `new` it tells that it holds no season, under `resume`, `special` and `serve` with
--- `kept` records without a fault; and a generated season is run where its bundle has no fault. The others need nothing of a keeper.
+-- the keeper is as the command needs it: under `run`, `units`, `serve` with `new` and `generate` with `run` it tells that it holds no season, under `resume`, `special` and `serve` with
+-- `kept` records without a fault. The others need nothing of a keeper.
 abbrev pub IsReady : Command → Tables → Type 0
 IsReady (Run store) tables = TellsNoSeason tables
 IsReady (Resume store) tables = TellsSound tables
@@ -121,7 +115,7 @@ IsReady (Units store) tables = TellsNoSeason tables
 IsReady (Special store) tables = TellsSound tables
 IsReady (Serve conns workers start.New port store) tables = TellsNoSeason tables
 IsReady (Serve conns workers start.Kept port store) tables = TellsSound tables
-IsReady (Generate n seed out_kind.Run) tables = IsBundle (generated n seed) × TellsNoSeason tables
+IsReady (Generate n seed out_kind.Run) tables = TellsNoSeason tables
 IsReady other tables = Unit {0}
 
 -- the command begins an office anew

@@ -283,8 +283,6 @@ fn generated<K: Sink, P: Keeper>(
     ensures keeper_steady { result.0 ≢ Status.KeeperFault → result.0 ≢ Status.WriteFault → P.faults result.1 ≡ P.faults keeper }
     ensures complete { IsReady (Generate n seed out) (still (P.tables keeper) (P.tables result.1)) → ¬ Rose (K.faults sink.old) (K.faults sink.new) → ¬ Rose (P.faults keeper) (P.faults result.1)
         → (result.0 ≡ Status.Ok) ⊎ (result.0 ≡ Status.OutOfMemory) }
-    ensures refused { (left : Option (List ℕ)) → TellsFault (Generate n seed out) left → ¬ Rose (K.faults sink.old) (K.faults sink.new)
-        → (result.0 ≡ Status.BadInput) ⊎ (result.0 ≡ Status.OutOfMemory) }
     ensures not_empty { BeginsOffice (Generate n seed out) → TellsSeason (still (P.tables keeper) (P.tables result.1)) → ¬ Rose (K.faults sink.old) (K.faults sink.new) → ¬ Rose (P.faults keeper) (P.faults result.1)
         → (result.0 ≡ Status.BadInput) ⊎ (result.0 ≡ Status.OutOfMemory) }
 {

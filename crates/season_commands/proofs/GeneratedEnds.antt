@@ -23,12 +23,12 @@ use Rattle.script_runs.specs.Tally.{CountsAll, StopsWithin}
 use Rattle.script_runs.specs.declared.tally.Tally.{Tally}
 use Rattle.season_generator.specs.Bundle.{generated}
 use Rattle.season_generator.specs.Summary.{summary_text}
-use Rattle.command_answers.specs.Writes.{IsTold, Writes}
+use Rattle.command_answers.specs.Writes.{IsTold, IsWantText, Writes}
 use Rattle.command_answers.specs.declared.status.Status.{Status}
 use Rattle.command_answers.specs.declared.status.Status.TheVariants.{Ok as Done, ReadFault, WriteFault, KeeperFault, OutOfMemory}
 use Rattle.season_commands.proofs.Still.{still_from}
 use Rattle.command_answers.proofs.Ended.{told_is_written}
-use Rattle.season_commands.specs.Generated.{EndsGeneratedRun, EndsMade, IsCountedText, IsSummed, IsUnmadeText, StandsForAll, StandsForFirst, summary_of, summed_status, summed_text}
+use Rattle.season_commands.specs.Generated.{EndsGeneratedRun, EndsMade, IsCountedText, IsSummed, StandsForAll, StandsForFirst, summary_of, summed_status, summed_text}
 use Rattle.season_commands.specs.Run.{IsUnbegunText, begin_status, begin_text}
 use Rattle.season_commands.proofs.RunEnds.{text_of_begin}
 
@@ -37,7 +37,7 @@ use Rattle.season_commands.proofs.RunEnds.{text_of_begin}
 pub unmade_ends : (n seed : ℕ) (tables : Tables) (written now : Option (List ℕ)) (broke : Type 0) (result : Status) → IsTold OutOfMemory memory_line written now broke result
     → (output : List ℕ) × Appends output written now × EndsGeneratedRun n seed tables tables result output
 unmade_ends n seed tables written now broke result is =
-    let (output, appends, writes) = told_is_written IsUnmadeText OutOfMemory result memory_line written now broke refl is in
+    let (output, appends, writes) = told_is_written IsWantText OutOfMemory result memory_line written now broke refl is in
     (output, appends, inl (writes, refl))
 
 -- where the sink takes all, want of memory is told

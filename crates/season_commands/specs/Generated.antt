@@ -18,17 +18,10 @@ use Rattle.season_generator.specs.Bundle.{generated}
 use Rattle.season_generator.specs.Summary.{summary_text}
 use Rattle.season_generator.specs.declared.summary.Summary.{Summary}
 use Rattle.office_base.specs.FaultLines.{memory_line}
-use Rattle.command_answers.specs.Writes.{Writes, keeper_line}
+use Rattle.command_answers.specs.Writes.{IsWantText, Writes, keeper_line}
 use Rattle.command_answers.specs.declared.status.Status.{Status}
 use Rattle.command_answers.specs.declared.status.Status.TheVariants.{Ok as Done, KeeperFault, OutOfMemory}
 use Rattle.season_commands.specs.Run.{IsUnbegunText}
-
--- ---- where no season is made
-
--- the whole text that goes with each status where there was no memory for the season
-abbrev pub IsUnmadeText : Status → List ℕ → Type 0
-IsUnmadeText OutOfMemory text = text ≡ memory_line
-IsUnmadeText other text = ⊥
 
 -- ---- where an office answers the requests
 
@@ -72,7 +65,7 @@ EndsMade n seed season script before after status output = (Writes (IsUnbegunTex
 
 -- how the command ends: there is no memory for the season, and the tables are as before; or the season of the generated bundle ends
 abbrev pub EndsGeneratedRun : ℕ → ℕ → Tables → Tables → Status → List ℕ → Type 0
-EndsGeneratedRun n seed before after status output = (Writes IsUnmadeText status output × (after ≡ before))
+EndsGeneratedRun n seed before after status output = (Writes IsWantText status output × (after ≡ before))
     ⊎ ((season : Season) × (script : List Request) × IsSeasonWith true (generated n seed) season script × EndsMade n seed season script before after status output)
 
 -- ---- a summary, or why there is none

@@ -2,10 +2,11 @@ use Rattle.std.proofs.Common.{◌≡◌, ◌⊎◌, Err, ap, inl, inr, refl, sub
 use Rattle.command_words.specs.declared.words.Command.{Command}
 use Rattle.command_words.specs.declared.words.Command.TheVariants.{Resume, Special}
 use Rattle.command_words.specs.declared.words.WordsFault.TheVariants as words_fault
-use Rattle.office_commands.specs.Program.{IsReady, IsUsageText, IsWantText, ReadsSource, Serves, Succeeds, TellsFault, TellsInput, usage_line}
+use Rattle.office_commands.specs.Program.{IsReady, IsUsageText, ReadsSource, Serves, Succeeds, TellsFault, TellsInput, usage_line}
 use Rattle.office_commands.proofs.Blaming.{blames_as}
 use Rattle.keeper_mem.specs.Tables.{still}
 use Rattle.office_base.specs.FaultLines.{memory_line}
+use Rattle.command_answers.specs.Writes.{IsWantText}
 use Rattle.command_answers.specs.declared.status.Status.TheVariants.{OutOfMemory, Usage}
 use Rattle.command_answers.proofs.Ended.{told_is_written}
 use Rattle.office_commands.proofs.program.allocate.Goals as goal

@@ -56,7 +56,7 @@ pub returns-clause-complete : goal.returns-clause-complete
 returns-clause-complete g c = rw c.in-Generate.is (λ tells ready read wrote kept shut. c.generated.ensures.complete ready wrote kept)
 
 pub returns-clause-refused : goal.returns-clause-refused
-returns-clause-refused g c = rw c.in-Generate.is (λ tells read wrote. c.generated.ensures.refused _ tells wrote)
+returns-clause-refused g c = rw c.in-Generate.is (λ tells read wrote. absurd tells)
 
 pub returns-in-Run-clause-blamed : goal.returns-in-Run-clause-blamed
 returns-in-Run-clause-blamed g c =
