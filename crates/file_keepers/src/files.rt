@@ -1,15 +1,22 @@
 // A file, opened and closed as a keeper.
+ghost use Rattle.std.specs.Prelude.{◌≡◌, IfSome};
+ghost use Rattle.file_keepers.specs.Tables.{HasTables};
+ghost use Rattle.sqlite.specs.Files.{over_files};
+ghost use Rattle.sqlite.specs.Held.{IsNew};
+
 use keeper_sqlite::SqliteKeeper;
 use office_base::Text;
-use sqlite::{Connection, File, FileStore};
+use sqlite::{Alter, Connection, File, FileStore};
 use std::str;
 
 /// A keeper over a file.
 pub type FileKeeper = SqliteKeeper<FileStore<File>>;
 
-/// A keeper over the file of this name, with the tables made that are not there. None where the name is no text, or the file or its tables cannot be
-/// opened.
-pub fn open_keeper(rt: &HostRuntime, name: &Text) -> Option<FileKeeper> {
+/// A keeper over the file of this name, with the tables made that are not there, and with no faults. None where the name is no text, or the file or its
+/// tables cannot be opened.
+pub fn open_keeper(rt: &HostRuntime, name: &Text) -> Option<FileKeeper>
+    ensures { IfSome result (HasTables over_files) }
+{
     let connection = open_file(rt, name)?;
     with_tables(SqliteKeeper::new(connection))
 }
@@ -20,13 +27,19 @@ pub fn close_keeper(keeper: FileKeeper) {
 }
 
 // The file of this name.
-fn open_file(rt: &HostRuntime, name: &Text) -> Option<Connection<FileStore<File>>> {
+fn open_file(rt: &HostRuntime, name: &Text) -> Option<Connection<FileStore<File>>>
+    ensures { IfSome result IsNew }
+{
     let path = str::from_utf8(name.as_slice()).ok()?;
     Connection::open(rt, path).ok()
 }
 
-// The keeper with its tables.
-fn with_tables(mut keeper: FileKeeper) -> Option<FileKeeper> {
+// The keeper over a new connection, with its tables.
+fn with_tables<S: Alter + Drop>(mut keeper: SqliteKeeper<S>) -> Option<SqliteKeeper<S>>
+    requires is_new { IsNew keeper.connection }
+    requires faults { keeper.faults ≡ 0 }
+    ensures { IfSome result (HasTables S.Store) }
+{
     match keeper.make_tables() {
         Ok(()) => Some(keeper),
         Err(_) => None,
