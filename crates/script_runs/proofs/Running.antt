@@ -238,9 +238,3 @@ accepts_at_fault facts script j request season old now new OutOfMemory running n
     ]
 accepts_at_fault facts script j request season old now new WriteFault running next keeper memory write =
     let part = write refl in accepts_within facts script j request season part.0 old now new running next part.1
-
--- a fault that neither the keeper nor the sink has
-pub of_memory : (fault : RunFault) → (fault ≡ KeeperFault → ⊥) → (fault ≡ WriteFault → ⊥) → fault ≡ OutOfMemory
-of_memory KeeperFault kept took = absurd (kept refl)
-of_memory OutOfMemory kept took = refl
-of_memory WriteFault kept took = absurd (took refl)
