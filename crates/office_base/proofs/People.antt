@@ -1,4 +1,4 @@
--- Lists that go along with people.
+-- Lists with one element for each person.
 use Rattle.std.proofs.Common.{◌≡◌, ◌<◌, ℕ, zero, suc, List, [], ◌∷◌, Some, refl, ap, ◌∙◌, arith}
 use Rattle.std.specs.Prelude.{slice_get, ◌==◌}
 use Rattle.std.proofs.lemmas.Bool.{eq-eqb, ne_eqb, cond-true, cond-false}
@@ -7,7 +7,8 @@ use Rattle.office_base.specs.Lists.{Pairwise}
 use Rattle.office_base.specs.Person.{at_person}
 use Rattle.office_base.specs.declared.person.Person.{Person}
 
--- Where the numbers of the people rise, a list that goes along with them has for each person what stands at that person's place.
+-- If the numbers of the people rise, a list with one element for each person has
+-- that person's element at the person's place.
 pub at_person-get : {X : Type 0} (people : List Person) (xs : List X) (at : ℕ) (person : Person) → Pairwise (λ a b. a.id.0 < b.id.0) people
     → slice_get people at ≡ Some person → at_person person.id.0 people xs ≡ slice_get xs at
 at_person-get [] xs zero person rising found = absurd cc

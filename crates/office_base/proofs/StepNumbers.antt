@@ -1,4 +1,4 @@
--- A step is told by its number, from 0 to 5, and stands at it in the order of the steps.
+-- Each step has a number from 0 to 5, which is its place in the order of the steps.
 use Rattle.std.proofs.Common.{◌≡◌, ◌<◌, ℕ, zero, suc, List, [], ◌∷◌, Some, arith, refl, sym, ap, ◌∙◌}
 use Rattle.std.specs.Prelude.{slice_get}
 use Rattle.office_base.specs.declared.step.StepKind.{StepKind}
@@ -22,7 +22,7 @@ of_number Sc = refl
 of_number St = refl
 of_number Dereserved = refl
 
--- a step is told by its number
+-- different steps have different numbers
 pub one_number : (kind other : StepKind) → step_number kind ≡ step_number other → kind ≡ other
 one_number kind other same = sym (of_number kind) ∙ (ap kind_of same ∙ of_number other)
 
@@ -39,7 +39,7 @@ below_six Dereserved = omega arith
 abbrev pub kinds : List StepKind
 kinds = Open ∷ Ews ∷ Obc ∷ Sc ∷ St ∷ Dereserved ∷ []
 
--- each stands at its number
+-- each step is at the place of its number
 pub kind_at : (kind : StepKind) → slice_get kinds (step_number kind) ≡ Some kind
 kind_at Open = refl
 kind_at Ews = refl
@@ -48,7 +48,7 @@ kind_at Sc = refl
 kind_at St = refl
 kind_at Dereserved = refl
 
--- and has the number at which it stands
+-- the number of a step is its place
 pub number_at : (j : ℕ) (kind : StepKind) → slice_get kinds j ≡ Some kind → step_number kind ≡ j
 number_at zero kind at = ap step_number (let same : Open ≡ kind = cc in sym same)
 number_at (suc zero) kind at = ap step_number (let same : Ews ≡ kind = cc in sym same)

@@ -1,4 +1,4 @@
--- What several reads or writes, one after another, do to what is told.
+-- What several reads or writes, one after another, do to the visible bytes.
 use Rattle.std.proofs.Common.{◌≤◌, ◌≡◌, ◌<◌, ◌+◌, ℕ, List, [], ◌++◌, Option, Some, None, take, drop, length, refl, sym, ap, ◌∙◌, subst, arith, append_assoc, length-append}
 use Rattle.std.proofs.lemmas.List.{length-take, append-nil, take-append-drop, take_at}
 use Rattle.office_base.specs.Outside.{TakesPrefix, ComesAtTheEnd, AppendsPrefix, Took, IsAtEnd, TookMore, Appends}

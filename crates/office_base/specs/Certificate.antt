@@ -28,10 +28,10 @@ AreNoLater [] others = Unit {0}
 AreNoLater (slot ∷ slots) [] = ⊥
 AreNoLater (slot ∷ slots) (other ∷ others) = IsEarlierSlot slot other ⊎ ((slot ≡ other) × AreNoLater slots others)
 
--- The pairs are the first of the longest placements, down the merit order in which the people stand.
+-- The pairs are the first of the longest placements, down the merit order of the people.
 pub record IsCanonical (protections : Protections) (people : List Person) (pairs : List Pair) : Type 0 where
   pub placement : IsPlacement protections people pairs
-  -- the pairs stand in the order of the people
+  -- the pairs are in the order of the people
   pub in_order : IsSublist (map (λ pair. pair.cand) pairs) (map (λ person. person.id) people)
   pub longest : (other : List Pair) → IsPlacement protections people other → length other ≤ length pairs
   pub first : (other : List Pair) → IsPlacement protections people other → length other ≡ length pairs → AreNoLater (slots_of pairs people) (slots_of other people)

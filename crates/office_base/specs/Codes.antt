@@ -1,4 +1,4 @@
--- How codes and tokens are spelled, and how they stand in memory.
+-- How codes and tokens are spelled, and how they are kept in memory.
 use Rattle.std.specs.Prelude.{◌≡◌, ◌≤◌, ◌++◌, ◌-◌, ℕ, Bool, ◌==◌, ◌&&◌, ◌||◌, nat_le, List, length, replicate}
 use Rattle.std.specs.Char.{is_ascii_alphanumeric}
 use Rattle.std.specs.List.{list_all}
@@ -20,7 +20,7 @@ is_token text = nat_le shortest_token (length text) && nat_le (length text) long
 abbrev pub padded : ℕ → List ℕ → List ℕ
 padded n bytes = bytes ++ replicate (n - length bytes) 0
 
--- What follows the bytes in memory is zeros, so that equal bytes are equal in memory.
+-- Zeros follow the bytes in memory, so that equal bytes are equal in memory.
 pub record IsPadded (n : ℕ) (all bytes : List ℕ) (used : ℕ) : Type 0 where
   pub within : used ≤ n
   pub same : all ≡ padded n bytes

@@ -5,6 +5,6 @@ use Rattle.std.specs.Prelude.{ℕ, List, codes}
 abbrev pub read_line : List ℕ
 read_line = codes "fault: read\n"
 
--- the line of want of memory
+-- the line that reports that memory ran out
 abbrev pub memory_line : List ℕ
 memory_line = codes "fault: memory\n"

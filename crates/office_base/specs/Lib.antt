@@ -13,3 +13,4 @@ pub mod Placement
 pub mod StepChoice
 pub mod StepNumbers
 pub mod Version
+pub mod Visible

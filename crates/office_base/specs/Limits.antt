@@ -1,4 +1,5 @@
--- The limits of the office: how many of each thing it takes, the greatest number of each kind, and how long a spelling may be.
+-- The limits of the office: how many of each thing it takes, the greatest number of each kind,
+-- and how long a spelling may be.
 use Rattle.std.specs.Prelude.{ℕ}
 
 -- candidates of a register, or of a step sheet

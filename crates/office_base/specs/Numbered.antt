@@ -1,12 +1,12 @@
 -- Numbers of entries, one after another.
 use Rattle.std.specs.Prelude.{ℕ, List, [], ◌∷◌, Bool, true, ◌&&◌, nat_lt}
 
--- the last number, or the one given where there is none
+-- the last number, or the given one if there is none
 abbrev pub last_from : ℕ → List ℕ → ℕ
 last_from before [] = before
 last_from before (n ∷ ns) = last_from n ns
 
--- the last number, or 0 where there is none
+-- the last number, or 0 if there is none
 abbrev pub last_of : List ℕ → ℕ
 last_of = last_from 0
 

@@ -28,7 +28,7 @@ number_of (Relaxed n) = Some n
 abbrev pub place_in : ListId → Person → Place
 place_in list person = slice_index_or person.places (list.0 - 1) Absent
 
--- a person's number in a list, where the person has a place there
+-- a person's number in a list, if the person has a place there
 abbrev pub number_in : ListId → Person → Option ℕ
 number_in list person = number_of (place_in list person)
 

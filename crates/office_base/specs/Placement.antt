@@ -15,7 +15,7 @@ protected protections t = slice_index protections.counts t
 abbrev pub Fills : Pair → Person → Type 0
 Fills pair person = (pair.cand ≡ person.id) × IsTrue (has_trait person.traits pair.slot)
 
--- how many pairs stand on positions of a trait
+-- how many pairs are on positions of a trait
 abbrev pub placed_on : ℕ → List Pair → ℕ
 placed_on t [] = 0
 placed_on t (pair ∷ pairs) = (if pair.slot == t then 1 else 0) + placed_on t pairs
@@ -24,12 +24,12 @@ placed_on t (pair ∷ pairs) = (if pair.slot == t then 1 else 0) + placed_on t p
 pub record IsPlacement (protections : Protections) (people : List Person) (pairs : List Pair) : Type 0 where
   -- each pair is of one of the people, who holds its trait
   pub held : AllByRecursion (λ pair. AnyByRecursion (Fills pair) people) pairs
-  -- nobody stands in two pairs
+  -- nobody is in two pairs
   pub once : Pairwise (λ a b. a.cand ≢ b.cand) pairs
-  -- no trait stands in more pairs than it has positions
+  -- no trait is in more pairs than it has positions
   pub within : (t : ℕ) → placed_on t pairs ≤ protected protections t
 
--- This is the number of protections that the people honour: so many of them can be placed, and no more.
+-- This is the number of protections that the people honour: that many of them can be placed, and no more.
 pub record IsHonoured (protections : Protections) (people : List Person) (number : ℕ) : Type 0 where
   pub reached : (pairs : List Pair) × IsPlacement protections people pairs × (length pairs ≡ number)
   pub most : (pairs : List Pair) → IsPlacement protections people pairs → length pairs ≤ number

@@ -15,7 +15,7 @@ pub record AreRanked (list : ListId) (people : List Person) : Type 0 where
   pub in_order : Pairwise (IsBetter list) people
   pub distinct : Pairwise (λ a b. a.id ≢ b.id) people
 
--- what a step has to be
+-- what every step satisfies
 pub record IsStep (step : Step) : Type 0 where
   pub list : IsList step.list
   pub people : AreRanked step.list step.people

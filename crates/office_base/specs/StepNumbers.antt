@@ -12,7 +12,7 @@ step_number Sc = 3
 step_number St = 4
 step_number Dereserved = 5
 
--- the step of a number, where there is one
+-- the step of a number, if there is one
 abbrev pub step_of_number : ℕ → Option StepKind
 step_of_number n =
     if n == 0 then Some Open

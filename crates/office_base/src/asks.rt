@@ -1,8 +1,8 @@
-// What is asked of the office, and by whom.
+// What the office is asked, and who asks.
 use crate::{CandId, Code, ProgId, StepKind};
 
-/// What a candidate answers to a seat: keep it, keep it unless a better programme comes, the same within the seat's
-/// institute, or leave.
+/// What a candidate answers to a seat: keep it, keep it unless a better programme comes,
+/// the same within the seat's institute, or leave.
 #[derive(Clone, Copy, Debug, PartialEq, Eq)]
 pub enum Choice {
     Freeze,
@@ -11,7 +11,7 @@ pub enum Choice {
     Withdraw,
 }
 
-/// Who asks: the clerk, a candidate, or somebody whom the office does not know.
+/// Who asks: the clerk, a candidate, or somebody unknown to the office.
 #[derive(Clone, Copy, Debug, PartialEq, Eq)]
 pub enum By {
     Clerk,
@@ -19,7 +19,8 @@ pub enum By {
     Nobody,
 }
 
-/// What is asked. Windows are numbered from 0 and rounds from 1; a turn counts the answers of a candidate in a window, from 1.
+/// What is asked. Windows are numbered from 0 and rounds from 1;
+/// a turn counts the answers of a candidate in a window, from 1.
 /// A programme is named by its code, which may be the code of none.
 #[derive(Clone, Copy, Debug, PartialEq, Eq)]
 pub enum Ask {

@@ -2,11 +2,11 @@
 ghost use Rattle.std.specs.Prelude.{◌≡◌, ℕ, List, true, map};
 ghost use Rattle.office_base.specs.Numbered.{last_of, rises};
 
-/// A value that stands on a basis which no call changes, keeps a list of entries with rising numbers, and counts what failed in it.
+/// Keeps a list of entries with rising numbers over a basis that no call changes, and counts its failures.
 pub trait Booked {
     type Item;
 
-    /// What the value stands on.
+    /// The basis of the value, which no call changes.
     ghost Basis: { Type 0 };
 
     ghost basis: { Self → Basis };
@@ -20,7 +20,7 @@ pub trait Booked {
     /// How often something failed in it.
     ghost count: { Self → ℕ };
 
-    /// The number of the last entry, or 0 where there is none. The numbers rise, and the first is above 0.
+    /// Returns the number of the last entry, or 0 if there is none. The numbers rise, and the first is above 0.
     fn last_number(&self) -> u64
         ensures last { result ≡ last_of (map number (entries self.now)) }
         ensures rising { rises 0 (map number (entries self.now)) ≡ true };

@@ -27,7 +27,7 @@ impl Spelling<LONGEST_CODE> for CodeSpelling {
     }
 }
 
-/// Whether the bytes are letters, digits and dashes alone.
+/// Returns whether all bytes are letters, digits or dashes.
 fn are_code_bytes(bytes: &[u8]) -> bool
     ensures { result ≡ list_all is_code_byte bytes.now }
 {

@@ -1,7 +1,7 @@
 // Laws of the words of the office: each is the contract of a function that does nothing.
 ghost use Rattle.office_base.specs.Laws.{StepNumbersLaw};
 
-/// A step is read back from its number, and from no other number.
+/// Shows that a step is read back from its number, and from no other number.
 pub fn step_numbers()
     ensures { StepNumbersLaw }
 {}

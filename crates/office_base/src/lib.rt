@@ -1,6 +1,6 @@
 // The base of the office: who a person is, what a step is, and the outside as the office sees it.
 //
-// Every layer stands on it. `specs/` has the definitions that the whole office is proved against: better, step,
+// Every layer builds on it. `specs/` has the definitions that the whole office is proved against: better, step,
 // placement, honoured, step choice, certificate. They speak of all placements and all sublists. No function here
 // decides who is admitted, and none knows of files, of rounds or of programmes.
 #![tactic(auto)]

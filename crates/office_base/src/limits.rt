@@ -56,7 +56,7 @@ pub const SHORTEST_TOKEN: usize = 8;
 /// Bytes of a token, at most.
 pub const LONGEST_TOKEN: usize = 32;
 
-/// The limits of things that are counted are those of the definitions.
+/// Shows that the limits of counted things are those of the definitions.
 pub fn counts_are_limited()
     ensures candidates { MOST_CANDIDATES ≡ most_candidates }
     ensures programmes { MOST_PROGRAMMES ≡ most_programmes }
@@ -68,7 +68,7 @@ pub fn counts_are_limited()
     ensures turns { MOST_TURNS ≡ most_turns }
 {}
 
-/// So are the limits of numbers.
+/// Shows the same of the limits of numbers.
 pub fn numbers_are_limited()
     ensures id { LAST_ID ≡ last_id }
     ensures place { LAST_PLACE ≡ last_place }
@@ -76,7 +76,7 @@ pub fn numbers_are_limited()
     ensures turn { LAST_TURN ≡ last_turn }
 {}
 
-/// So are the limits of bytes.
+/// Shows the same of the limits of bytes.
 pub fn lengths_are_limited()
     ensures sheet { MOST_SHEET_BYTES ≡ most_sheet_bytes }
     ensures bundle { MOST_BUNDLE_BYTES ≡ most_bundle_bytes }

@@ -27,7 +27,7 @@ impl<T> Model for Listed<T> {
 }
 
 impl<T> Listed<T> {
-    /// The empty list. It takes no memory; `push` takes it from `alloc`.
+    /// Returns the empty list. It allocates nothing; `push` allocates from `alloc`.
     pub fn new(alloc: Global) -> Listed<T>
         ensures { result ≡ [] }
     {
@@ -36,7 +36,7 @@ impl<T> Listed<T> {
         }
     }
 
-    /// The empty list, with room for this many values.
+    /// Returns the empty list, with room for this many values.
     pub fn with_capacity(alloc: Global, room: usize) -> Result<Listed<T>, OutOfMemory>
         ensures { IfOk result (λ list. list ≡ []) }
     {
@@ -45,7 +45,7 @@ impl<T> Listed<T> {
         })
     }
 
-    /// The values of a vector, in their order. It takes no memory.
+    /// Returns the values of a vector, in their order. It allocates nothing.
     pub fn from_vec(items: Vec<T>) -> Listed<T>
         ensures { result ≡ items.items }
     {
@@ -72,7 +72,7 @@ impl<T> Listed<T> {
 }
 
 impl<T: Drop> Listed<T> {
-    /// Puts a value at the end. Where there is no memory for it, the list is as before and the value is dropped.
+    /// Puts a value at the end. If memory runs out, the list is unchanged and the value is dropped.
     pub fn push(&mut self, value: T) -> Result<(), OutOfMemory>
         ensures ok { OnOk result (self.new ≡ self.old ++ value ∷ []) }
         ensures err { OnErr result (self.new ≡ self.old) }
@@ -81,14 +81,14 @@ impl<T: Drop> Listed<T> {
         Ok(())
     }
 
-    /// Gives back the room that no value takes, where the allocator takes it; the values stay. It takes no memory.
+    /// Returns unused room to the allocator, if the allocator takes it. The values stay. It allocates nothing.
     pub fn shrink_to_fit(&mut self)
         ensures { self.new ≡ self.old }
     {
         self.items.shrink_to_fit();
     }
 
-    /// Keeps the first `len` values, or all where there are no more, and drops the others. It takes no memory.
+    /// Keeps the first `len` values, or all if there are no more, and drops the others. It allocates nothing.
     pub fn truncate(&mut self, len: usize)
         ensures { self.new ≡ take len self.old }
     {
@@ -97,7 +97,7 @@ impl<T: Drop> Listed<T> {
 }
 
 impl<T: Copy> Listed<T> {
-    /// The same values in a list of its own.
+    /// Returns a copy of the list with the same values.
     pub fn copy(&self, alloc: Global) -> Result<Listed<T>, OutOfMemory>
         ensures { IfOk result (λ list. list ≡ self.now) }
     {
@@ -106,7 +106,7 @@ impl<T: Copy> Listed<T> {
         })
     }
 
-    /// Puts copies of these values at the end, all or none: where there is no memory, the list is as before.
+    /// Puts copies of these values at the end, all or none. If memory runs out, the list is unchanged.
     pub fn extend_from_slice(&mut self, more: &[T]) -> Result<(), OutOfMemory>
         ensures ok { OnOk result (self.new ≡ self.old ++ more.now) }
         ensures err { OnErr result (self.new ≡ self.old) }

@@ -1,14 +1,14 @@
-// A sink in memory, which tells its bytes and fails where it is told to or where its room is at an end.
+// A sink in memory with visible bytes. It fails at chosen calls, and when its room is used up.
 ghost use Rattle.std.specs.Prelude.{◌≡◌, ◌<◌, ◌≤◌, ◌-◌, ◌↔◌, ◌⊎◌, [], ℕ, List, Option, length, take, min, IfOk, OnOk, OnErr, IsErr, Some, Contains};
 ghost use Rattle.office_base.specs.Outside.{Rose, AppendsPrefix};
-ghost use Rattle.office_base.specs.Memory.{counted};
+ghost use Rattle.office_base.specs.Memory.{IsMemoryWrite};
 
 use crate::mem_source::fails_at;
 use crate::{Failed, OutOfMemory, Sink};
 use std::alloc::Global;
 use std::marker::Model;
 
-/// Bytes written to memory, at most `room` of them. Its room is taken when it is made, so a write takes no memory.
+/// Keeps the bytes written, at most `room` of them. The room is allocated when it is made: a write allocates nothing.
 #[derive(Debug, Drop)]
 pub struct MemSink {
     bytes: Vec<u8>,
@@ -30,7 +30,7 @@ impl Model for MemSink {
 }
 
 impl MemSink {
-    /// A sink with room for this many bytes. The calls with the numbers in `fail_at`, from 1, fail.
+    /// Makes a sink with room for this many bytes. The calls with the numbers in `fail_at`, from 1, fail.
     pub fn new(alloc: Global, room: usize, fail_at: &[u32]) -> Result<MemSink, OutOfMemory>
         ensures { IfOk result (λ sink. sink ≡ record { written = []; room = room; calls = 0; fail_at = fail_at.now; faults = 0 }) }
     {
@@ -43,7 +43,7 @@ impl MemSink {
         })
     }
 
-    /// The bytes written so far.
+    /// Returns the bytes written so far.
     pub fn bytes(&self) -> &[u8]
         ensures { result.now ≡ self.now.written }
     {
@@ -64,12 +64,7 @@ impl Sink for MemSink {
         ensures count { self.old.faults ≤ self.new.faults }
         ensures steady { OnOk result (self.new.faults ≡ self.old.faults) }
         ensures cause { OnErr result (Rose self.old.faults self.new.faults) }
-        // it takes as much as there is room for, and fails exactly where its number says so or there is none; a failure is one fault more
-        ensures room { IfOk result (λ n. n ≡ min (length piece.now) (self.old.room - length self.old.written)) }
-        ensures fails { IsErr result
-            ↔ (Contains self.old.fail_at (counted self.old.calls) ⊎ ((0 < length piece.now) × (self.old.room ≤ length self.old.written))) }
-        ensures raised { OnErr result (self.new.faults ≡ counted self.old.faults) }
-        ensures rest { self.new ≡ record { written = self.new.written; room = self.old.room; calls = counted self.old.calls; fail_at = self.old.fail_at; faults = self.new.faults } }
+        ensures memory { IsMemoryWrite piece.now self.old self.new result }
     {
         self.calls = self.calls.saturating_add(1);
         let room = self.room - self.bytes.len();

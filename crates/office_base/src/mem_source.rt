@@ -1,13 +1,13 @@
-// A source in memory, which tells its bytes and fails where it is told to.
+// A source in memory with visible bytes. It fails at chosen calls.
 ghost use Rattle.std.specs.Prelude.{◌≡◌, ◌<◌, ◌≤◌, ◌↔◌, [], ℕ, List, Option, length, take, drop, min, IfOk, OnOk, OnErr, IsErr, IsTrue, Some, Contains};
 ghost use Rattle.office_base.specs.Outside.{Rose, TakesPrefix, ComesAtTheEnd};
-ghost use Rattle.office_base.specs.Memory.{counted};
+ghost use Rattle.office_base.specs.Memory.{IsMemoryRead};
 
 use crate::{Failed, OutOfMemory, Source};
 use std::alloc::Global;
 use std::marker::Model;
 
-/// Bytes in memory, in pieces of at most `piece` bytes.
+/// Holds bytes in memory, and returns them in pieces of at most `piece` bytes.
 #[derive(Debug, Drop)]
 pub struct MemSource {
     bytes: Vec<u8>,
@@ -30,8 +30,8 @@ impl Model for MemSource {
 }
 
 impl MemSource {
-    /// A source of these bytes. One read gives at most `piece` bytes; the calls with the numbers in `fail_at`,
-    /// from 1, fail.
+    /// Makes a source of these bytes. One read returns at most `piece` bytes.
+    /// The calls with the numbers in `fail_at`, from 1, fail.
     pub fn new(
         alloc: Global,
         bytes: &[u8],
@@ -65,11 +65,7 @@ impl Source for MemSource {
         ensures count { self.old.faults ≤ self.new.faults }
         ensures steady { OnOk result (self.new.faults ≡ self.old.faults) }
         ensures cause { OnErr result (Rose self.old.faults self.new.faults) }
-        // it gives as much as the piece and the buffer allow, and fails exactly where its number says so; a failure is one fault more
-        ensures piece { IfOk result (λ n. n ≡ min self.old.piece (min (length buf.old) (length self.old.left))) }
-        ensures fails { IsErr result ↔ Contains self.old.fail_at (counted self.old.calls) }
-        ensures raised { OnErr result (self.new.faults ≡ counted self.old.faults) }
-        ensures rest { self.new ≡ record { left = self.new.left; piece = self.old.piece; calls = counted self.old.calls; fail_at = self.old.fail_at; faults = self.new.faults } }
+        ensures memory { IsMemoryRead (length buf.old) self.old self.new result }
     {
         self.calls = self.calls.saturating_add(1);
         if fails_at(&self.fail_at, self.calls) {
@@ -84,7 +80,7 @@ impl Source for MemSource {
     }
 }
 
-/// Whether the call of this number, from 1, is among those that an object in memory is told to fail.
+/// Returns whether the call of this number, from 1, is one of those that must fail.
 pub fn fails_at(fail_at: &[u32], call: u64) -> bool
     ensures { IsTrue result ↔ Contains fail_at.now call }
 {

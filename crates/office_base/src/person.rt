@@ -14,7 +14,7 @@ pub struct ProgId(pub u16);
 #[derive(Clone, Copy, Debug, PartialEq, Eq, PartialOrd, Ord, Hash)]
 pub struct ListId(pub u8);
 
-/// A set of the traits W, D, X, S, F, L: bits 0 to 5 stand for them in this order, bits 6 and 7 are 0.
+/// A set of the traits W, D, X, S, F, L. Bits 0 to 5 are these traits, in this order; bits 6 and 7 are 0.
 #[derive(Clone, Copy, Debug, PartialEq, Eq)]
 pub struct TraitSet(pub u8);
 
@@ -46,7 +46,7 @@ pub struct Person {
 }
 
 impl TraitSet {
-    /// Whether the trait of this number, from 0 to 5, is in the set.
+    /// Returns whether the trait of this number, from 0 to 5, is in the set.
     pub fn has(self, t: u8) -> bool
         requires set { IsTraitSet self }
         requires number { t < 6 }
@@ -57,7 +57,7 @@ impl TraitSet {
 }
 
 impl Place {
-    /// The number of a place, whether common or relaxed.
+    /// Returns the number of a place, whether common or relaxed.
     pub fn number(self) -> Option<u32>
         ensures { result ≡ number_of self }
     {
@@ -69,7 +69,7 @@ impl Place {
 }
 
 impl Person {
-    /// The place in a list.
+    /// Returns the place in a list.
     pub fn place(&self, list: ListId) -> Place
         requires { IsList list }
         ensures { result ≡ place_in list self.now }
@@ -78,7 +78,7 @@ impl Person {
     }
 }
 
-/// Whether both persons have a place in the list and the first one's number is smaller.
+/// Returns whether both persons have a place in the list and the first one's number is smaller.
 pub fn better(a: &Person, b: &Person, list: ListId) -> bool
     requires { IsList list }
     ensures { IsTrue result ↔ IsBetter list a.now b.now }

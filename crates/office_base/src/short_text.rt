@@ -1,4 +1,4 @@
-// A short text: a few bytes that are spelled in a stated way and take no memory of their own.
+// A short text: a few bytes that are spelled in a stated way. It allocates nothing.
 ghost use Rattle.std.specs.Prelude.{◌≡◌, ◌≤◌, ℕ, List, Bool, true, length, Some, None, IsTrue, IfSome, if◌then◌else◌, nat_eq};
 ghost use Rattle.std.proofs.Common.{rules};
 ghost use Rattle.std.specs.Cmp.{partial_order_from_own_ties};
@@ -23,7 +23,7 @@ pub trait Spelling<const N: usize> {
     /// Their number fits into one byte of the text.
     ghost small: { N ≤ 255 };
 
-    /// Whether the bytes spell one.
+    /// Returns whether the bytes spell one.
     fn spells(bytes: &[u8]) -> bool
         ensures { result ≡ spells bytes.now };
 }
@@ -53,7 +53,7 @@ impl<K: Spelling<N>, const N: usize> Model for ShortText<K, N> {
 }
 
 impl<K: Spelling<N>, const N: usize> ShortText<K, N> {
-    /// The text that these bytes spell. None exactly where they spell none. It takes no memory.
+    /// Returns the text that these bytes spell, and None if and only if they spell none. It allocates nothing.
     pub fn read(bytes: &[u8]) -> Option<ShortText<K, N>>
         ensures { result ≡ (if K.spells bytes.now then Some bytes.now else None) }
     {
@@ -67,7 +67,7 @@ impl<K: Spelling<N>, const N: usize> ShortText<K, N> {
         })
     }
 
-    /// The bytes that spell it.
+    /// Returns the bytes that spell it.
     pub fn bytes(&self) -> &[u8]
         ensures same { result.now ≡ self.now }
         ensures spelled { IsTrue (K.spells self.now) }

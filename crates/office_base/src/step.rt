@@ -1,4 +1,4 @@
-// A step: seats of one merit list, of which some are protected for traits, and the people who stand for them.
+// A step: seats of one merit list, some of them protected for traits, and the people who seek them.
 ghost use Rattle.std.specs.Prelude.{◌≡◌, sum};
 
 use crate::{CandId, ListId, People};
@@ -21,7 +21,7 @@ pub struct Protections {
 }
 
 impl Protections {
-    /// How many seats are protected for some trait.
+    /// Returns how many seats are protected for some trait.
     pub fn sum(&self) -> u32
         ensures { result ≡ sum self.now.counts }
     {
@@ -38,7 +38,7 @@ pub struct Pair {
     pub slot: u8,
 }
 
-/// One step of a programme. The people stand in merit order, the best first.
+/// One step of a programme. The people are in merit order, the best first.
 #[derive(Debug, Drop)]
 pub struct Step {
     pub list: ListId,

@@ -4,7 +4,7 @@ ghost use Rattle.office_base.specs.StepNumbers.{step_number, step_of_number};
 
 use crate::StepKind;
 
-/// The number of a step among the six, from 0.
+/// Returns the number of a step among the six, from 0.
 pub fn step_number(step: StepKind) -> u8
     ensures { result ≡ step_number step }
 {
@@ -18,7 +18,7 @@ pub fn step_number(step: StepKind) -> u8
     }
 }
 
-/// The step of a number, where there is one.
+/// Returns the step of a number, if there is one.
 pub fn step_of_number(number: u8) -> Option<StepKind>
     ensures { result ≡ step_of_number number }
 {

@@ -1,12 +1,13 @@
 // A source and a sink that never fail: their count of faults is the constant 0.
 ghost use Rattle.std.specs.Prelude.{◌≡◌, ◌<◌, ◌≤◌, [], ℕ, List, Option, length, min, IfOk, IsOk, OnOk, OnErr, Some, None};
 ghost use Rattle.office_base.specs.Outside.{Rose, TakesPrefix, ComesAtTheEnd, AppendsPrefix};
+ghost use Rattle.office_base.specs.Memory.{IsSureRead};
 
 use crate::{Failed, OutOfMemory, Sink, Source};
 use std::alloc::Global;
 use std::marker::Model;
 
-/// Bytes in memory, in pieces of at most `piece` bytes. It never fails.
+/// Holds bytes in memory, and returns them in pieces of at most `piece` bytes. It never fails.
 #[derive(Debug, Drop)]
 pub struct SureSource {
     bytes: Vec<u8>,
@@ -25,7 +26,7 @@ impl Model for SureSource {
 }
 
 impl SureSource {
-    /// A source of these bytes. One read gives at most `piece` bytes.
+    /// Makes a source of these bytes. One read returns at most `piece` bytes.
     pub fn new(alloc: Global, bytes: &[u8], piece: usize) -> Result<SureSource, OutOfMemory>
         requires { 0 < piece }
         ensures { IfOk result (λ source. source ≡ (bytes.now, piece)) }
@@ -52,9 +53,7 @@ impl Source for SureSource {
         ensures steady { OnOk result (◌≡◌ {A = ℕ} 0 0) }
         ensures cause { OnErr result (Rose 0 0) }
         // it gives as much as the piece and the buffer allow, and never fails
-        ensures piece { IfOk result (λ n. n ≡ min self.old.1 (min (length buf.old) (length self.old.0))) }
-        ensures sure { IsOk result }
-        ensures same { self.new.1 ≡ self.old.1 }
+        ensures sure { IsSureRead (length buf.old) self.old self.new result }
     {
         let left = self.bytes.len() - self.read;
         let count = self.piece.min(buf.len().min(left));
@@ -64,7 +63,7 @@ impl Source for SureSource {
     }
 }
 
-/// Takes each piece whole and keeps nothing. It tells no bytes, takes no memory and never fails.
+/// Takes each piece whole and keeps nothing. Its bytes are hidden. It allocates nothing and never fails.
 #[derive(Debug, Drop)]
 pub struct SureSink {}
 

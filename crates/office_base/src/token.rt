@@ -28,7 +28,7 @@ impl Spelling<LONGEST_TOKEN> for TokenSpelling {
     }
 }
 
-/// Whether the bytes are letters and digits alone.
+/// Returns whether all bytes are letters or digits.
 fn are_token_bytes(bytes: &[u8]) -> bool
     ensures { result ≡ list_all is_ascii_alphanumeric bytes.now }
 {

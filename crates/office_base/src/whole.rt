@@ -1,6 +1,6 @@
 // A source read to its end, and a piece written whole.
 ghost use Rattle.std.specs.Prelude.{◌≡◌, ◌≤◌, ℕ, length, take, IfOk, OnOk, OnErr, IsErrOf, Option, List, [], ◌<◌, vec_len};
-ghost use Rattle.office_base.specs.Outside.{Rose, Took, IsAtEnd, TookMore, Appends};
+ghost use Rattle.office_base.specs.Outside.{Fails, Rose, Took, IsAtEnd, TookMore, Appends};
 ghost use Rattle.office_base.specs.declared.whole.ReadFault.TheVariants.{Failed as SourceFailed, TooLong, OutOfMemory as NoMemory};
 
 use crate::{Failed, OutOfMemory, Sink, Source, Text};
@@ -15,7 +15,7 @@ pub enum ReadFault {
     /// The source gives more bytes than the limit.
     #[error("too long")]
     TooLong,
-    /// There was no memory for the bytes.
+    /// Memory for the bytes ran out.
     #[error("out of memory")]
     OutOfMemory,
 }
@@ -47,7 +47,7 @@ impl From<AllocError> for ReadFault {
 // How many bytes one read asks for.
 const BUFFER_LEN: usize = 65_536;
 
-// So many bytes.
+// Returns that many zero bytes.
 fn zeros(alloc: Global, len: usize) -> Result<Vec<u8>, AllocError>
     ensures { IfOk result (λ bytes. vec_len bytes ≡ len) }
 {
@@ -67,11 +67,7 @@ fn read_through<S: Source>(
     ensures ended { IfOk result (λ all. IsAtEnd (S.left source.new)) }
     ensures short { IfOk result (λ all. length all ≤ limit) }
     ensures too_long { IsErrOf result ReadFault.TooLong → TookMore limit (S.left source.old) (S.left source.new) }
-    ensures cause { IsErrOf result ReadFault.Failed → Rose (S.faults source.old) (S.faults source.new) }
-    ensures count { S.faults source.old ≤ S.faults source.new }
-    ensures steady { OnOk result (S.faults source.new ≡ S.faults source.old) }
-    ensures steady_too_long { IsErrOf result ReadFault.TooLong → S.faults source.new ≡ S.faults source.old }
-    ensures steady_memory { IsErrOf result ReadFault.OutOfMemory → S.faults source.new ≡ S.faults source.old }
+    ensures blamed { Fails (IsErrOf result ReadFault.Failed) (S.faults source.old) (S.faults source.new) }
 {
     loop {
         let count = source.read(buffer)?;
@@ -85,25 +81,21 @@ fn read_through<S: Source>(
     }
 }
 
-/// The bytes of a source up to its end, at most `limit` of them. It keeps no more than `limit` bytes and one buffer.
-/// It goes on after no failure: unless it answers `Failed`, the source did not fail.
+/// Returns the bytes of a source up to its end, at most `limit` of them. It keeps at most `limit` bytes and one buffer.
+/// It stops at the first failure: unless it returns `Failed`, the source did not fail.
 pub fn read_whole<S: Source>(alloc: Global, source: &mut S, limit: usize) -> Result<Text, ReadFault>
     ensures taken { IfOk result (λ bytes. Took bytes (S.left source.old) (S.left source.new)) }
     ensures ended { IfOk result (λ bytes. IsAtEnd (S.left source.new)) }
     ensures short { IfOk result (λ bytes. length bytes ≤ limit) }
     ensures too_long { IsErrOf result ReadFault.TooLong → TookMore limit (S.left source.old) (S.left source.new) }
-    ensures cause { IsErrOf result ReadFault.Failed → Rose (S.faults source.old) (S.faults source.new) }
-    ensures count { S.faults source.old ≤ S.faults source.new }
-    ensures steady { OnOk result (S.faults source.new ≡ S.faults source.old) }
-    ensures steady_too_long { IsErrOf result ReadFault.TooLong → S.faults source.new ≡ S.faults source.old }
-    ensures steady_memory { IsErrOf result ReadFault.OutOfMemory → S.faults source.new ≡ S.faults source.old }
+    ensures blamed { Fails (IsErrOf result ReadFault.Failed) (S.faults source.old) (S.faults source.new) }
 {
     let mut buffer = zeros(alloc, BUFFER_LEN)?;
     read_through(Text::new(alloc), source, &mut buffer, limit)
 }
 
-/// Writes a piece whole. After an `Err` a prefix of it was written. It goes on after no failure: where it answers `Ok`,
-/// the sink did not fail.
+/// Writes a piece whole. After an `Err` a prefix of it was written. It stops at the first failure:
+/// if it returns `Ok`, the sink did not fail.
 pub fn write_whole<K: Sink>(sink: &mut K, piece: &[u8]) -> Result<(), Failed>
     ensures ok { OnOk result (Appends piece.now (K.written sink.old) (K.written sink.new)) }
     ensures err { OnErr result ((n : ℕ) × Appends (take n piece.now) (K.written sink.old) (K.written sink.new)) }

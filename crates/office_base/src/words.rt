@@ -19,7 +19,7 @@ impl Model for Words {
 }
 
 impl Words {
-    /// No words. It takes no memory; `push` takes it from `alloc`.
+    /// Returns no words. It allocates nothing; `push` allocates from `alloc`.
     pub fn new(alloc: Global) -> Words
         ensures { result ≡ [] }
     {
@@ -29,7 +29,7 @@ impl Words {
         }
     }
 
-    /// Puts a word at the end. Where there is no memory for it, the words are as before.
+    /// Puts a word at the end. If memory runs out, the words are unchanged.
     pub fn push(&mut self, word: &str) -> Result<(), OutOfMemory>
         ensures ok { OnOk result (self.new ≡ self.old ++ word.now ∷ []) }
         ensures err { OnErr result (self.new ≡ self.old) }
@@ -45,7 +45,7 @@ impl Words {
         self.words.len()
     }
 
-    /// The word at this place, from 0.
+    /// Returns the word at this place, from 0.
     pub fn word(&self, at: usize) -> Option<&str>
         ensures some { IfSome result (λ word. slice_get self.now at ≡ Some word.now) }
         ensures none { IfNone result (length self.now ≤ at) }
