@@ -10,6 +10,7 @@ mod Marks
 pub mod Members
 pub mod Needed
 mod Offering
+mod PassedOver
 pub mod OneByOne
 mod Places
 mod Raises

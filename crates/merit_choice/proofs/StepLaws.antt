@@ -9,15 +9,15 @@ use Rattle.office_base.specs.declared.person.Person.{Person}
 use Rattle.office_base.specs.declared.step.Step.{Step}
 use Rattle.office_base.specs.declared.step.Protections.{Protections}
 use Rattle.placements.proofs.Sublists.{length-sublist, sublist_again}
-use Rattle.placements.proofs.Greatest.{honoured-exists}
+use Rattle.placements.proofs.Greatest.{honoured-exists, honoured-one}
 use Rattle.placements.proofs.Ranks.{pairwise_sublist, any_among, monotone, among_sublist}
-use Rattle.merit_choice.specs.Laws.{IsAmong, HasMorePeople, OneChoice, ChoiceExists, ChoiceSize, RefusedStaysRefused, NoFewer, LeavingOutRefused, MoreSeats}
+use Rattle.merit_choice.specs.Laws.{IsAmong, HasMorePeople, OneChoice, ChoiceExists, ChoiceSize, RefusedStaysRefused, NoFewer, LeavingOutRefused, MoreSeats, HonoursAsAll}
 use Rattle.merit_choice.specs.Marks.{marked, kept, filled_up, AreRaises}
 use Rattle.merit_choice.proofs.InMerit.{ranked_part}
 use Rattle.merit_choice.proofs.Members.{kept_covered, kept_among_fewer, decides_among, sublist_of_some}
 use Rattle.merit_choice.proofs.Marks.{AreFewer, sublist-kept, filled_up-fewer, filled_up_more}
 use Rattle.merit_choice.proofs.Raises.{new-from_nobody, raises-exist, raises_fewer, honoured_marked, honoured_nobody}
-use Rattle.merit_choice.proofs.Filled.{best_with, best_with-is_choice, length-best_with}
+use Rattle.merit_choice.proofs.Filled.{best_with, best_with-is_choice, honoured_best_with, length-best_with}
 
 -- ---- one choice
 
@@ -72,6 +72,15 @@ chosen_by : (step : Step) (chosen : List Person) → IsStep step → IsStepChoic
 chosen_by step chosen ok choice =
     let marks = raises_of step ok in
     (marks.0, marks.1, one_choice step chosen (best_with step.seats step.people marks.0) ok choice (best_with-is_choice step marks.0 ok marks.1))
+
+-- the chosen honour as many as all people
+pub honours_as_all : HonoursAsAll
+honours_as_all step chosen m n ok choice all mine =
+    let told = chosen_by step chosen ok choice in
+    let ours : IsHonoured step.protections chosen (marked told.0) =
+    subst (λ (those : List Person). IsHonoured step.protections those (marked told.0)) (sym told.2) (honoured_best_with step told.0 ok told.1) in
+    honoured-one step.protections step.people m (marked told.0) all (honoured_marked step.protections step.people told.0 told.1)
+    ∙ honoured-one step.protections chosen (marked told.0) n ours mine
 
 pub choice_size : ChoiceSize
 choice_size step chosen ok choice =

@@ -1,6 +1,6 @@
 // The laws of the choice of a step and of the merit order, over their definitions alone. Each is the contract of a function that does nothing.
 ghost use Rattle.merit_choice.specs.InMerit.{InMeritRanks, OneMeritOrder, SameMeritOrder, PartCanBeRanked, PartInMerit, RankedInMerit, RankedPart, WithPersonRanks};
-ghost use Rattle.merit_choice.specs.Laws.{OneChoice, ChoiceExists, ChoiceSize, RefusedStaysRefused, NoFewer, LeavingOutRefused, MoreSeats, ByHand, MarksByHand, OneTooMany, SeatsForAll, RefusedBefore, OneByOne};
+ghost use Rattle.merit_choice.specs.Laws.{OneChoice, ChoiceExists, ChoiceSize, RefusedStaysRefused, NoFewer, LeavingOutRefused, MoreSeats, NobodyPassedOver, HonoursAsAll, NoJustifiedEnvy, ByHand, MarksByHand, OneTooMany, SeatsForAll, RefusedBefore, OneByOne};
 
 /// A step has at most one choice.
 pub fn one_choice()
@@ -35,6 +35,21 @@ pub fn leaving_out_refused()
 /// Who is chosen stays chosen where there are more seats for the same protections.
 pub fn more_seats()
     ensures { MoreSeats }
+{}
+
+/// Whoever is better than one of the chosen and holds each trait of that one is chosen.
+pub fn nobody_passed_over()
+    ensures { NobodyPassedOver }
+{}
+
+/// A choice honours as many protections as all the people of the step would.
+pub fn honours_as_all()
+    ensures { HonoursAsAll }
+{}
+
+/// Whoever is not chosen and is better than one of the chosen could replace that one only by honouring fewer protections.
+pub fn no_justified_envy()
+    ensures { NoJustifiedEnvy }
 {}
 
 /// Down the merit order, mark who raises the number that those marked before honour; the marked and the best of the others are the choice.

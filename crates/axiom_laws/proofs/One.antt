@@ -1,0 +1,188 @@
+-- Only the choice meets the axioms: no single exchange would improve a set that does.
+use Rattle.std.proofs.Common.{◌≡◌, ◌≢◌, ◌≤◌, ◌<◌, inl, inr, ℕ, zero, suc, Bool, List, [], ◌∷◌, length, min, take, arith, refl, sym, ap, ◌∙◌, subst}
+use Rattle.std.specs.Prelude.{◌==◌, if◌then◌else◌}
+use Rattle.std.specs.List.{AllByRecursion}
+use Rattle.std.proofs.lemmas.Bool.{cases_Bool, cases_lt, eqb-false}
+use Rattle.office_base.specs.Lists.{IsAmong, IsSublist, Pairwise}
+use Rattle.office_base.specs.Merit.{in_merit}
+use Rattle.office_base.specs.Person.{IsBetter, is_common, number_in}
+use Rattle.office_base.specs.Placement.{IsHonoured, IsPlacement, placed_on, protected}
+use Rattle.office_base.specs.StepChoice.{AreRanked, IsStep, IsStepChoice}
+use Rattle.office_base.specs.declared.person.ListId.{ListId}
+use Rattle.office_base.specs.declared.person.Person.{Person}
+use Rattle.office_base.specs.declared.step.Pair.{Pair}
+use Rattle.office_base.specs.declared.step.StepKind.{StepKind}
+use Rattle.office_base.specs.declared.step.StepKind.TheVariants.{Open, Ews as EwsStep, Obc as ObcStep, Sc as ScStep, St as StStep, Dereserved}
+use Rattle.placements.specs.Ranks.{without}
+use Rattle.placements.proofs.Filters.{filter-sublist}
+use Rattle.placements.proofs.Greatest.{honoured-exists}
+use Rattle.placements.proofs.Merit.{not_ahead}
+use Rattle.placements.proofs.Ranks.{among_sublist, any_all, are_among, pairwise_sublist, ranked_sublist, widen}
+use Rattle.placements.proofs.Sublists.{AllByRecursion-sublist, length-sublist, sublist_again}
+use Rattle.placements.proofs.Without.{without_sublist}
+use Rattle.merit_choice.specs.InMerit.{InMeritRanks, RankedPart}
+use Rattle.merit_choice.proofs.Needed.{apart_of}
+use Rattle.seat_matrix.specs.Seats.{AreProgrammeSeats, no_protections}
+use Rattle.seat_matrix.specs.declared.seats.ProgrammeSeats.{ProgrammeSeats}
+use Rattle.programme_lists.specs.Programme.{Admissions, IsProgrammeChoice, admitted_by, left_over, people_of, unfilled}
+use Rattle.open_then_category.specs.Laws.{whole_step}
+use Rattle.list_audit.specs.Laws.{SingleExchanges}
+use Rattle.axiom_laws.specs.Laws.{MeetsThemAtEachStep, OneMeetsTheAxioms, OneMeetsTheAxiomsOfAStep}
+
+-- ---- one step
+
+size_of : (a seats people : ℕ) → a ≤ seats → a ≤ people → (a < seats → people ≤ a) → a ≡ min seats people
+size_of a seats people within part full = elim (cases_lt a seats) [
+  | inl less ↦ (let all = full less in omega (arith, within, part, all))
+  | inr far ↦ omega (arith, within, part, far)
+]
+
+pub one_at_a_step : SingleExchanges → RankedPart → OneMeetsTheAxiomsOfAStep
+one_at_a_step exchanges part step chosen ok may axioms =
+    let distinct = pairwise_sublist (λ (a b : Person). a.id ≢ b.id) chosen step.people may.people ok.people.distinct in
+    let ranked = ranked_sublist step.list chosen step.people ok.people may.people in
+    let within = among_sublist chosen step.people may.people in
+    let n = honoured-exists step.protections chosen distinct in
+    let m = honoured-exists step.protections step.people ok.people.distinct in
+    let same : m.0 ≡ n.0 = axioms.as_all m.0 n.0 m.1 n.1 in
+    let size : length chosen ≡ min step.seats (length step.people) =
+    size_of (length chosen) step.seats (length step.people) may.seats (length-sublist chosen step.people may.people) (λ empty.
+    length-sublist step.people chosen (part step.list step.people chosen ok.people ranked (are_among step.people chosen (λ person there. axioms.non_wasteful empty person there)))) in
+    exchanges step chosen n.0 ok may.people size n.1 (subst (IsHonoured step.protections step.people) same m.1) (λ person worse over.
+    let apart = apart_of person chosen step.people ok.people.distinct within over.stands over.unlisted in
+    let rest = without_sublist worse.id chosen in
+    let alone = AllByRecursion-sublist (λ (other : Person). person.id ≢ other.id) (without worse.id chosen) chosen rest apart in
+    let k = honoured-exists step.protections (person ∷ without worse.id chosen) (alone, pairwise_sublist (λ (a b : Person). a.id ≢ b.id) (without worse.id chosen) chosen rest distinct) in
+    let less = axioms.no_justified_envy person worse k.0 n.0 over.stands over.unlisted over.there over.better k.1 n.1 in
+    let more = over.as_much n.0 k.0 n.1 k.1 in
+    omega (arith, less, more))
+
+-- ---- the last step, which has no protections
+
+no_position : (t : ℕ) → protected no_protections t ≡ 0
+no_position zero = refl
+no_position (suc zero) = refl
+no_position (suc (suc zero)) = refl
+no_position (suc (suc (suc zero))) = refl
+no_position (suc (suc (suc (suc zero)))) = refl
+no_position (suc (suc (suc (suc (suc zero))))) = refl
+no_position (suc (suc (suc (suc (suc (suc t)))))) = refl
+
+abbrev one_where : Bool → ℕ
+one_where test = if test then 1 else 0
+
+stands_once : (pair : Pair) (pairs : List Pair) → 1 ≤ placed_on pair.slot (pair ∷ pairs)
+stands_once pair pairs = elim (cases_Bool (pair.slot == pair.slot)) [
+  | inl same ↦ (let e = ap one_where same in omega (arith, e))
+  | inr other ↦ absurd (eqb-false pair.slot pair.slot other refl)
+]
+
+nobody_placed : (people : List Person) (pairs : List Pair) → IsPlacement no_protections people pairs → length pairs ≡ 0
+nobody_placed people [] placed = refl
+nobody_placed people (pair ∷ pairs) placed =
+    absurd (let few = placed.within pair.slot in let none = no_position pair.slot in let one = stands_once pair pairs in omega (arith, few, none, one))
+
+none_honoured : (people : List Person) → IsHonoured no_protections people 0
+none_honoured people = record {
+  reached = ([], record { held = tt; once = tt; within = λ t. omega arith }, refl);
+  most = λ pairs placed. (let none = nobody_placed people pairs placed in omega (arith, none));
+}
+
+-- those whom nobody better is left out for are the first of the people
+first_of_all : (list : ListId) (people chosen : List Person) → Pairwise (IsBetter list) people → IsSublist chosen people
+    → ((better worse : Person) → IsAmong better people → IsAmong worse chosen → IsBetter list better worse → (IsAmong better chosen → ⊥) → ⊥) → chosen ≡ take (length chosen) people
+first_of_all list people [] order sub none = refl
+first_of_all list [] (x ∷ chosen) order sub none = absurd (let e = ap length sub in omega (arith, e))
+first_of_all list (y ∷ people) (x ∷ chosen) order sub none = elim sub [
+  | inl skips ↦
+      let behind = any_all (λ one. x ≡ one) (IsBetter list y) people (among_sublist (x ∷ chosen) people skips).0 order.0 in
+      let ahead : IsBetter list y x = subst (λ p. IsBetter list y p) (sym behind.1) behind.2 in
+      absurd (none y x (inl refl) (inl refl) ahead (λ here. not_here list y (x ∷ chosen) people order.0 skips here))
+  | inr takes ↦
+      let first : x ≡ y = cc (takes.1) in
+      let rest : chosen ≡ takes.0 = cc (takes.1) in
+      let sub' : IsSublist chosen people = subst (λ l. IsSublist l people) (sym rest) takes.2 in
+      let later = first_of_all list people chosen order.1 sub' (λ better worse there here ahead gone.
+      none better worse (inr there) (inr here) ahead (λ among. elim among [
+        | inl is ↦
+            let behind = any_all (λ one. better ≡ one) (IsBetter list y) people there order.0 in
+            let after : IsBetter list y y = subst (λ p. IsBetter list y p) (sym behind.1 ∙ (is ∙ first)) behind.2 in
+            not_ahead (number_in list y) after
+        | inr more ↦ gone more
+      ])) in
+      ap (λ z. z ∷ chosen) first ∙ ap (λ l. y ∷ l) later
+]
+  where
+    not_here : (list : ListId) (y : Person) (chosen people : List Person) → AllByRecursion (IsBetter list y) people → IsSublist chosen people → IsAmong y chosen → ⊥
+    not_here list y chosen people all sub here =
+        let behind = any_all (λ one. y ≡ one) (IsBetter list y) people (widen y chosen people (among_sublist chosen people sub) here) all in
+        not_ahead (number_in list y) (subst (λ p. IsBetter list y p) (sym behind.1) behind.2)
+
+took : (k n : ℕ) (people : List Person) → k ≡ min n (length people) → take k people ≡ take n people
+took zero zero [] e = refl
+took zero (suc n) [] e = refl
+took (suc k) zero [] e = refl
+took (suc k) (suc n) [] e = refl
+took zero zero (x ∷ people) e = refl
+took zero (suc n) (x ∷ people) e = absurd (omega (arith, e))
+took (suc k) zero (x ∷ people) e = absurd (omega (arith, e))
+took (suc k) (suc n) (x ∷ people) e = ap (λ l. x ∷ l) (took k n people (omega (arith, e)))
+
+-- ---- a programme
+
+module _ (at_a_step : OneMeetsTheAxiomsOfAStep) (version : ℕ) (seats : ProgrammeSeats) (applicants : List Person) (admissions : Admissions) (ok : AreProgrammeSeats seats)
+    (ranked : AreRanked seats.list applicants) (meets : MeetsThemAtEachStep version seats applicants admissions) where
+  -- the people of each step are some of the applicants, in their order
+  left_within : IsSublist (left_over applicants admissions) applicants
+  left_within = sublist_again _ _ _ (filter-sublist _ _) (sublist_again _ _ _ (filter-sublist _ _) (sublist_again _ _ _ (filter-sublist _ _)
+      (sublist_again _ _ _ (filter-sublist _ _) (filter-sublist _ applicants))))
+
+  people_within : (kind : StepKind) → IsSublist (people_of seats.list applicants admissions kind) applicants
+  people_within Open = filter-sublist _ applicants
+  people_within EwsStep = sublist_again _ _ _ (filter-sublist _ _) (filter-sublist _ applicants)
+  people_within ObcStep = sublist_again _ _ _ (filter-sublist _ _) (filter-sublist _ applicants)
+  people_within ScStep = sublist_again _ _ _ (filter-sublist _ _) (filter-sublist _ applicants)
+  people_within StStep = sublist_again _ _ _ (filter-sublist _ _) (filter-sublist _ applicants)
+  people_within Dereserved = sublist_again _ _ _ (filter-sublist (is_common seats.list) (left_over applicants admissions)) left_within
+
+  people_ranked : (kind : StepKind) → AreRanked seats.list (people_of seats.list applicants admissions kind)
+  people_ranked kind = ranked_sublist seats.list _ applicants ranked (people_within kind)
+
+  is_step : (kind : StepKind) → IsStep (whole_step version seats applicants admissions kind)
+  is_step Open = record { list = ok.list; people = people_ranked Open; protections = (ok.steps Open).protections }
+  is_step EwsStep = record { list = ok.list; people = people_ranked EwsStep; protections = (ok.steps EwsStep).protections }
+  is_step ObcStep = record { list = ok.list; people = people_ranked ObcStep; protections = (ok.steps ObcStep).protections }
+  is_step ScStep = record { list = ok.list; people = people_ranked ScStep; protections = (ok.steps ScStep).protections }
+  is_step StStep = record { list = ok.list; people = people_ranked StStep; protections = (ok.steps StStep).protections }
+  is_step Dereserved = record { list = ok.list; people = people_ranked Dereserved; protections = omega arith }
+
+  chosen_at : (kind : StepKind) → IsStepChoice (whole_step version seats applicants admissions kind) (admitted_by admissions kind)
+  chosen_at kind = at_a_step (whole_step version seats applicants admissions kind) (admitted_by admissions kind) (is_step kind) (meets.within kind) (meets.axioms kind)
+
+  last_is : RankedPart → admissions.dereserved ≡ take (unfilled version seats admissions) (people_of seats.list applicants admissions Dereserved)
+  last_is part =
+      let people = people_of seats.list applicants admissions Dereserved in
+      let chosen = admissions.dereserved in
+      let axioms = meets.axioms Dereserved in
+      let may = meets.within Dereserved in
+      let order = people_ranked Dereserved in
+      let size : length chosen ≡ min (unfilled version seats admissions) (length people) =
+      size_of (length chosen) (unfilled version seats admissions) (length people) may.seats (length-sublist chosen people may.people) (λ empty.
+      length-sublist people chosen (part seats.list people chosen order (ranked_sublist seats.list chosen people order may.people) (are_among people chosen (λ person there. axioms.non_wasteful empty person there)))) in
+      first_of_all seats.list people chosen order.in_order may.people (λ better worse there here ahead gone.
+      (let less = axioms.no_justified_envy better worse 0 0 there gone here ahead (none_honoured _) (none_honoured _) in omega (arith, less)))
+      ∙ took (length chosen) (unfilled version seats admissions) people size
+
+  pub its_choice : RankedPart → IsProgrammeChoice version seats applicants admissions
+  its_choice part = record {
+    open_step = chosen_at Open;
+    ews = chosen_at EwsStep;
+    obc = chosen_at ObcStep;
+    sc = chosen_at ScStep;
+    st = chosen_at StStep;
+    dereserved = last_is part;
+  }
+
+pub one_at_all_steps : OneMeetsTheAxiomsOfAStep → InMeritRanks → RankedPart → OneMeetsTheAxioms
+one_at_all_steps at_a_step ranks part version seats people admissions ok may meets =
+    its_choice at_a_step version seats (in_merit seats.list people) admissions ok (ranks seats.list people may).0 meets part
