@@ -1,8 +1,11 @@
 mod Assemble
+mod Axioms
 mod Counting
 mod Decide
+mod Fewer
 mod Grows
 mod Keeping
+mod Last
 mod Leaving
 mod Offering
 mod Once

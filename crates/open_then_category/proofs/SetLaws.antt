@@ -1,5 +1,5 @@
 -- The laws of the choice of a programme from people told in any order.
-use Rattle.std.proofs.Common.{◌≡◌, ◌⊎◌, ℕ, List, [], ◌∷◌, refl, sym, subst, inl, inr}
+use Rattle.std.proofs.Common.{◌≡◌, ◌⊎◌, ℕ, List, ◌∷◌, refl, sym, subst, inl, inr}
 use Rattle.office_base.specs.Lists.{IsAmong}
 use Rattle.office_base.specs.Merit.{in_merit}
 use Rattle.office_base.specs.declared.person.ListId.{ListId}
@@ -138,7 +138,7 @@ module _ (laws : AreLawful) where
       subst (ChoosesFrom version seats all) (sym same) whole.1
 
   -- who is admitted is admitted by the choice
-  admitted_by_choice : (version : ℕ) (seats : ProgrammeSeats) (people : List Person) (admissions : Admissions) (person : Person) (kind : StepKind) → AreProgrammeSeats seats → AreApplicants seats.list people
+  pub admitted_by_choice : (version : ℕ) (seats : ProgrammeSeats) (people : List Person) (admissions : Admissions) (person : Person) (kind : StepKind) → AreProgrammeSeats seats → AreApplicants seats.list people
       → ChoosesFrom version seats people admissions → AdmitsUnder version seats people person kind → IsAmong person (admitted_by admissions kind)
   admitted_by_choice version seats people admissions person kind ok may choice admits =
       subst (λ (a : Admissions). IsAmong person (admitted_by a kind)) (one_programme_choice version seats people admits.0 admissions ok may admits.1 choice) admits.2

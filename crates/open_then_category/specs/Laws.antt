@@ -1,15 +1,23 @@
 -- The laws of the choice of a programme, as statements over its definition. The people are told in any order.
-use Rattle.std.specs.Prelude.{◌≡◌, ◌≤◌, ◌<◌, ◌+◌, ◌∷◌, ℕ, List, length}
-use Rattle.std.specs.List.{AllByRecursion}
+use Rattle.std.specs.Prelude.{◌≡◌, ◌≢◌, ◌⊎◌, ◌≤◌, ◌<◌, ◌+◌, ◌∷◌, ℕ, List, length, true}
+use Rattle.std.specs.List.{AllByRecursion, filter}
 use Rattle.office_base.specs.Lists.{IsAmong}
+use Rattle.office_base.specs.Person.{IsBetter, is_common}
+use Rattle.office_base.specs.Placement.{IsHonoured}
+use Rattle.office_base.specs.StepChoice.{AreRanked, IsStepChoice, MayAdmit}
+use Rattle.office_base.specs.declared.person.Category.{Category}
+use Rattle.office_base.specs.declared.person.Category.TheVariants.{Gen, Ews, Obc, Sc, St}
 use Rattle.office_base.specs.declared.person.Person.{Person}
+use Rattle.office_base.specs.declared.step.Step.{Step}
 use Rattle.office_base.specs.declared.step.StepKind.{StepKind}
-use Rattle.placements.specs.Ranks.{AreAmong, AreDistinct}
-use Rattle.allocations.specs.Rule.{ChoosesWell, Grows}
-use Rattle.seat_matrix.specs.Seats.{AreProgrammeSeats, HaveMoreSeats}
+use Rattle.office_base.specs.declared.step.StepKind.TheVariants.{Open, Ews as EwsStep, Obc as ObcStep, Sc as ScStep, St as StStep}
+use Rattle.placements.specs.Ranks.{AreAmong, AreDistinct, without}
+use Rattle.allocations.specs.Rule.{AdmitsNoFewer, ChoosesWell, Grows}
+use Rattle.seat_matrix.specs.Seats.{AreProgrammeSeats, HaveMoreSeats, seats_of}
 use Rattle.seat_matrix.specs.declared.seats.ProgrammeSeats.{ProgrammeSeats}
 use Rattle.programme_lists.specs.Chosen.{AdmitsUnder, AreApplicants, ChoosesFrom, IsAdmitted, IsRefused, IsWith, ShowsFrom, everybody}
-use Rattle.programme_lists.specs.Programme.{Admissions, admitted_by, unfilled}
+use Rattle.programme_lists.specs.Listing.{seats_filled}
+use Rattle.programme_lists.specs.Programme.{Admissions, IsProgrammeChoice, admitted_by, people_of, step_with, unfilled}
 use Rattle.programme_lists.specs.declared.programme.Programme.{Programme}
 
 -- how many persons the steps admit in all
@@ -114,7 +122,97 @@ abbrev pub ChosenWell : Type 0
 ChosenWell = (version : ℕ) (seats : ℕ → ProgrammeSeats) → ((p : ℕ) → AreProgrammeSeats (seats p))
     → ChoosesWell (λ p. AdmitsUnder version (seats p)) (λ p. AreApplicants (seats p).list)
 
+-- and admit no fewer from more people, as it asks too where it counts seats
+abbrev pub NoFewerFromMore : Type 0
+NoFewerFromMore = (version : ℕ) (seats : ℕ → ProgrammeSeats) → ((p : ℕ) → AreProgrammeSeats (seats p))
+    → AdmitsNoFewer (λ p. AdmitsUnder version (seats p)) (λ p. AreApplicants (seats p).list)
+
 -- and admit everybody whom they admitted before where steps have more seats, with all protections as before
 abbrev pub GrowsWithSeats : Type 0
 GrowsWithSeats = (version : ℕ) (seats more : ℕ → ProgrammeSeats) → ((p : ℕ) → AreProgrammeSeats (seats p)) → ((p : ℕ) → AreProgrammeSeats (more p)) → ((p : ℕ) → HaveMoreSeats (seats p) (more p))
     → Grows (λ p. AdmitsUnder version (seats p)) (λ p. AdmitsUnder version (more p)) (λ p. AreApplicants (seats p).list)
+
+-- ---- de-reservation comes last
+
+-- the step that has the seats of a category; whoever is of none has the open ones alone
+abbrev pub own_step : Category → StepKind
+own_step Gen = Open
+own_step Ews = EwsStep
+own_step Obc = ObcStep
+own_step Sc = ScStep
+own_step St = StStep
+
+-- a seat of the category is empty after its own step
+abbrev pub HasEmptySeat : ProgrammeSeats → Admissions → Category → Type 0
+HasEmptySeat seats admissions category = length (admitted_by admissions (own_step category)) < (seats_of seats (own_step category)).seats
+
+-- each of the people who is of the category is admitted by the open step or by the category's own
+abbrev pub AreAllAdmitted : List Person → Admissions → Category → Type 0
+AreAllAdmitted people admissions category =
+    (person : Person) → IsAmong person people → person.category ≡ category → IsAmong person admissions.open_step ⊎ IsAmong person (admitted_by admissions (own_step category))
+
+-- No seat of a category stays empty while one of its members is not admitted: where one is empty, the open step or the category's own admits every
+-- applicant of the category, whatever their places.
+abbrev pub NoSeatStaysEmpty : Type 0
+NoSeatStaysEmpty = (version : ℕ) (seats : ProgrammeSeats) (people : List Person) (admissions : Admissions) (category : Category) → AreProgrammeSeats seats → AreApplicants seats.list people
+    → ChoosesFrom version seats people admissions → category ≢ Gen → HasEmptySeat seats admissions category → AreAllAdmitted people admissions category
+
+-- the category left a seat empty, and has nobody left for it
+pub record IsServed (seats : ProgrammeSeats) (people : List Person) (admissions : Admissions) (category : Category) : Type 0 where
+  pub empty : HasEmptySeat seats admissions category
+  pub served : AreAllAdmitted people admissions category
+
+-- De-reservation comes last: where the de-reserved step has a seat, or admits somebody, OBC left a seat empty and has nobody left for it, or, in
+-- version 2 alone, EWS did. (Where both left some, neither has anybody left: NoSeatStaysEmpty.)
+abbrev pub DereservationComesLast : Type 0
+DereservationComesLast = (version : ℕ) (seats : ProgrammeSeats) (people : List Person) (admissions : Admissions) → AreProgrammeSeats seats → AreApplicants seats.list people
+    → ChoosesFrom version seats people admissions → (0 < unfilled version seats admissions) ⊎ (0 < length admissions.dereserved)
+    → IsServed seats people admissions Obc ⊎ ((version ≡ 2) × IsServed seats people admissions Ews)
+
+-- ---- the axioms
+
+-- a step of a programme with the seats that it fills, those of the de-reserved step too
+abbrev pub whole_step : ℕ → ProgrammeSeats → List Person → Admissions → StepKind → Step
+whole_step version seats applicants admissions kind =
+    record { list = seats.list; seats = seats_filled version seats admissions kind; protections = (seats_of seats kind).protections; people = people_of seats.list applicants admissions kind }
+
+-- What is asked of the choice of the seats of one kind (Sönmez and Yenmez, Econometrica 2022: non-wastefulness, maximal accommodation of horizontal
+-- protections, no justified envy).
+pub record MeetsStepAxioms (step : Step) (chosen : List Person) : Type 0 where
+  -- a seat stays empty only where everybody who stands for it is chosen
+  pub non_wasteful : length chosen < step.seats → (person : Person) → IsAmong person step.people → IsAmong person chosen
+  -- no set within the seats, of those who stand for them, honours more protections
+  pub greatest : (other : List Person) (m n : ℕ) → MayAdmit step other → IsHonoured step.protections other m → IsHonoured step.protections chosen n → m ≤ n
+  -- and not even all who stand for them would honour more, were there seats for all
+  pub as_all : (m n : ℕ) → IsHonoured step.protections step.people m → IsHonoured step.protections chosen n → m ≡ n
+  -- whoever stands for the seats, is not chosen and is better than one of the chosen could stand in that one's place only where fewer protections are honoured
+  pub no_justified_envy : (better worse : Person) (m n : ℕ) → IsAmong better step.people → (IsAmong better chosen → ⊥) → IsAmong worse chosen → IsBetter step.list better worse
+      → IsHonoured step.protections (better ∷ without worse.id chosen) m → IsHonoured step.protections chosen n → m < n
+
+-- Whoever could have an open seat takes no other (there: compliance with vertical protections). Where another step admits a person with a
+-- common place, all open seats are taken, in the place of somebody worse there fewer protections would be honoured, and in addition to those there no more.
+pub record IsOverAndAbove (seats : ProgrammeSeats) (admissions : Admissions) (person : Person) : Type 0 where
+  pub full : length admissions.open_step ≡ (seats_of seats Open).seats
+  pub no_place : (worse : Person) (m n : ℕ) → IsAmong worse admissions.open_step → IsBetter seats.list person worse
+      → IsHonoured (seats_of seats Open).protections (person ∷ without worse.id admissions.open_step) m → IsHonoured (seats_of seats Open).protections admissions.open_step n → m < n
+  pub no_more : (m n : ℕ) → IsHonoured (seats_of seats Open).protections (person ∷ admissions.open_step) m → IsHonoured (seats_of seats Open).protections admissions.open_step n → m ≤ n
+
+-- The axioms of Sönmez and Yenmez (Econometrica 2022), for a programme with open seats first and a de-reserved step last.
+pub record MeetsAxioms (version : ℕ) (seats : ProgrammeSeats) (applicants : List Person) (admissions : Admissions) : Type 0 where
+  -- open first: the open step chooses from all applicants with a common place, whatever the categories do
+  pub open_first : IsStepChoice (step_with seats.list (seats_of seats Open) (filter (is_common seats.list) applicants)) admissions.open_step
+  -- the seats of a category are over and above the open ones
+  pub over_and_above : (kind : StepKind) (person : Person) → kind ≢ Open → IsAmong person (admitted_by admissions kind) → is_common seats.list person ≡ true → IsOverAndAbove seats admissions person
+  -- each step, the de-reserved one too, meets those of the seats of one kind
+  pub at_steps : (kind : StepKind) → MeetsStepAxioms (whole_step version seats applicants admissions kind) (admitted_by admissions kind)
+
+-- each choice of a programme meets the axioms
+abbrev pub ChoicesMeetAxioms : Type 0
+ChoicesMeetAxioms = (version : ℕ) (seats : ProgrammeSeats) (applicants : List Person) (admissions : Admissions) → AreProgrammeSeats seats → AreRanked seats.list applicants
+    → IsProgrammeChoice version seats applicants admissions → MeetsAxioms version seats applicants admissions
+
+-- The open step does not look at categories: with the same open seats, whatever the seats of categories and the version, it admits the same persons.
+abbrev pub OpenComesFirst : Type 0
+OpenComesFirst = (version other : ℕ) (seats others : ProgrammeSeats) (applicants : List Person) (one two : Admissions) → AreProgrammeSeats seats → AreRanked seats.list applicants
+    → others.list ≡ seats.list → seats_of others Open ≡ seats_of seats Open
+    → IsProgrammeChoice version seats applicants one → IsProgrammeChoice other others applicants two → one.open_step ≡ two.open_step

@@ -1,6 +1,6 @@
 -- The laws of the choice of a step and of people by merit on which those of the choice of a programme rest.
 use Rattle.merit_choice.specs.InMerit.{InMeritRanks, OneMeritOrder, PartCanBeRanked, PartInMerit, RankedInMerit, WithPersonRanks}
-use Rattle.merit_choice.specs.Laws.{ChoiceExists, ChoiceSize, LeavingOutRefused, MoreSeats, NoFewer, RefusedBefore, RefusedStaysRefused, SeatsForAll}
+use Rattle.merit_choice.specs.Laws.{ChoiceExists, ChoiceSize, LeavingOutRefused, MoreSeats, HonoursAsAll, NoFewer, NoJustifiedEnvy, RefusedBefore, RefusedStaysRefused, SeatsForAll}
 
 -- the laws of the choice of a step
 pub record AreLawful : Type 0 where
@@ -18,3 +18,5 @@ pub record AreLawful : Type 0 where
   pub ranked_in_merit : RankedInMerit
   pub with_person_ranks : WithPersonRanks
   pub seats_for_all : SeatsForAll
+  pub honours_as_all : HonoursAsAll
+  pub no_justified_envy : NoJustifiedEnvy

@@ -1,5 +1,5 @@
 // The laws of the choice of a programme, over its definition alone. Each is the contract of a function that does nothing.
-ghost use Rattle.open_then_category.specs.Laws.{OneProgrammeChoice, ProgrammeChoiceExists, RefusedFromMore, UnfilledFalls, NoFewerAdmitted, LeavingOutTheRefused, EachRefusedAllRefused, AdmittedOnce, OneStep, SlotsAreTraits, MoreSeatsKeepAll, RefusedBefore, Resumes, ChosenWell, GrowsWithSeats};
+ghost use Rattle.open_then_category.specs.Laws.{OneProgrammeChoice, ProgrammeChoiceExists, RefusedFromMore, UnfilledFalls, NoFewerAdmitted, LeavingOutTheRefused, EachRefusedAllRefused, AdmittedOnce, OneStep, SlotsAreTraits, MoreSeatsKeepAll, RefusedBefore, Resumes, ChosenWell, NoFewerFromMore, GrowsWithSeats, NoSeatStaysEmpty, DereservationComesLast, ChoicesMeetAxioms, OpenComesFirst};
 ghost use Rattle.open_then_category.specs.State.{OffersKeepChoices, OffersLeaveOne};
 ghost use Rattle.open_then_category.specs.StepLaws.{AreLawful};
 
@@ -21,6 +21,8 @@ pub(crate) fn step_laws()
     merit_choice::laws::ranked_in_merit();
     merit_choice::laws::with_person_ranks();
     merit_choice::laws::seats_for_all();
+    merit_choice::laws::honours_as_all();
+    merit_choice::laws::no_justified_envy();
 }
 
 /// A programme has at most one choice.
@@ -124,9 +126,46 @@ pub fn chosen_well()
     step_laws();
 }
 
+/// And they admit no fewer from more people, as it asks of a rule too.
+pub fn no_fewer_from_more()
+    ensures { NoFewerFromMore }
+{
+    step_laws();
+}
+
 /// And they admit everybody whom they admitted before where steps have more seats, with all protections as before.
 pub fn grows_with_seats()
     ensures { GrowsWithSeats }
+{
+    step_laws();
+}
+
+/// No seat of a category stays empty while one of its members is not admitted by the open step or by its own.
+pub fn no_seat_stays_empty()
+    ensures { NoSeatStaysEmpty }
+{
+    step_laws();
+}
+
+/// De-reservation comes last: where the de-reserved step has a seat, or admits somebody, a category that feeds it left a
+/// seat empty and has nobody left for it.
+pub fn dereservation_comes_last()
+    ensures { DereservationComesLast }
+{
+    step_laws();
+}
+
+/// Each choice of a programme meets the axioms (Sönmez and Yenmez 2022): no seat is wasted, no more protections could be
+/// honoured, no envy is justified, and open seats come first.
+pub fn choices_meet_axioms()
+    ensures { ChoicesMeetAxioms }
+{
+    step_laws();
+}
+
+/// With the same open seats, whatever the seats of categories, the open step admits the same persons.
+pub fn open_comes_first()
+    ensures { OpenComesFirst }
 {
     step_laws();
 }

@@ -16,4 +16,6 @@ returns c = record {
   ranked_in_merit = c.ranked_in_merit.ensures;
   with_person_ranks = c.with_person_ranks.ensures;
   seats_for_all = c.seats_for_all.ensures;
+  honours_as_all = c.honours_as_all.ensures;
+  no_justified_envy = c.no_justified_envy.ensures;
 }

@@ -1,0 +1,413 @@
+-- A seeker whom every programme still admits that admitted the seeker before has no worse seat.
+use Rattle.std.proofs.Common.{◌≡◌, ◌≢◌, ◌<◌, ◌≤◌, ◌+◌, ◌⊎◌, inl, inr, ℕ, zero, suc, Bool, true, false, List, [], ◌∷◌, Option, Some, None, length, arith, refl, sym, ap, ◌∙◌, subst, ◌==◌, if◌then◌else◌}
+use Rattle.std.specs.Prelude.{slice_get, slice_set}
+use Rattle.std.proofs.Math.ListN.{length-set}
+use Rattle.std.proofs.lemmas.Bool.{cases_Bool, cases_eq, eq-eqb, eqb-true}
+use Rattle.office_base.specs.Lists.{IsAmong, IsSublist}
+use Rattle.office_base.specs.declared.asks.Seat.{Seat}
+use Rattle.office_base.specs.declared.person.Person.{Person}
+use Rattle.office_base.specs.declared.person.ProgId.{ProgId}
+use Rattle.office_base.specs.declared.step.StepKind.{StepKind}
+use Rattle.allocations.specs.Compared.{TellsAnother}
+use Rattle.allocations.specs.Fair.{IsBest, IsFair, IsMarket, IsOwn}
+use Rattle.allocations.specs.Market.{Seeker, applicants, applies, is_of, place_of, rank_of, seat_at, those}
+use Rattle.allocations.specs.Rule.{Admits, AdmitsNoFewer, ChoosesWell, Rule}
+use Rattle.allocations.proofs.Best.{best_there}
+use Rattle.allocations.proofs.Claims.{applicants_may, outside_refused}
+use Rattle.allocations.proofs.Course.{get_set_other, get_set_same}
+use Rattle.allocations.proofs.Places.{applies_means, holder_applies}
+use Rattle.allocations.proofs.Seated.{fair_seat_alike}
+use Rattle.allocations.proofs.Those.{of_those, same_place, those_has, those_sublist, value_at}
+use Rattle.allocations.proofs.Truthful.{narrows_market, still_fair, truth_is_best, with_list}
+use Rattle.programme_laws.specs.Laws.{AreTheSameBut}
+
+-- ---- a list of one programme
+
+one_step : (b : Bool) → (if b then 0 else 0 + 1) < 1 → b ≡ true
+one_step true less = refl
+one_step false less = absurd (omega (arith, less))
+
+alone_wants : (q : ProgId) (p : ℕ) → place_of (q ∷ []) p < 1 → q.0 ≡ p
+alone_wants q p less = eqb-true q.0 p (one_step (q.0 == p) less)
+
+alone_at : (b : Bool) → b ≡ true → (if b then 0 else 0 + 1) ≡ 0
+alone_at true e = refl
+alone_at false e = absurd (cc)
+
+alone_place : (q : ProgId) → place_of (q ∷ []) q.0 ≡ 0
+alone_place q = alone_at (q.0 == q.0) (eq-eqb q.0 q.0 refl)
+
+alone_distinct : (x : ProgId) (k : ℕ) (q : ProgId) → slice_get (x ∷ []) k ≡ Some q → place_of (x ∷ []) q.0 ≡ k
+alone_distinct x zero q at = let same : x ≡ q = cc in subst (λ (z : ProgId). place_of (x ∷ []) z.0 ≡ 0) same (alone_place x)
+alone_distinct x (suc k) q at = absurd (cc)
+
+-- nobody applies by an empty list
+no_list : (q : ℕ) (seat : Option Seat) → applies q [] seat ≡ false
+no_list q seat = elim (cases_Bool (applies q [] seat)) [
+  | inl is_yes ↦ absurd (let a = applies_means q [] seat is_yes in let less = a.wants in omega (arith, less))
+  | inr is_no ↦ is_no
+]
+
+-- ---- one seeker set
+
+at_set : (seekers : List Seeker) (i j : ℕ) (old new y : Seeker) → slice_get seekers i ≡ Some old → slice_get (slice_set seekers i new) j ≡ Some y
+    → ((j ≡ i) × (y ≡ new)) ⊎ ((j ≢ i) × (slice_get seekers j ≡ Some y))
+at_set seekers i j old new y there at = elim (cases_eq j i) [
+  | inl same ↦
+      let here = get_set_same seekers i new old there in
+      let at_i : slice_get (slice_set seekers i new) i ≡ Some y = subst (λ k. slice_get (slice_set seekers i new) k ≡ Some y) same at in
+      inl (same, (let e : new ≡ y = cc in sym e))
+  | inr apart ↦ inr (apart, sym (get_set_other seekers i j new apart) ∙ at)
+]
+
+set_tells : (i : ℕ) (seekers : List Seeker) (s : Seeker) (list : List ProgId) → slice_get seekers i ≡ Some s → TellsAnother i seekers (slice_set seekers i (with_list s list))
+set_tells i seekers s list there = record {
+  same = length-set seekers i (with_list s list);
+  others = λ j apart. get_set_other seekers i j (with_list s list) apart;
+  person = λ a b at at'.
+      let here = get_set_same seekers i (with_list s list) s there in
+      let first : a ≡ s = cc in
+      let second : with_list s list ≡ b = cc in
+      ap (λ (z : Seeker). z.person) first ∙ ap (λ (z : Seeker). z.person) second;
+}
+
+-- the seekers are a market where one of them seeks one programme alone
+alone_market : (rule : Rule) (MayApply : ℕ → List Person → Type 0) (well : ChoosesWell rule MayApply) (count i : ℕ) (seekers : List Seeker) (s : Seeker) (q : ProgId) → IsMarket MayApply count seekers
+    → slice_get seekers i ≡ Some s → place_of s.list q.0 < length s.list → IsMarket MayApply count (slice_set seekers i (with_list s (q ∷ [])))
+alone_market rule MayApply well count i seekers s q market there wanted =
+    narrows_market rule MayApply well count seekers (slice_set seekers i (with_list s (q ∷ []))) market (record {
+      same = length-set seekers i (with_list s (q ∷ []));
+      persons = λ j a b at at'. elim (at_set seekers i j s (with_list s (q ∷ [])) b there at') [
+        | inl here ↦
+            let at_i : slice_get seekers i ≡ Some a = subst (λ k. slice_get seekers k ≡ Some a) here.0 at in
+            let one : a ≡ s = cc in
+            ap (λ (z : Seeker). z.person) one ∙ ap (λ (z : Seeker). z.person) (sym here.1)
+        | inr other ↦ let e = other.1 in let one : a ≡ b = cc in ap (λ (z : Seeker). z.person) one
+      ];
+      distinct = λ j k b r at at'. elim (at_set seekers i j s (with_list s (q ∷ [])) b there at) [
+        | inl here ↦
+            subst (λ (z : Seeker). place_of z.list r.0 ≡ k) (sym here.1) (alone_distinct q k r (subst (λ (z : Seeker). slice_get z.list k ≡ Some r) here.1 at'))
+        | inr other ↦ market.distinct j k b r other.1 at'
+      ];
+      narrowed = λ p j a b at at' less. elim (at_set seekers i j s (with_list s (q ∷ [])) b there at') [
+        | inl here ↦
+            let at_i : slice_get seekers i ≡ Some a = subst (λ k. slice_get seekers k ≡ Some a) here.0 at in
+            let one : s ≡ a = cc in
+            let less' : place_of (q ∷ []) p < 1 = subst (λ (z : Seeker). place_of z.list p < length z.list) here.1 less in
+            subst (λ (z : Seeker). place_of z.list p < length z.list) one (subst (λ n. place_of s.list n < length s.list) (alone_wants q p less') wanted)
+        | inr other ↦ let e = other.1 in let one : b ≡ a = cc in subst (λ (z : Seeker). place_of z.list p < length z.list) one less
+      ];
+    })
+
+-- a fair allocation is fair still, where a seeker seeks the programme of their seat alone
+alone_fair : (rule : Rule) (MayApply : ℕ → List Person → Type 0) (well : ChoosesWell rule MayApply) (count i : ℕ) (seekers : List Seeker) (seats : List (Option Seat)) (s : Seeker) (x : Seat)
+    → IsMarket MayApply count seekers → IsFair rule count seekers seats → slice_get seekers i ≡ Some s → slice_get seats i ≡ Some (Some x)
+    → IsFair rule count (slice_set seekers i (with_list s (x.prog ∷ []))) seats
+alone_fair rule MayApply well count i seekers seats s x market fair there has =
+    still_fair rule MayApply well count seekers (slice_set seekers i (with_list s (x.prog ∷ []))) market seats (length-set seekers i (with_list s (x.prog ∷ [])))
+    (λ j a b at at'. elim (at_set seekers i j s (with_list s (x.prog ∷ [])) b there at') [
+      | inl here ↦
+          let at_i : slice_get seekers i ≡ Some a = subst (λ k. slice_get seekers k ≡ Some a) here.0 at in
+          let one : a ≡ s = cc in
+          ap (λ (z : Seeker). z.person) one ∙ ap (λ (z : Seeker). z.person) (sym here.1)
+      | inr other ↦ let e = other.1 in let one : a ≡ b = cc in ap (λ (z : Seeker). z.person) one
+    ])
+    (λ j a b at at' seat has'. elim (at_set seekers i j s (with_list s (x.prog ∷ [])) b there at') [
+      | inl here ↦
+          let has_i : slice_get seats i ≡ Some seat = subst (λ k. slice_get seats k ≡ Some seat) here.0 has' in
+          let value : Some x ≡ seat = cc in
+          subst (λ (z : Seeker). IsOwn z.list seat) (sym here.1) (subst (λ o. IsOwn (x.prog ∷ []) o) value (let place = alone_place x.prog in omega (arith, place)))
+      | inr other ↦ fair.allocation.own j b seat other.1 has'
+    ])
+    (λ j a b at at' q seat has' applied. elim (at_set seekers i j s (with_list s (x.prog ∷ [])) b there at') [
+      | inl here ↦
+          let at_i : slice_get seekers i ≡ Some a = subst (λ k. slice_get seekers k ≡ Some a) here.0 at in
+          let one : s ≡ a = cc in
+          let has_i : slice_get seats i ≡ Some seat = subst (λ k. slice_get seats k ≡ Some seat) here.0 has' in
+          let value : Some x ≡ seat = cc in
+          let wants = (applies_means q (x.prog ∷ []) seat (subst (λ (z : Seeker). applies q z.list seat ≡ true) here.1 applied)).wants in
+          let same = alone_wants x.prog q wants in
+          let held : applies q s.list (Some x) ≡ true = holder_applies q s.list (Some x) (fair.allocation.own i s (Some x) there has) (eq-eqb x.prog.0 q same) in
+          subst (λ (z : Seeker). applies q z.list seat ≡ true) one (subst (λ o. applies q s.list o ≡ true) value held)
+      | inr other ↦ let e = other.1 in let one : b ≡ a = cc in subst (λ (z : Seeker). applies q z.list seat ≡ true) one applied
+    ])
+    fair
+
+-- ---- those who pass in two lists of seekers
+
+those_apart : (f : Seeker → Option Seat → Bool) (ss ts : List Seeker) (xs : List (Option Seat)) → length ts ≡ length ss
+    → ((j : ℕ) (u v : Seeker) (x : Option Seat) → slice_get ss j ≡ Some u → slice_get ts j ≡ Some v → slice_get xs j ≡ Some x → (u ≡ v) ⊎ ((f u x ≡ false) × (f v x ≡ false)))
+    → those f ss xs ≡ those f ts xs
+those_apart f [] [] xs full same = refl
+those_apart f [] (v ∷ ts) xs full same = absurd (omega (arith, full))
+those_apart f (u ∷ ss) [] xs full same = absurd (omega (arith, full))
+those_apart f (u ∷ ss) (v ∷ ts) [] full same = refl
+those_apart f (u ∷ ss) (v ∷ ts) (x ∷ xs) full same =
+    first u v (same 0 u v x refl refl refl) ∙ ap (λ rest. if f v x then v.person ∷ rest else rest) (those_apart f ss ts xs (omega (arith, full)) (λ j. same (suc j)))
+  where
+    first : (u v : Seeker) → (u ≡ v) ⊎ ((f u x ≡ false) × (f v x ≡ false)) → (if f u x then u.person ∷ those f ss xs else those f ss xs) ≡ (if f v x then v.person ∷ those f ss xs else those f ss xs)
+    first u v (inl one) = ap (λ (z : Seeker). if f z x then z.person ∷ those f ss xs else those f ss xs) one
+    first u v (inr none) =
+        ap (λ b. if b then u.person ∷ those f ss xs else those f ss xs) none.0 ∙ sym (ap (λ b. if b then v.person ∷ those f ss xs else those f ss xs) none.1)
+
+-- a programme that admits the first person from some people admits the second from the same people with the second in place of the first
+abbrev pub Improves : Rule → (ℕ → List Person → Type 0) → ℕ → Person → Person → Type 0
+Improves rule MayApply count before after = (p : ℕ) (people others : List Person) → p < count → MayApply p people → MayApply p others → AreTheSameBut before after people others
+    → Admits rule p people before → Admits rule p others after
+
+module _ (rule : Rule) (MayApply : ℕ → List Person → Type 0) (well : ChoosesWell rule MayApply) (no_fewer : AdmitsNoFewer rule MayApply) (count i : ℕ) (seekers changed : List Seeker)
+    (s t : Seeker) (market : IsMarket MayApply count seekers) (market' : IsMarket MayApply count changed) (there : slice_get seekers i ≡ Some s) (there' : slice_get changed i ≡ Some t)
+    (same_list : t.list ≡ s.list) (same_id : t.person.id ≡ s.person.id) (full : length changed ≡ length seekers) (rest : (j : ℕ) → j ≢ i → slice_get changed j ≡ slice_get seekers j)
+    (improves : Improves rule MayApply count s.person t.person) (seats : List (Option Seat)) (fair : IsFair rule count seekers seats) (x : Seat) (has : slice_get seats i ≡ Some (Some x)) where
+  -- the seat is one of the list
+  wanted : place_of s.list x.prog.0 < length s.list
+  wanted = fair.allocation.own i s (Some x) there has
+
+  abbrev only : List ProgId
+  only = x.prog ∷ []
+
+  -- both markets, where the one seeks that programme alone, and where the one seeks nothing
+  abbrev alone : List Seeker
+  alone = slice_set seekers i (with_list s only)
+
+  abbrev alone' : List Seeker
+  alone' = slice_set changed i (with_list t only)
+
+  abbrev gone : List Seeker
+  gone = slice_set seekers i (with_list s [])
+
+  abbrev gone' : List Seeker
+  gone' = slice_set changed i (with_list t [])
+
+  one_market : IsMarket MayApply count alone
+  one_market = alone_market rule MayApply well count i seekers s x.prog market there wanted
+
+  one_market' : IsMarket MayApply count alone'
+  one_market' = alone_market rule MayApply well count i changed t x.prog market' there' (subst (λ l. place_of l x.prog.0 < length l) (sym same_list) wanted)
+
+  one_fair : IsFair rule count alone seats
+  one_fair = alone_fair rule MayApply well count i seekers seats s x market fair there has
+
+  here : slice_get alone i ≡ Some (with_list s only)
+  here = get_set_same seekers i (with_list s only) s there
+
+  here' : slice_get alone' i ≡ Some (with_list t only)
+  here' = get_set_same changed i (with_list t only) t there'
+
+  size : length alone' ≡ length alone
+  size = length-set changed i (with_list t only) ∙ (full ∙ sym (length-set seekers i (with_list s only)))
+
+  -- at each other place all of them have the same seeker
+  elsewhere : (j : ℕ) (u : Seeker) → j ≢ i → slice_get alone j ≡ Some u → slice_get alone' j ≡ Some u
+  elsewhere j u apart at = get_set_other changed i j (with_list t only) apart ∙ (rest j apart ∙ (sym (get_set_other seekers i j (with_list s only) apart) ∙ at))
+
+  elsewhere_back : (j : ℕ) (u : Seeker) → j ≢ i → slice_get alone' j ≡ Some u → slice_get alone j ≡ Some u
+  elsewhere_back j u apart at = get_set_other seekers i j (with_list s only) apart ∙ (sym (rest j apart) ∙ (sym (get_set_other changed i j (with_list t only) apart) ∙ at))
+
+  in_gone : (j : ℕ) (u : Seeker) → j ≢ i → slice_get alone j ≡ Some u → slice_get gone j ≡ Some u
+  in_gone j u apart at = get_set_other seekers i j (with_list s []) apart ∙ (sym (get_set_other seekers i j (with_list s only) apart) ∙ at)
+
+  in_gone' : (j : ℕ) (u : Seeker) → j ≢ i → slice_get alone' j ≡ Some u → slice_get gone' j ≡ Some u
+  in_gone' j u apart at = get_set_other changed i j (with_list t []) apart ∙ (sym (get_set_other changed i j (with_list t only) apart) ∙ at)
+
+  -- ---- an allocation of the changed market in which the one has nothing
+
+  module _ (none_seats : List (Option Seat)) (fair' : IsFair rule count alone' none_seats) (none : slice_get none_seats i ≡ Some None) where
+    abbrev test : ℕ → Seeker → Option Seat → Bool
+    test q u seat = applies q u.list seat
+
+    abbrev those_alone : ℕ → List Person
+    those_alone q = applicants q alone none_seats
+
+    abbrev those_alone' : ℕ → List Person
+    those_alone' q = applicants q alone' none_seats
+
+    abbrev those_gone : ℕ → List Person
+    those_gone q = applicants q gone none_seats
+
+    abbrev those_gone' : ℕ → List Person
+    those_gone' q = applicants q gone' none_seats
+
+    same_gone : (q : ℕ) → those_gone q ≡ those_gone' q
+    same_gone q =
+        those_apart (test q) gone gone' none_seats (length-set changed i (with_list t []) ∙ (full ∙ sym (length-set seekers i (with_list s []))))
+        (λ j u v y at at' has'. elim (at_set seekers i j s (with_list s []) u there at) [
+          | inl mine ↦
+              let at_i : slice_get gone' i ≡ Some v = subst (λ k. slice_get gone' k ≡ Some v) mine.0 at' in
+              let at_t = get_set_same changed i (with_list t []) t there' in
+              let its : v ≡ with_list t [] = cc in
+              inr (ap (λ (z : Seeker). applies q z.list y) mine.1 ∙ no_list q y, ap (λ (z : Seeker). applies q z.list y) its ∙ no_list q y)
+          | inr other ↦
+              let its = get_set_other changed i j (with_list t []) other.0 ∙ (rest j other.0 ∙ other.1) in
+              inl (let e : Some u ≡ Some v = sym its ∙ at' in cc)
+        ])
+
+    -- those who seek something else apply in both
+    sub_of : (q : ℕ) (all some : List Seeker) (w : Seeker) → length some ≡ length all → slice_get some i ≡ Some (with_list w []) → ((j : ℕ) (u : Seeker) → slice_get all i ≡ Some u → u.person ≡ w.person)
+        → ((j : ℕ) (u : Seeker) → j ≢ i → slice_get all j ≡ Some u → slice_get some j ≡ Some u) → IsSublist (applicants q some none_seats) (applicants q all none_seats)
+    sub_of q all some w count_same at_i who others =
+        those_sublist (test q) (test q) some all none_seats none_seats (record {
+          seekers = sym count_same;
+          values = refl;
+          persons = λ j u v at at'. elim (cases_eq j i) [
+            | inl mine ↦
+                let first : slice_get some i ≡ Some u = subst (λ k. slice_get some k ≡ Some u) mine at in
+                let second : slice_get all i ≡ Some v = subst (λ k. slice_get all k ≡ Some v) mine at' in
+                let one : u ≡ with_list w [] = (let e : Some u ≡ Some (with_list w []) = sym first ∙ at_i in cc) in
+                ap (λ (z : Seeker). z.person) one ∙ sym (who i v second)
+            | inr apart ↦ let e = others j v apart at' in let one : u ≡ v = cc in ap (λ (z : Seeker). z.person) one
+          ];
+          passes = λ j u v y z at at' has' has'' h. elim (cases_eq j i) [
+            | inl mine ↦ absurd (
+                let first : slice_get some i ≡ Some u = subst (λ k. slice_get some k ≡ Some u) mine at in
+                let one : u ≡ with_list w [] = (let e : Some u ≡ Some (with_list w []) = sym first ∙ at_i in cc) in
+                let no = no_list q y in
+                let is_yes = subst (λ (k : Seeker). applies q k.list y ≡ true) one h in
+                let e : true ≡ false = sym is_yes ∙ no in
+                cc)
+            | inr apart ↦
+                let e = others j v apart at' in
+                let one : u ≡ v = cc in
+                let value : y ≡ z = cc in
+                subst (λ o. applies q v.list o ≡ true) value (subst (λ (k : Seeker). applies q k.list y ≡ true) one h)
+          ];
+        })
+
+    sub : (q : ℕ) → IsSublist (those_gone q) (those_alone q)
+    sub q =
+        sub_of q alone gone s (length-set seekers i (with_list s []) ∙ sym (length-set seekers i (with_list s only))) (get_set_same seekers i (with_list s []) s there)
+        (λ j u at. let e = here in let one : u ≡ with_list s only = cc in ap (λ (z : Seeker). z.person) one) in_gone
+
+    sub' : (q : ℕ) → IsSublist (those_gone' q) (those_alone' q)
+    sub' q =
+        sub_of q alone' gone' t (length-set changed i (with_list t []) ∙ sym (length-set changed i (with_list t only))) (get_set_same changed i (with_list t []) t there')
+        (λ j u at. let e = here' in let one : u ≡ with_list t only = cc in ap (λ (z : Seeker). z.person) one) in_gone'
+
+    full_alone : length none_seats ≡ length alone
+    full_alone = fair'.allocation.full ∙ size
+
+    may : (q : ℕ) → q < count → MayApply q (those_alone q)
+    may q below = applicants_may rule MayApply count q alone none_seats one_market well below full_alone
+
+    may' : (q : ℕ) → q < count → MayApply q (those_alone' q)
+    may' q below = applicants_may rule MayApply count q alone' none_seats one_market' well below fair'.allocation.full
+
+    -- everybody else who applies in one market applies in the other
+    both : (q : ℕ) → IsAmong s.person (those_alone q) → AreTheSameBut s.person t.person (those_alone q) (those_alone' q)
+    both q stands = record {
+      there = stands;
+      there_after =
+          let found = of_those (test q) alone none_seats s.person stands in
+          let place : found.place ≡ i = same_place alone found.place i found.s (with_list s only) one_market.ids found.there here (ap (λ (z : Person). z.id) (sym found.person_is)) in
+          let at_i : slice_get alone i ≡ Some found.s = subst (λ k. slice_get alone k ≡ Some found.s) place found.there in
+          let value_i : slice_get none_seats i ≡ Some found.value = subst (λ k. slice_get none_seats k ≡ Some found.value) place found.at in
+          let mine : found.s ≡ with_list s only = (let e : Some found.s ≡ Some (with_list s only) = sym at_i ∙ here in cc) in
+          let value : found.value ≡ None = (let e : Some found.value ≡ Some None = sym value_i ∙ none in cc) in
+          let applied : applies q only None ≡ true = subst (λ o. applies q only o ≡ true) value (subst (λ (z : Seeker). applies q z.list found.value ≡ true) mine found.passes) in
+          those_has (test q) alone' none_seats i (with_list t only) None here' none applied;
+      rest = λ other apart. (
+        (λ inside.
+            let found = of_those (test q) alone none_seats other inside in
+            let off : found.place ≢ i = λ e. apart (
+            let at_i : slice_get alone i ≡ Some found.s = subst (λ k. slice_get alone k ≡ Some found.s) e found.there in
+            let mine : found.s ≡ with_list s only = (let e' : Some found.s ≡ Some (with_list s only) = sym at_i ∙ here in cc) in
+            ap (λ (z : Person). z.id) found.person_is ∙ ap (λ (z : Seeker). z.person.id) mine) in
+            subst (λ z. IsAmong z (those_alone' q)) (sym found.person_is) (those_has (test q) alone' none_seats found.place found.s found.value (elsewhere found.place found.s off found.there) found.at found.passes)),
+        (λ inside.
+            let found = of_those (test q) alone' none_seats other inside in
+            let off : found.place ≢ i = λ e. apart (
+            let at_i : slice_get alone' i ≡ Some found.s = subst (λ k. slice_get alone' k ≡ Some found.s) e found.there in
+            let mine : found.s ≡ with_list t only = (let e' : Some found.s ≡ Some (with_list t only) = sym at_i ∙ here' in cc) in
+            ap (λ (z : Person). z.id) found.person_is ∙ (ap (λ (z : Seeker). z.person.id) mine ∙ same_id)) in
+            subst (λ z. IsAmong z (those_alone q)) (sym found.person_is) (those_has (test q) alone none_seats found.place found.s found.value (elsewhere_back found.place found.s off found.there) found.at found.passes)),
+      );
+    }
+
+    -- no programme admits the one before
+    refused : (q : ℕ) (kind : StepKind) → q < count → rule q (those_alone q) s.person kind → ⊥
+    refused q kind below admits =
+        let stands = well.among q (those_alone q) s.person kind (may q below) admits in
+        let taken = improves q (those_alone q) (those_alone' q) below (may q below) (may' q below) (both q stands) (kind, admits) in
+        let got = (fair'.agrees q i (with_list t only) taken.0 below here').0 taken.1 in
+        let e : Some None ≡ Some (Some (seat_at q taken.0)) = sym none ∙ got in
+        cc
+
+    outside : (q : ℕ) → q < count → (y : Person) → IsAmong y (those_alone q) → (IsAmong y (those_gone q) → ⊥) → (kind : StepKind) → rule q (those_alone q) y kind → ⊥
+    outside q below y inside apart kind admits =
+        let found = of_those (test q) alone none_seats y inside in
+        elim (cases_eq found.place i) [
+          | inl mine ↦
+              let at_i : slice_get alone i ≡ Some found.s = subst (λ k. slice_get alone k ≡ Some found.s) mine found.there in
+              let one : found.s ≡ with_list s only = (let e : Some found.s ≡ Some (with_list s only) = sym at_i ∙ here in cc) in
+              refused q kind below (subst (λ z. rule q (those_alone q) z kind) (found.person_is ∙ ap (λ (z : Seeker). z.person) one) admits)
+          | inr off ↦
+              apart (subst (λ z. IsAmong z (those_gone q)) (sym found.person_is) (those_has (test q) gone none_seats found.place found.s found.value (in_gone found.place found.s off found.there) found.at found.passes))
+        ]
+
+    holders_gone : (q : ℕ) (j : ℕ) (u : Seeker) (seat : Option Seat) → slice_get alone' j ≡ Some u → slice_get none_seats j ≡ Some seat → is_of q seat ≡ true → IsAmong u.person (those_gone' q)
+    holders_gone q j u seat at has' holds = elim (cases_eq j i) [
+      | inl mine ↦ absurd (
+          let value : slice_get none_seats i ≡ Some seat = subst (λ k. slice_get none_seats k ≡ Some seat) mine has' in
+          let e : None ≡ seat = (let e' : Some None ≡ Some seat = sym none ∙ value in cc) in
+          let no : is_of q None ≡ true = subst (λ o. is_of q o ≡ true) (sym e) holds in
+          let f : false ≡ true = no in
+          cc)
+      | inr off ↦ those_has (test q) gone' none_seats j u seat (in_gone' j u off at) has' (holder_applies q u.list seat (fair'.allocation.own j u seat at has') holds)
+    ]
+
+    -- it is fair in the market before
+    none_fair : IsFair rule count alone none_seats
+    none_fair = record {
+      allocation = record {
+        full = full_alone;
+        own = λ j u seat at has'. elim (cases_eq j i) [
+          | inl mine ↦
+              let value : slice_get none_seats i ≡ Some seat = subst (λ k. slice_get none_seats k ≡ Some seat) mine has' in
+              let e : None ≡ seat = (let e' : Some None ≡ Some seat = sym none ∙ value in cc) in
+              subst (λ o. IsOwn u.list o) e tt
+          | inr off ↦ fair'.allocation.own j u seat (elsewhere j u off at) has'
+        ];
+      };
+      agrees = λ q j u kind below at. elim (cases_eq j i) [
+        | inl mine ↦
+            let at_i : slice_get alone i ≡ Some u = subst (λ k. slice_get alone k ≡ Some u) mine at in
+            let one : u ≡ with_list s only = (let e : Some u ≡ Some (with_list s only) = sym at_i ∙ here in cc) in (
+              (λ admits. absurd (refused q kind below (subst (λ z. rule q (those_alone q) z kind) (ap (λ (z : Seeker). z.person) one) admits))),
+              (λ has'. absurd (let value : slice_get none_seats i ≡ Some (Some (seat_at q kind)) = subst (λ k. slice_get none_seats k ≡ Some (Some (seat_at q kind))) mine has' in
+                  let e : Some None ≡ Some (Some (seat_at q kind)) = sym none ∙ value in cc)),
+            )
+        | inr off ↦
+            let first = well.without q (those_gone q) (those_alone q) (may q below) (sub q) (outside q below) u.person kind in
+            let second = well.without q (those_gone' q) (those_alone' q) (may' q below) (sub' q)
+            (outside_refused rule count q alone' none_seats (those_gone' q) below fair' (holders_gone q)) u.person kind in
+            let agreed = fair'.agrees q j u kind below (elsewhere j u off at) in (
+              (λ admits. agreed.0 (second.0 (subst (λ l. rule q l u.person kind) (same_gone q) (first.1 admits)))),
+              (λ has'. first.0 (subst (λ l. rule q l u.person kind) (sym (same_gone q)) (second.1 (agreed.1 has')))),
+            )
+      ];
+    }
+
+    -- which no fair allocation of that market can be
+    pub never : ⊥
+    never =
+        let alike = fair_seat_alike rule MayApply well no_fewer count alone seats none_seats one_market one_fair none_fair in
+        let e = (alike.unseated i).1 none in
+        let f : Some (Some x) ≡ Some None = sym has ∙ e in
+        cc
+
+  -- so in the changed market the one has a seat of that programme, where it is sought alone, and no worse by the whole list
+  pub no_worse : (others : List (Option Seat)) (other : Option Seat) → IsBest rule count changed others → slice_get others i ≡ Some other → rank_of s.list other ≤ place_of s.list x.prog.0
+  no_worse others other best has' =
+      let first = best_there rule MayApply count alone' one_market' well in
+      let y = value_at alone' first.0 i (with_list t only) first.1.fair.allocation.full here' in
+      by_seat first.0 first.1.fair y.0 y.1
+    where
+      by_seat : (alone_seats : List (Option Seat)) → IsFair rule count alone' alone_seats → (y : Option Seat) → slice_get alone_seats i ≡ Some y → rank_of s.list other ≤ place_of s.list x.prog.0
+      by_seat alone_seats fair' None at = absurd (never alone_seats fair' at)
+      by_seat alone_seats fair' (Some y) at =
+          let own : place_of only y.prog.0 < 1 = fair'.allocation.own i (with_list t only) (Some y) here' at in
+          let same = alone_wants x.prog y.prog.0 own in
+          let result : rank_of t.list other ≤ place_of t.list y.prog.0 =
+          truth_is_best rule MayApply well no_fewer count i changed alone' others alone_seats t other (Some y) market' one_market' (set_tells i changed t only there') best fair' there' has' at in
+          let by_list : rank_of s.list other ≤ place_of s.list y.prog.0 = subst (λ l. rank_of l other ≤ place_of l y.prog.0) same_list result in
+          subst (λ n. rank_of s.list other ≤ place_of s.list n) (sym same) by_list

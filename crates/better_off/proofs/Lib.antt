@@ -1,0 +1,2 @@
+mod Improved
+mod Rounds

@@ -1,0 +1,180 @@
+-- A programme's choice meets the axioms of Sönmez and Yenmez.
+use Rattle.std.proofs.Common.{◌≡◌, ◌≢◌, ◌≤◌, ◌<◌, ℕ, zero, suc, Bool, true, List, [], ◌∷◌, length, take, refl, sym, ap, ◌∙◌, subst, inl, inr, arith}
+use Rattle.std.specs.Prelude.{◌==◌, if◌then◌else◌}
+use Rattle.std.proofs.lemmas.Bool.{cases_Bool, eqb-false}
+use Rattle.std.specs.List.{filter}
+use Rattle.office_base.specs.Lists.{IsAmong, IsSublist}
+use Rattle.office_base.specs.Person.{IsBetter, is_common}
+use Rattle.office_base.specs.Placement.{IsHonoured, IsPlacement, placed_on, protected}
+use Rattle.office_base.specs.StepChoice.{AreRanked, IsNoWorse, IsStep, IsStepChoice}
+use Rattle.office_base.specs.declared.person.ListId.{ListId}
+use Rattle.office_base.specs.declared.person.Person.{Person}
+use Rattle.office_base.specs.declared.step.Pair.{Pair}
+use Rattle.office_base.specs.declared.step.Step.{Step}
+use Rattle.office_base.specs.declared.step.StepKind.{StepKind}
+use Rattle.office_base.specs.declared.step.StepKind.TheVariants.{Open, Ews as EwsStep, Obc as ObcStep, Sc as ScStep, St as StStep, Dereserved}
+use Rattle.placements.proofs.Filters.{among_filter_from}
+use Rattle.placements.proofs.Greatest.{honoured-exists}
+use Rattle.placements.proofs.Ranks.{monotone, among_itself, among_sublist, any_all, ranked_sublist, widen}
+use Rattle.placements.proofs.Sublists.{IsSublist-tail, IsSublist-take}
+use Rattle.seat_matrix.specs.Seats.{AreProgrammeSeats, no_protections, seats_of}
+use Rattle.seat_matrix.specs.declared.seats.ProgrammeSeats.{ProgrammeSeats}
+use Rattle.seat_matrix.specs.declared.seats.Seating.{Seating}
+use Rattle.programme_lists.specs.Programme.{Admissions, IsProgrammeChoice, admitted_by, people_of, step_with, unfilled}
+use Rattle.open_then_category.specs.Laws.{ChoicesMeetAxioms, IsOverAndAbove, MeetsStepAxioms, OpenComesFirst, whole_step}
+use Rattle.open_then_category.specs.StepLaws.{AreLawful}
+use Rattle.open_then_category.proofs.Last.{all_chosen}
+use Rattle.open_then_category.proofs.Once.{ranked_one_step}
+use Rattle.open_then_category.proofs.ProgrammeLaws.{all_among, filtered_step, last_sublist, rest_of}
+use Rattle.open_then_category.proofs.Walk.{ranked_without}
+
+-- ---- without protections the best are the choice
+
+no_position : (t : ℕ) → protected no_protections t ≡ 0
+no_position zero = refl
+no_position (suc zero) = refl
+no_position (suc (suc zero)) = refl
+no_position (suc (suc (suc zero))) = refl
+no_position (suc (suc (suc (suc zero)))) = refl
+no_position (suc (suc (suc (suc (suc zero))))) = refl
+no_position (suc (suc (suc (suc (suc (suc t)))))) = refl
+
+abbrev one_where : Bool → ℕ
+one_where test = if test then 1 else 0
+
+stands_once : (pair : Pair) (pairs : List Pair) → 1 ≤ placed_on pair.slot (pair ∷ pairs)
+stands_once pair pairs = elim (cases_Bool (pair.slot == pair.slot)) [
+  | inl same ↦ (let e = ap one_where same in omega (arith, e))
+  | inr other ↦ absurd (eqb-false pair.slot pair.slot other refl)
+]
+
+nobody_placed : (people : List Person) (pairs : List Pair) → IsPlacement no_protections people pairs → length pairs ≡ 0
+nobody_placed people [] placed = refl
+nobody_placed people (pair ∷ pairs) placed =
+    absurd (let few = placed.within pair.slot in let none = no_position pair.slot in let one = stands_once pair pairs in omega (arith, few, none, one))
+
+none_honoured : (people : List Person) (n : ℕ) → IsHonoured no_protections people n → n ≡ 0
+none_honoured people n h = sym h.reached.2 ∙ nobody_placed people h.reached.0 h.reached.1
+
+-- the best are the same or better at every merit place
+best_no_worse : (list : ListId) (n : ℕ) (people others : List Person) → AreRanked list people → IsSublist others people → length others ≤ n → IsNoWorse list (take n people) others
+best_no_worse list n people [] ranked sub few = tt
+best_no_worse list zero people (other ∷ others) ranked sub few = absurd (omega (arith, few))
+best_no_worse list (suc n) [] (other ∷ others) ranked sub few = absurd (let none = ap length sub in omega (arith, none))
+best_no_worse list (suc n) (person ∷ people) (other ∷ others) ranked sub few =
+    let rest : AreRanked list people = record { traits = ranked.traits.1; placed = ranked.placed.1; in_order = ranked.in_order.1; distinct = ranked.distinct.1 } in
+    elim sub [
+      | inl skips ↦
+          let found = any_all (λ (one : Person). other ≡ one) (IsBetter list person) people (among_sublist (other ∷ others) people skips).0 ranked.in_order.0 in
+          (inr (subst (IsBetter list person) (sym found.1) found.2), best_no_worse list n people others rest (IsSublist-tail other others people skips) (omega (arith, few)))
+      | inr takes ↦
+          let first : other ≡ person = cc (takes.1) in
+          let later : others ≡ takes.0 = cc (takes.1) in
+          (inl (sym first), best_no_worse list n people others rest (subst (λ (l : List Person). IsSublist l people) (sym later) takes.2) (omega (arith, few)))
+    ]
+
+taken_few : (n : ℕ) (people : List Person) → length (take n people) ≤ n
+taken_few zero people = omega arith
+taken_few (suc n) [] = omega arith
+taken_few (suc n) (person ∷ people) = (let rest = taken_few n people in omega (arith, rest))
+
+best_chosen : (list : ListId) (n : ℕ) (people : List Person) → AreRanked list people → IsStepChoice (record { list = list; seats = n; protections = no_protections; people = people }) (take n people)
+best_chosen list n people ranked = record {
+  may = record { people = IsSublist-take n people; seats = taken_few n people };
+  most = λ other m k may theirs ours. (let none = none_honoured other m theirs in omega (arith, none));
+  best = λ other m may theirs ours. best_no_worse list n people other ranked may.people may.seats;
+}
+
+-- ---- each step
+
+-- a step with the seats that it fills, and its choice
+record Chosen (step : Step) (chosen : List Person) : Type 0 where
+  pub is_step : IsStep step
+  pub choice : IsStepChoice step chosen
+
+step_axioms : AreLawful → (step : Step) (chosen : List Person) → Chosen step chosen → MeetsStepAxioms step chosen
+step_axioms laws step chosen c = record {
+  non_wasteful = λ empty person here. subst (IsAmong person) (sym (all_chosen laws step chosen c.is_step c.choice empty)) here;
+  greatest = c.choice.most;
+  as_all = λ m n all mine. laws.honours_as_all step chosen m n c.is_step c.choice all mine;
+  no_justified_envy = λ better worse m n there gone here ahead his mine. laws.no_justified_envy step chosen better worse m n c.is_step c.choice there gone here ahead his mine;
+}
+
+module _ (version : ℕ) (seats : ProgrammeSeats) (applicants : List Person) (admissions : Admissions) (ok : AreProgrammeSeats seats) (ranked : AreRanked seats.list applicants)
+    (choice : IsProgrammeChoice version seats applicants admissions) where
+  rest_ranked : AreRanked seats.list (rest_of applicants admissions)
+  rest_ranked = ranked_without seats.list applicants admissions.open_step ranked
+
+  chosen_at : (kind : StepKind) → Chosen (whole_step version seats applicants admissions kind) (admitted_by admissions kind)
+  chosen_at Open = record { is_step = filtered_step seats.list (seats_of seats Open) _ applicants ok.list (ok.steps Open) ranked; choice = choice.open_step }
+  chosen_at EwsStep = record { is_step = filtered_step seats.list (seats_of seats EwsStep) _ (rest_of applicants admissions) ok.list (ok.steps EwsStep) rest_ranked; choice = choice.ews }
+  chosen_at ObcStep = record { is_step = filtered_step seats.list (seats_of seats ObcStep) _ (rest_of applicants admissions) ok.list (ok.steps ObcStep) rest_ranked; choice = choice.obc }
+  chosen_at ScStep = record { is_step = filtered_step seats.list (seats_of seats ScStep) _ (rest_of applicants admissions) ok.list (ok.steps ScStep) rest_ranked; choice = choice.sc }
+  chosen_at StStep = record { is_step = filtered_step seats.list (seats_of seats StStep) _ (rest_of applicants admissions) ok.list (ok.steps StStep) rest_ranked; choice = choice.st }
+  chosen_at Dereserved =
+      let people = people_of seats.list applicants admissions Dereserved in
+      let people_ranked = ranked_sublist seats.list people applicants ranked (last_sublist seats.list applicants admissions) in
+      let step = whole_step version seats applicants admissions Dereserved in
+      record {
+        is_step = record { list = ok.list; people = people_ranked; protections = omega arith };
+        choice = subst (IsStepChoice step) (sym choice.dereserved) (best_chosen seats.list (unfilled version seats admissions) people people_ranked);
+      }
+
+  over_and_above : AreLawful → (kind : StepKind) (person : Person) → kind ≢ Open → IsAmong person applicants → IsAmong person (admitted_by admissions kind) → is_common seats.list person ≡ true
+      → IsOverAndAbove seats admissions person
+  over_and_above laws kind person other there here common =
+      let open_step = step_axioms laws _ _ (chosen_at Open) in
+      let gone : IsAmong person admissions.open_step → ⊥ = λ taken. other (ranked_one_step version seats applicants admissions person kind Open choice here taken) in
+      let stands = among_filter_from (is_common seats.list) person applicants there common in
+      record {
+        full = filled (length admissions.open_step) (seats_of seats Open).seats choice.open_step.may.seats (λ empty. gone (open_step.non_wasteful empty person stands));
+        no_place = λ worse m n taken ahead his mine. open_step.no_justified_envy person worse m n stands gone taken ahead his mine;
+        no_more = λ m n more mine.
+            let people = filter (is_common seats.list) applicants in
+            let k = honoured-exists (seats_of seats Open).protections people (chosen_at Open).is_step.people.distinct in
+            let low = monotone (seats_of seats Open).protections (person ∷ admissions.open_step) people m k.0 (stands, among_sublist admissions.open_step people choice.open_step.may.people) more k.1 in
+            let same = open_step.as_all k.0 n k.1 mine in
+            omega (arith, low, same);
+      }
+    where
+      filled : (a b : ℕ) → a ≤ b → (a < b → ⊥) → a ≡ b
+      filled zero zero le never = refl
+      filled zero (suc b) le never = absurd (never (omega arith))
+      filled (suc a) zero le never = absurd (omega (arith, le))
+      filled (suc a) (suc b) le never = ap suc (filled a b (omega (arith, le)) (λ less. never (omega (arith, less))))
+
+  admitted_there : (kind : StepKind) (person : Person) → IsAmong person (admitted_by admissions kind) → IsAmong person applicants
+  admitted_there Open person here = widen person admissions.open_step applicants (all_among version seats applicants admissions choice).open_step here
+  admitted_there EwsStep person here = widen person admissions.ews applicants (all_among version seats applicants admissions choice).ews here
+  admitted_there ObcStep person here = widen person admissions.obc applicants (all_among version seats applicants admissions choice).obc here
+  admitted_there ScStep person here = widen person admissions.sc applicants (all_among version seats applicants admissions choice).sc here
+  admitted_there StStep person here = widen person admissions.st applicants (all_among version seats applicants admissions choice).st here
+  admitted_there Dereserved person here =
+      let people = people_of seats.list applicants admissions Dereserved in
+      let stands = widen person admissions.dereserved people (among_sublist admissions.dereserved people (chosen_at Dereserved).choice.may.people) here in
+      widen person people applicants (among_sublist people applicants (last_sublist seats.list applicants admissions)) stands
+
+pub choices_meet_axioms : AreLawful → ChoicesMeetAxioms
+choices_meet_axioms laws version seats applicants admissions ok ranked choice = record {
+  open_first = choice.open_step;
+  over_and_above = λ kind person other here common.
+      over_and_above version seats applicants admissions ok ranked choice laws kind person other (admitted_there version seats applicants admissions ok ranked choice kind person here) here common;
+  at_steps = λ kind. step_axioms laws _ _ (chosen_at version seats applicants admissions ok ranked choice kind);
+}
+
+-- ---- open first
+
+one_choice : AreLawful → (step : Step) (one two : List Person) → IsStep step → IsStepChoice step one → IsStepChoice step two → one ≡ two
+one_choice laws step one two ok first second =
+    laws.leaving_out_refused step step one two
+    (record { is_step = ok; more_is_step = ok; list = refl; seats = refl; protections = refl; people = among_itself step.people }) first second
+    (λ person here gone. absurd (gone here))
+
+pub open_comes_first : AreLawful → OpenComesFirst
+open_comes_first laws version other seats others applicants one two ok ranked same_list same_seats first second =
+    let step = step_with seats.list (seats_of seats Open) (filter (is_common seats.list) applicants) in
+    let is_step = filtered_step seats.list (seats_of seats Open) (is_common seats.list) applicants ok.list (ok.steps Open) ranked in
+    let its : IsStepChoice (step_with seats.list (seats_of seats Open) (filter (is_common seats.list) applicants)) two.open_step =
+    subst (λ (l : ListId). IsStepChoice (step_with l (seats_of seats Open) (filter (is_common l) applicants)) two.open_step) same_list
+    (subst (λ (s : Seating). IsStepChoice (step_with others.list s (filter (is_common others.list) applicants)) two.open_step) same_seats second.open_step) in
+    one_choice laws step one.open_step two.open_step is_step first.open_step its

@@ -1,0 +1,3 @@
+mod BetterOff
+mod PassedOver
+mod StillChosen

@@ -1,0 +1,18 @@
+// The laws of a programme's choice, for those who apply. Each is the contract of a function that does nothing.
+ghost use Rattle.programme_laws.specs.Laws.{BeingBetterOffNeverHurts, NobodyIsPassedOver};
+
+/// A programme passes nobody over for somebody who is worse, holds no other trait, and has a seat for which the better one may stand.
+pub fn nobody_is_passed_over()
+    ensures { NobodyIsPassedOver }
+{
+    merit_choice::laws::in_merit_ranks();
+    merit_choice::laws::nobody_passed_over();
+}
+
+/// A trait, a category, a common place or a better place more never costs an applicant a seat of the programme.
+pub fn being_better_off_never_hurts()
+    ensures { BeingBetterOffNeverHurts }
+{
+    merit_choice::laws::choice_exists();
+    merit_choice::laws::leaving_out_refused();
+}
