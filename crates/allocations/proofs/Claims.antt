@@ -24,7 +24,7 @@ pub applicants_may : (rule : Rule) (MayApply : ℕ → List Person → Type 0) (
 applicants_may rule MayApply count p seekers seats market well below full =
     may_apply rule MayApply count p (λ s seat. applies p s.list seat) seekers seats market well below full (λ i s x there at h. (applies_means p s.list x h).wants)
 
-holders_apply : (p : ℕ) (seekers : List Seeker) (seats : List (Option Seat)) → IsAllocation seekers seats → IsSublist (holders p seekers seats) (applicants p seekers seats)
+pub holders_apply : (p : ℕ) (seekers : List Seeker) (seats : List (Option Seat)) → IsAllocation seekers seats → IsSublist (holders p seekers seats) (applicants p seekers seats)
 holders_apply p seekers seats allocation =
     part (λ s seat. is_of p seat) (λ s seat. applies p s.list seat) seekers seats seats refl
     (λ i s x y there at again h.
@@ -32,7 +32,7 @@ holders_apply p seekers seats allocation =
     subst (λ z. applies p s.list z ≡ true) same (holder_applies p s.list x (allocation.own i s x there at) h))
 
 -- in a fair allocation, whoever applies and holds no seat of the programme is refused
-outside_refused : (rule : Rule) (count p : ℕ) (seekers : List Seeker) (seats : List (Option Seat)) (some : List Person) → p < count → IsFair rule count seekers seats
+pub outside_refused : (rule : Rule) (count p : ℕ) (seekers : List Seeker) (seats : List (Option Seat)) (some : List Person) → p < count → IsFair rule count seekers seats
     → ((i : ℕ) (s : Seeker) (seat : Option Seat) → slice_get seekers i ≡ Some s → slice_get seats i ≡ Some seat → is_of p seat ≡ true → IsAmong s.person some)
     → (x : Person) → IsAmong x (applicants p seekers seats) → (IsAmong x some → ⊥) → Refuses rule p (applicants p seekers seats) x
 outside_refused rule count p seekers seats some below fair holds x among apart = λ kind admitted.

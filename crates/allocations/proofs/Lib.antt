@@ -1,6 +1,10 @@
+pub mod Best
 pub mod Claims
 pub mod Course
+pub mod Eased
 pub mod Falls
 pub mod Places
+pub mod Seated
 pub mod Settled
 pub mod Those
+pub mod Truthful

@@ -1,3 +1,4 @@
+pub mod Compared
 pub mod Course
 pub mod Fair
 pub mod Market

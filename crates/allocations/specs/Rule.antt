@@ -1,5 +1,5 @@
 -- A rule says whom a programme admits, under which step, from which people.
-use Rattle.std.specs.Prelude.{◌≡◌, ◌↔◌, ◌⊎◌, ℕ, List}
+use Rattle.std.specs.Prelude.{◌≡◌, ◌≤◌, ◌↔◌, ◌⊎◌, ℕ, List, length}
 use Rattle.office_base.specs.Lists.{IsAmong, IsSublist}
 use Rattle.office_base.specs.declared.person.Person.{Person}
 use Rattle.office_base.specs.declared.step.StepKind.{StepKind}
@@ -48,3 +48,13 @@ pub record ChoosesWell (rule : Rule) (MayApply : ℕ → List Person → Type 0)
 -- whoever the first rule admits the second admits, perhaps under another step: as where seats were added
 abbrev pub Grows : Rule → Rule → (ℕ → List Person → Type 0) → Type 0
 Grows rule more MayApply = (p : ℕ) (people : List Person) (x : Person) → MayApply p people → Admits rule p people x → Admits more p people x
+
+-- Those whom the programme admits from the people, in their order.
+pub record AreAdmitted (rule : Rule) (p : ℕ) (people admitted : List Person) : Type 0 where
+  pub part : IsSublist admitted people
+  pub each : (x : Person) → IsAmong x people → IsAmong x admitted ↔ Admits rule p people x
+
+-- from more people a programme admits no fewer (the law of aggregate demand: Hatfield and Milgrom 2005)
+abbrev pub AdmitsNoFewer : Rule → (ℕ → List Person → Type 0) → Type 0
+AdmitsNoFewer rule MayApply = (p : ℕ) (some all before after : List Person) → MayApply p all → IsSublist some all
+    → AreAdmitted rule p some before → AreAdmitted rule p all after → length before ≤ length after

@@ -7,8 +7,8 @@ use Rattle.std.proofs.lemmas.Option.{slice_get_past}
 use Rattle.office_base.specs.Person.{IsList}
 use Rattle.office_base.specs.declared.step.StepKind.{StepKind}
 use Rattle.office_base.specs.declared.step.StepKind.TheVariants.{Open, Ews, Obc, Sc, St, Dereserved}
-use Rattle.open_then_category.specs.Laws.{ChosenWell, GrowsWithSeats}
-use Rattle.rounds.specs.Rule.{ProgrammesChooseWell, ProgrammesGrow}
+use Rattle.open_then_category.specs.Laws.{ChosenWell, GrowsWithSeats, NoFewerFromMore}
+use Rattle.rounds.specs.Rule.{ProgrammesAdmitNoFewer, ProgrammesChooseWell, ProgrammesGrow}
 use Rattle.seat_matrix.specs.Matrix.{AreSeats, SeatTable, first_list, list_in, seats_in, steps_in}
 use Rattle.seat_matrix.specs.Seats.{AreProgrammeSeats, IsSeated, no_seating, no_seatings, of_step}
 use Rattle.seat_matrix.specs.declared.seats.Seatings.{Seatings}
@@ -44,6 +44,9 @@ sound_all table seats p = elim (cases_lt p (length table.programmes)) [
 
 pub choose_well : ChosenWell → ProgrammesChooseWell
 choose_well well version table seats = well version (λ p. seats_in table p) (sound_all table seats)
+
+pub admit_no_fewer : NoFewerFromMore → ProgrammesAdmitNoFewer
+admit_no_fewer fewer version table seats = fewer version (λ p. seats_in table p) (sound_all table seats)
 
 pub grow : GrowsWithSeats → ProgrammesGrow
 grow grows version table more seats seats' raised = grows version (λ p. seats_in table p) (λ p. seats_in more p) (sound_all table seats) (sound_all more seats') raised.seats

@@ -1,5 +1,6 @@
 mod Choosing
 mod InTurn
 mod OneRound
+mod Told
 pub mod People
 pub mod Season

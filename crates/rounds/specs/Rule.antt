@@ -7,7 +7,7 @@ use Rattle.office_base.specs.declared.person.ListId.{ListId}
 use Rattle.office_base.specs.declared.person.Person.{Person}
 use Rattle.office_base.specs.declared.person.ProgId.{ProgId}
 use Rattle.allocations.specs.Market.{Seeker}
-use Rattle.allocations.specs.Rule.{Rule, ChoosesWell, Grows}
+use Rattle.allocations.specs.Rule.{Rule, AdmitsNoFewer, ChoosesWell, Grows}
 use Rattle.seat_matrix.specs.Matrix.{AreSeats, SeatTable, list_in, seats_in}
 use Rattle.seat_matrix.specs.Seats.{HaveMoreSeats}
 use Rattle.programme_lists.specs.Chosen.{AdmitsUnder, AreApplicants}
@@ -52,6 +52,10 @@ seekers_of table (person ∷ people) (list ∷ lists) (seek ∷ seeks) = record 
 -- the programmes of every matrix choose well
 abbrev pub ProgrammesChooseWell : Type 0
 ProgrammesChooseWell = (version : ℕ) (table : SeatTable) → AreSeats table → ChoosesWell (rule_of version table) (MayApplyIn table)
+
+-- and admit no fewer from more people
+abbrev pub ProgrammesAdmitNoFewer : Type 0
+ProgrammesAdmitNoFewer = (version : ℕ) (table : SeatTable) → AreSeats table → AdmitsNoFewer (rule_of version table) (MayApplyIn table)
 
 -- The second matrix has the same programmes and protections, and no fewer seats.
 pub record IsRaised (table more : SeatTable) : Type 0 where

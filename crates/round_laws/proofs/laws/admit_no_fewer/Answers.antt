@@ -1,0 +1,5 @@
+use Rattle.round_laws.proofs.Choosing as choosing
+use Rattle.round_laws.proofs.laws.admit_no_fewer.Goals as goal
+
+pub returns : goal.returns
+returns c = choosing.admit_no_fewer c.no_fewer_from_more.ensures
