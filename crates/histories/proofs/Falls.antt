@@ -1,6 +1,6 @@
 -- The step from one round to the next: what everybody seeks narrows, and nobody falls.
-use Rattle.std.proofs.Common.{◌≡◌, ◌≢◌, ◌<◌, ◌≤◌, ◌+◌, ℕ, zero, suc, true, false, List, [], ◌∷◌, Option, Some, None, length, arith, refl, sym, ap, ◌∙◌, subst}
-use Rattle.std.specs.Prelude.{slice_get, option_map, IsSome, nat_le, ◌&&◌}
+use Rattle.std.proofs.Common.{◌≡◌, ◌≢◌, ◌<◌, ◌≤◌, ℕ, zero, suc, true, false, List, Option, Some, None, length, arith, refl, sym, ap, ◌∙◌, subst}
+use Rattle.std.specs.Prelude.{slice_get, option_map, IsSome, nat_le}
 use Rattle.std.proofs.lemmas.Bool.{and_from, and_parts, eq-eqb, eqb-true, le-leb, leb-true}
 use Rattle.std.proofs.lemmas.Option.{slice_get_within}
 use Rattle.std.proofs.lemmas.Slice.Eq.{bytes_eq-Decides}
@@ -16,9 +16,10 @@ use Rattle.allocations.proofs.Places.{applies_true}
 use Rattle.choice_lists.specs.Choices.{list_of}
 use Rattle.seat_matrix.specs.Matrix.{SeatTable}
 use Rattle.seat_matrix.specs.declared.entry.Home.{Home}
-use Rattle.seeks.specs.Seek.{are_together, is_beside, is_left, left_from, same_institute, seek_leaves}
+use Rattle.seeks.specs.Seek.{are_together, is_beside, is_left, same_institute, seek_leaves}
 use Rattle.seeks.specs.declared.seek.Seek.{Seek}
-use Rattle.seeks.specs.declared.seek.Seek.TheVariants.{Whole, UpTo, Within, Only, Nothing}
+use Rattle.seeks.specs.declared.seek.Seek.TheVariants.{Whole, Nothing}
+use Rattle.seeks.proofs.Left.{leaves_same}
 use Rattle.rounds.specs.Rule.{MayApplyIn, ProgrammesChooseWell, ProgrammesGrow, rule_of}
 use Rattle.rounds.specs.declared.round.Round.{Round}
 use Rattle.rounds.proofs.Entrants.{market}
@@ -34,30 +35,6 @@ use Rattle.round_laws.proofs.People.{there_is}
 use Rattle.histories.specs.Course.{IsCourse, left_then, seek_then, seeks_then}
 use Rattle.histories.proofs.Entering.{entrants, own_there}
 use Rattle.histories.proofs.Fits.{Answered, SeatOf, FitsCut, cut_fits, enters, follows, full_seekers, held_seat, not_true, seat_at_place, seat_is, seat_there, seekers_then, still_waits}
-
--- ---- matrices with the same programmes
-
-beside_same : (table other : SeatTable) (first : Option ProgId) (prog : ProgId) → other.programmes ≡ table.programmes → is_beside other first prog ≡ is_beside table first prog
-beside_same table other None prog same = refl
-beside_same table other (Some held) prog same = ap (λ (ps : List (List ℕ × Home)). are_together (slice_get ps held.0) (slice_get ps prog.0)) same
-
-left_same : (table other : SeatTable) (seek : Seek) (progs : List ProgId) (place : ℕ) (prog : ProgId) → other.programmes ≡ table.programmes
-    → is_left other seek progs place prog ≡ is_left table seek progs place prog
-left_same table other Whole progs place prog same = refl
-left_same table other (UpTo k) progs place prog same = refl
-left_same table other (Within k) progs place prog same = ap (λ b. nat_le place k && b) (beside_same table other (slice_get progs k) prog same)
-left_same table other (Only k) progs place prog same = refl
-left_same table other Nothing progs place prog same = refl
-
-from_same : (table other : SeatTable) (seek : Seek) (progs : List ProgId) (place : ℕ) (rest : List ProgId) → other.programmes ≡ table.programmes
-    → left_from other seek progs place rest ≡ left_from table seek progs place rest
-from_same table other seek progs place [] same = refl
-from_same table other seek progs place (prog ∷ rest) same =
-    cc (left_same table other seek progs place prog same, from_same table other seek progs (place + 1) rest same)
-
--- a seek leaves the same by both
-leaves_same : (table other : SeatTable) (seek : Seek) (progs : List ProgId) → other.programmes ≡ table.programmes → seek_leaves other seek progs ≡ seek_leaves table seek progs
-leaves_same table other seek progs same = from_same table other seek progs 0 progs same
 
 -- ---- one candidate
 

@@ -77,6 +77,7 @@ entries_full facts state before round sound course is = (course.made before roun
 pub keeps_its_word : (facts : SeasonFacts) (state : State) → IsSound facts → ProgrammesChooseWell → ProgrammesGrow → IsCourse facts state → KeepsItsWord facts state
 keeps_its_word facts state sound well grow course = record {
   rounds = λ before round is. just facts state before round sound well course is;
+  sought = λ before round is. ((course.made before round is).number, (course.made before round is).sought);
   nobody_falls = λ window id less. holds_on facts state window id sound well grow course less;
   finals = course.finals;
   admitted = λ rows id is keeps.

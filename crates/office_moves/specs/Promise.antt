@@ -1,5 +1,5 @@
 -- What the office promises of every state that a history reaches.
-use Rattle.std.specs.Prelude.{◌≡◌, ◌<◌, ◌≤◌, ◌+◌, ℕ, suc, true, List, Option, Some, None, IsSome, length, slice_get, if◌then◌else◌}
+use Rattle.std.specs.Prelude.{◌≡◌, ◌<◌, ◌≤◌, ◌+◌, ℕ, suc, true, List, Option, Some, None, IsSome, length, map, option_map, slice_get, if◌then◌else◌}
 use Rattle.office_base.specs.declared.asks.Seat.{Seat}
 use Rattle.keeper_mem.specs.declared.rows.AllotRow.{AllotRow}
 use Rattle.allocations.specs.Fair.{HasClaim, IsBest}
@@ -9,9 +9,10 @@ use Rattle.programme_lists.specs.Chosen.{ShowsFrom}
 use Rattle.programme_lists.specs.declared.programme.Programme.{Programme}
 use Rattle.seat_matrix.specs.Matrix.{SeatTable, seats_in}
 use Rattle.seeks.specs.Seek.{same_institute}
+use Rattle.seeks.specs.declared.seek.Seek.{Seek}
 use Rattle.rounds.specs.Rule.{rule_of, seekers_of}
 use Rattle.rounds.specs.declared.round.Round.{Round}
-use Rattle.round_options.specs.Options.{holds}
+use Rattle.round_options.specs.Options.{holds, seek_after}
 use Rattle.round_options.specs.declared.standing.Standing.{Standing}
 use Rattle.round_options.specs.declared.standing.Standing.TheVariants.{Freeze, Slide}
 use Rattle.office_moves.specs.Facts.{SeasonFacts, lists_in_order}
@@ -50,10 +51,21 @@ HoldsOn facts state window id = holds (standing_then facts state window id) ≡ 
 abbrev pub kept_to_the_end : SeasonFacts → State → ℕ → Option Seat
 kept_to_the_end facts state id = if holds (standing_then facts state facts.rounds id) then seat_in facts state.rounds facts.rounds id else None
 
+-- what a candidate seeks at the cut of a window, by the standing then and the place of the seat of the round before it
+abbrev pub sought_then : SeasonFacts → State → ℕ → ℕ → Seek
+sought_then facts state window id =
+    seek_after (standing_then facts state window id) (option_map (λ seat. place_of (list_of facts.lists id) seat.prog.0) (seat_in facts state.rounds window id))
+
+-- what everybody seeks then, along the people
+abbrev pub all_sought_then : SeasonFacts → State → ℕ → List Seek
+all_sought_then facts state window = map (λ person. sought_then facts state window person.id.0) facts.people
+
 -- The office keeps its word.
 pub record KeepsItsWord (facts : SeasonFacts) (state : State) : Type 0 where
   -- every round is just, by the matrix with what was raised before its cut
   pub rounds : (before : ℕ) (round : Round) → slice_get state.rounds before ≡ Some round → IsJust facts (matrix_of_round facts state (suc before)) round
+  -- every round was made on what everybody sought at its cut
+  pub sought : (before : ℕ) (round : Round) → slice_get state.rounds before ≡ Some round → (round.number ≡ before + 1) × (round.seeks ≡ all_sought_then facts state before)
   -- nobody falls from round to round
   pub nobody_falls : (window id : ℕ) → window < length state.rounds → HoldsOn facts state window id
   -- the final rows are the seats of the last round of those who stood at freeze, float or slide at the last cut, and each of them has one
