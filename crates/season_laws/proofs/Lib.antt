@@ -1,9 +1,12 @@
 mod Answered
-mod Best
+mod ByWindow
 mod Certificates
 mod Decisions
+mod Exchanged
+mod Finished
 mod Looks
 mod NextRounds
+mod Otherwise
 mod ReadAlone
 mod ReadBack
 mod Reasons

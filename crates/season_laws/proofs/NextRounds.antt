@@ -22,7 +22,7 @@ use Rattle.office_moves.specs.Moves.{IsNextRound, next_seeks}
 use Rattle.histories.specs.Orderly.{IsOrderly}
 use Rattle.histories.proofs.Entering.{entrants}
 use Rattle.season_laws.specs.NextRounds.{NextRoundExists}
-use Rattle.season_laws.proofs.Best.{best_there}
+use Rattle.allocations.proofs.Best.{best_there}
 use Rattle.season_laws.proofs.Shown.{shown}
 
 -- the laws of the choice of a programme on which this rests

@@ -1,4 +1,6 @@
+pub mod Laws
 pub mod Looks
 pub mod NextRounds
+pub mod Otherwise
 pub mod ReadBack
 pub mod Reasons

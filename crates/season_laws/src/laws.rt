@@ -1,7 +1,9 @@
 // The laws between what is proved of a season. Each is the contract of a function that does nothing.
 ghost use Rattle.office_moves.specs.Facts.{SeasonFacts};
+ghost use Rattle.season_laws.specs.Laws.{AnswersCanBeExchanged, OrderWithinWindowsIsFree, SeasonsCanBeFinished};
 ghost use Rattle.season_laws.specs.Looks.{ListsLookAtTheRound, RaisesLookAtRaises, StateLooksAtNumbers};
 ghost use Rattle.season_laws.specs.NextRounds.{EveryRequestIsAnswered, NextRoundExists};
+ghost use Rattle.season_laws.specs.Otherwise.{FloatIsNoWorse, RaisesHurtNobody};
 ghost use Rattle.season_laws.specs.ReadBack.{PublishedIsRead, PublishedIsReadAlone};
 ghost use Rattle.season_laws.specs.Reasons.{OfficeReasonsAreJust, ToldReasonsAreJust};
 
@@ -51,6 +53,42 @@ pub fn every_request_is_answered()
     ensures { (facts : SeasonFacts) → EveryRequestIsAnswered facts }
 {
     next_round_exists();
+}
+
+/// A season can always be finished: every history goes on to final rows by the clerk's cuts alone, window by window.
+pub fn seasons_can_be_finished()
+    ensures { (facts : SeasonFacts) → SeasonsCanBeFinished facts }
+{
+    histories::laws::orderly();
+    histories::laws::history_grows();
+    every_request_is_answered();
+}
+
+/// The order within a window does not matter: the rounds and the final rows look at each candidate's rows of each window, and at each window's raises.
+pub fn order_within_windows_is_free()
+    ensures { (facts : SeasonFacts) → OrderWithinWindowsIsFree facts }
+{
+    histories::laws::orderly();
+    histories::laws::one_round();
+}
+
+/// And two answers of different candidates that follow each other can be exchanged.
+pub fn answers_can_be_exchanged()
+    ensures { (facts : SeasonFacts) → AnswersCanBeExchanged facts }
+{}
+
+/// Whoever floats has in the next round no worse seat than other answers of this candidate would bring there.
+pub fn float_is_no_worse()
+    ensures { (facts : SeasonFacts) → FloatIsNoWorse facts }
+{
+    round_laws::laws::wider_is_no_worse();
+}
+
+/// Raises hurt nobody in the next round.
+pub fn raises_hurt_nobody()
+    ensures { (facts : SeasonFacts) → RaisesHurtNobody facts }
+{
+    round_laws::laws::more_seats_hurt_nobody();
 }
 
 /// What is published of a state in which all is in order is read back: each round as its number and its rows, each list, and the final admissions.

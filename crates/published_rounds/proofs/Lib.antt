@@ -1,0 +1,4 @@
+mod Compared
+mod Envy
+pub mod Places
+mod Within

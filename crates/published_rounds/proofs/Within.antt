@@ -1,0 +1,185 @@
+-- No programme is over its seats in a published round: those who hold seats of a step are some of those whom it admits.
+use Rattle.std.proofs.Common.{◌≡◌, ◌<◌, ◌≤◌, ◌+◌, ◌-◌, ℕ, suc, Bool, true, false, List, [], ◌∷◌, Option, Some, None, length, arith, refl, sym, ap, ◌∙◌, subst, cond, ◌==◌, if◌then◌else◌}
+use Rattle.std.specs.Prelude.{slice_get}
+use Rattle.std.specs.List.{filter}
+use Rattle.std.proofs.lemmas.Bool.{and_parts, eqb-true}
+use Rattle.std.proofs.lemmas.List.{length-take}
+use Rattle.std.proofs.lemmas.List.Sums.{length-filter}
+use Rattle.office_base.proofs.StepNumbers.{one_number}
+use Rattle.office_base.specs.Lists.{IsAmong, IsSublist}
+use Rattle.office_base.specs.Merit.{in_merit}
+use Rattle.office_base.specs.StepNumbers.{step_number}
+use Rattle.office_base.specs.declared.asks.Seat.{Seat}
+use Rattle.office_base.specs.declared.person.Person.{Person}
+use Rattle.office_base.specs.declared.step.StepKind.{StepKind}
+use Rattle.office_base.specs.declared.step.StepKind.TheVariants.{Open, Ews, Obc, Sc, St, Dereserved}
+use Rattle.placements.proofs.Filters.{filter-sublist}
+use Rattle.placements.proofs.Ranks.{among_again, are_among, ranked_sublist}
+use Rattle.placements.proofs.Sublists.{IsSublist-take, length-sublist, sublist_again}
+use Rattle.merit_choice.proofs.InMerit.{in_merit_ranks, ranked_part}
+use Rattle.allocations.specs.Market.{Seeker, applicants, applies, is_of, seat_at, those}
+use Rattle.allocations.proofs.Claims.{applicants_may}
+use Rattle.allocations.proofs.Places.{holder_applies, seat_same}
+use Rattle.allocations.proofs.Those.{of_those, part}
+use Rattle.programme_lists.specs.Chosen.{AdmitsUnder, ChoosesFrom}
+use Rattle.programme_lists.specs.Programme.{Admissions, admitted_by, left_over, people_of, unfilled}
+use Rattle.open_then_category.specs.Laws.{OneProgrammeChoice}
+use Rattle.seat_matrix.specs.Matrix.{SeatTable, list_in, seating_in, seats_in}
+use Rattle.seat_matrix.specs.Seats.{is_dereserved}
+use Rattle.seat_matrix.specs.Unfilled.{left_unfilled}
+use Rattle.rounds.specs.Rule.{MayApplyIn, ProgrammesChooseWell, rule_of}
+use Rattle.rounds.specs.declared.round.Round.{Round}
+use Rattle.rounds.proofs.Entrants.{market}
+use Rattle.round_laws.proofs.People.{there_is}
+use Rattle.office_moves.specs.Facts.{IsSound, SeasonFacts, lists_in_order}
+use Rattle.office_moves.specs.Promise.{all_sought_then}
+use Rattle.office_moves.specs.State.{State}
+use Rattle.histories.specs.Course.{IsCourse}
+use Rattle.published_rounds.specs.Laws.{SeatsAreWithin}
+use Rattle.published_rounds.specs.Published.{AreWithin, is_seat_under, market_then, matrix_then, seats_under}
+use Rattle.published_rounds.proofs.Places.{AreOrderly, course_of, made_then, may_enter}
+
+-- ---- counting
+
+length_if : {X : Type 0} (b : Bool) (p : Person) (x : X) (ps : List Person) (xs : List X) → length ps ≡ length xs → length (if b then p ∷ ps else ps) ≡ length (cond b (x ∷ xs) xs)
+length_if true p x ps xs same = ap suc same
+length_if false p x ps xs same = same
+
+-- those who hold seats that pass a test are as many as such seats
+as_many : (f : Option Seat → Bool) (seekers : List Seeker) (seats : List (Option Seat)) → length seats ≡ length seekers → length (those (λ s seat. f seat) seekers seats) ≡ length (filter f seats)
+as_many f [] [] full = refl
+as_many f [] (seat ∷ seats) full = absurd (omega (arith, full))
+as_many f (s ∷ seekers) [] full = absurd (omega (arith, full))
+as_many f (s ∷ seekers) (seat ∷ seats) full = length_if (f seat) s.person seat _ _ (as_many f seekers seats (omega (arith, full)))
+
+-- a seat of a step of a programme is one of it
+under_is : (prog : ℕ) (step : StepKind) (seat : Option Seat) → is_seat_under prog step seat ≡ true → seat ≡ Some (seat_at prog step)
+under_is prog step None e = absurd (cc)
+under_is prog step (Some seat) e =
+    let parts = and_parts (seat.prog.0 == prog) (step_number seat.step == step_number step) e in
+    ap Some (seat_same seat (seat_at prog step) (eqb-true _ _ parts.0) (one_number seat.step step (eqb-true _ _ parts.1)))
+
+under_of : (prog : ℕ) (step : StepKind) (seat : Option Seat) → is_seat_under prog step seat ≡ true → is_of prog seat ≡ true
+under_of prog step None e = absurd (cc)
+under_of prog step (Some seat) e = (and_parts (seat.prog.0 == prog) (step_number seat.step == step_number step) e).0
+
+-- ---- whom a programme admits
+
+-- no step admits more than its seats
+own_seats : (version : ℕ) (table : SeatTable) (prog : ℕ) (people : List Person) (admissions : Admissions) (step : StepKind) → ChoosesFrom version (seats_in table prog) people admissions
+    → is_dereserved step ≡ false → length (admitted_by admissions step) ≤ (seating_in table prog step).seats
+own_seats version table prog people admissions Open choice own = choice.open_step.may.seats
+own_seats version table prog people admissions Ews choice own = choice.ews.may.seats
+own_seats version table prog people admissions Obc choice own = choice.obc.may.seats
+own_seats version table prog people admissions Sc choice own = choice.sc.may.seats
+own_seats version table prog people admissions St choice own = choice.st.may.seats
+own_seats version table prog people admissions Dereserved choice own = absurd (cc)
+
+last_seats : (version : ℕ) (table : SeatTable) (prog : ℕ) (people : List Person) (admissions : Admissions) → ChoosesFrom version (seats_in table prog) people admissions
+    → length admissions.dereserved ≤ unfilled version (seats_in table prog) admissions
+last_seats version table prog people admissions choice =
+    let same = ap (λ (l : List Person). length l) choice.dereserved in
+    let few = length-take (unfilled version (seats_in table prog) admissions) (people_of (list_in table prog) (in_merit (list_in table prog) people) admissions Dereserved) in
+    omega (arith, same, few)
+
+-- each step admits some of the applicants, by merit
+left_within : (all : List Person) (those : Admissions) → IsSublist (left_over all those) all
+left_within all those = sublist_again _ _ _ (filter-sublist _ _) (sublist_again _ _ _ (filter-sublist _ _) (sublist_again _ _ _ (filter-sublist _ _)
+    (sublist_again _ _ _ (filter-sublist _ _) (filter-sublist _ all))))
+
+in_order : (version : ℕ) (table : SeatTable) (prog : ℕ) (people : List Person) (admissions : Admissions) (step : StepKind) → ChoosesFrom version (seats_in table prog) people admissions
+    → IsSublist (admitted_by admissions step) (in_merit (list_in table prog) people)
+in_order version table prog people admissions Open choice = sublist_again _ _ _ choice.open_step.may.people (filter-sublist _ _)
+in_order version table prog people admissions Ews choice = sublist_again _ _ _ choice.ews.may.people (sublist_again _ _ _ (filter-sublist _ _) (filter-sublist _ _))
+in_order version table prog people admissions Obc choice = sublist_again _ _ _ choice.obc.may.people (sublist_again _ _ _ (filter-sublist _ _) (filter-sublist _ _))
+in_order version table prog people admissions Sc choice = sublist_again _ _ _ choice.sc.may.people (sublist_again _ _ _ (filter-sublist _ _) (filter-sublist _ _))
+in_order version table prog people admissions St choice = sublist_again _ _ _ choice.st.may.people (sublist_again _ _ _ (filter-sublist _ _) (filter-sublist _ _))
+in_order version table prog people admissions Dereserved choice =
+    subst (λ l. IsSublist l (in_merit (list_in table prog) people)) (sym choice.dereserved)
+    (sublist_again _ _ _ (IsSublist-take (unfilled version (seats_in table prog) admissions) _) (sublist_again _ _ _ (filter-sublist _ _) (left_within (in_merit (list_in table prog) people) admissions)))
+
+-- fewer of OBC and EWS leave no fewer empty
+left_falls : (version ews held_ews more_ews obc held_obc more_obc : ℕ) → held_ews ≤ more_ews → held_obc ≤ more_obc
+    → left_unfilled version ews more_ews obc more_obc ≤ left_unfilled version ews held_ews obc held_obc
+left_falls version ews held_ews more_ews obc held_obc more_obc one two = by (version == 2)
+  where
+    by : (b : Bool) → (obc - more_obc) + (if b then ews - more_ews else 0) ≤ (obc - held_obc) + (if b then ews - held_ews else 0)
+    by true = omega (arith, one, two)
+    by false = omega (arith, two)
+
+-- ---- a published round
+
+module _ (well : ProgrammesChooseWell) (one : OneProgrammeChoice) (facts : SeasonFacts) (state : State) (window : ℕ) (round : Round) (prog : ℕ) (sound : IsSound facts) (course : IsCourse facts state)
+    (is : slice_get state.rounds window ≡ Some round) (below : prog < length (matrix_then facts state window).programmes) where
+  abbrev table : SeatTable
+  table = matrix_then facts state window
+
+  abbrev seekers : List Seeker
+  seekers = market_then facts state window
+
+  abbrev all : List Person
+  all = applicants prog seekers round.seats
+
+  record Lists : Type 0 where
+    pub admissions : Admissions
+    pub choice : ChoosesFrom facts.version (seats_in table prog) all admissions
+    pub under : (step : StepKind) → seats_under prog step round.seats ≤ length (admitted_by admissions step)
+
+  lists : Lists
+  lists =
+      let made = made_then facts state window round course is in
+      let fair = made.best.fair in
+      let here = market table facts.people (lists_in_order facts) (all_sought_then facts state window) (course.seats (suc window)) (may_enter facts state window sound course) in
+      let chosen = well facts.version table (course.seats (suc window)) in
+      let may = applicants_may (rule_of facts.version table) (MayApplyIn table) (length table.programmes) prog seekers round.seats here chosen below fair.allocation.full in
+      let programme = there_is round.programmes prog (let count = made.count in omega (arith, below, count)) in
+      let shown = made.shown prog programme.0 programme.1 in
+      let admissions : Admissions = shown.0 in
+      let choice : ChoosesFrom facts.version (seats_in table prog) all admissions = shown.1 in
+      record {
+        admissions = admissions;
+        choice = choice;
+        under = λ step.
+            let held : List Person = those (λ s seat. is_seat_under prog step seat) seekers round.seats in
+            let sub : IsSublist held all = part (λ s seat. is_seat_under prog step seat) (λ s seat. applies prog s.list seat) seekers round.seats round.seats refl
+            (λ i s x y there at again h.
+            let same : x ≡ y = cc in
+            subst (λ z. applies prog s.list z ≡ true) same (holder_applies prog s.list x (fair.allocation.own i s x there at) (under_of prog step x h))) in
+            let held_may = chosen.part prog held all may sub in
+            let among = are_among held (admitted_by admissions step) (λ x inside.
+            let found = of_those (λ s seat. is_seat_under prog step seat) seekers round.seats x inside in
+            let has : slice_get round.seats found.place ≡ Some (Some (seat_at prog step)) = found.at ∙ ap Some (under_is prog step found.value found.passes) in
+            let admits : AdmitsUnder facts.version (seats_in table prog) all found.s.person step = (fair.agrees prog found.place found.s step below found.there).1 has in
+            let same = one facts.version (seats_in table prog) all admits.0 admissions ((course.seats (suc window)).sound prog below) may admits.1 choice in
+            subst (λ z. IsAmong z (admitted_by admissions step)) (sym found.person_is) (subst (λ (a : Admissions). IsAmong found.s.person (admitted_by a step)) same admits.2)) in
+            let by_merit = in_merit_ranks (list_in table prog) held held_may in
+            let order = (in_merit_ranks (list_in table prog) all may).0 in
+            let admitted_order = ranked_sublist (list_in table prog) (admitted_by admissions step) (in_merit (list_in table prog) all) order
+            (in_order facts.version table prog all admissions step choice) in
+            let short = length-sublist (in_merit (list_in table prog) held) (admitted_by admissions step)
+            (ranked_part (list_in table prog) (in_merit (list_in table prog) held) (admitted_by admissions step) by_merit.0 admitted_order
+            (among_again (in_merit (list_in table prog) held) held (admitted_by admissions step) by_merit.2 among)) in
+            let size = by_merit.3 in
+            let count = as_many (is_seat_under prog step) seekers round.seats fair.allocation.full in
+            let counted = length-filter (is_seat_under prog step) round.seats in
+            omega (arith, short, size, count, counted);
+      }
+
+  pub are_within : AreWithin facts.version table prog round.seats
+  are_within =
+      let l = lists in
+      record {
+        own = λ step own. (let a = l.under step in let b = own_seats facts.version table prog all l.admissions step l.choice own in omega (arith, a, b));
+        dereserved =
+            let a = l.under Dereserved in
+            let b = last_seats facts.version table prog all l.admissions l.choice in
+            let c = left_falls facts.version (seating_in table prog Ews).seats (seats_under prog Ews round.seats) (length l.admissions.ews) (seating_in table prog Obc).seats
+            (seats_under prog Obc round.seats) (length l.admissions.obc) (l.under Ews) (l.under Obc) in
+            omega (arith, a, b, c);
+      }
+
+pub seats_are_within : AreOrderly → ProgrammesChooseWell → OneProgrammeChoice → (facts : SeasonFacts) → SeatsAreWithin facts
+seats_are_within orderly well one facts entries state window round prog published below =
+    let course = course_of orderly facts entries state window round published in
+    let same = ap (λ l. length l) (course.programmes (suc window)) in
+    are_within well one facts state window round prog published.sound course published.there (omega (arith, below, same))
