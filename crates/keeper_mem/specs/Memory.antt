@@ -1,11 +1,13 @@
 -- The keepers in memory, as contracts see them.
+use Rattle.std.specs.Prelude.{true}
+use Rattle.keeper_mem.specs.Keeper.{Shelf}
 use Rattle.std.specs.Prelude.{ℕ, List, Option, Some, None}
 use Rattle.keeper_mem.specs.declared.rows.AnswerRow.{AnswerRow}
 use Rattle.keeper_mem.specs.declared.rows.AllotRow.{AllotRow}
 use Rattle.keeper_mem.specs.declared.rows.RaiseRow.{RaiseRow}
 use Rattle.keeper_mem.specs.Tables.{Tables, NoSeason, Records}
 
--- the tables, and how many answers can be put without memory
+-- the tables, and how many answers can be put without allocating
 pub record Memory : Type 0 where
   pub tables : Tables
   pub spare : ℕ
@@ -21,3 +23,7 @@ pub record FailingMemory : Type 0 where
   pub calls : ℕ
   pub fail_at : List ℕ
   pub faults : ℕ
+
+-- the keeper as it is seen
+abbrev pub shelf_of : FailingMemory → Shelf
+shelf_of k = record { tables = k.memory.tables; faults = k.faults; holds_room = true; spare = k.memory.spare }

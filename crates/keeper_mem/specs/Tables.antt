@@ -1,11 +1,11 @@
--- What a keeper of records tells of its tables.
+-- What a proof sees of the tables of a keeper of records.
 use Rattle.std.specs.Prelude.{◌≡◌, ◌+◌, ℕ, Bool, true, false, List, [], ◌∷◌, ◌++◌}
 use Rattle.keeper_mem.specs.declared.rows.AnswerRow.{AnswerRow}
 use Rattle.keeper_mem.specs.declared.rows.AllotRow.{AllotRow}
 use Rattle.keeper_mem.specs.declared.rows.RaiseRow.{RaiseRow}
 use Rattle.keeper_mem.specs.declared.rows.Kept.{Kept}
 
--- nothing is told; there is no season, and the other tables are empty; or these are the records of a season
+-- the tables are hidden; there is no season, and the other tables are empty; or these are the records of a season
 pub data Tables : Type 0 where
   Untold : Tables
   NoSeason : Tables
@@ -21,52 +21,52 @@ with_season text Untold = Untold
 with_season text NoSeason = Records (opening_records text)
 with_season text (Records kept) = Records kept
 
--- the row stands after the answers, where records are told; others stay
+-- the row is put after the answers, if there are visible records; other tables stay
 abbrev pub with_answer : AnswerRow → Tables → Tables
 with_answer row Untold = Untold
 with_answer row NoSeason = NoSeason
 with_answer row (Records kept) =
     Records (record { season = kept.season; answers = kept.answers ++ row ∷ []; raises = kept.raises; allots = kept.allots; cuts = kept.cuts })
 
--- the row stands after the raises
+-- the row is put after the raises
 abbrev pub with_raise : RaiseRow → Tables → Tables
 with_raise row Untold = Untold
 with_raise row NoSeason = NoSeason
 with_raise row (Records kept) =
     Records (record { season = kept.season; answers = kept.answers; raises = kept.raises ++ row ∷ []; allots = kept.allots; cuts = kept.cuts })
 
--- the rows stand after the allots, and there is one cut more
+-- the rows are put after the allots, and there is one cut more
 abbrev pub with_cut : List AllotRow → Tables → Tables
 with_cut rows Untold = Untold
 with_cut rows NoSeason = NoSeason
 with_cut rows (Records kept) =
     Records (record { season = kept.season; answers = kept.answers; raises = kept.raises; allots = kept.allots ++ rows; cuts = kept.cuts + 1 })
 
--- What is told now is what is expected, or nothing is told any more.
+-- The visible tables are the expected ones, or the tables are hidden now.
 abbrev pub AreTold : Tables → Tables → Type 0
 AreTold expected Untold = Unit {0}
 AreTold expected NoSeason = expected ≡ NoSeason
 AreTold expected (Records kept) = expected ≡ Records kept
 
--- that a season is there, or is not, is what is told
+-- the visible tables have a season, or have none
 abbrev pub IsFound : Bool → Tables → Type 0
 IsFound found Untold = Unit {0}
 IsFound found NoSeason = found ≡ false
 IsFound found (Records kept) = found ≡ true
 
--- these are the records told, where any are
+-- these are the visible records, if any are
 abbrev pub IsLoaded : Tables → Kept → Type 0
 IsLoaded Untold kept = Unit {0}
 IsLoaded NoSeason kept = ⊥
 IsLoaded (Records told) kept = told ≡ kept
 
--- something is told
+-- the tables are visible
 abbrev pub IsTold : Tables → Type 0
 IsTold Untold = ⊥
 IsTold NoSeason = Unit {0}
 IsTold (Records kept) = Unit {0}
 
--- what was told before, where something is told after; else nothing
+-- the tables before, if the tables after are visible; otherwise hidden
 abbrev pub still : Tables → Tables → Tables
 still before Untold = Untold
 still before NoSeason = before

@@ -1,7 +1,9 @@
-// A keeper in memory that fails where it is told to.
+// A keeper in memory that fails at chosen calls.
 ghost use Rattle.std.specs.Prelude.{◌≡◌, ◌≤◌, ◌-◌, ◌↔◌, ℕ, Bool, true, false, List, OnOk, OnErr, IsErrOf, IfOk, IsTrue, MatchOption, Contains};
 ghost use Rattle.office_base.specs.Memory.{counted};
 ghost use Rattle.office_base.specs.Outside.{Rose};
+ghost use Rattle.keeper_mem.specs.Keeper.{IsLook, IsPut, TakesRoom};
+ghost use Rattle.keeper_mem.specs.Memory.{shelf_of};
 ghost use Rattle.keeper_mem.specs.Tables.{NoSeason, Records, with_season, with_answer, with_raise, with_cut, AreTold, IsFound, IsLoaded};
 
 use crate::memory::Memory;
@@ -10,8 +12,8 @@ use office_base::{OutOfMemory, fails_at};
 use std::alloc::Global;
 use std::marker::Model;
 
-/// Tables in memory. It tells them and holds room in advance; the calls with the numbers in `fail_at`, from 1 over all
-/// its methods, answer Failed, and no other call does.
+/// Keeps tables in memory. They are visible, and it holds room in advance. The calls with the numbers in `fail_at`,
+/// from 1 over all its methods, answer Failed, and no other call does.
 #[derive(Debug, Drop)]
 pub struct MemKeeper {
     memory: Memory,
@@ -29,7 +31,7 @@ impl Model for MemKeeper {
 }
 
 impl MemKeeper {
-    /// No season.
+    /// Makes a keeper without a season.
     pub fn new(alloc: Global, fail_at: &[u32]) -> Result<MemKeeper, OutOfMemory>
         ensures { IfOk result (λ keeper. keeper ≡ record { memory = record { tables = NoSeason; spare = 0 }; calls = 0; fail_at = fail_at.now; faults = 0 }) }
     {
@@ -41,7 +43,7 @@ impl MemKeeper {
         })
     }
 
-    /// The records of a season.
+    /// Makes a keeper with the records of a season.
     pub fn from_tables(alloc: Global, kept: Kept, fail_at: &[u32]) -> Result<MemKeeper, OutOfMemory>
         ensures { IfOk result (λ keeper. keeper ≡ record { memory = record { tables = Records kept; spare = 0 }; calls = 0; fail_at = fail_at.now; faults = 0 }) }
     {
@@ -54,11 +56,9 @@ impl MemKeeper {
         })
     }
 
-    // Counts a call, and fails where its number is among those that do.
+    // Counts a call, and fails if its number is one of those that must fail.
     fn begin_call(&mut self) -> Result<(), KeepFault>
-        ensures memory { self.new.memory ≡ self.old.memory }
-        ensures calls { self.new.calls ≡ counted self.old.calls }
-        ensures same { self.new.fail_at ≡ self.old.fail_at }
+        ensures same { self.new ≡ record self.old { calls = counted self.old.calls; faults = self.new.faults } }
         ensures count { self.old.faults ≤ self.new.faults }
         ensures ok { OnOk result (self.new.faults ≡ self.old.faults) }
         ensures err { OnErr result (self.new.faults ≡ counted self.old.faults) }
@@ -76,26 +76,15 @@ impl MemKeeper {
 }
 
 impl Keeper for MemKeeper {
+    ghost use Rattle.keeper_mem.specs.Memory.{shelf_of};
     ghost use Rattle.std.specs.Prelude.{true};
 
-    ghost tables = { λ k. k.memory.tables };
-
-    ghost faults = { λ k. k.faults };
-
-    ghost holds_room = { λ _. true };
-
-    ghost spare = { λ k. k.memory.spare };
+    ghost seen = { shelf_of };
 
     fn has_season(&mut self) -> Result<bool, KeepFault>
         ensures ok { IfOk result (λ found. IsFound found self.new.memory.tables) }
-        ensures told { AreTold self.old.memory.tables self.new.memory.tables }
-        ensures spare { OnOk result (self.new.memory.spare ≡ self.old.memory.spare) }
-        ensures spare_err { OnErr result (self.old.memory.spare ≤ self.new.memory.spare) }
-        ensures steady { ¬ IsErrOf result KeepFault.Failed → self.new.faults ≡ self.old.faults }
-        ensures count { self.old.faults ≤ self.new.faults }
-        ensures cause { IsErrOf result KeepFault.Failed → Rose self.old.faults self.new.faults }
-        ensures room { true ≡ true }
-        // it fails exactly where its number says so
+        ensures look { IsLook (shelf_of self.old) (shelf_of self.new) result }
+        // it fails if and only if its number is in the list
         ensures fails { IsErrOf result KeepFault.Failed ↔ Contains self.old.fail_at (counted self.old.calls) }
         ensures calls { self.new.calls ≡ counted self.old.calls }
         ensures told_to { self.new.fail_at ≡ self.old.fail_at }
@@ -107,15 +96,8 @@ impl Keeper for MemKeeper {
 
     fn put_season(&mut self, text: &[u8]) -> Result<(), KeepFault>
         requires { IsFound false self.old.memory.tables }
-        ensures ok { OnOk result (AreTold (with_season text.now self.old.memory.tables) self.new.memory.tables) }
-        ensures err { OnErr result (AreTold self.old.memory.tables self.new.memory.tables) }
-        ensures spare { OnOk result (self.new.memory.spare ≡ self.old.memory.spare) }
-        ensures spare_err { OnErr result (self.old.memory.spare ≤ self.new.memory.spare) }
-        ensures steady { ¬ IsErrOf result KeepFault.Failed → self.new.faults ≡ self.old.faults }
-        ensures count { self.old.faults ≤ self.new.faults }
-        ensures cause { IsErrOf result KeepFault.Failed → Rose self.old.faults self.new.faults }
-        ensures room { true ≡ true }
-        // it fails exactly where its number says so
+        ensures put { IsPut (with_season text.now) 0 (shelf_of self.old) (shelf_of self.new) result }
+        // it fails if and only if its number is in the list
         ensures fails { IsErrOf result KeepFault.Failed ↔ Contains self.old.fail_at (counted self.old.calls) }
         ensures calls { self.new.calls ≡ counted self.old.calls }
         ensures told_to { self.new.fail_at ≡ self.old.fail_at }
@@ -127,14 +109,8 @@ impl Keeper for MemKeeper {
     }
 
     fn reserve_answers(&mut self, n: u32) -> Result<(), KeepFault>
-        ensures ok { OnOk result (true ≡ true → n ≤ self.new.memory.spare) }
-        ensures told { AreTold self.old.memory.tables self.new.memory.tables }
-        ensures spare { self.old.memory.spare ≤ self.new.memory.spare }
-        ensures steady { ¬ IsErrOf result KeepFault.Failed → self.new.faults ≡ self.old.faults }
-        ensures count { self.old.faults ≤ self.new.faults }
-        ensures cause { IsErrOf result KeepFault.Failed → Rose self.old.faults self.new.faults }
-        ensures room { true ≡ true }
-        // it fails exactly where its number says so
+        ensures takes { TakesRoom n (shelf_of self.old) (shelf_of self.new) result }
+        // it fails if and only if its number is in the list
         ensures fails { IsErrOf result KeepFault.Failed ↔ Contains self.old.fail_at (counted self.old.calls) }
         ensures calls { self.new.calls ≡ counted self.old.calls }
         ensures told_to { self.new.fail_at ≡ self.old.fail_at }
@@ -147,16 +123,9 @@ impl Keeper for MemKeeper {
 
     fn put_answer(&mut self, row: AnswerRow) -> Result<(), KeepFault>
         requires { IsFound true self.old.memory.tables }
-        ensures ok { OnOk result (AreTold (with_answer row self.old.memory.tables) self.new.memory.tables) }
-        ensures err { OnErr result (AreTold self.old.memory.tables self.new.memory.tables) }
-        ensures spare { OnOk result (self.new.memory.spare ≡ self.old.memory.spare - 1) }
-        ensures spare_err { OnErr result (self.old.memory.spare ≤ self.new.memory.spare) }
+        ensures put { IsPut (with_answer row) 1 (shelf_of self.old) (shelf_of self.new) result }
         ensures memory { IsErrOf result KeepFault.OutOfMemory → self.old.memory.spare ≡ 0 }
-        ensures steady { ¬ IsErrOf result KeepFault.Failed → self.new.faults ≡ self.old.faults }
-        ensures count { self.old.faults ≤ self.new.faults }
-        ensures cause { IsErrOf result KeepFault.Failed → Rose self.old.faults self.new.faults }
-        ensures room { true ≡ true }
-        // it fails exactly where its number says so
+        // it fails if and only if its number is in the list
         ensures fails { IsErrOf result KeepFault.Failed ↔ Contains self.old.fail_at (counted self.old.calls) }
         ensures calls { self.new.calls ≡ counted self.old.calls }
         ensures told_to { self.new.fail_at ≡ self.old.fail_at }
@@ -169,15 +138,8 @@ impl Keeper for MemKeeper {
 
     fn put_raise(&mut self, row: RaiseRow) -> Result<(), KeepFault>
         requires { IsFound true self.old.memory.tables }
-        ensures ok { OnOk result (AreTold (with_raise row self.old.memory.tables) self.new.memory.tables) }
-        ensures err { OnErr result (AreTold self.old.memory.tables self.new.memory.tables) }
-        ensures spare { OnOk result (self.new.memory.spare ≡ self.old.memory.spare) }
-        ensures spare_err { OnErr result (self.old.memory.spare ≤ self.new.memory.spare) }
-        ensures steady { ¬ IsErrOf result KeepFault.Failed → self.new.faults ≡ self.old.faults }
-        ensures count { self.old.faults ≤ self.new.faults }
-        ensures cause { IsErrOf result KeepFault.Failed → Rose self.old.faults self.new.faults }
-        ensures room { true ≡ true }
-        // it fails exactly where its number says so
+        ensures put { IsPut (with_raise row) 0 (shelf_of self.old) (shelf_of self.new) result }
+        // it fails if and only if its number is in the list
         ensures fails { IsErrOf result KeepFault.Failed ↔ Contains self.old.fail_at (counted self.old.calls) }
         ensures calls { self.new.calls ≡ counted self.old.calls }
         ensures told_to { self.new.fail_at ≡ self.old.fail_at }
@@ -190,15 +152,8 @@ impl Keeper for MemKeeper {
 
     fn put_cut(&mut self, rows: &[AllotRow]) -> Result<(), KeepFault>
         requires { IsFound true self.old.memory.tables }
-        ensures ok { OnOk result (AreTold (with_cut rows.now self.old.memory.tables) self.new.memory.tables) }
-        ensures err { OnErr result (AreTold self.old.memory.tables self.new.memory.tables) }
-        ensures spare { OnOk result (self.new.memory.spare ≡ self.old.memory.spare) }
-        ensures spare_err { OnErr result (self.old.memory.spare ≤ self.new.memory.spare) }
-        ensures steady { ¬ IsErrOf result KeepFault.Failed → self.new.faults ≡ self.old.faults }
-        ensures count { self.old.faults ≤ self.new.faults }
-        ensures cause { IsErrOf result KeepFault.Failed → Rose self.old.faults self.new.faults }
-        ensures room { true ≡ true }
-        // it fails exactly where its number says so
+        ensures put { IsPut (with_cut rows.now) 0 (shelf_of self.old) (shelf_of self.new) result }
+        // it fails if and only if its number is in the list
         ensures fails { IsErrOf result KeepFault.Failed ↔ Contains self.old.fail_at (counted self.old.calls) }
         ensures calls { self.new.calls ≡ counted self.old.calls }
         ensures told_to { self.new.fail_at ≡ self.old.fail_at }
@@ -211,14 +166,8 @@ impl Keeper for MemKeeper {
 
     fn load(&mut self, alloc: Global) -> Result<Option<Kept>, KeepFault>
         ensures ok { IfOk result (λ found. MatchOption found (IsFound false self.new.memory.tables) (IsLoaded self.new.memory.tables)) }
-        ensures told { AreTold self.old.memory.tables self.new.memory.tables }
-        ensures spare { OnOk result (self.new.memory.spare ≡ self.old.memory.spare) }
-        ensures spare_err { OnErr result (self.old.memory.spare ≤ self.new.memory.spare) }
-        ensures steady { ¬ IsErrOf result KeepFault.Failed → self.new.faults ≡ self.old.faults }
-        ensures count { self.old.faults ≤ self.new.faults }
-        ensures cause { IsErrOf result KeepFault.Failed → Rose self.old.faults self.new.faults }
-        ensures room { true ≡ true }
-        // it fails exactly where its number says so
+        ensures look { IsLook (shelf_of self.old) (shelf_of self.new) result }
+        // it fails if and only if its number is in the list
         ensures fails { IsErrOf result KeepFault.Failed ↔ Contains self.old.fail_at (counted self.old.calls) }
         ensures calls { self.new.calls ≡ counted self.old.calls }
         ensures told_to { self.new.fail_at ≡ self.old.fail_at }

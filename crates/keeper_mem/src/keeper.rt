@@ -1,8 +1,6 @@
 // What the office asks of a keeper of records.
-ghost use Rattle.std.specs.Prelude.{◌≡◌, ◌≤◌, ◌-◌, ℕ, Bool, true, false, List, OnOk, OnErr, IsErrOf, IfOk, MatchOption};
-ghost use Rattle.office_base.specs.Outside.{Rose};
+ghost use Rattle.std.specs.Prelude.{◌≡◌, true, false, IfOk, IsErrOf, MatchOption};
 ghost use Rattle.keeper_mem.specs.declared.keeper.KeepFault.TheVariants.{OutOfMemory as NoMemory};
-ghost use Rattle.keeper_mem.specs.Tables.{Tables, with_season, with_answer, with_raise, with_cut, AreTold, IsFound, IsLoaded, IsTold};
 
 use crate::{AllotRow, AnswerRow, Kept, RaiseRow};
 use office_base::OutOfMemory;
@@ -11,9 +9,9 @@ use std::alloc::Global;
 /// Why a keeper did not do what it was asked.
 #[derive(Clone, Copy, Debug, PartialEq, Eq, Drop)]
 pub enum KeepFault {
-    /// What the keeper stands on failed: its count of faults rose.
+    /// What the keeper depends on failed: its count of faults rose.
     Failed,
-    /// There was no memory.
+    /// Memory ran out.
     OutOfMemory,
 }
 
@@ -25,107 +23,58 @@ impl From<OutOfMemory> for KeepFault {
     }
 }
 
-/// Keeps the records of one season. After an `Err` the tables are as before, and no fewer answers can be put without memory.
+/// Keeps the records of one season. An `Err` leaves the tables unchanged,
+/// and no fewer answers can be put without allocating.
 pub trait Keeper {
-    /// The tables, where they are told. A keeper may stop telling them, and never begins to.
-    ghost tables: { Self → Tables };
+    ghost use Rattle.keeper_mem.specs.Keeper.{Shelf, IsLook, IsPut, TakesRoom};
+    ghost use Rattle.keeper_mem.specs.Tables.{with_season, with_answer, with_raise, with_cut, IsFound, IsLoaded};
 
-    /// How often the keeper has failed. It never falls, and stays at 2^64 - 1.
-    ghost faults: { Self → ℕ };
+    /// What a proof sees of it: its tables, if they are visible, how often it has failed, and its room for answers.
+    ghost seen: { Self → Shelf };
 
-    /// Whether room for answers can be taken in advance. It never changes.
-    ghost holds_room: { Self → Bool };
-
-    /// How many answers can be put without memory.
-    ghost spare: { Self → ℕ };
-
-    /// Whether a season is kept, by the tables as this call leaves them: a keeper may stop telling within it.
+    /// Returns whether a season is kept, by the tables as this call leaves them. The call may hide the tables.
     fn has_season(&mut self) -> Result<bool, KeepFault>
-        ensures ok { IfOk result (λ found. IsFound found (tables self.new)) }
-        ensures told { AreTold (tables self.old) (tables self.new) }
-        ensures spare { OnOk result (spare self.new ≡ spare self.old) }
-        ensures spare_err { OnErr result (spare self.old ≤ spare self.new) }
-        ensures steady { ¬ IsErrOf result KeepFault.Failed → faults self.new ≡ faults self.old }
-        ensures count { faults self.old ≤ faults self.new }
-        ensures cause { IsErrOf result KeepFault.Failed → Rose (faults self.old) (faults self.new) }
-        ensures room { holds_room self.new ≡ holds_room self.old };
+        ensures ok { IfOk result (λ found. IsFound found (seen self.new).tables) }
+        ensures look { IsLook (seen self.old) (seen self.new) result };
 
-    /// Keeps the text of a season, where none is kept.
+    /// Keeps the text of a season. No season may be kept yet.
     fn put_season(&mut self, text: &[u8]) -> Result<(), KeepFault>
-        requires { IsFound false (tables self.old) }
-        ensures ok { OnOk result (AreTold (with_season text.now (tables self.old)) (tables self.new)) }
-        ensures err { OnErr result (AreTold (tables self.old) (tables self.new)) }
-        ensures spare { OnOk result (spare self.new ≡ spare self.old) }
-        ensures spare_err { OnErr result (spare self.old ≤ spare self.new) }
-        ensures steady { ¬ IsErrOf result KeepFault.Failed → faults self.new ≡ faults self.old }
-        ensures count { faults self.old ≤ faults self.new }
-        ensures cause { IsErrOf result KeepFault.Failed → Rose (faults self.old) (faults self.new) }
-        ensures room { holds_room self.new ≡ holds_room self.old };
+        requires { IsFound false (seen self.old).tables }
+        ensures { IsPut (with_season text.now) 0 (seen self.old) (seen self.new) result };
 
-    /// Takes room for so many answers, where the keeper holds room in advance.
+    /// Takes room for this many answers, if the keeper holds room in advance.
     fn reserve_answers(&mut self, n: u32) -> Result<(), KeepFault>
-        ensures ok { OnOk result (holds_room self.old ≡ true → n ≤ spare self.new) }
-        ensures told { AreTold (tables self.old) (tables self.new) }
-        ensures spare { spare self.old ≤ spare self.new }
-        ensures steady { ¬ IsErrOf result KeepFault.Failed → faults self.new ≡ faults self.old }
-        ensures count { faults self.old ≤ faults self.new }
-        ensures cause { IsErrOf result KeepFault.Failed → Rose (faults self.old) (faults self.new) }
-        ensures room { holds_room self.new ≡ holds_room self.old };
+        ensures { TakesRoom n (seen self.old) (seen self.new) result };
 
-    /// Puts an answer after the others. It wants memory only where no answer can be put without.
+    /// Puts an answer after the others. It runs out of memory only if there is no room in advance.
     fn put_answer(&mut self, row: AnswerRow) -> Result<(), KeepFault>
-        requires { IsFound true (tables self.old) }
-        ensures ok { OnOk result (AreTold (with_answer row (tables self.old)) (tables self.new)) }
-        ensures err { OnErr result (AreTold (tables self.old) (tables self.new)) }
-        ensures spare { OnOk result (spare self.new ≡ spare self.old - 1) }
-        ensures spare_err { OnErr result (spare self.old ≤ spare self.new) }
-        ensures memory { IsErrOf result KeepFault.OutOfMemory → spare self.old ≡ 0 }
-        ensures steady { ¬ IsErrOf result KeepFault.Failed → faults self.new ≡ faults self.old }
-        ensures count { faults self.old ≤ faults self.new }
-        ensures cause { IsErrOf result KeepFault.Failed → Rose (faults self.old) (faults self.new) }
-        ensures room { holds_room self.new ≡ holds_room self.old };
+        requires { IsFound true (seen self.old).tables }
+        ensures put { IsPut (with_answer row) 1 (seen self.old) (seen self.new) result }
+        ensures memory { IsErrOf result KeepFault.OutOfMemory → (seen self.old).spare ≡ 0 };
 
     /// Puts a raise after the others.
     fn put_raise(&mut self, row: RaiseRow) -> Result<(), KeepFault>
-        requires { IsFound true (tables self.old) }
-        ensures ok { OnOk result (AreTold (with_raise row (tables self.old)) (tables self.new)) }
-        ensures err { OnErr result (AreTold (tables self.old) (tables self.new)) }
-        ensures spare { OnOk result (spare self.new ≡ spare self.old) }
-        ensures spare_err { OnErr result (spare self.old ≤ spare self.new) }
-        ensures steady { ¬ IsErrOf result KeepFault.Failed → faults self.new ≡ faults self.old }
-        ensures count { faults self.old ≤ faults self.new }
-        ensures cause { IsErrOf result KeepFault.Failed → Rose (faults self.old) (faults self.new) }
-        ensures room { holds_room self.new ≡ holds_room self.old };
+        requires { IsFound true (seen self.old).tables }
+        ensures { IsPut (with_raise row) 0 (seen self.old) (seen self.new) result };
 
     /// Puts published seats after the others and adds one to the cuts: both or neither.
     fn put_cut(&mut self, rows: &[AllotRow]) -> Result<(), KeepFault>
-        requires { IsFound true (tables self.old) }
-        ensures ok { OnOk result (AreTold (with_cut rows.now (tables self.old)) (tables self.new)) }
-        ensures err { OnErr result (AreTold (tables self.old) (tables self.new)) }
-        ensures spare { OnOk result (spare self.new ≡ spare self.old) }
-        ensures spare_err { OnErr result (spare self.old ≤ spare self.new) }
-        ensures steady { ¬ IsErrOf result KeepFault.Failed → faults self.new ≡ faults self.old }
-        ensures count { faults self.old ≤ faults self.new }
-        ensures cause { IsErrOf result KeepFault.Failed → Rose (faults self.old) (faults self.new) }
-        ensures room { holds_room self.new ≡ holds_room self.old };
+        requires { IsFound true (seen self.old).tables }
+        ensures { IsPut (with_cut rows.now) 0 (seen self.old) (seen self.new) result };
 
-    /// All that is kept, or None where no season is, by the tables as this call leaves them.
+    /// Returns all that is kept, or None if no season is, by the tables as this call leaves them.
     fn load(&mut self, alloc: Global) -> Result<Option<Kept>, KeepFault>
-        ensures ok { IfOk result (λ found. MatchOption found (IsFound false (tables self.new)) (IsLoaded (tables self.new))) }
-        ensures told { AreTold (tables self.old) (tables self.new) }
-        ensures spare { OnOk result (spare self.new ≡ spare self.old) }
-        ensures spare_err { OnErr result (spare self.old ≤ spare self.new) }
-        ensures steady { ¬ IsErrOf result KeepFault.Failed → faults self.new ≡ faults self.old }
-        ensures count { faults self.old ≤ faults self.new }
-        ensures cause { IsErrOf result KeepFault.Failed → Rose (faults self.old) (faults self.new) }
-        ensures room { holds_room self.new ≡ holds_room self.old };
+        ensures ok { IfOk result (λ found. MatchOption found (IsFound false (seen self.new).tables) (IsLoaded (seen self.new).tables)) }
+        ensures look { IsLook (seen self.old) (seen self.new) result };
 }
 
-/// A keeper that always tells its tables and holds room in advance. Both keepers in memory are such; without this a keeper that keeps nothing and
-/// tells nothing meets every clause of `Keeper`.
+/// A keeper with tables that are always visible, and with room in advance. Both keepers in memory are such keepers.
+/// Without this trait, a keeper that keeps nothing and hides its tables meets every clause of `Keeper`.
 pub trait Teller: Keeper {
-    /// It tells its tables, and room can be taken in advance. Nothing is done.
+    ghost use Rattle.keeper_mem.specs.Tables.{IsTold};
+
+    /// Shows that the tables are visible, and that room can be taken in advance. It does nothing.
     fn tells(&self)
-        ensures told { IsTold (Self.tables self.now) }
-        ensures room { Self.holds_room self.now ≡ true };
+        ensures told { IsTold (Self.seen self.now).tables }
+        ensures room { (Self.seen self.now).holds_room ≡ true };
 }

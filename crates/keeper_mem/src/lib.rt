@@ -1,7 +1,8 @@
 // What keeps the records of a season: its text, the answers, the raises, the published seats and the number of cuts.
 //
-// The office keeps each accepted request here before it answers, and goes on from what is kept. `specs/Tables` says what a keeper tells of
-// its tables and what each call does to them. Two keepers stand in memory, which always tell; one over a database stands in a crate of its own. No function here
+// The office keeps each accepted request here before it answers, and resumes from what is kept.
+// `specs/Tables` says what a proof sees of the tables, and what each call does to them.
+// Two keepers are here, both in memory and always visible. One over a database is in another crate. No function here
 // knows what a row means.
 #![tactic(auto)]
 

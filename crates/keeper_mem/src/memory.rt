@@ -31,7 +31,7 @@ impl Model for Memory {
 }
 
 impl Memory {
-    /// No season. It takes no memory.
+    /// Makes tables without a season. It allocates nothing.
     pub fn new(alloc: Global) -> Memory
         ensures { result ≡ record { tables = NoSeason; spare = 0 } }
     {
@@ -46,7 +46,7 @@ impl Memory {
         }
     }
 
-    /// The records of a season.
+    /// Makes tables with the records of a season.
     pub fn from_kept(alloc: Global, kept: Kept) -> Result<Memory, OutOfMemory>
         ensures { IfOk result (λ memory. memory ≡ record { tables = Records kept; spare = 0 }) }
     {
@@ -64,7 +64,7 @@ impl Memory {
         })
     }
 
-    /// Whether a season is kept.
+    /// Returns whether a season is kept.
     pub fn has_season(&self) -> bool
         ensures found { IsFound result self.now.tables }
         ensures told { IsTold self.now.tables }
@@ -72,7 +72,7 @@ impl Memory {
         self.season.is_some()
     }
 
-    /// Keeps the text of a season, where none is kept.
+    /// Keeps the text of a season. No season may be kept yet.
     pub fn put_season(&mut self, text: &[u8]) -> Result<(), OutOfMemory>
         requires { IsFound false self.old.tables }
         ensures ok { OnOk result (self.new ≡ record { tables = with_season text.now self.old.tables; spare = self.old.spare }) }
@@ -87,7 +87,7 @@ impl Memory {
         Ok(())
     }
 
-    /// Takes room for so many answers.
+    /// Takes room for this many answers.
     pub fn reserve_answers(&mut self, n: u32) -> Result<(), OutOfMemory>
         ensures ok { OnOk result (n ≤ self.new.spare) }
         ensures spare { self.old.spare ≤ self.new.spare }
@@ -138,7 +138,7 @@ impl Memory {
         Ok(())
     }
 
-    /// A copy of all that is kept, or None where no season is.
+    /// Returns a copy of all that is kept, or None if no season is.
     pub fn load(&self, alloc: Global) -> Result<Option<Kept>, OutOfMemory>
         ensures { IfOk result (λ found. MatchOption found (IsFound false self.now.tables) (IsLoaded self.now.tables)) }
     {

@@ -10,7 +10,7 @@ pub struct AnswerRow {
     pub choice: Choice,
 }
 
-/// An accepted raise: from the cut of this window on, the step of the programme has so many seats.
+/// An accepted raise: from the cut of this window on, the step of the programme has this many seats.
 #[derive(Clone, Copy, Debug, PartialEq, Eq)]
 pub struct RaiseRow {
     pub window: u16,

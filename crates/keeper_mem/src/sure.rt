@@ -7,7 +7,7 @@ use crate::{AllotRow, AnswerRow, KeepFault, Keeper, Kept, RaiseRow, Teller};
 use std::alloc::Global;
 use std::marker::Model;
 
-/// Tables in memory. It tells them, holds room in advance, and never fails.
+/// Keeps tables in memory. They are visible, and it holds room in advance. It never fails.
 #[derive(Debug, Drop)]
 pub struct SureKeeper {
     memory: Memory,
@@ -22,7 +22,7 @@ impl Model for SureKeeper {
 }
 
 impl SureKeeper {
-    /// No season. It takes no memory.
+    /// Makes a keeper without a season. It allocates nothing.
     pub fn new(alloc: Global) -> SureKeeper
         ensures { result ≡ record { tables = NoSeason; spare = 0 } }
     {
@@ -35,13 +35,7 @@ impl SureKeeper {
 impl Keeper for SureKeeper {
     ghost use Rattle.std.specs.Prelude.{true};
 
-    ghost tables = { λ k. k.tables };
-
-    ghost faults = { λ _. 0 };
-
-    ghost holds_room = { λ _. true };
-
-    ghost spare = { λ k. k.spare };
+    ghost seen = { λ k. record { tables = k.tables; faults = 0; holds_room = true; spare = k.spare } };
 
     fn has_season(&mut self) -> Result<bool, KeepFault> {
         Ok(self.memory.has_season())
