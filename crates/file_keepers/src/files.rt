@@ -12,8 +12,8 @@ use std::str;
 /// A keeper over a file.
 pub type FileKeeper = SqliteKeeper<FileStore<File>>;
 
-/// A keeper over the file of this name, with the tables made that are not there, and with no faults. None where the name is no text, or the file or its
-/// tables cannot be opened.
+/// Opens a keeper over the file of this name, with no faults yet. It makes the tables that are missing.
+/// Returns None if the name is no text, or if the file or its tables cannot be opened.
 pub fn open_keeper(rt: &HostRuntime, name: &Text) -> Option<FileKeeper>
     ensures { IfSome result (HasTables over_files) }
 {
@@ -21,7 +21,8 @@ pub fn open_keeper(rt: &HostRuntime, name: &Text) -> Option<FileKeeper>
     with_tables(SqliteKeeper::new(connection))
 }
 
-/// Closes the file. What was kept stands in it and in the log beside it, also where the log cannot be copied into the file.
+/// Closes the file. What was kept is in the file and in the log next to it,
+/// also if the log cannot be copied into the file.
 pub fn close_keeper(keeper: FileKeeper) {
     let _ = keeper.into_connection().close();
 }

@@ -34,7 +34,7 @@ ran_inside g text values old new (Ok other) count is ended runs clean =
     ] in
     (new, record { count = other; ran = (runs clean inside).0 }, refl)
 
--- The same of one that is to change one row, and did.
+-- The same of one that must change one row, and did.
 pub placed_inside : {S : Type 0} (g : Ghosts S) (text : List ℕ) (values : Row) (old new : Held S) (done : Result ℕ Error) (count : ℕ) → done ≡ Ok count → count ≡ 1
     → ((state g old).in_transaction ≡ false → (done ≡ Err (SqliteFailure TransactionState)) × (new ≡ old))
     → (HasCleanDisk (state g new) → IsTrue (state g old).in_transaction → ExecutesInside 0 text values (state g old) (state g new) done)
@@ -58,7 +58,7 @@ pub did_then : {S : Type 0} (g : Ghosts S) (one two : List Call) (old mid new : 
 did_then {S} g [] two old mid new first next = subst (λ (h : Held S). DidAll g two h new) (sym first) next
 did_then g (call ∷ calls) two old mid new first next = (first.0, first.1, did_then g calls two first.0 mid new first.2 next)
 
--- the same of two functions, of which the second is reached only where the first ended well
+-- the same of two functions, of which the second is reached only if the first ended well
 pub both_done : {S : Type 0} (g : Ghosts S) (one two : List Call) (old mid new : Held S) (first ended : Result (Unit {0}) Halt) → first ≡ Ok tt → CommitsNothing (state g mid) (state g new)
     → (HasCleanDisk (state g mid) → OnOk first (DidAll g one old mid)) → (HasCleanDisk (state g new) → OnOk ended (DidAll g two mid new))
     → HasCleanDisk (state g new) → OnOk ended (DidAll g (one ++ two) old new)
@@ -120,7 +120,7 @@ pub with_values : {S : Type 0} (g : Ghosts S) (text : List ℕ) (one two : Row) 
 with_values g text one two old new (Err halt) ran is clean = tt
 with_values {S} g text one two old new (Ok none) ran is clean = subst (λ (values : Row). DidAll g (Runs text values ∷ []) old new) is (ran clean)
 
--- what a query told, as it was read
+-- the rows that a query returned, as they were read
 pub told_as : {S A : Type 0} (g : Ghosts S) (text : List ℕ) (rows seen : List Row) (P : List Row → A → Type 0) (old new : Held S) (ended : Result A Halt) → seen ≡ rows
     → (HasCleanDisk (state g new) → DidAll g (Asks text rows ∷ []) old new) → IfOk ended (P seen)
     → HasCleanDisk (state g new) → IfOk ended (λ found. (told : List Row) × P told found × DidAll g (Asks text told ∷ []) old new)
@@ -138,7 +138,7 @@ only_row [] row least below is = absurd (omega (arith, least))
 only_row (a ∷ []) row least below is = ap (λ (r : Row). r ∷ []) (sym is)
 only_row (a ∷ b ∷ rows) row least below is = absurd (omega (arith, below))
 
--- One row that is no phase tells of none.
+-- A single row that is no phase row shows no phase.
 pub row_amiss : (rows : List Row) (row : Row) → rows ≡ row ∷ [] → ((cuts : ℕ) → ¬ IsPhaseRow row cuts) → (found : Option ℕ) → ¬ TellsPhase rows found
 row_amiss rows row is none None tells = let e : row ∷ [] ≡ [] = sym is ∙ tells in absurd (let f = e in cc)
 row_amiss rows row is none (Some made) tells =
@@ -146,7 +146,7 @@ row_amiss rows row is none (Some made) tells =
     let same : tells.0 ≡ row = (let f = e in cc) in
     none made (subst (λ (r : Row). IsPhaseRow r made) same tells.2)
 
--- a season is there where one is told
+-- a season is kept if the phase shows one
 pub season_told : {S : Type 0} (g : Ghosts S) (old new : Held S) (cuts : Option ℕ) (found : Bool) → found ≡ is_some cuts
     → (HasCleanDisk (state g new) → TellsPhaseOf g cuts old new) → HasCleanDisk (state g new) → TellsSeason g found old new
 season_told g old new cuts found is told clean = record { cuts = cuts; is = is; told = told clean }
@@ -230,7 +230,7 @@ season_put {S} g text old one two new empty put (Ok none) is_empty is_put first 
           (did_then g (text_calls then.parts) (Places opening_text opening_values ∷ []) one two new then.done (opened clean));
     }
 
--- one more row, and the record that stands in it
+-- one more row, and the record that it holds
 pub zip_push : {A B : Type 0} (R : A → B → Type 0) (xs : List A) (ys : List B) (x : A) (y : B) → AllZip R xs ys → R x y → AllZip R (xs ++ x ∷ []) (ys ++ y ∷ [])
 zip_push R [] [] x y all is = (is, tt)
 zip_push R [] (b ∷ ys) x y all is = absurd all
@@ -255,7 +255,7 @@ part_joined rows text longer i row within is before next = (
   concat_push before.0 next.0 ∙ (ap (λ (l : List ℕ). l ++ next.0) before.2 ∙ sym next.2),
 )
 
--- the rows that a query told, and what stands in them
+-- the rows that a query returned, and the records that they hold
 pub records_told : {S R : Type 0} (g : Ghosts S) (stands_in : Row → R → Type 0) (text : List ℕ) (rows seen : List Row) (old new : Held S) (ended : Result (List R) Halt) → seen ≡ rows
     → (HasCleanDisk (state g new) → DidAll g (Asks text rows ∷ []) old new) → IfOk ended (AllZip stands_in seen)
     → HasCleanDisk (state g new) → IfOk ended (λ records. TellsRecords g stands_in text records old new)
@@ -291,12 +291,12 @@ found_kept {S} g kept cuts found old mid new is same nothing phase tables clean 
 pub none_kept : {S : Type 0} (g : Ghosts S) (found : Option ℕ) (old new : Held S) → found ≡ None → (HasCleanDisk (state g new) → TellsPhaseOf g found old new) → HasCleanDisk (state g new) → TellsKept g None old new
 none_kept {S} g found old new is phase clean = subst (λ (f : Option ℕ). TellsPhaseOf g f old new) is (phase clean)
 
--- a first row that is no key tells of none
+-- a first row that is no key row shows no key
 pub key_amiss : (rows : List Row) (row : Row) → slice_get rows 0 ≡ Some row → ((key : Key) → ¬ IsKeyRow row key) → (found : Option Key) → ¬ TellsKey rows found
 key_amiss rows row first none None tells = absurd (let e = sym first ∙ ap (λ (r : List Row). slice_get r 0) tells in cc)
 key_amiss rows row first none (Some key) tells = let same : tells.0 ≡ row = (let e = sym tells.1 ∙ first in cc) in none key (subst (λ (r : Row). IsKeyRow r key) same tells.2)
 
--- a row that is no record stands for none in any list
+-- a row that holds no record has no record in any list
 pub zip_amiss : {A B : Type 0} (R : A → B → Type 0) (xs : List A) (i : ℕ) (x : A) → i < length xs → x ≡ get_or xs i x → ((y : B) → ¬ R x y) → (ys : List B) → ¬ AllZip R xs ys
 zip_amiss R [] i x within at none ys all = absurd (omega (arith, within))
 zip_amiss R (a ∷ xs) i x within at none [] all = all

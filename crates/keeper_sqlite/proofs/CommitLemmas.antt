@@ -45,7 +45,7 @@ Settles g done mid last = Survives (state g mid) (state g last) (λ db. (done �
 pub shown_by : {S : Type 0} (g : Ghosts S) (done : Result (Unit {0}) Halt) (mid last : Held S) → Settles g done mid last → CommitsShown (state g mid) (state g last)
 shown_by g done mid last settled = survives_weaker (state g mid) (state g last) _ _ (λ clean db it. it.1) settled
 
--- What a transaction did is kept, where it ended well.
+-- What a transaction did is kept, if it ended well.
 pub kept_made : {S : Type 0} (g : Ghosts S) (change : Change) (old begun mid last : Held S) (done ended : Result (Unit {0}) Halt) → begun ≡ record old { in_transaction = true }
     → (HasCleanDisk (state g mid) → IsTrue begun.in_transaction → OnOk done (Makes g change begun mid)) → Settles g done mid last → OnOk ended (done ≡ Ok tt)
     → (HasCleanDisk (state g last) → OnOk ended ((state g last).now ≡ (state g mid).now)) → (HasCleanDisk (state g last) → OnOk ended ((state g last).committed ≡ (state g mid).now))
@@ -55,7 +55,7 @@ kept_made g change old begun mid last done (Ok none) is made settled ok now comm
     let before : HasCleanDisk (state g mid) = omega (arith, settled.clean) in
     record { last = mid; done = rw is at (rw ok at (made before (rw is))); shown = now clean; committed = committed clean; last_open = (both clean).0; is_open = (both clean).1 }
 
--- What is told of a transaction is what was kept.
+-- What is returned of a transaction is what was kept.
 pub kept_told : {S : Type 0} (g : Ghosts S) (P : Held S → Type 0) (done : Result (Unit {0}) Halt) (told : Result (Unit {0}) KeepFault) (mid last : Stored S)
     → IfOk told (λ value. done ≡ Ok value) → (¬ IsErrOf told Failed → last ≡ mid) → (HasCleanDisk (state g mid.connection) → OnOk done (P mid.connection))
     → HasCleanDisk (state g last.connection) → OnOk told (P last.connection)
@@ -73,7 +73,7 @@ looked {S} g P old begun mid last (Ok value) is nothing told undone clean =
     let was : HasCleanDisk (state g mid) = omega (arith, nothing.clean) in
     record { last = mid; done = subst (λ (h : Held S). P value h mid) is (told was); undone = undone clean }
 
--- The same as the keeper tells it.
+-- The same as the keeper returns it.
 pub value_told : {S T : Type 0} (g : Ghosts S) (P : T → Held S → Type 0) (done : Result T Halt) (told : Result T KeepFault) (mid last : Stored S)
     → IfOk told (λ value. done ≡ Ok value) → (¬ IsErrOf told Failed → last ≡ mid) → (HasCleanDisk (state g mid.connection) → IfOk done (λ value. P value mid.connection))
     → HasCleanDisk (state g last.connection) → IfOk told (λ value. P value last.connection)
@@ -98,14 +98,15 @@ made_once {S} g change old begun mid last done is nothing made settled =
 pub made_same : {S : Type 0} (g : Ghosts S) (change : Change) (old : Held S) → Survives (state g old) (state g old) (MadeBy g change old)
 made_same g change old = record { clean = omega arith; shield = λ h. h; counts = omega arith; limit = refl; closes = λ clean h. inl h; crash = λ clean db h. inl h }
 
--- What holds of the connection after a call holds of the keeper after it, however the call ended: only the count of faults may have risen.
+-- What holds of the connection after a call holds of the keeper after it, however the call ended:
+-- only the count of faults may have risen.
 pub same_after : {S T : Type 0} (g : Ghosts S) (P : Held S → Type 0) (told : Result T KeepFault) (mid last : Stored S) → (¬ IsErrOf told Failed → last ≡ mid) → (IsErrOf told Failed → last ≡ record mid { faults = counted mid.faults })
     → P mid.connection → P last.connection
 same_after {S} g P (Ok value) mid last same rose h = subst (λ (k : Stored S). P k.connection) (sym (same (λ failed. let e = failed in cc))) h
 same_after {S} g P (Err Failed) mid last same rose h = subst (λ (k : Stored S). P k.connection) (sym (rose refl)) h
 same_after {S} g P (Err OutOfMemory) mid last same rose h = subst (λ (k : Stored S). P k.connection) (sym (same (λ failed. let e = failed in cc))) h
 
--- and where it failed, so did the call
+-- and if it failed, so did the call
 pub err_after : {T : Type 0} (P : Type 0) (done : Result T Halt) (told : Result T KeepFault) → IfErr told (λ fault. IsErrAnd done (λ halt. fault ≡ keep_fault halt)) → OnErr done P → OnErr told P
 err_after P done (Ok value) err h = tt
 err_after P (Ok value) (Err fault) err h = absurd err

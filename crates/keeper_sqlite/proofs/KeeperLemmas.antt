@@ -1,4 +1,4 @@
--- What a keeper tells after a call, where the call ended well.
+-- What is visible of a keeper after a call that ended well.
 use Rattle.std.proofs.Common.{◌≡◌, inl, inr, ℕ, cond, Bool, true, false, IsTrue, List, [], ◌∷◌, Option, Some, None, Result, Ok, Err, OnOk, OnErr, ◌&&◌, true≢false, refl, sym, ap, subst, ◌∙◌}
 use Rattle.std.specs.List.{AllByRecursion}
 use Rattle.sqlite.specs.Store.{Ghosts}
@@ -44,7 +44,7 @@ module _ {S : Type 0} (g : Ghosts S) where
   abbrev begun : Held S → Held S
   begun old = record old { in_transaction = true }
 
-  -- a store that is not clean is shut, and tells nothing
+  -- a store that is not clean is shut, and hides its tables
   pub dirty_told : (h : Held S) → ((g.view h.store).is_clean ≡ false → (g.view h.store).is_open ≡ false) → (x : Tables) → (HasCleanDisk (state g h) → told (state g h) ≡ x) → AreTold x (told (state g h))
   dirty_told h shut x clean = elim (cases_Bool (g.view h.store).is_clean) [
     | inl holds ↦ are_told x (told (state g h)) (clean (no_doubt (g.view h.store).is_clean holds))
@@ -54,7 +54,7 @@ module _ {S : Type 0} (g : Ghosts S) where
         )
   ]
 
-  -- a store that is shut tells nothing
+  -- a store that is shut hides its tables
   pub open_told : (h : Held S) → ((g.view h.store).is_clean ≡ false → (g.view h.store).is_open ≡ false) → (x : Tables) → (HasCleanDisk (state g h) → IsTrue (state g h).is_open → told (state g h) ≡ x) → AreTold x (told (state g h))
   open_told h shut x clean = elim (cases_Bool (g.view h.store).is_open) [
     | inl holds ↦ dirty_told h shut x (λ sound. clean sound holds)
@@ -74,7 +74,7 @@ module _ {S : Type 0} (g : Ghosts S) where
   err_told h shut x (Ok none) clean = tt
   err_told h shut x (Err fault) clean = open_told h shut x clean
 
-  -- ---- what is told after each put that ended well
+  -- ---- what is visible after each put that ended well
 
   pub answer_stays : (row : AnswerRow) (old new : Held S) (r : Result (Unit {0}) KeepFault) → AnswerFits row → IsFound true (told (state g old))
       → (HasCleanDisk (state g new) → OnOk r (Keeps g (Ran g answer_text (answer_values row)) old new)) → HasCleanDisk (state g new) → OnOk r (told (state g new) ≡ with_answer row (told (state g old)))
@@ -93,7 +93,7 @@ module _ {S : Type 0} (g : Ghosts S) where
   season_is : (strict : Bool) (text : List ℕ) (old last : Held S) → (state g old).now.schema ≡ stored strict → PutsText g season_calls text (begun old) last → tables_in (state g last).now.trees ≡ with_season text (tables_in (state g old).now.trees)
   season_is strict text old last has put = let it = season_made g strict text (begun old) last has put in it.after ∙ ap (with_season text) (sym it.before)
 
-  -- a season is put where no row stands in any of the five tables
+  -- a season is put if none of the five tables has a row
   pub season_empty : (strict : Bool) (text : List ℕ) (old new : Held S) (r : Result (Unit {0}) KeepFault) → (HasCleanDisk (state g new) → OnOk r (Keeps g (PutsText g season_calls text) old new))
       → HasCleanDisk (state g new) → old.schema ≡ stored strict → OnOk r (AllByRecursion (λ t. (state g old).now.trees t ≡ []) (0 ∷ 1 ∷ 3 ∷ 5 ∷ 6 ∷ []))
   season_empty strict text old new (Err fault) kept clean has = tt
@@ -115,7 +115,7 @@ module _ {S : Type 0} (g : Ghosts S) where
 
   -- ---- what a crash leaves of each put
 
-  -- a store that tells has its tables
+  -- a store with visible tables has its tables
   pub told_has : (h : Held S) → IsTold (told (state g h)) → (strict : Bool) × ((state g h).now.schema ≡ stored strict) × (told (state g h) ≡ tables_in (state g h).now.trees)
   told_has h it = elim (cases_Bool ((state g h).is_open && has_tables h.schema)) [
     | inl holds ↦ (
@@ -152,7 +152,7 @@ module _ {S : Type 0} (g : Ghosts S) where
       → Survives (state g old) (state g new) (λ db. tables_in db ≡ with_cut rows.now (told (state g old)))
   cut_crash rows old new = crash_of (change.Cut rows) (with_cut rows.now) old new (λ strict last has before put. cut_made_told g strict rows.now (begun old) last has put)
 
-  -- ---- a crash after a put that ended well leaves what is told alone
+  -- ---- a crash after a put that ended well leaves the visible tables unchanged
 
   told_is : (h : Held S) (t : Tables) → told (state g h) ≡ t → IsTold t → tables_in (state g h).now.trees ≡ t
   told_is h t is it = sym (told_has h (subst IsTold (sym is) it)).2 ∙ is
@@ -165,7 +165,7 @@ module _ {S : Type 0} (g : Ghosts S) where
       let k = kept clean in
       ap tables_in (settled db k.is_open leaves ∙ ap (λ (d : Database). d.trees) (k.committed ∙ sym k.shown)) ∙ told_is new (told (state g new)) refl it
 
-  -- ---- what is told after a call that committed nothing
+  -- ---- what is visible after a call that committed nothing
 
   same_database : (a b : Database) → IsDatabase a → IsDatabase b → b.trees ≡ a.trees → b ≡ a
   same_database a b one two same =
@@ -196,7 +196,7 @@ module _ {S : Type 0} (g : Ghosts S) where
   put_back old first mid last (Err why) is settled stays was_live is_live nothing before after clean back sound is_so =
       let b = back sound is_so in back_told old first mid last is settled stays was_live is_live nothing before after (clean sound) b.0 b.1 is_so
 
-  -- ---- what is told once the tables were made
+  -- ---- what is visible once the tables were made
 
   made_all : (old last : Held S) → DidAll g (plain_calls table_texts) old last → MakesAll (state g old) (state g last)
   made_all old last d = record {
@@ -224,7 +224,7 @@ module _ {S : Type 0} (g : Ghosts S) where
       let k = kept clean in
       subst (λ (d : Database). LeavesTables (state g old).now d) (sym k.shown) (all_leave (state g (begun old)) (state g k.last) (made_all (begun old) k.last k.done))
 
-  -- an open store with the tables tells them
+  -- the tables of an open store that has them are visible
   told_open_is : (h : Held S) (strict : Bool) → IsTrue (state g h).is_open → (state g h).now.schema ≡ stored strict → told (state g h) ≡ tables_in (state g h).now.trees
   told_open_is h strict is_so has = ap (λ b. told_if b (tables_in (state g h).now.trees)) (ap (λ b. b && has_tables h.schema) is_so ∙ (ap has_tables has ∙ layout.1 strict))
 
@@ -236,7 +236,7 @@ module _ {S : Type 0} (g : Ghosts S) where
       let it = all_made (state g (begun old)) (state g k.last) has (made_all (begun old) k.last k.done) in
       told_open_is new true k.is_open (ap (λ (d : Database). d.schema) k.shown ∙ it.0) ∙ (ap (λ (d : Database). tables_in d.trees) k.shown ∙ it.1)
 
-  -- the same trees, where the one of the raises has no row
+  -- the same trees, if the one of the raises has no row
   same_with : (p : Option (Option ℕ)) (old new : Trees) → new 0 ≡ old 0 → new 1 ≡ old 1 → new 3 ≡ old 3 → new 6 ≡ old 6 → tables_with p new ≡ tables_with p old
   same_with None old new season answers allots raises = refl
   same_with (Some None) old new season answers allots raises = λ i. cond (is_bare (season i) && (is_bare (answers i) && (is_bare (allots i) && is_bare (raises i)))) NoSeason Untold

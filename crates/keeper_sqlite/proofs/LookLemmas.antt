@@ -1,4 +1,4 @@
--- What was found and loaded is what the store tells.
+-- What was found and loaded is what is visible of the store.
 use Rattle.std.proofs.Common.{◌≡◌, inl, inr, ℕ, Bool, true, false, ◌&&◌, cond, is_some, IsTrue, List, [], ◌∷◌, Option, Some, None, Result, Ok, Err, IfOk, MatchOption, refl, sym, ap, subst, ◌∙◌, true≢false}
 use Rattle.std.specs.List.{concat}
 use Rattle.std.proofs.lemmas.Bool.{cases_Bool}
@@ -70,7 +70,7 @@ module _ {S : Type 0} (g : Ghosts S) where
       let asked = shown_of phase_query it.rows old new it.asked in
       (shows_phase strict (state g old) (state g new) it.rows has asked found it.tells, phase_same strict (state g old) (state g new) it.rows has asked)
 
-  -- the tables that are told stand behind it
+  -- the loaded records are those of the visible tables
   tables_loaded : (strict : Bool) (kept : Kept) (n : ℕ) (db : Database) (old new : Held S) → n ≡ kept.cuts → (state g old).now ≡ db → db.schema ≡ stored strict → TellsTables g kept old new
       → IsLoaded (records_of n (text_in db.trees) (answers_in db.trees) (raises_in db.trees) (allots_in db.trees)) kept
   tables_loaded strict kept n db old new cuts same has t =
@@ -99,7 +99,7 @@ module _ {S : Type 0} (g : Ghosts S) where
       let stand = shows_allots strict (state g t.three) (state g new) _ has3 asked4 p.0 (ap (λ (d : Database). rows_from allot_of 1 (d.trees 3)) same3 ∙ p.1) rise.0 in
       sym rise.1 ∙ one_list IsAllotRow one_allot _ p.0 kept.allots stand t.allots.stand)
 
-  -- what is told after is told before, or nothing is
+  -- tables that are visible after were visible before, or nothing is visible after
   told_by : (P : Tables → Type 0) (old new : Held S) → P Untold → (IsTold (told (state g new)) → P (told (state g new))) → P (told (state g new))
   told_by P old new none some = go (told (state g new)) refl
     where
@@ -133,7 +133,7 @@ module _ {S : Type 0} (g : Ghosts S) where
       subst (λ t. IsLoaded t kept) (sym (same ∙ (h.2 ∙ ap (λ q. tables_with q (state g old).now.trees) p.0)))
       (tables_loaded h.0 kept kept.cuts (state g old).now l.done.0 l.last refl p.1 h.1 l.done.2))
 
-  -- what tells is open and clean
+  -- a store with visible tables is open and clean
   told_open : (h : Held S) → IsTold (told (state g h)) → IsTrue (state g h).is_open
   told_open h it = elim (cases_Bool (state g h).is_open) [
     | inl holds ↦ holds
@@ -146,7 +146,7 @@ module _ {S : Type 0} (g : Ghosts S) where
     | inr fails ↦ absurd (true≢false (sym (told_open h it) ∙ shut fails))
   ]
 
-  -- the same of calls, where they ended well
+  -- the same of calls, if they ended well
   pub found_if : (old new : Held S) (r : Result Bool KeepFault) → ((g.view new.store).is_clean ≡ false → (g.view new.store).is_open ≡ false) → (HasCleanDisk (state g new) → IsTrue (state g new).is_open → told (state g new) ≡ told (state g old))
       → (HasCleanDisk (state g new) → IfOk r (λ found. Looks g (TellsSeason g found) old new)) → IfOk r (λ found. IsFound found (told (state g new)))
   found_if old new (Err fault) shut stays looks = tt

@@ -48,7 +48,7 @@ module _ {S : Type 0} (g : Ghosts S) where
 
   -- ---- a cut
 
-  -- the phase told of no season
+  -- the phase showed no season
   pub made_none : (old new : Held S) (found : Option ℕ) (ended : Result ℕ Halt) → (HasCleanDisk (state g new) → TellsPhaseOf g found old new) → IfErr ended (λ halt. (found ≡ None) × (halt ≡ Unfit))
       → HasCleanDisk (state g new) → IfErr ended (λ halt. LosesMade g halt old new)
   made_none old new found (Ok made) told err clean = tt
@@ -79,7 +79,8 @@ module _ {S : Type 0} (g : Ghosts S) where
 
   -- ---- one transaction
 
-  -- Why a transaction was not kept: what was done in it came to no end and was rolled back, or its commit was refused.
+  -- Why a transaction was not kept: what was done in it did not complete and was rolled back,
+  -- or its commit was refused.
   abbrev pub Unsettled : Result (Unit {0}) Halt → Halt → Held S → Held S → Type 0
   Unsettled done halt mid last = ((done ≡ Err halt) × IsRolledBack (state g mid) (state g last)) ⊎ ((done ≡ Ok tt) × IsRefusal (λ error. FailsToCommit (state g mid) (state g last) error) halt)
 
@@ -102,7 +103,7 @@ module _ {S : Type 0} (g : Ghosts S) where
         ))
       ]
 
-  -- a look that came to no end
+  -- a look that did not complete
   pub look_lost : {T : Type 0} (P : Halt → Held S → Held S → Type 0) (old begun mid last : Held S) (found : Result T Halt) → begun ≡ record old { in_transaction = true } → Survives (state g mid) (state g last) (λ _. ⊥)
       → (HasCleanDisk (state g mid) → IfErr found (λ halt. P halt begun mid)) → (HasCleanDisk (state g last) → IsRolledBack (state g mid) (state g last))
       → HasCleanDisk (state g last) → IfErr found (λ halt. IsBusy halt old ⊎ Looks g (P halt) old last)
@@ -111,7 +112,7 @@ module _ {S : Type 0} (g : Ghosts S) where
       let was : HasCleanDisk (state g mid) = omega (arith, nothing.clean) in
       inr (record { last = mid; done = subst (λ (h : Held S). P halt h mid) is (lost was); undone = undone clean })
 
-  -- the same as the keeper tells it
+  -- the same as the keeper reports it
   pub fails_by : {T : Type 0} (P : Halt → Held S → Type 0) (done : Result T Halt) (told : Result T KeepFault) (mid last : Stored S) → IfErr told (λ fault. IsErrAnd done (λ halt. fault ≡ keep_fault halt))
       → (¬ IsErrOf told Failed → last ≡ mid) → (IsErrOf told Failed → last ≡ record mid { faults = counted mid.faults }) → (HasCleanDisk (state g mid.connection) → IfErr done (λ halt. P halt mid.connection))
       → HasCleanDisk (state g last.connection) → IfErr told (FailsBy (λ halt. P halt last.connection))

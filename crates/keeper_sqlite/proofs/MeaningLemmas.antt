@@ -1,4 +1,4 @@
--- What the text of each function does to its one table, and what it tells of it.
+-- What the text of each function does to its one table, and what it shows of it.
 use Rattle.std.proofs.Common.{◌≡◌, ◌+◌, ◌<◌, ◌^◌, ◌∙◌, ℕ, pos, Bool, true, List, [], ◌∷◌, ◌++◌, Option, Some, None, Result, Ok, Err, IfOk, OnOk, slice_get, ap, sym, subst, refl}
 use Rattle.std.specs.List.{concat}
 use Rattle.sqlite.specs.Store.{Ghosts}
@@ -83,13 +83,13 @@ module _ {S : Type 0} (g : Ghosts S) where
   phase_opened strict old new (Ok none) has ran clean =
       let did = ran clean in opens_phase strict (state g old) (state g new) has (subst (λ (h : Held S). Executes opening_text opening_values (state g old) (state g h) (Ok 1)) did.2 did.1)
 
-  -- a table that stands is not made
+  -- a table that exists is not made
   pub table_stands : (strict : Bool) (text : List ℕ) (old new : Held S) (r : Result (Unit {0}) Halt) → (command_of (understood (stored strict) text) ≡ Nothing) × IsPlain (understood (stored strict) text) → old.schema ≡ stored strict
       → (HasCleanDisk (state g new) → OnOk r (DidAll g (Runs text [] ∷ []) old new)) → HasCleanDisk (state g new) → OnOk r ((state g new).now ≡ (state g old).now)
   table_stands strict text old new r there has =
       put_by text [] (λ a b. b ≡ a) old new r (λ count ran. makes_none (stored strict) text (state g old) (state g new) count there.0 there.1 has ran)
 
-  -- ---- what is told
+  -- ---- what is visible
 
   asked_of : (text : List ℕ) (rows : List Row) (old new : Held S) → DidAll g (Asks text rows ∷ []) old new → Shown text [] (state g old) (state g new) rows
   asked_of text rows old new did = subst (λ (h : Held S). Shown text [] (state g old) (state g h) rows) did.2 did.1

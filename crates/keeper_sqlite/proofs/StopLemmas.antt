@@ -1,4 +1,4 @@
--- Why calls that follow one another came to no end.
+-- Why calls that follow one another did not complete.
 use Rattle.std.proofs.Common.{◌≡◌, ◌≢◌, ◌+◌, ◌<◌, ◌≤◌, ◌^◌, ◌∙◌, inl, inr, ap, append_assoc, ℕ, get_or, drop, length, false, List, [], ◌∷◌, ◌++◌, Result, Ok, Err, IsTrue, IfErr, sym, subst, refl, arith}
 use Rattle.std.proofs.lemmas.Bool.{cases_Bool}
 use Rattle.std.proofs.lemmas.List.{drop_more}
@@ -33,7 +33,7 @@ refused_inside g text values old new done e is ended runs clean = elim (cases_Bo
 ]
 
 module _ {S : Type 0} (g : Ghosts S) where
-  -- where these calls stop, so do these with more after them
+  -- if these calls stop, so do these with more after them
   pub stops_more : (one two : List Call) (halt : Halt) (old new : Held S) → StopsIn g one halt old new → StopsIn g (one ++ two) halt old new
   stops_more [] two halt old new s = absurd s
   stops_more (call ∷ one) two halt old new (inl s) = inl s
@@ -44,7 +44,7 @@ module _ {S : Type 0} (g : Ghosts S) where
   stops_then [] two halt old mid new did s = subst (λ (h : Held S). StopsIn g two halt h new) (sym did) s
   stops_then (call ∷ one) two halt old mid new did s = inr (did.0, did.1, stops_then one two halt did.0 mid new did.2 s)
 
-  -- the same of two functions, of which the second came to no end
+  -- the same of two functions, of which the second did not complete
   pub second_lost : (one two : List Call) (halt : Halt) (old mid new : Held S) → CommitsNothing (state g mid) (state g new) → (HasCleanDisk (state g mid) → DidAll g one old mid) → HasCleanDisk (state g new)
       → StopsIn g two halt mid new → StopsIn g (one ++ two) halt old new
   second_lost one two halt old mid new nothing did clean s =
@@ -79,7 +79,7 @@ module _ {S : Type 0} (g : Ghosts S) where
       let same : n ≡ count = (let e = is in cc) in
       inl (inr (refl, n, (λ one. other (sym same ∙ one)), (runs clean inside).0))
 
-  -- a query that was refused, or told rows where none was to be
+  -- a query that was refused, or returned rows when none was expected
   pub lost_asked : (text : List ℕ) (halt : Halt) (old new : Held S) → IsRefusal (λ e. RefusesToTell g text e old new) halt → StopsIn g (Asks text [] ∷ []) halt old new
   lost_asked text halt old new refused = inl (inl refused)
 
@@ -90,13 +90,13 @@ module _ {S : Type 0} (g : Ghosts S) where
       let did = asked clean in
       inl (inr (err.0, rows, (λ none. err.1 (is ∙ none)), subst (λ (h : Held S). Shown text [] (state g old) (state g h) rows) did.2 did.1))
 
-  -- rows that were told, and were not read
+  -- rows that were returned, and were not read
   pub rows_lost : {T : Type 0} (text : List ℕ) (Amiss : List Row → Type 0) (rows seen : List Row) (old new : Held S) (ended : Result T Halt) → seen ≡ rows → (HasCleanDisk (state g new) → DidAll g (Asks text rows ∷ []) old new)
       → IfErr ended (λ halt. ¬ WantsMemory halt → Amiss seen) → HasCleanDisk (state g new) → IfErr ended (λ halt. LosesRows g text Amiss halt old new)
   rows_lost text Amiss rows seen old new (Ok value) is asked err clean = tt
   rows_lost text Amiss rows seen old new (Err halt) is asked err clean = inr (rows, asked clean, λ enough. subst (λ (r : List Row). Amiss r) is (err enough))
 
-  -- a statement is made ready, and then its calls come to no end
+  -- a statement is made ready, and then its calls do not complete
   pub ready_lost : (text got : List ℕ) (calls : List ℕ → List Call) (old mid new : Held S) (ended : Result (Unit {0}) Halt) → CommitsNothing (state g mid) (state g new)
       → (HasCleanDisk (state g mid) → (got ≡ text) × DidAll g (Readies text ∷ []) old mid) → (HasCleanDisk (state g new) → IfErr ended (λ halt. StopsIn g (calls got) halt mid new))
       → HasCleanDisk (state g new) → IfErr ended (λ halt. StopsIn g (Readies text ∷ calls text) halt old new)
@@ -108,7 +108,7 @@ module _ {S : Type 0} (g : Ghosts S) where
 
   -- ---- seats
 
-  -- where the calls that are left stop, all do
+  -- if the calls that are left stop, all do
   abbrev pub LeavesStop : List Call → List Call → Held S → Held S → Type 0
   LeavesStop all left old mid = HasCleanDisk (state g mid) → (halt : Halt) (last : Held S) → StopsIn g left halt mid last → StopsIn g all halt old last
 

@@ -1,4 +1,4 @@
--- What a store tells once a change was made in a transaction.
+-- What is visible of a store once a change was made in a transaction.
 use Rattle.std.proofs.Common.{◌≡◌, ◌+◌, ◌⊎◌, inl, inr, ℕ, pos, Bool, true, ◌&&◌, IsTrue, List, [], ◌∷◌, ◌++◌, fold, append-nil, append_assoc, slice_get, Option, Some, None, option_map, option_and_then, Ok, refl, sym, ap, ap₂, subst, ◌∙◌}
 use Rattle.std.specs.List.{AllByRecursion}
 use Rattle.std.proofs.lemmas.Bool.{cases_Bool}
@@ -36,12 +36,12 @@ use Rattle.keeper_sqlite.specs.Kept.{Call, Ran, Did, DidAll, PutsText, MakesCut,
 use Rattle.keeper_sqlite.specs.Kept as Kept
 use Rattle.keeper_sqlite.specs.Kept.Call.{Runs, Places, Asks, Readies}
 
--- ---- what is told before and after
+-- ---- what is visible before and after
 
 true_and : (a b : Bool) → a ≡ true → (a && b) ≡ b
 true_and a b h = ap (λ c. c && b) h
 
--- Where the schema stays and the tables are told of as this, so is what is told.
+-- If the schema stays and the tables change in this way, so do the visible tables.
 pub told_after : (s t : State) (f : Tables → Tables) → f Untold ≡ Untold → IsTrue s.is_open → IsTrue t.is_open → t.now.schema ≡ s.now.schema
     → ((strict : Bool) → s.now.schema ≡ stored strict → told s ≡ tables_in s.now.trees → tables_in t.now.trees ≡ f (tables_in s.now.trees)) → told t ≡ f (told s)
 told_after s t f none was is same after = elim (cases_Bool (has_tables s.now.schema)) [
@@ -93,7 +93,7 @@ module _ {S : Type 0} (g : Ghosts S) where
   keeps_one (Asks text rows) old new keep did = shown_keeps text [] (state g old) (state g new) rows did
   keeps_one (Readies text) old new keep did = (ap (λ (d : Database). d.schema) did.same.0.now_is, did.same.0.was_open)
 
-  -- where the last is open, the first was
+  -- if the last is open, the first was
   abbrev pub KeepsIf : Held S → Held S → Type 0
   KeepsIf old new = (new.schema ≡ old.schema) × (IsTrue (state g new).is_open → IsTrue (state g old).is_open)
 
@@ -192,7 +192,7 @@ module _ {S : Type 0} (g : Ghosts S) where
   allots_made None p rows is above = ap (option_and_then rising_alone) is
   allots_made (Some all) p rows is above = ap (option_and_then rising_alone) is ∙ rising_exactly all rows (above all refl)
 
-  -- what was asked, told nothing else
+  -- what was asked returned nothing else
   asked_of : (text : List ℕ) (rows : List Row) (old new : Held S) → DidAll g (Asks text rows ∷ []) old new → Shown text [] (state g old) (state g new) rows
   asked_of text rows old new did = subst (λ (h : Held S). Shown text [] (state g old) (state g h) rows) did.2 did.1
 
@@ -250,7 +250,7 @@ module _ {S : Type 0} (g : Ghosts S) where
         more.2,
       )
 
-  -- no row stands in any of the five tables, and then a season is told
+  -- none of the five tables has a row, and then a season is visible
   pub record SeasonMade (text : List ℕ) (old last : Held S) : Type 0 where
     pub before : tables_in (state g old).now.trees ≡ NoSeason
     pub after : tables_in (state g last).now.trees ≡ Records (opening_records text)
@@ -294,13 +294,13 @@ module _ {S : Type 0} (g : Ghosts S) where
         none = (n0, (n1, (n3, (n5, (n6, tt)))));
       }
 
--- ---- what is told after a put that was committed
+-- ---- what is visible after a put that was committed
 
 module _ {S : Type 0} (g : Ghosts S) where
   abbrev begun : Held S → Held S
   begun old = record old { in_transaction = true }
 
-  -- a put that ended well is told, or nothing was told before
+  -- a put that ended well is visible, or the tables were hidden before
   pub put_told : (f : Tables → Tables) (Done : Held S → Held S → Type 0) (old new : Held S) → f Untold ≡ Untold → ((last : Held S) → Done (begun old) last → KeepsIf g (begun old) last)
       → ((strict : Bool) (last : Held S) → (state g old).now.schema ≡ stored strict → told (state g old) ≡ tables_in (state g old).now.trees → Done (begun old) last → tables_in (state g last).now.trees ≡ f (tables_in (state g old).now.trees))
       → Kept.Keeps g Done old new → told (state g new) ≡ f (told (state g old))

@@ -8,7 +8,7 @@ use Rattle.keeper_mem.specs.declared.keeper.KeepFault.TheVariants.{Failed, OutOf
 use Rattle.keeper_sqlite.specs.declared.halt.Halt.{Halt}
 use Rattle.keeper_sqlite.specs.declared.halt.Halt.TheVariants.{Refused, InTransaction, Unfit, NoMemory}
 
--- want of memory, here or in the database, is told as such; all else is a fault
+-- a lack of memory, here or in the database, is reported as such; everything else is a fault
 abbrev pub keep_fault : Halt → KeepFault
 keep_fault NoMemory = OutOfMemory
 keep_fault (Refused (SqliteFailure NoRoom)) = OutOfMemory
@@ -16,12 +16,12 @@ keep_fault (Refused error) = Failed
 keep_fault InTransaction = Failed
 keep_fault Unfit = Failed
 
--- a fault is counted, want of memory is not
+-- a fault is counted, a lack of memory is not
 abbrev pub faults_after : KeepFault → ℕ → ℕ
 faults_after Failed faults = counted faults
 faults_after OutOfMemory faults = faults
 
--- there was no memory, here or in the database
+-- memory ran out, here or in the database
 abbrev pub WantsMemory : Halt → Type 0
 WantsMemory halt = Is (keep_fault halt)
   where

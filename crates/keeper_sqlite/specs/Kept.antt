@@ -19,19 +19,20 @@ use Rattle.keeper_sqlite.specs.declared.rising.Key.{Key}
 use Rattle.keeper_sqlite.specs.declared.transactions.Change.{Change}
 use Rattle.keeper_sqlite.specs.declared.transactions.Change.TheVariants.{Answer, Raise, Tables, Season, Cut}
 
--- whether a row stands, in each of the four tables beside the phase
+-- whether a row exists, in each of the four tables other than the phase
 abbrev pub any_row_queries : List (List ℕ)
 any_row_queries = any_part ∷ any_answer ∷ any_raise ∷ any_allot ∷ []
 
--- A call on the database inside a transaction: a statement of this text is run with these values; the same, and it changes one row; a query of this
--- text, without values, is asked and told these rows; a statement of this text is made ready.
+-- A call on the database inside a transaction: a statement of this text is run with these values;
+-- the same, and it changes one row;
+-- a query of this text, without values, is asked and returns these rows; a statement of this text is made ready.
 pub data Call : Type 0 where
   Runs : List ℕ → Row → Call
   Places : List ℕ → Row → Call
   Asks : List ℕ → List Row → Call
   Readies : List ℕ → Call
 
--- the five tables, each made where it is not there
+-- the five tables, each made if it is missing
 abbrev pub table_texts : List (List ℕ)
 table_texts = season_table ∷ answer_table ∷ allot_table ∷ phase_table ∷ lift_table ∷ []
 
@@ -39,7 +40,7 @@ table_texts = season_table ∷ answer_table ∷ allot_table ∷ phase_table ∷ 
 abbrev pub plain_calls : List (List ℕ) → List Call
 plain_calls = map (λ text. Runs text [])
 
--- each text is asked, and tells no row
+-- each text is asked, and returns no row
 abbrev pub unanswered_calls : List (List ℕ) → List Call
 unanswered_calls = map (λ text. Asks text [])
 
@@ -52,8 +53,9 @@ part_calls text n (part ∷ parts) = Runs text (part_values n part) ∷ part_cal
 abbrev pub text_calls : List (List ℕ) → List Call
 text_calls parts = Readies part_text ∷ part_calls part_text 0 parts
 
--- No table beside the phase has a row, the parts are put, numbered from 0, and then the row of a season without cuts, which is placed only where the
--- phase has no row.
+-- No table other than the phase has a row, the parts are put, numbered from 0,
+-- and then the row of a season without cuts.
+-- That row is placed only if the phase has no row.
 abbrev pub season_calls : List (List ℕ) → List Call
 season_calls parts = unanswered_calls any_row_queries ++ text_calls parts ++ Places opening_text opening_values ∷ []
 
@@ -96,25 +98,25 @@ module _ {S : Type 0} (g : Ghosts S) where
     pub short : AllByRecursion (λ part. length part ≤ 65536) parts
     pub done : DidAll (calls parts) old new
 
-  -- the phase told of this season, or of none
+  -- the phase showed this season, or none
   pub record TellsPhaseOf (found : Option ℕ) (old new : Held S) : Type 0 where
     pub rows : List Row
     pub tells : TellsPhase rows found
     pub asked : DidAll (Asks phase_query rows ∷ []) old new
 
-  -- a season is there, exactly where the phase told of one
+  -- a season is kept if and only if the phase showed one
   pub record TellsSeason (found : Bool) (old new : Held S) : Type 0 where
     pub cuts : Option ℕ
     pub is : found ≡ is_some cuts
     pub told : TellsPhaseOf cuts old new
 
-  -- the phase told one row, with the number of the cuts
+  -- the phase showed one row, with the number of the cuts
   pub record ToldPhase (made : ℕ) (old new : Held S) : Type 0 where
     pub row : Row
     pub is : IsPhaseRow row made
     pub asked : DidAll (Asks phase_query (row ∷ []) ∷ []) old new
 
-  -- these rows rise, and above the last key that was told, where there was one
+  -- these rows rise, and above the last key that was returned, if there was one
   pub record AreAbove (rows : List AllotRow) (old new : Held S) : Type 0 where
     pub told : List Row
     pub last : Option Key
@@ -122,7 +124,7 @@ module _ {S : Type 0} (g : Ghosts S) where
     pub rising : are_rising last rows ≡ true
     pub asked : DidAll (Asks key_query told ∷ []) old new
 
-  -- The phase told of so many cuts, and the rows are above the last key; then each of them was put, and one cut more.
+  -- The phase showed this many cuts, and the rows are above the last key; then each of them was put, and one cut more.
   pub record MakesCut (rows : List AllotRow) (old new : Held S) : Type 0 where
     pub made : ℕ
     pub asked : Held S
@@ -147,7 +149,8 @@ module _ {S : Type 0} (g : Ghosts S) where
     pub done : Makes change (record old { in_transaction = true }) last
     pub is : db ≡ (state g last).now.trees
 
-  -- A transaction began, this was done in it, and what was done is what the database shows and what the last commit left.
+  -- A transaction began, this was done in it, and what was done is what the database shows
+  -- and what the last commit left.
   pub record Keeps (Done : Held S → Held S → Type 0) (old new : Held S) : Type 0 where
     pub last : Held S
     pub done : Done (record old { in_transaction = true }) last
@@ -156,19 +159,19 @@ module _ {S : Type 0} (g : Ghosts S) where
     pub last_open : IsTrue (state g last).is_open
     pub is_open : IsTrue (state g new).is_open
 
-  -- the query told a row for each record, in their order, in which it stands
+  -- the query returned a row for each record, in their order, and each row holds its record
   pub record TellsRecords {R : Type 0} (stands_in : Row → R → Type 0) (text : List ℕ) (records : List R) (old new : Held S) : Type 0 where
     pub rows : List Row
     pub stand : AllZip stands_in rows records
     pub asked : DidAll (Asks text rows ∷ []) old new
 
-  -- the query told a row for each part, and the parts joined are the text
+  -- the query returned a row for each part, and the parts joined are the text
   pub record TellsText (text : List ℕ) (old new : Held S) : Type 0 where
     pub parts : List (List ℕ)
     pub joined : concat parts ≡ text
     pub told : TellsRecords IsPartRow text_query parts old new
 
-  -- the text, the answers, the raises and the published seats were asked in this order, and told these records
+  -- the text, the answers, the raises and the published seats were asked in this order, and returned these records
   pub record TellsTables (kept : Kept) (old new : Held S) : Type 0 where
     pub one : Held S
     pub two : Held S
@@ -178,7 +181,7 @@ module _ {S : Type 0} (g : Ghosts S) where
     pub raises : TellsRecords IsRaiseRow raises_query kept.raises two three
     pub allots : TellsRecords IsAllotRow allots_query kept.allots three new
 
-  -- the phase told of no season, or of the number of cuts of these records, and then the other tables of the rest
+  -- the phase showed no season, or the number of cuts of these records, and then the other tables showed the rest
   abbrev pub TellsKept : Option Kept → Held S → Held S → Type 0
   TellsKept None old new = TellsPhaseOf None old new
   TellsKept (Some kept) old new = (mid : Held S) × TellsPhaseOf (Some kept.cuts) old mid × TellsTables kept mid new

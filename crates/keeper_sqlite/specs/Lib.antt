@@ -6,3 +6,4 @@ pub mod Numbers
 pub mod Rising
 pub mod Stops
 pub mod Stored
+pub mod Transacts

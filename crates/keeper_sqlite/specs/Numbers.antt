@@ -1,2 +1,2 @@
--- The numbers that stand for choices in the tables.
+-- The numbers of the choices in the tables.
 pub use Rattle.stored_tables.specs.Numbers.{choice_number, choice_of, ChoiceNumbersLaw}

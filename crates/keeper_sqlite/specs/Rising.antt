@@ -6,7 +6,7 @@ use Rattle.keeper_sqlite.specs.declared.rising.Key.{Key}
 abbrev pub key_of : AllotRow → Key
 key_of row = record { round = row.round; cand = row.cand }
 
--- the row comes after this key, where there is one
+-- the row comes after this key, if there is one
 abbrev pub is_above : Option Key → AllotRow → Bool
 is_above None row = true
 is_above (Some key) row = nat_lt key.round row.round || ((key.round == row.round) && nat_lt key.cand.0 row.cand.0)
@@ -16,7 +16,7 @@ abbrev pub are_rising : Option Key → List AllotRow → Bool
 are_rising last [] = true
 are_rising last (row ∷ rows) = is_above last row && are_rising (Some (key_of row)) rows
 
--- the key of the last of these rows, and this one where there is none
+-- the key of the last of these rows, and this one if there is none
 abbrev pub key_after : Option Key → List AllotRow → Option Key
 key_after last [] = last
 key_after last (row ∷ rows) = key_after (Some (key_of row)) rows

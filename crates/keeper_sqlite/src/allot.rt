@@ -28,7 +28,7 @@ use office_base::{CandId, ProgId, step_number};
 use sqlite::{Alter, Row, Statement, Transaction, params};
 use std::alloc::Global;
 
-/// Makes the table where it is not there.
+/// Makes the table if it is missing.
 pub(crate) fn create<S: Alter>(tx: &mut Transaction<'_, S>) -> Result<(), Halt>
     ensures same_reference { tx.new.conn.ghost_name ≡ tx.old.conn.ghost_name }
     ensures inside { CommitsNothing (state S.Store tx.old.conn.now) (state S.Store tx.new.conn.now) }
@@ -113,7 +113,7 @@ fn insert_one<S: Alter>(
     )
 }
 
-/// The last key by round and candidate, where a row stands.
+/// Returns the last key by round and candidate, if the table has a row.
 pub(crate) fn last_key<S: Alter>(tx: &mut Transaction<'_, S>) -> Result<Option<Key>, Halt>
     ensures same_reference { tx.new.conn.ghost_name ≡ tx.old.conn.ghost_name }
     ensures inside { CommitsNothing (state S.Store tx.old.conn.now) (state S.Store tx.new.conn.now) }
@@ -148,7 +148,7 @@ fn key_of(row: &Row) -> Result<Key, Halt>
     })
 }
 
-/// All rows, by rising round and candidate.
+/// Returns all rows, by rising round and candidate.
 pub(crate) fn read_all<S: Alter>(
     tx: &mut Transaction<'_, S>,
     alloc: Global,

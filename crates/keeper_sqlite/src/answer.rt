@@ -24,7 +24,7 @@ use office_base::CandId;
 use sqlite::{Alter, Row, Transaction, params};
 use std::alloc::Global;
 
-/// Makes the table where it is not there.
+/// Makes the table if it is missing.
 pub(crate) fn create<S: Alter>(tx: &mut Transaction<'_, S>) -> Result<(), Halt>
     ensures same_reference { tx.new.conn.ghost_name ≡ tx.old.conn.ghost_name }
     ensures inside { CommitsNothing (state S.Store tx.old.conn.now) (state S.Store tx.new.conn.now) }
@@ -71,7 +71,7 @@ pub(crate) fn insert<S: Alter>(tx: &mut Transaction<'_, S>, row: AnswerRow) -> R
     )
 }
 
-/// All rows, in the order in which they were put.
+/// Returns all rows, in the order in which they were put.
 pub(crate) fn read_all<S: Alter>(
     tx: &mut Transaction<'_, S>,
     alloc: Global,

@@ -30,7 +30,7 @@ pub(crate) fn run<S: Alter>(
     Ok(())
 }
 
-/// Runs a statement that is to change one row.
+/// Runs a statement that must change one row.
 pub(crate) fn place<S: Alter>(
     tx: &mut Transaction<'_, S>,
     text: &str,
@@ -59,7 +59,7 @@ pub(crate) fn ask<S: Alter>(tx: &mut Transaction<'_, S>, text: &str) -> Result<V
     Ok(tx.query_all(text, &[])?)
 }
 
-/// Tests that a query tells no row.
+/// Tests that a query returns no row.
 pub(crate) fn expect_none<S: Alter>(tx: &mut Transaction<'_, S>, text: &str) -> Result<(), Halt>
     ensures same_reference { tx.new.conn.ghost_name ≡ tx.old.conn.ghost_name }
     ensures inside { CommitsNothing (state S.Store tx.old.conn.now) (state S.Store tx.new.conn.now) }

@@ -10,7 +10,7 @@ use crate::numbers::choice_of_number;
 use office_base::{Choice, StepKind, step_of_number};
 use sqlite::Row;
 
-/// A number of at most 32 bits.
+/// Reads a number of at most 32 bits.
 pub(crate) fn number_at(row: &Row, at: usize) -> Result<u32, Halt>
     ensures ok { IfOk result (Holds row.now 32 at) }
     ensures err { IfErr result (λ halt. ¬ WantsMemory halt → (n : ℕ) → ¬ Holds row.now 32 at n) }
@@ -18,7 +18,7 @@ pub(crate) fn number_at(row: &Row, at: usize) -> Result<u32, Halt>
     Ok(row.get(at)?)
 }
 
-/// A number of at most 16 bits.
+/// Reads a number of at most 16 bits.
 pub(crate) fn small_number_at(row: &Row, at: usize) -> Result<u16, Halt>
     ensures ok { IfOk result (Holds row.now 16 at) }
     ensures err { IfErr result (λ halt. ¬ WantsMemory halt → (n : ℕ) → ¬ Holds row.now 16 at n) }

@@ -5,16 +5,16 @@ ghost use Rattle.keeper_sqlite.specs.declared.halt.Halt.TheVariants.{Refused, No
 use office_base::OutOfMemory;
 use sqlite::Error;
 
-/// Why a transaction came to no end. Nothing of it stays.
+/// Why a transaction did not complete. Nothing of it is kept.
 #[derive(Clone, Copy, Debug, PartialEq, Eq, Drop)]
 pub(crate) enum Halt {
     /// The database refused a statement or failed.
     Refused(Error),
     /// The connection is in a transaction that somebody else began.
     InTransaction,
-    /// A row stands that is no record, or that may not stand beside the new ones.
+    /// A row is no record, or must not exist together with the new ones.
     Unfit,
-    /// There was no memory for what was read.
+    /// Memory ran out for what was read.
     NoMemory,
 }
 

@@ -1,12 +1,13 @@
 // The keeper over a connection.
 ghost use Rattle.std.specs.Prelude.{◌≡◌, ◌≤◌, ◌⊎◌, [], ◌∷◌, ◌++◌, Bool, true, false, IsErrOf, IsErrAnd, IsTrue, IfOk, IfErr, OnOk, OnErr, MatchOption};
-ghost use Rattle.office_base.specs.Memory.{counted};
+ghost use Rattle.office_base.specs.Memory.{FailsByOne, counted};
 ghost use Rattle.sqlite.specs.State.{HasCleanDisk, Survives};
 ghost use Rattle.sqlite.specs.Tree.{Trees};
 ghost use Rattle.sqlite.specs.Held.{state};
 ghost use Rattle.keeper_sqlite.specs.Commits.{CommitsNothing, CommitsOnce};
 ghost use Rattle.keeper_sqlite.specs.Kept.{Keeps, MadeBy, Looks, TellsSeason, TellsKept, Makes, MakesCut, PutsText, Ran, DidAll, season_calls, plain_calls, table_texts, answer_text, answer_values, raise_text, raise_values};
 ghost use Rattle.keeper_sqlite.specs.Halts.{keep_fault, faults_after};
+ghost use Rattle.keeper_sqlite.specs.Transacts.{Transacts};
 ghost use Rattle.keeper_sqlite.specs.Stops.{FailsBy, StopsIn, StopsText, LosesPhase, LosesCut, LosesKept, Breaks, IsBusy, Loses};
 ghost use Rattle.keeper_sqlite.specs.Kept.Call.{Runs};
 ghost use Rattle.std.specs.List.{AllByRecursion};
@@ -24,9 +25,10 @@ use sqlite::{Alter, Connection, Error, ErrorCode};
 use std::alloc::Global;
 use std::marker::Model;
 
-/// A keeper over a database. It tells the tables that its store tells, and holds no room in advance. Each method is one transaction; where one answers `Failed`, the
-/// database refused or failed, somebody else is in a transaction, or a row stands that is no record or may not stand beside the new ones, and the
-/// count of faults rose by one, up to 2^64 - 1.
+/// A keeper over a database. Its tables are visible if those of its store are, and it holds no room in advance.
+/// Each method is one transaction. If one returns `Failed`, the database refused or failed, or somebody else is in a
+/// transaction, or a row is no record or must not exist together with the new ones.
+/// The count of faults then rose by one, up to 2^64 - 1.
 #[derive(Drop)]
 pub struct SqliteKeeper<S: Alter> {
     connection: Connection<S>,
@@ -44,7 +46,7 @@ impl<S: Alter> Model for SqliteKeeper<S> {
 }
 
 impl<S: Alter> SqliteKeeper<S> {
-    /// A keeper over this connection, with no faults. It takes no memory and touches no table.
+    /// Makes a keeper over this connection, with no faults. It allocates nothing and touches no table.
     pub fn new(connection: Connection<S>) -> SqliteKeeper<S>
         ensures { result ≡ record { connection = connection; faults = 0 } }
     {
@@ -54,21 +56,21 @@ impl<S: Alter> SqliteKeeper<S> {
         }
     }
 
-    /// What it tells is what its store tells. Nothing is done.
+    /// Shows that the visible tables of the keeper are those of its store. It does nothing.
     pub fn tells(&self)
-        ensures { ⟦<SqliteKeeper<S> as Keeper>⟧.tables self.now ≡ told (state S.Store self.now.connection) }
+        ensures { (⟦<SqliteKeeper<S> as Keeper>⟧.seen self.now).tables ≡ told (state S.Store self.now.connection) }
     {
         let _ = self.connection.is_autocommit();
     }
 
-    /// How often it has failed, up to 2^64 - 1.
+    /// Returns how often it has failed, up to 2^64 - 1.
     pub fn faults(&self) -> u64
         ensures { result ≡ self.now.faults }
     {
         self.faults
     }
 
-    /// The connection, as the last call left it.
+    /// Returns the connection, as the last call left it.
     pub fn into_connection(self) -> Connection<S>
         ensures { result ≡ self.connection }
     {
@@ -79,13 +81,14 @@ impl<S: Alter> SqliteKeeper<S> {
         connection
     }
 
-    /// Makes the tables that are not there, all or none, and leaves those that are. A database without the table of raises becomes one that has
-    /// none. Where it ends well, the five texts were run in their order and committed, and whatever tables were there stay with their rows: a database
-    /// without tables tells of no season then, one without the table of raises tells what it kept and no raises, and one with all five tells what it kept.
+    /// Makes the tables that are missing, all or none, and leaves the others.
+    /// A database without the table of raises gets an empty one.
+    /// If it ends well, the five texts were run in their order and committed, and existing tables keep their rows.
+    /// A database without tables then shows no season.
+    /// One without the table of raises shows what it kept and no raises.
+    /// One with all five shows what it kept.
     pub fn make_tables(&mut self) -> Result<(), KeepFault>
-        ensures count { self.old.faults ≤ self.new.faults }
-        ensures steady { ¬ IsErrOf result KeepFault.Failed → self.new.faults ≡ self.old.faults }
-        ensures counted { IsErrOf result KeepFault.Failed → self.new.faults ≡ counted self.old.faults }
+        ensures blamed { FailsByOne (IsErrOf result KeepFault.Failed) self.old.faults self.new.faults }
         ensures once { CommitsOnce (state S.Store self.old.connection) (state S.Store self.new.connection) }
         ensures kept { HasCleanDisk (state S.Store self.new.connection) → OnOk result (Keeps S.Store (DidAll S.Store (plain_calls table_texts)) self.old.connection self.new.connection) }
         ensures rows { HasCleanDisk (state S.Store self.new.connection) → OnOk result (LeavesTables (state S.Store self.old.connection).now (state S.Store self.new.connection).now) }
@@ -112,7 +115,7 @@ impl<S: Alter> SqliteKeeper<S> {
         self.settle(done)
     }
 
-    /// What a method answers.
+    /// Returns the result of a method.
     fn settle<T>(&mut self, done: Result<T, Halt>) -> Result<T, KeepFault>
         ensures ok { IfOk result (λ value. done ≡ Ok value) }
         ensures err { IfErr result (λ fault. IsErrAnd done (λ halt. fault ≡ keep_fault halt)) }
@@ -126,7 +129,8 @@ impl<S: Alter> SqliteKeeper<S> {
         }
     }
 
-    /// The fault of a transaction that was rolled back: want of memory is told as such, all else is counted.
+    /// Returns the fault of a transaction that was rolled back.
+    /// A lack of memory is reported as such, and everything else is counted.
     fn fault_of(&mut self, halt: Halt) -> KeepFault
         ensures count { self.old.faults ≤ self.new.faults }
         ensures fault { result ≡ keep_fault halt }
@@ -148,21 +152,13 @@ impl<S: Alter> Keeper for SqliteKeeper<S> {
     ghost use Rattle.std.specs.Prelude.{false};
     ghost use Rattle.stored_tables.specs.Told.{told};
 
-    ghost tables = { λ k. told (state S.Store k.connection) };
-
-    ghost faults = { λ k. k.faults };
-
-    ghost holds_room = { λ _. false };
-
-    ghost spare = { λ _. 0 };
+    ghost seen = { λ k. record { tables = told (state S.Store k.connection); faults = k.faults; holds_room = false; spare = 0 } };
 
     fn has_season(&mut self) -> Result<bool, KeepFault>
         ensures ok { IfOk result (λ found. IsFound found (told (state S.Store self.new.connection))) }
         ensures told { AreTold (told (state S.Store self.old.connection)) (told (state S.Store self.new.connection)) }
         ensures stays { HasCleanDisk (state S.Store self.new.connection) → IsTrue (state S.Store self.new.connection).is_open → told (state S.Store self.new.connection) ≡ told (state S.Store self.old.connection) }
-        ensures count { self.old.faults ≤ self.new.faults }
-        ensures steady { ¬ IsErrOf result KeepFault.Failed → self.new.faults ≡ self.old.faults }
-        ensures counted { IsErrOf result KeepFault.Failed → self.new.faults ≡ counted self.old.faults }
+        ensures blamed { FailsByOne (IsErrOf result KeepFault.Failed) self.old.faults self.new.faults }
         ensures nothing { CommitsNothing (state S.Store self.old.connection) (state S.Store self.new.connection) }
         ensures found { HasCleanDisk (state S.Store self.new.connection) → IfOk result (λ found. Looks S.Store (TellsSeason S.Store found) self.old.connection self.new.connection) }
         ensures lost { HasCleanDisk (state S.Store self.new.connection) → IfErr result (FailsBy (λ halt. IsBusy halt self.old.connection ⊎ Looks S.Store (LosesPhase S.Store halt) self.old.connection self.new.connection)) }
@@ -174,17 +170,13 @@ impl<S: Alter> Keeper for SqliteKeeper<S> {
     fn put_season(&mut self, text: &[u8]) -> Result<(), KeepFault>
         ensures ok { OnOk result (AreTold (with_season text.now (told (state S.Store self.old.connection))) (told (state S.Store self.new.connection))) }
         ensures err { OnErr result (AreTold (told (state S.Store self.old.connection)) (told (state S.Store self.new.connection))) }
-        ensures stays_err { HasCleanDisk (state S.Store self.new.connection) → IsTrue (state S.Store self.new.connection).is_open → OnErr result (told (state S.Store self.new.connection) ≡ told (state S.Store self.old.connection)) }
         ensures stays { HasCleanDisk (state S.Store self.new.connection) → OnOk result (told (state S.Store self.new.connection) ≡ with_season text.now (told (state S.Store self.old.connection))) }
         ensures crash { IsTold (told (state S.Store self.old.connection)) → Survives (state S.Store self.old.connection) (state S.Store self.new.connection) (λ db. tables_in db ≡ with_season text.now (told (state S.Store self.old.connection))) }
         ensures alone { HasCleanDisk (state S.Store self.new.connection) → OnOk result (IsTold (told (state S.Store self.new.connection)) → (db : Trees) → (state S.Store self.new.connection).may_leave db → tables_in db ≡ told (state S.Store self.new.connection)) }
-        ensures count { self.old.faults ≤ self.new.faults }
-        ensures steady { ¬ IsErrOf result KeepFault.Failed → self.new.faults ≡ self.old.faults }
-        ensures counted { IsErrOf result KeepFault.Failed → self.new.faults ≡ counted self.old.faults }
-        ensures once { CommitsOnce (state S.Store self.old.connection) (state S.Store self.new.connection) }
-        ensures kept { HasCleanDisk (state S.Store self.new.connection) → OnOk result (Keeps S.Store (PutsText S.Store season_calls text.now) self.old.connection self.new.connection) }
+        ensures blamed { FailsByOne (IsErrOf result KeepFault.Failed) self.old.faults self.new.faults }
+        ensures change { Transacts S.Store (PutsText S.Store season_calls text.now)
+            (StopsText S.Store season_calls 0 text.now) self.old.connection self.new.connection result }
         ensures empty { (strict : Bool) → HasCleanDisk (state S.Store self.new.connection) → self.old.connection.schema ≡ stored strict → OnOk result (AllByRecursion (λ t. (state S.Store self.old.connection).now.trees t ≡ []) (0 ∷ 1 ∷ 3 ∷ 5 ∷ 6 ∷ [])) }
-        ensures lost { HasCleanDisk (state S.Store self.new.connection) → IfErr result (FailsBy (λ halt. Loses S.Store (StopsText S.Store season_calls 0 text.now) (PutsText S.Store season_calls text.now) halt self.old.connection self.new.connection)) }
     {
         self.commit(Change::Season(text))
     }
@@ -196,16 +188,12 @@ impl<S: Alter> Keeper for SqliteKeeper<S> {
     fn put_answer(&mut self, row: AnswerRow) -> Result<(), KeepFault>
         ensures ok { IsFound true (told (state S.Store self.old.connection)) → OnOk result (AreTold (with_answer row (told (state S.Store self.old.connection))) (told (state S.Store self.new.connection))) }
         ensures err { OnErr result (AreTold (told (state S.Store self.old.connection)) (told (state S.Store self.new.connection))) }
-        ensures stays_err { HasCleanDisk (state S.Store self.new.connection) → IsTrue (state S.Store self.new.connection).is_open → OnErr result (told (state S.Store self.new.connection) ≡ told (state S.Store self.old.connection)) }
         ensures stays { IsFound true (told (state S.Store self.old.connection)) → HasCleanDisk (state S.Store self.new.connection) → OnOk result (told (state S.Store self.new.connection) ≡ with_answer row (told (state S.Store self.old.connection))) }
         ensures crash { IsFound true (told (state S.Store self.old.connection)) → IsTold (told (state S.Store self.old.connection)) → Survives (state S.Store self.old.connection) (state S.Store self.new.connection) (λ db. tables_in db ≡ with_answer row (told (state S.Store self.old.connection))) }
         ensures alone { HasCleanDisk (state S.Store self.new.connection) → OnOk result (IsTold (told (state S.Store self.new.connection)) → (db : Trees) → (state S.Store self.new.connection).may_leave db → tables_in db ≡ told (state S.Store self.new.connection)) }
-        ensures count { self.old.faults ≤ self.new.faults }
-        ensures steady { ¬ IsErrOf result KeepFault.Failed → self.new.faults ≡ self.old.faults }
-        ensures counted { IsErrOf result KeepFault.Failed → self.new.faults ≡ counted self.old.faults }
-        ensures once { CommitsOnce (state S.Store self.old.connection) (state S.Store self.new.connection) }
-        ensures kept { HasCleanDisk (state S.Store self.new.connection) → OnOk result (Keeps S.Store (Ran S.Store answer_text (answer_values row)) self.old.connection self.new.connection) }
-        ensures lost { HasCleanDisk (state S.Store self.new.connection) → IfErr result (FailsBy (λ halt. Loses S.Store (StopsIn S.Store (Runs answer_text (answer_values row) ∷ [])) (Ran S.Store answer_text (answer_values row)) halt self.old.connection self.new.connection)) }
+        ensures blamed { FailsByOne (IsErrOf result KeepFault.Failed) self.old.faults self.new.faults }
+        ensures change { Transacts S.Store (Ran S.Store answer_text (answer_values row))
+            (StopsIn S.Store (Runs answer_text (answer_values row) ∷ [])) self.old.connection self.new.connection result }
     {
         self.commit(Change::Answer(row))
     }
@@ -213,16 +201,12 @@ impl<S: Alter> Keeper for SqliteKeeper<S> {
     fn put_raise(&mut self, row: RaiseRow) -> Result<(), KeepFault>
         ensures ok { IsFound true (told (state S.Store self.old.connection)) → OnOk result (AreTold (with_raise row (told (state S.Store self.old.connection))) (told (state S.Store self.new.connection))) }
         ensures err { OnErr result (AreTold (told (state S.Store self.old.connection)) (told (state S.Store self.new.connection))) }
-        ensures stays_err { HasCleanDisk (state S.Store self.new.connection) → IsTrue (state S.Store self.new.connection).is_open → OnErr result (told (state S.Store self.new.connection) ≡ told (state S.Store self.old.connection)) }
         ensures stays { IsFound true (told (state S.Store self.old.connection)) → HasCleanDisk (state S.Store self.new.connection) → OnOk result (told (state S.Store self.new.connection) ≡ with_raise row (told (state S.Store self.old.connection))) }
         ensures crash { IsFound true (told (state S.Store self.old.connection)) → IsTold (told (state S.Store self.old.connection)) → Survives (state S.Store self.old.connection) (state S.Store self.new.connection) (λ db. tables_in db ≡ with_raise row (told (state S.Store self.old.connection))) }
         ensures alone { HasCleanDisk (state S.Store self.new.connection) → OnOk result (IsTold (told (state S.Store self.new.connection)) → (db : Trees) → (state S.Store self.new.connection).may_leave db → tables_in db ≡ told (state S.Store self.new.connection)) }
-        ensures count { self.old.faults ≤ self.new.faults }
-        ensures steady { ¬ IsErrOf result KeepFault.Failed → self.new.faults ≡ self.old.faults }
-        ensures counted { IsErrOf result KeepFault.Failed → self.new.faults ≡ counted self.old.faults }
-        ensures once { CommitsOnce (state S.Store self.old.connection) (state S.Store self.new.connection) }
-        ensures kept { HasCleanDisk (state S.Store self.new.connection) → OnOk result (Keeps S.Store (Ran S.Store raise_text (raise_values row)) self.old.connection self.new.connection) }
-        ensures lost { HasCleanDisk (state S.Store self.new.connection) → IfErr result (FailsBy (λ halt. Loses S.Store (StopsIn S.Store (Runs raise_text (raise_values row) ∷ [])) (Ran S.Store raise_text (raise_values row)) halt self.old.connection self.new.connection)) }
+        ensures blamed { FailsByOne (IsErrOf result KeepFault.Failed) self.old.faults self.new.faults }
+        ensures change { Transacts S.Store (Ran S.Store raise_text (raise_values row))
+            (StopsIn S.Store (Runs raise_text (raise_values row) ∷ [])) self.old.connection self.new.connection result }
     {
         self.commit(Change::Raise(row))
     }
@@ -230,16 +214,12 @@ impl<S: Alter> Keeper for SqliteKeeper<S> {
     fn put_cut(&mut self, rows: &[AllotRow]) -> Result<(), KeepFault>
         ensures ok { OnOk result (AreTold (with_cut rows.now (told (state S.Store self.old.connection))) (told (state S.Store self.new.connection))) }
         ensures err { OnErr result (AreTold (told (state S.Store self.old.connection)) (told (state S.Store self.new.connection))) }
-        ensures stays_err { HasCleanDisk (state S.Store self.new.connection) → IsTrue (state S.Store self.new.connection).is_open → OnErr result (told (state S.Store self.new.connection) ≡ told (state S.Store self.old.connection)) }
         ensures stays { HasCleanDisk (state S.Store self.new.connection) → OnOk result (told (state S.Store self.new.connection) ≡ with_cut rows.now (told (state S.Store self.old.connection))) }
         ensures crash { IsTold (told (state S.Store self.old.connection)) → Survives (state S.Store self.old.connection) (state S.Store self.new.connection) (λ db. tables_in db ≡ with_cut rows.now (told (state S.Store self.old.connection))) }
         ensures alone { HasCleanDisk (state S.Store self.new.connection) → OnOk result (IsTold (told (state S.Store self.new.connection)) → (db : Trees) → (state S.Store self.new.connection).may_leave db → tables_in db ≡ told (state S.Store self.new.connection)) }
-        ensures count { self.old.faults ≤ self.new.faults }
-        ensures steady { ¬ IsErrOf result KeepFault.Failed → self.new.faults ≡ self.old.faults }
-        ensures counted { IsErrOf result KeepFault.Failed → self.new.faults ≡ counted self.old.faults }
-        ensures once { CommitsOnce (state S.Store self.old.connection) (state S.Store self.new.connection) }
-        ensures kept { HasCleanDisk (state S.Store self.new.connection) → OnOk result (Keeps S.Store (MakesCut S.Store rows.now) self.old.connection self.new.connection) }
-        ensures lost { HasCleanDisk (state S.Store self.new.connection) → IfErr result (FailsBy (λ halt. Loses S.Store (LosesCut S.Store rows.now) (MakesCut S.Store rows.now) halt self.old.connection self.new.connection)) }
+        ensures blamed { FailsByOne (IsErrOf result KeepFault.Failed) self.old.faults self.new.faults }
+        ensures change { Transacts S.Store (MakesCut S.Store rows.now)
+            (LosesCut S.Store rows.now) self.old.connection self.new.connection result }
         ensures rises { (kept : Kept) → told (state S.Store self.old.connection) ≡ Records kept → HasCleanDisk (state S.Store self.new.connection) → OnOk result (are_rising (kept.allots ++ rows.now) ≡ true) }
     {
         self.commit(Change::Cut(rows))
@@ -249,9 +229,7 @@ impl<S: Alter> Keeper for SqliteKeeper<S> {
         ensures ok { IfOk result (λ found. MatchOption found (IsFound false (told (state S.Store self.new.connection))) (IsLoaded (told (state S.Store self.new.connection)))) }
         ensures told { AreTold (told (state S.Store self.old.connection)) (told (state S.Store self.new.connection)) }
         ensures stays { HasCleanDisk (state S.Store self.new.connection) → IsTrue (state S.Store self.new.connection).is_open → told (state S.Store self.new.connection) ≡ told (state S.Store self.old.connection) }
-        ensures count { self.old.faults ≤ self.new.faults }
-        ensures steady { ¬ IsErrOf result KeepFault.Failed → self.new.faults ≡ self.old.faults }
-        ensures counted { IsErrOf result KeepFault.Failed → self.new.faults ≡ counted self.old.faults }
+        ensures blamed { FailsByOne (IsErrOf result KeepFault.Failed) self.old.faults self.new.faults }
         ensures nothing { CommitsNothing (state S.Store self.old.connection) (state S.Store self.new.connection) }
         ensures loaded { HasCleanDisk (state S.Store self.new.connection) → IfOk result (λ found. Looks S.Store (TellsKept S.Store found) self.old.connection self.new.connection) }
         ensures lost { HasCleanDisk (state S.Store self.new.connection) → IfErr result (FailsBy (λ halt. IsBusy halt self.old.connection ⊎ Looks S.Store (LosesKept S.Store halt) self.old.connection self.new.connection)) }

@@ -1,11 +1,13 @@
 // A keeper over a database: the records of a season as rows of five tables.
 //
-// It meets the trait of keepers over a connection to any store, a file or memory. Each method is one transaction, and each statement stands in a
-// function of its own, one module a table. Whatever the database refuses, want of memory apart, is a counted fault, and so are rows that are no
-// records. On an open store with its five tables alone it tells the rows as records: what is told after a put is what the put says, or what was told
-// before, and a crash leaves one of the two (`stored_tables` has the layout and the meaning of the texts). Of every store, told or not, is proved that a
-// fault comes only with a count that rose, that a put commits one database whole or nothing, and which calls it made. No function here knows what the records
-// mean to an office.
+// It meets the trait of keepers over a connection to any store, a file or memory.
+// Each method is one transaction, and each statement has a function of its own, one module a table.
+// Everything that the database refuses, a lack of memory apart, is a counted fault, and so are rows that are no
+// records. On an open store with its five tables alone, the rows are visible as records.
+// After a put, the visible tables are what the put says, or unchanged, and a crash leaves one of the two
+// (`stored_tables` has the layout and the meaning of the texts).
+// For every store, visible or hidden, it is proved that a fault comes only with a count that rose, that a put commits
+// one database whole or nothing, and which calls it made. No function here knows what the records mean to an office.
 #![tactic(auto)]
 
 mod allot;

@@ -1,4 +1,4 @@
-// The numbers that stand for choices in the tables.
+// The numbers of the choices in the tables.
 ghost use Rattle.std.specs.Prelude.{◌≡◌};
 ghost use Rattle.keeper_sqlite.specs.Numbers.{choice_number, choice_of};
 

@@ -20,7 +20,7 @@ use sqlite::{Alter, Row, Transaction, params};
 /// The one key.
 const ID: u32 = 1;
 
-/// Makes the table where it is not there.
+/// Makes the table if it is missing.
 pub(crate) fn create<S: Alter>(tx: &mut Transaction<'_, S>) -> Result<(), Halt>
     ensures same_reference { tx.new.conn.ghost_name ≡ tx.old.conn.ghost_name }
     ensures inside { CommitsNothing (state S.Store tx.old.conn.now) (state S.Store tx.new.conn.now) }
@@ -35,7 +35,7 @@ pub(crate) fn create<S: Alter>(tx: &mut Transaction<'_, S>) -> Result<(), Halt>
     )
 }
 
-/// Puts the row of a season without cuts, where no row stands.
+/// Puts the row of a season without cuts, if the table has no row.
 pub(crate) fn insert<S: Alter>(tx: &mut Transaction<'_, S>) -> Result<(), Halt>
     ensures same_reference { tx.new.conn.ghost_name ≡ tx.old.conn.ghost_name }
     ensures inside { CommitsNothing (state S.Store tx.old.conn.now) (state S.Store tx.new.conn.now) }
@@ -65,7 +65,7 @@ pub(crate) fn upsert<S: Alter>(tx: &mut Transaction<'_, S>, cuts: u16) -> Result
     )
 }
 
-/// The number of cuts, or None where no season is.
+/// Returns the number of cuts, or None if there is no season.
 pub(crate) fn read<S: Alter>(tx: &mut Transaction<'_, S>) -> Result<Option<u16>, Halt>
     ensures same_reference { tx.new.conn.ghost_name ≡ tx.old.conn.ghost_name }
     ensures inside { CommitsNothing (state S.Store tx.old.conn.now) (state S.Store tx.new.conn.now) }
@@ -76,7 +76,7 @@ pub(crate) fn read<S: Alter>(tx: &mut Transaction<'_, S>) -> Result<Option<u16>,
     phase_of(&ask(tx, "SELECT id, cuts FROM phase ORDER BY id")?)
 }
 
-/// The number of cuts in the rows of the table.
+/// Returns the number of cuts in the rows of the table.
 fn phase_of(rows: &[Row]) -> Result<Option<u16>, Halt>
     ensures ok { IfOk result (TellsPhase rows.now) }
     ensures err { IfErr result (λ halt. ¬ WantsMemory halt → (found : Option ℕ) → ¬ TellsPhase rows.now found) }

@@ -14,13 +14,13 @@ pub(crate) trait Record: Drop + Sized {
     /// The row holds this record.
     ghost stands_in: { Values → Self → Type 0 };
 
-    /// The record of the row.
+    /// Reads the record of the row.
     fn from_row(row: &Row) -> Result<Self, Halt>
         ensures ok { IfOk result (stands_in row.now) }
         ensures err { IfErr result (λ halt. ¬ WantsMemory halt → (held : Self) → ¬ stands_in row.now held) };
 }
 
-/// The records of the rows, in their order.
+/// Reads the records of the rows, in their order.
 pub(crate) fn records_of<R: Record>(alloc: Global, rows: &[Row]) -> Result<Listed<R>, Halt>
     ensures ok { IfOk result (AllZip R.Record.stands_in rows.now) }
     ensures err { IfErr result (λ halt. ¬ WantsMemory halt → (held : List R) → ¬ AllZip R.Record.stands_in rows.now held) }

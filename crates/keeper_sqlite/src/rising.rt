@@ -12,7 +12,7 @@ pub(crate) struct Key {
     pub cand: CandId,
 }
 
-/// Whether the rows rise by round and candidate, and above the last key where there is one.
+/// Returns whether the rows rise by round and candidate, and above the last key if there is one.
 pub(crate) fn are_rising(last: Option<Key>, rows: &[AllotRow]) -> bool
     ensures { result ≡ are_rising last rows.now }
 {

@@ -24,7 +24,7 @@ use std::alloc::Global;
 /// The most bytes that a part has.
 const PART: usize = 65_536;
 
-/// Makes the table where it is not there.
+/// Makes the table if it is missing.
 pub(crate) fn create<S: Alter>(tx: &mut Transaction<'_, S>) -> Result<(), Halt>
     ensures same_reference { tx.new.conn.ghost_name ≡ tx.old.conn.ghost_name }
     ensures inside { CommitsNothing (state S.Store tx.old.conn.now) (state S.Store tx.new.conn.now) }
@@ -104,7 +104,7 @@ fn insert_part<S: Alter>(
     run_ready(tx, insert, params![number, part])
 }
 
-/// The parts joined, by rising part.
+/// Returns the parts joined, by rising part.
 pub(crate) fn read_text<S: Alter>(tx: &mut Transaction<'_, S>, alloc: Global) -> Result<Text, Halt>
     ensures same_reference { tx.new.conn.ghost_name ≡ tx.old.conn.ghost_name }
     ensures inside { CommitsNothing (state S.Store tx.old.conn.now) (state S.Store tx.new.conn.now) }

@@ -21,9 +21,9 @@ use std::alloc::Global;
 /// What one transaction writes.
 #[derive(Clone, Copy)]
 pub(crate) enum Change<'a> {
-    /// The tables that are not there.
+    /// The tables that are missing.
     Tables,
-    /// The text of a season, where no row stands in any table.
+    /// The text of a season, if no table has a row.
     Season(&'a [u8]),
     /// An answer after the others.
     Answer(AnswerRow),
@@ -45,7 +45,8 @@ fn expect_free<S: Alter>(connection: &Connection<S>) -> Result<(), Halt>
     }
 }
 
-/// Outside a transaction a connection that is open shows its last commit, and that obeys its schema. Nothing is done.
+/// Shows that outside a transaction an open connection shows its last commit, and that the commit obeys its schema.
+/// It does nothing.
 fn at_rest<S: Alter>(connection: &Connection<S>)
     ensures live { IsLive (state S.Store connection.now) }
     ensures settled { connection.now.in_transaction ≡ false → IsTrue (state S.Store connection.now).is_open → (state S.Store connection.now).now ≡ (state S.Store connection.now).committed }
@@ -58,10 +59,9 @@ fn at_rest<S: Alter>(connection: &Connection<S>)
 fn settle<S: Alter>(tx: Transaction<'_, S>, done: Result<(), Halt>) -> Result<(), Halt>
     ensures shown { Survives (state S.Store tx.entry.conn.now) (state S.Store tx.exit.0.now) (λ db. (done ≡ Ok tt) × (db ≡ (state S.Store tx.entry.conn.now).now.trees)) }
     ensures nothing { OnErr done (CommitsNothing (state S.Store tx.entry.conn.now) (state S.Store tx.exit.0.now)) }
-    ensures ended { tx.exit.0.now.in_transaction ≡ false }
+    ensures ended { (tx.exit.0.now.in_transaction ≡ false) × OnOk result (done ≡ Ok tt) }
     ensures back { HasCleanDisk (state S.Store tx.exit.0.now) → IsTrue (state S.Store tx.exit.0.now).is_open
         → OnErr result (IsTrue (state S.Store tx.entry.conn.now).is_open × ((state S.Store tx.exit.0.now).committed ≡ (state S.Store tx.entry.conn.now).committed)) }
-    ensures done { OnOk result (done ≡ Ok tt) }
     ensures shows { HasCleanDisk (state S.Store tx.exit.0.now) → OnOk result (IsTrue (state S.Store tx.entry.conn.now).is_open × IsTrue (state S.Store tx.exit.0.now).is_open) }
     ensures now { HasCleanDisk (state S.Store tx.exit.0.now) → OnOk result ((state S.Store tx.exit.0.now).now ≡ (state S.Store tx.entry.conn.now).now) }
     ensures committed { HasCleanDisk (state S.Store tx.exit.0.now) → OnOk result ((state S.Store tx.exit.0.now).committed ≡ (state S.Store tx.entry.conn.now).now) }
@@ -140,7 +140,7 @@ fn make_last_tables<S: Alter>(tx: &mut Transaction<'_, S>) -> Result<(), Halt>
     lift::create(tx)
 }
 
-/// Whether a season is kept.
+/// Returns whether a season is kept.
 pub(crate) fn has_season<S: Alter>(connection: &mut Connection<S>) -> Result<bool, Halt>
     ensures stays { HasCleanDisk (state S.Store connection.new) → IsTrue (state S.Store connection.new).is_open → told (state S.Store connection.new) ≡ told (state S.Store connection.old) }
     ensures nothing { CommitsNothing (state S.Store connection.old) (state S.Store connection.new) }
@@ -176,7 +176,7 @@ fn write_season<S: Alter>(tx: &mut Transaction<'_, S>, text: &[u8]) -> Result<()
     phase::insert(tx)
 }
 
-/// Tests that no table beside the phase has a row.
+/// Tests that no table other than the phase has a row.
 fn expect_empty<S: Alter>(tx: &mut Transaction<'_, S>) -> Result<(), Halt>
     ensures same_reference { tx.new.conn.ghost_name ≡ tx.old.conn.ghost_name }
     ensures inside { CommitsNothing (state S.Store tx.old.conn.now) (state S.Store tx.new.conn.now) }
@@ -209,7 +209,7 @@ fn write_cut<S: Alter>(tx: &mut Transaction<'_, S>, rows: &[AllotRow]) -> Result
     put_seats(tx, made, rows)
 }
 
-/// How many cuts were made. The season has to be there.
+/// Returns how many cuts were made. A season must be kept.
 fn read_made<S: Alter>(tx: &mut Transaction<'_, S>) -> Result<u16, Halt>
     ensures same_reference { tx.new.conn.ghost_name ≡ tx.old.conn.ghost_name }
     ensures inside { CommitsNothing (state S.Store tx.old.conn.now) (state S.Store tx.new.conn.now) }
@@ -258,7 +258,7 @@ fn put_seats<S: Alter>(
     phase::upsert(tx, cuts)
 }
 
-/// All that is kept, or None where no season is.
+/// Returns all that is kept, or None if there is no season.
 pub(crate) fn load<S: Alter>(
     connection: &mut Connection<S>,
     alloc: Global,

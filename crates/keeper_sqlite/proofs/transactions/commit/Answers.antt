@@ -36,7 +36,7 @@ returns-clause-kept g c =
     let last = c.settle-ended.new.tx.0 in
     let same : last ≡ c.connection-1.given.0 = search rules in
     subst (λ h. HasCleanDisk (state g.S.Store h) → OnOk c.settle-ended.result (Keeps g.S.Store (Makes g.S.Store c.args.change) c.args.connection.now h)) same
-    (kept_made g.S.Store c.args.change _ _ c.write-done.new.tx.conn.now last c.write-done.result c.settle-ended.result c.transaction-begun.ensures.begun c.write-done.ensures.made c.settle-ended.ensures.shown c.settle-ended.ensures.done c.settle-ended.ensures.now c.settle-ended.ensures.committed
+    (kept_made g.S.Store c.args.change _ _ c.write-done.new.tx.conn.now last c.write-done.result c.settle-ended.result c.transaction-begun.ensures.begun c.write-done.ensures.made c.settle-ended.ensures.shown c.settle-ended.ensures.ended.1 c.settle-ended.ensures.now c.settle-ended.ensures.committed
     c.settle-ended.ensures.shows)
 
 pub returns-in_err-expect_free-clause-stays_err : goal.returns-in_err-expect_free-clause-stays_err
@@ -51,7 +51,7 @@ returns-clause-stays_err g c =
     let live = subst (λ h. IsLive (state g.S.Store h)) (sym same) c.at_rest-2.ensures.live in
     let after = subst (λ h. h.in_transaction ≡ false → IsTrue (state g.S.Store h).is_open → (state g.S.Store h).now ≡ (state g.S.Store h).committed) (sym same) c.at_rest-2.ensures.settled in
     (put_back g.S.Store c.args.connection.now c.transaction-begun.result.conn.now mid last c.settle-ended.result c.transaction-begun.ensures.begun (g.met.S.Store.settled c.args.connection.now.store) (g.met.S.Store.stays mid.store)
-    c.at_rest.ensures.live live c.write-done.ensures.inside (c.at_rest.ensures.settled (search rules)) (after c.settle-ended.ensures.ended) (λ sound. omega (arith, sound, c.settle-ended.ensures.shown.clean)) c.settle-ended.ensures.back)
+    c.at_rest.ensures.live live c.write-done.ensures.inside (c.at_rest.ensures.settled (search rules)) (after c.settle-ended.ensures.ended.0) (λ sound. omega (arith, sound, c.settle-ended.ensures.shown.clean)) c.settle-ended.ensures.back)
 
 pub returns-in_err-expect_free-clause-lost : goal.returns-in_err-expect_free-clause-lost
 returns-in_err-expect_free-clause-lost g c = λ clean.
