@@ -1,4 +1,4 @@
--- An act that is newly accepted is decided in the same way where its candidate or the clerk asks it by its row.
+-- An act that is newly accepted is decided in the same way if its candidate or the clerk asks it by its row.
 use Rattle.std.proofs.Common.{◌≡◌, ◌<◌, inl, inr, ℕ, zero, suc, true, List, [], ◌∷◌, Option, Some, None, length, refl, sym, ap, ◌∙◌, get_or}
 use Rattle.std.specs.Prelude.{map, option_map, position, slice_get, bytes_eq}
 use Rattle.std.proofs.lemmas.Bool.{eqb-true}
@@ -47,7 +47,7 @@ found_number : (found : Option ℕ) (prog : ProgId) → option_map (λ n. record
 found_number None prog e = absurd (cc)
 found_number (Some n) prog e = ap (option_map (λ (p : ProgId). p.0)) e
 
--- the code by which a programme was found is its own
+-- a programme that was found by a code has that code
 own_code : (facts : SeasonFacts) (code : List ℕ) (prog : ProgId) → find_programme facts code ≡ Some prog → code_in facts prog.0 ≡ code
 own_code facts code prog e =
     let number = found_number (position (bytes_eq code) (map (λ held. held.0) facts.matrix.programmes)) prog e in

@@ -1,3 +1,4 @@
+mod Blaming
 mod Asked
 mod Counts
 mod Publishing

@@ -1,4 +1,4 @@
--- Why an office does not go on, as its records and its tables have it.
+-- Why an office does not resume, by its records and its tables.
 use Rattle.std.proofs.Common.{◌≡◌, false, refl, sym, subst}
 use Rattle.keeper_mem.specs.Tables.{AreTold, IsFound, IsLoaded, IsTold, Tables, Untold, NoSeason as NoneTold, Records, still}
 use Rattle.keeper_mem.specs.declared.keeper.KeepFault.{KeepFault}
@@ -8,7 +8,10 @@ use Rattle.season_file.specs.Season.{IsSeason, IsSeasonFault}
 use Rattle.season_file.specs.declared.fault.SeasonFault.{SeasonFault}
 use Rattle.season_file.specs.declared.fault.SeasonFault.TheVariants as reading
 use Rattle.season_file.specs.declared.season.Season.{Season}
+use Rattle.office_moves.specs.Facts.{SeasonFacts}
 use Rattle.office_moves.specs.Season.{facts_of}
+use Rattle.office_moves.specs.Stands.{AreRecordsOf, Stand}
+use Rattle.office_moves.specs.State.{State}
 use Rattle.replays.specs.Unreplayed.{IsUnreplayed}
 use Rattle.replays.specs.declared.fault.Unreplayed.{Unreplayed}
 use Rattle.replays.specs.declared.fault.Unreplayed.TheVariants as replay
@@ -57,7 +60,7 @@ rows_alone (replay.StrayRaise row) same = cc
 rows_alone (replay.Differs round cand one other handed) same = cc
 rows_alone replay.OutOfMemory same = cc
 
--- what loaded records have is why an office does not go on, and so is a fault of the keeper's
+-- what stops loaded records is why an office does not resume, and so is a fault of the keeper
 pub stopped : (tables : Tables) (records : Kept) (why : Unresumed) → IsLoaded tables records → HaveStopped records why → IsUnresumed tables why
 stopped tables records NoSeason loaded have = absurd have
 stopped tables records (BadSeason reading) loaded have = (records, loaded, have)
@@ -96,9 +99,15 @@ keeper_failed OutOfMemory same = absurd cc
 pub failed_alone : (why : Unresumed) → (fault_of why ≡ fault.KeeperFault → ⊥) → why ≡ KeeperFault → ⊥
 failed_alone why other same = other (subst (λ (w : Unresumed). fault_of w ≡ fault.KeeperFault) (sym same) refl)
 
--- ---- what is loaded, and what is told after it
+-- ---- what is loaded, and what is visible after it
 
 pub loaded_told : (expected told : Tables) (records : Kept) → AreTold expected told → IsLoaded expected records → IsLoaded told records
 loaded_told expected Untold records same is = tt
 loaded_told expected NoneTold records same is = subst (λ t. IsLoaded t records) same is
 loaded_told expected (Records kept) records same is = subst (λ t. IsLoaded t records) same is
+
+-- records that are loaded represent the state that they are records of
+pub stand_loaded : (facts : SeasonFacts) (state : State) (tables : Tables) (records : Kept) → IsLoaded tables records → AreRecordsOf facts state records → Stand facts state tables
+stand_loaded facts state Untold records is of = tt
+stand_loaded facts state NoneTold records is of = absurd is
+stand_loaded facts state (Records kept) records is of = subst (λ k. AreRecordsOf facts state k) (sym is) of

@@ -1,4 +1,4 @@
--- Tables that stand for a state go on standing for it with what is accepted.
+-- Tables that represent a state still represent it with what is accepted.
 use Rattle.std.proofs.Common.{◌≡◌, ◌+◌, ◌⊎◌, inl, inr, ℕ, zero, suc, Bool, true, false, List, [], ◌∷◌, ◌++◌, Option, Some, None, refl, sym, ap, ◌∙◌, subst, ◌==◌, if◌then◌else◌}
 use Rattle.std.specs.Prelude.{◌&&◌}
 use Rattle.std.proofs.lemmas.Bool.{eq-eqb, eqb-true}
@@ -19,7 +19,7 @@ use Rattle.office_moves.specs.Stands.{AreRecordsOf, Stand, first_allot, publishe
 use Rattle.replays.proofs.Appended.{in_append, raises_append}
 use Rattle.office_moves.specs.State.{State, in_window, opening, round_at, seat_of, with_raise as state_with_raise, with_row}
 
--- ---- what is told
+-- ---- what is visible
 
 pub stand_told : (facts : SeasonFacts) (state : State) (expected told : Tables) → AreTold expected told → Stand facts state expected → Stand facts state told
 stand_told facts state expected Untold same stands = tt
@@ -41,7 +41,7 @@ told_on first second Untold one two = tt
 told_on first second NoSeason one two = subst (λ t. AreTold first t) two one
 told_on first second (Records kept) one two = subst (λ t. AreTold first t) two one
 
--- where something is told, something was told before
+-- if tables are visible after a call, they were visible before it
 pub was_told : (expected told : Tables) → AreTold expected told → IsTold told → IsTold expected
 was_told expected Untold same is = absurd is
 was_told expected NoSeason same is = subst (λ t. IsTold t) (sym same) tt
@@ -67,7 +67,7 @@ cut_was rows Untold is = is
 cut_was rows NoSeason is = tt
 cut_was rows (Records kept) is = tt
 
--- a keeper that tells after a season was put held none before
+-- if the tables are visible after a season was put, the keeper held none before
 none_before : (before mid : Tables) → AreTold before mid → IsFound false mid → IsTold mid → IsFound false before
 none_before before Untold told none is = absurd is
 none_before before NoSeason told none is = subst (λ s. IsFound false s) (sym told) none
@@ -78,7 +78,7 @@ begun_empty before mid Untold told none was = tt
 begun_empty before mid NoSeason told none was = none_before before mid told none (was tt)
 begun_empty before mid (Records kept) told none was = none_before before mid told none (was tt)
 
--- records stand for the state where something is told
+-- visible tables are records that represent the state
 pub stand_records : (facts : SeasonFacts) (state : State) (tables : Tables) → Stand facts state tables → IsTold tables → (records : Kept) × (tables ≡ Records records) × AreRecordsOf facts state records
 stand_records facts state Untold stands is = absurd is
 stand_records facts state NoSeason stands is = absurd stands
@@ -166,7 +166,7 @@ first_append number id (row ∷ rows) more = step (row.round == number && row.ca
     step true whole first e = refl
     step false whole first e = e
 
--- rows of a round tell nothing of others
+-- the rows of a round say nothing of other rounds
 other_row : (number other id : ℕ) (cand : CandId) (seat : Option Seat) (rows : List AllotRow) → number == other ≡ false → first_allot other id rows ≡ None
     → first_allot other id (row_before number cand seat rows) ≡ None
 other_row number other id cand None rows apart none = none
@@ -180,7 +180,7 @@ pub other_rows : (number other id : ℕ) (seat : ℕ → Option Seat) (people : 
 other_rows number other id seat [] apart = refl
 other_rows number other id seat (person ∷ people) apart = other_row number other id person.id (seat person.id.0) (rows_along number seat people) apart (other_rows number other id seat people apart)
 
--- the rows of a round tell the seat of each of the people, and of nobody else
+-- the rows of a round have the seat of each of the people, and of nobody else
 own_row : (number id : ℕ) (cand : CandId) (seat : Option Seat) (rows : List AllotRow) (own : Option Seat) → cand.0 == id ≡ true → seat ≡ own
     → (first_allot number id rows ≡ own) ⊎ (first_allot number id rows ≡ None) → first_allot number id (row_before number cand seat rows) ≡ own
 own_row number id cand None rows own same e (inl rest) = rest

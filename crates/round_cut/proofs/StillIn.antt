@@ -1,4 +1,4 @@
--- How many are still in: no more than there are people, and somebody where an answer is newly accepted.
+-- How many are still in: no more than there are people, and somebody if an answer is newly accepted.
 use Rattle.std.proofs.Common.{◌≡◌, ◌≤◌, ◌+◌, inl, inr, ℕ, Bool, true, false, List, [], ◌∷◌, Option, Some, length, arith, refl, ap, subst, ◌==◌, if◌then◌else◌}
 use Rattle.std.specs.Prelude.{is_some}
 use Rattle.std.proofs.lemmas.Bool.{eqb-true}
@@ -69,7 +69,7 @@ not_refused : (gone : Bool) (refusal : Refusal) (rest : Decision) (row : AnswerR
 not_refused true refusal rest row e = absurd (cc)
 not_refused false refusal rest row e = refl
 
--- whoever answers anew is still in
+-- a candidate who answers anew is still in
 pub answers_in : (facts : SeasonFacts) (state : State) (request : Request) (row : AnswerRow) → decided facts state request ≡ Note row → 1 ≤ still_of facts state
 answers_in facts state request row e =
     let n = answer_new state.now (answer_looks facts (view_of state row.cand.0) row) (Candidate row.cand) row (Answer row) (ap (newly state.now) (asked_note facts state request row e)) in

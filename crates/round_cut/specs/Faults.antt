@@ -1,4 +1,4 @@
--- A fault of a lower call as the office tells it.
+-- The fault that the office reports for a fault of a lower call.
 use Rattle.keeper_mem.specs.declared.keeper.KeepFault.{KeepFault}
 use Rattle.keeper_mem.specs.declared.keeper.KeepFault.TheVariants.{Failed, OutOfMemory as NoRoom}
 use Rattle.round_cut.specs.declared.fault.BeginFault.{BeginFault}

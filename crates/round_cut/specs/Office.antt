@@ -11,7 +11,8 @@ use Rattle.office_moves.specs.declared.decide.Decision.{Decision}
 use Rattle.office_moves.specs.declared.decide.Decision.TheVariants.{Refuse, NotedAgain, RaisedAgain, CutAgain, Note, Lift, Publish, Finish, TellSeat, TellWhy, TellList, TellState}
 use Rattle.office_moves.specs.declared.moves.Entry.{Entry}
 
--- An office: the season, what was accepted, the state to which it led, how many candidates are still in, and the keeper.
+-- An office: the season, what was accepted, the state to which it led, how many candidates are still in,
+-- and the keeper.
 pub record Opened (K : Type 0) : Type 0 where
   pub season : SeasonFacts
   pub entries : List Entry
@@ -43,6 +44,6 @@ abbrev pub holder_by : Option CandId → By
 holder_by None = Nobody
 holder_by (Some cand) = Candidate cand
 
--- whom a token stands for: the clerk's for the clerk, a candidate's for that candidate, any other for nobody
+-- who a token is for: the clerk's for the clerk, a candidate's for that candidate, any other for nobody
 abbrev pub who_by : SeasonFacts → List ℕ → By
 who_by facts token = if bytes_eq token facts.clerk then Clerk else holder_by (find_holder token facts.holders)

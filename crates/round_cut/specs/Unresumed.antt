@@ -1,4 +1,4 @@
--- Why an office does not go on, with the season whose codes tell a difference.
+-- Why an office does not resume, with the season whose codes a difference is reported in.
 use Rattle.keeper_mem.specs.declared.keeper.KeepFault.{KeepFault}
 use Rattle.keeper_mem.specs.declared.keeper.KeepFault.TheVariants.{Failed, OutOfMemory as NoRoom}
 use Rattle.replays.specs.declared.fault.Unreplayed.{Unreplayed}

@@ -22,7 +22,7 @@ pub(crate) struct MadeCut {
     pub(crate) seated: u32,
 }
 
-/// How many have a seat.
+/// Counts how many have a seat.
 fn count_seated(book: &Proceedings, round: &Round) -> u32
     requires { IsNextRound book.now.season book.now.state round.now }
     ensures { result ≡ seated round.now.seats }
@@ -31,7 +31,7 @@ fn count_seated(book: &Proceedings, round: &Round) -> u32
     round.seated() as u32
 }
 
-/// The next round, its rows, and the table of the window that it opens.
+/// Makes the next round, its rows, and the table of the window that it opens.
 pub(crate) fn make_cut(alloc: Global, book: &Proceedings) -> Result<MadeCut, OutOfMemory>
     requires { book.now.state.now < book.now.season.rounds }
     ensures round { IfOk result (λ made. IsNextRound book.now.season book.now.state made.round) }
@@ -51,7 +51,7 @@ pub(crate) fn make_cut(alloc: Global, book: &Proceedings) -> Result<MadeCut, Out
     })
 }
 
-/// How many rows the final admissions have.
+/// Counts the rows of the final admissions.
 pub(crate) fn count_rows(book: &Proceedings, rows: &AllotRows) -> u32
     requires { rows.now ≡ final_rows book.now.season book.now.state }
     ensures { result ≡ length (final_rows book.now.season book.now.state) }
@@ -60,7 +60,7 @@ pub(crate) fn count_rows(book: &Proceedings, rows: &AllotRows) -> u32
     rows.len() as u32
 }
 
-/// How many entries there has to be room for: one, beside the withdrawals of all who are still in.
+/// Returns how many entries there must be room for: one, and the withdrawals of all who are still in.
 pub(crate) fn room_wanted(book: &Proceedings) -> u32
     ensures { result ≡ book.now.still + 1 }
 {

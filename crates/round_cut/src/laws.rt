@@ -1,4 +1,4 @@
-// What holds of an office over a keeper that always tells.
+// What holds of an office over a keeper with tables that are always visible.
 ghost use Rattle.std.specs.Prelude.{◌≡◌, ◌<◌, true, IsOk};
 ghost use Rattle.keeper_mem.specs.Tables.{Records};
 ghost use Rattle.keeper_mem.specs.declared.rows.Kept.{Kept as AnyKept};
@@ -14,15 +14,15 @@ use office_base::Request;
 use office_moves::Reply;
 use std::alloc::Global;
 
-/// Over a keeper that always tells, records are told, and they stand for the state of the office.
+/// Shows that the tables of such a keeper are records, and that they represent the state of the office.
 #[tactic(auto, using(crate::proofs::Standing::stand_records))]
 pub fn kept_for_sure<K: Teller>(office: &Office<K>)
-    ensures { (records : AnyKept) × (K.tables office.now.keeper ≡ Records records) × AreRecordsOf office.now.season office.now.state records }
+    ensures { (records : AnyKept) × ((K.seen office.now.keeper).tables ≡ Records records) × AreRecordsOf office.now.season office.now.state records }
 {
     office.keeper.tells();
 }
 
-/// Over a keeper that never fails, a withdrawal that is newly accepted is always answered.
+/// Answers a withdrawal that is newly accepted, over a keeper that never fails. The result is always `Ok`.
 pub fn withdraws_for_sure(
     alloc: Global,
     office: &mut Office<SureKeeper>,

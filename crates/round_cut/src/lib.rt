@@ -1,7 +1,9 @@
-// The office over a keeper: requests are answered one after another, and each accepted one is kept before it is answered.
+// The office over a keeper: requests are answered one after another,
+// and each accepted one is kept before it is answered.
 //
-// What runs an office stands on it. `specs/` says what an office is seen as; what a request comes to and what kept tables stand for are the
-// words of `office_moves`. It must never know how records are kept, nor how a round is made.
+// What runs an office builds on it. `specs/` says what an office is seen as.
+// The words of `office_moves` say what a request results in and what kept tables represent.
+// It must never know how records are kept, nor how a round is made.
 #![tactic(auto)]
 
 mod cut;

@@ -1,7 +1,5 @@
 // Requests are answered: what may fail first, then the keeper's put, and then the change, which cannot fail.
-ghost use Rattle.std.specs.Prelude.{◌≡◌, ◌<◌, ◌≤◌, true, Some, IfOk, OnOk, OnErr, IsOk, IsErrOf};
-ghost use Rattle.office_base.specs.Outside.{Rose};
-ghost use Rattle.keeper_mem.specs.Tables.{AreTold, IsTold};
+ghost use Rattle.std.specs.Prelude.{◌≡◌, ◌<◌, ◌≤◌, true, None, IfOk, OnOk, IsOk, IsErrOf};
 ghost use Rattle.office_moves.specs.Decided.{decided};
 ghost use Rattle.office_moves.specs.History.{asked, grown, newly};
 ghost use Rattle.office_moves.specs.Judge.{is_withdraw};
@@ -12,6 +10,7 @@ ghost use Rattle.office_moves.specs.declared.decide.Decision.TheVariants.{Finish
 ghost use Rattle.office_moves.specs.declared.moves.Act.TheVariants.{Answer, Cut, Raise};
 ghost use Rattle.proceedings.specs.Proceeding.{last_of};
 ghost use Rattle.proceedings.specs.Told.{takes_nothing};
+ghost use Rattle.round_cut.specs.Answering.{Accepts, KeepsOn};
 ghost use Rattle.round_cut.specs.Office.{withdraws};
 
 use crate::cut::{MadeCut, count_rows, make_cut, room_wanted};
@@ -23,8 +22,8 @@ use office_moves::{Decision, Reply};
 use std::alloc::Global;
 
 impl<K: Keeper> Office<K> {
-    /// Answers a request. What it newly accepts is kept first, and has this number, which has to be above `last_number`. After a fault the office and
-    /// the tables of the keeper are as before.
+    /// Answers a request. What it newly accepts is kept first, under this number, which must be above `last_number`.
+    /// After a fault the office and the tables of the keeper are unchanged.
     pub fn handle(
         &mut self,
         alloc: Global,
@@ -34,18 +33,12 @@ impl<K: Keeper> Office<K> {
         requires { last_of self.old.entries < number }
         ensures moves { IfOk result (λ reply. IsMove self.old.season self.old.state request.now reply self.new.state) }
         ensures entries { OnOk result (self.new.entries ≡ grown self.old.entries number (newly self.old.state.now (decided self.old.season self.old.state request.now))) }
-        ensures season { self.new.season ≡ self.old.season }
-        ensures stands { Stand self.new.season self.new.state (K.tables self.new.keeper) }
-        ensures err { OnErr result ((self.new.entries ≡ self.old.entries) × (self.new.state ≡ self.old.state)) }
-        ensures told { OnErr result (AreTold (K.tables self.old.keeper) (K.tables self.new.keeper)) }
-        ensures told_before { IsTold (K.tables self.new.keeper) → IsTold (K.tables self.old.keeper) }
-        ensures cause { IsErrOf result OfficeFault.KeeperFault → Rose (K.faults self.old.keeper) (K.faults self.new.keeper) }
-        ensures count { K.faults self.old.keeper ≤ K.faults self.new.keeper }
-        ensures steady { ¬ IsErrOf result OfficeFault.KeeperFault → K.faults self.new.keeper ≡ K.faults self.old.keeper }
-        ensures room { K.holds_room self.new.keeper ≡ K.holds_room self.old.keeper }
+        ensures stands { Stand self.new.season self.new.state (K.seen self.new.keeper).tables }
+        ensures kept { KeepsOn K.seen self.old self.new result }
         ensures sure { takes_nothing (decided self.old.season self.old.state request.now) ≡ true → IsOk result }
-        ensures still { takes_nothing (decided self.old.season self.old.state request.now) ≡ true → self.new.keeper ≡ self.old.keeper }
-        ensures withdraw { K.holds_room self.old.keeper ≡ true → withdraws (decided self.old.season self.old.state request.now) ≡ true → IsErrOf result OfficeFault.OutOfMemory → ⊥ }
+        ensures asked { newly self.old.state.now (decided self.old.season self.old.state request.now) ≡ None
+            → (self.new.keeper ≡ self.old.keeper) × (IsErrOf result OfficeFault.KeeperFault → ⊥) }
+        ensures withdraw { (K.seen self.old.keeper).holds_room ≡ true → withdraws (decided self.old.season self.old.state request.now) ≡ true → IsErrOf result OfficeFault.OutOfMemory → ⊥ }
         ensures word { KeepsItsWord self.new.season self.new.state }
     {
         let _still = self.book.still_in();
@@ -61,7 +54,7 @@ impl<K: Keeper> Office<K> {
         answer
     }
 
-    /// The lists of a programme in a round.
+    /// Returns the lists of a programme in a round.
     fn tell_list(
         &self,
         alloc: Global,
@@ -82,18 +75,10 @@ impl<K: Keeper> Office<K> {
         requires decided { decided self.old.season self.old.state (asked self.old.season (Answer row)) ≡ Note row }
         requires some { 1 ≤ self.old.still }
         requires number { last_of self.old.entries < number }
-        ensures moves { IfOk result (λ reply. Does self.old.season self.old.state (Note row) reply self.new.state) }
-        ensures entries { OnOk result (self.new.entries ≡ grown self.old.entries number (Some (Answer row))) }
-        ensures season { self.new.season ≡ self.old.season }
-        ensures stands { Stand self.new.season self.new.state (K.tables self.new.keeper) }
-        ensures err { OnErr result ((self.new.entries ≡ self.old.entries) × (self.new.state ≡ self.old.state)) }
-        ensures told { OnErr result (AreTold (K.tables self.old.keeper) (K.tables self.new.keeper)) }
-        ensures told_before { IsTold (K.tables self.new.keeper) → IsTold (K.tables self.old.keeper) }
-        ensures cause { IsErrOf result OfficeFault.KeeperFault → Rose (K.faults self.old.keeper) (K.faults self.new.keeper) }
-        ensures count { K.faults self.old.keeper ≤ K.faults self.new.keeper }
-        ensures steady { ¬ IsErrOf result OfficeFault.KeeperFault → K.faults self.new.keeper ≡ K.faults self.old.keeper }
-        ensures room { K.holds_room self.new.keeper ≡ K.holds_room self.old.keeper }
-        ensures withdraw { K.holds_room self.old.keeper ≡ true → is_withdraw row.choice ≡ true → IsErrOf result OfficeFault.OutOfMemory → ⊥ }
+        ensures accepts { Accepts number (Note row) (Answer row) self.old self.new result }
+        ensures stands { Stand self.new.season self.new.state (K.seen self.new.keeper).tables }
+        ensures kept { KeepsOn K.seen self.old self.new result }
+        ensures withdraw { (K.seen self.old.keeper).holds_room ≡ true → is_withdraw row.choice ≡ true → IsErrOf result OfficeFault.OutOfMemory → ⊥ }
     {
         if row.choice == Choice::Withdraw {
             self.keeper.put_answer(row)?;
@@ -113,17 +98,9 @@ impl<K: Keeper> Office<K> {
     fn accept_raise(&mut self, number: u64, row: RaiseRow) -> Result<Reply, OfficeFault>
         requires decided { decided self.old.season self.old.state (asked self.old.season (Raise row)) ≡ Lift row }
         requires number { last_of self.old.entries < number }
-        ensures moves { IfOk result (λ reply. Does self.old.season self.old.state (Lift row) reply self.new.state) }
-        ensures entries { OnOk result (self.new.entries ≡ grown self.old.entries number (Some (Raise row))) }
-        ensures season { self.new.season ≡ self.old.season }
-        ensures stands { Stand self.new.season self.new.state (K.tables self.new.keeper) }
-        ensures err { OnErr result ((self.new.entries ≡ self.old.entries) × (self.new.state ≡ self.old.state)) }
-        ensures told { OnErr result (AreTold (K.tables self.old.keeper) (K.tables self.new.keeper)) }
-        ensures told_before { IsTold (K.tables self.new.keeper) → IsTold (K.tables self.old.keeper) }
-        ensures cause { IsErrOf result OfficeFault.KeeperFault → Rose (K.faults self.old.keeper) (K.faults self.new.keeper) }
-        ensures count { K.faults self.old.keeper ≤ K.faults self.new.keeper }
-        ensures steady { ¬ IsErrOf result OfficeFault.KeeperFault → K.faults self.new.keeper ≡ K.faults self.old.keeper }
-        ensures room { K.holds_room self.new.keeper ≡ K.holds_room self.old.keeper }
+        ensures accepts { Accepts number (Lift row) (Raise row) self.old self.new result }
+        ensures stands { Stand self.new.season self.new.state (K.seen self.new.keeper).tables }
+        ensures kept { KeepsOn K.seen self.old self.new result }
     {
         let wanted = room_wanted(&self.book);
         self.book.reserve(wanted)?;
@@ -137,17 +114,9 @@ impl<K: Keeper> Office<K> {
     fn publish_round(&mut self, alloc: Global, number: u64) -> Result<Reply, OfficeFault>
         requires decided { decided self.old.season self.old.state (asked self.old.season (Cut self.old.state.now)) ≡ Publish }
         requires number { last_of self.old.entries < number }
-        ensures moves { IfOk result (λ reply. Does self.old.season self.old.state Publish reply self.new.state) }
-        ensures entries { OnOk result (self.new.entries ≡ grown self.old.entries number (Some (Cut self.old.state.now))) }
-        ensures season { self.new.season ≡ self.old.season }
-        ensures stands { Stand self.new.season self.new.state (K.tables self.new.keeper) }
-        ensures err { OnErr result ((self.new.entries ≡ self.old.entries) × (self.new.state ≡ self.old.state)) }
-        ensures told { OnErr result (AreTold (K.tables self.old.keeper) (K.tables self.new.keeper)) }
-        ensures told_before { IsTold (K.tables self.new.keeper) → IsTold (K.tables self.old.keeper) }
-        ensures cause { IsErrOf result OfficeFault.KeeperFault → Rose (K.faults self.old.keeper) (K.faults self.new.keeper) }
-        ensures count { K.faults self.old.keeper ≤ K.faults self.new.keeper }
-        ensures steady { ¬ IsErrOf result OfficeFault.KeeperFault → K.faults self.new.keeper ≡ K.faults self.old.keeper }
-        ensures room { K.holds_room self.new.keeper ≡ K.holds_room self.old.keeper }
+        ensures accepts { Accepts number Publish (Cut self.old.state.now) self.old self.new result }
+        ensures stands { Stand self.new.season self.new.state (K.seen self.new.keeper).tables }
+        ensures kept { KeepsOn K.seen self.old self.new result }
     {
         let _entries = self.book.entries();
         let wanted = room_wanted(&self.book);
@@ -172,17 +141,9 @@ impl<K: Keeper> Office<K> {
     fn finish_season(&mut self, alloc: Global, number: u64) -> Result<Reply, OfficeFault>
         requires decided { decided self.old.season self.old.state (asked self.old.season (Cut self.old.state.now)) ≡ Finish }
         requires number { last_of self.old.entries < number }
-        ensures moves { IfOk result (λ reply. Does self.old.season self.old.state Finish reply self.new.state) }
-        ensures entries { OnOk result (self.new.entries ≡ grown self.old.entries number (Some (Cut self.old.state.now))) }
-        ensures season { self.new.season ≡ self.old.season }
-        ensures stands { Stand self.new.season self.new.state (K.tables self.new.keeper) }
-        ensures err { OnErr result ((self.new.entries ≡ self.old.entries) × (self.new.state ≡ self.old.state)) }
-        ensures told { OnErr result (AreTold (K.tables self.old.keeper) (K.tables self.new.keeper)) }
-        ensures told_before { IsTold (K.tables self.new.keeper) → IsTold (K.tables self.old.keeper) }
-        ensures cause { IsErrOf result OfficeFault.KeeperFault → Rose (K.faults self.old.keeper) (K.faults self.new.keeper) }
-        ensures count { K.faults self.old.keeper ≤ K.faults self.new.keeper }
-        ensures steady { ¬ IsErrOf result OfficeFault.KeeperFault → K.faults self.new.keeper ≡ K.faults self.old.keeper }
-        ensures room { K.holds_room self.new.keeper ≡ K.holds_room self.old.keeper }
+        ensures accepts { Accepts number Finish (Cut self.old.state.now) self.old self.new result }
+        ensures stands { Stand self.new.season self.new.state (K.seen self.new.keeper).tables }
+        ensures kept { KeepsOn K.seen self.old self.new result }
     {
         let _entries = self.book.entries();
         let wanted = room_wanted(&self.book);

@@ -1,6 +1,5 @@
-// An office goes on from what its keeper holds.
+// An office resumes from what its keeper holds.
 ghost use Rattle.std.specs.Prelude.{◌≡◌, ◌≤◌, IfOk, IfErr, OnOk, IsErrOf};
-ghost use Rattle.office_base.specs.Outside.{Rose};
 ghost use Rattle.keeper_mem.specs.Tables.{AreTold, IsLoaded};
 ghost use Rattle.office_moves.specs.History.{IsHistory};
 ghost use Rattle.office_moves.specs.Promise.{KeepsItsWord};
@@ -8,8 +7,9 @@ ghost use Rattle.office_moves.specs.Stands.{AreRecordsOf, Stand};
 ghost use Rattle.proceedings.specs.Proceeding.{still_of};
 ghost use Rattle.replays.specs.Acts.{kept_acts};
 ghost use Rattle.replays.specs.Counted.{AreCounted, counted};
+ghost use Rattle.keeper_mem.specs.Keeper.{Blames};
 ghost use Rattle.round_cut.specs.Office.{HasRoom};
-ghost use Rattle.round_cut.specs.Resume.{HaveStopped, HoldsTheKept, IsResumeFault, IsResumed, IsUnresumed, LeadTo};
+ghost use Rattle.round_cut.specs.Resume.{GoesOn, HaveStopped, IsResumeFault, IsUnresumed, LeadTo};
 ghost use Rattle.round_cut.specs.Unresumed.{fault_of, load_fault, replay_fault, season_fault};
 
 use crate::fault::ResumeFault;
@@ -21,7 +21,8 @@ use replays::{Unreplayed, replay};
 use season_file::{Season, SeasonFault};
 use std::alloc::Global;
 
-/// Why an office did not go on, as `ResumeFault` tells it; with a difference the season of the records is handed over, whose codes tell it.
+/// Why an office did not resume, as `ResumeFault` reports it. A difference comes with the season of the records, whose
+/// codes the report needs.
 #[derive(Drop)]
 pub enum Unresumed {
     NoSeason,
@@ -44,7 +45,7 @@ pub enum Unresumed {
 }
 
 impl Unresumed {
-    /// The fault alone.
+    /// Returns the fault alone.
     pub fn fault(&self) -> ResumeFault
         ensures { result ≡ fault_of self.now }
     {
@@ -118,16 +119,13 @@ impl From<Unreplayed> for Unresumed {
     }
 }
 
-/// The records of the keeper; without a season, that is the fault.
+/// Returns the records of the keeper, and a fault if it holds no season.
 #[tactic(auto, using(crate::proofs::Resumed::unloaded))]
 fn load_records<K: Keeper>(alloc: Global, keeper: &mut K) -> Result<Kept, Unresumed>
-    ensures loaded { IfOk result (λ records. IsLoaded (K.tables keeper.new) records) }
-    ensures fault { IfErr result (λ fault. IsUnresumed (K.tables keeper.new) fault) }
-    ensures told { AreTold (K.tables keeper.old) (K.tables keeper.new) }
-    ensures cause { IsErrOf result Unresumed.KeeperFault → Rose (K.faults keeper.old) (K.faults keeper.new) }
-    ensures count { K.faults keeper.old ≤ K.faults keeper.new }
-    ensures steady { ¬ IsErrOf result Unresumed.KeeperFault → K.faults keeper.new ≡ K.faults keeper.old }
-    ensures room { K.holds_room keeper.new ≡ K.holds_room keeper.old }
+    ensures loaded { IfOk result (λ records. IsLoaded (K.seen keeper.new).tables records) }
+    ensures fault { IfErr result (λ fault. IsUnresumed (K.seen keeper.new).tables fault) }
+    ensures told { AreTold (K.seen keeper.old).tables (K.seen keeper.new).tables }
+    ensures blamed { Blames (IsErrOf result Unresumed.KeeperFault) (K.seen keeper.old) (K.seen keeper.new) }
 {
     match keeper.load(alloc)? {
         Some(records) => Ok(records),
@@ -135,7 +133,7 @@ fn load_records<K: Keeper>(alloc: Global, keeper: &mut K) -> Result<Kept, Unresu
     }
 }
 
-/// The proceedings to which the records lead, or their first fault.
+/// Returns the proceedings to which the records lead, or their first fault.
 fn replay_records(alloc: Global, records: &Kept) -> Result<Proceedings, Unresumed>
     ensures led { IfOk result (λ book. LeadTo records.now book.season book.state) }
     ensures stands { IfOk result (λ book. AreRecordsOf book.season book.state records.now) }
@@ -151,42 +149,28 @@ fn replay_records(alloc: Global, records: &Kept) -> Result<Proceedings, Unresume
 /// Takes room for the answers of all who are still in.
 #[tactic(auto, using(crate::proofs::Resumed::unloaded))]
 fn take_room<K: Keeper>(book: &Proceedings, keeper: &mut K) -> Result<(), Unresumed>
-    ensures spare { OnOk result (HasRoom (K.holds_room keeper.new) book.now.still (K.spare keeper.new)) }
-    ensures fault { IfErr result (λ fault. IsUnresumed (K.tables keeper.new) fault) }
-    ensures told { AreTold (K.tables keeper.old) (K.tables keeper.new) }
-    ensures cause { IsErrOf result Unresumed.KeeperFault → Rose (K.faults keeper.old) (K.faults keeper.new) }
-    ensures count { K.faults keeper.old ≤ K.faults keeper.new }
-    ensures steady { ¬ IsErrOf result Unresumed.KeeperFault → K.faults keeper.new ≡ K.faults keeper.old }
-    ensures room { K.holds_room keeper.new ≡ K.holds_room keeper.old }
+    ensures spare { OnOk result (HasRoom (K.seen keeper.new).holds_room book.now.still (K.seen keeper.new).spare) }
+    ensures fault { IfErr result (λ fault. IsUnresumed (K.seen keeper.new).tables fault) }
+    ensures told { AreTold (K.seen keeper.old).tables (K.seen keeper.new).tables }
+    ensures blamed { Blames (IsErrOf result Unresumed.KeeperFault) (K.seen keeper.old) (K.seen keeper.new) }
 {
     keeper.reserve_answers(book.still_in())?;
     Ok(())
 }
 
 impl<K: Keeper> Office<K> {
-    /// An office that goes on from what the keeper holds: for each window its kept raises are accepted again, then its answers, then its cut, and the kept
-    /// seats are compared with those that the cut gives. The entries have the numbers 1, 2, 3 and so on. The tables stay as they are; after a fault the
-    /// keeper is handed back. A keeper that tells nothing is judged by the records that it gave.
+    /// Resumes an office from what the keeper holds.
+    /// For each window it accepts the kept raises again, then the answers, then the cut, and compares the kept seats
+    /// with those that the cut gives.
+    /// The entries have the numbers 1, 2, 3 and so on.
+    /// The tables are unchanged. After a fault it returns the keeper.
+    /// If the tables are hidden, the keeper is judged by the records that it returned.
     #[tactic(auto, using(crate::proofs::Resumed::told_fault, crate::proofs::Resumed::keeper_failed, crate::proofs::Resumed::failed_alone))]
     pub fn resume(alloc: Global, keeper: K) -> Result<Office<K>, (K, ResumeFault)>
-        ensures resumed { IfOk result (λ office. IsResumed (K.tables office.keeper) office.season office.state) }
-        ensures entries { IfOk result (λ office. HoldsTheKept (K.tables office.keeper) office.entries) }
-        ensures counted { IfOk result (λ office. AreCounted office.entries) }
-        ensures history { IfOk result (λ office. IsHistory office.season office.entries office.state) }
-        ensures word { IfOk result (λ office. KeepsItsWord office.season office.state) }
-        ensures still { IfOk result (λ office. office.still ≡ still_of office.season office.state) }
-        ensures fault { IfErr result (λ e. IsResumeFault (K.tables e.0) e.1) }
-        ensures stands { IfOk result (λ office. Stand office.season office.state (K.tables office.keeper)) }
-        ensures told { IfOk result (λ office. AreTold (K.tables keeper) (K.tables office.keeper)) }
-        ensures err { IfErr result (λ e. AreTold (K.tables keeper) (K.tables e.0)) }
-        ensures cause { IfErr result (λ e. e.1 ≡ ResumeFault.KeeperFault → Rose (K.faults keeper) (K.faults e.0)) }
-        ensures count { IfOk result (λ office. K.faults keeper ≤ K.faults office.keeper) }
-        ensures count_err { IfErr result (λ e. K.faults keeper ≤ K.faults e.0) }
-        ensures steady { IfOk result (λ office. K.faults office.keeper ≡ K.faults keeper) }
-        ensures steady_err { IfErr result (λ e. ¬ (e.1 ≡ ResumeFault.KeeperFault) → K.faults e.0 ≡ K.faults keeper) }
-        ensures room { IfOk result (λ office. K.holds_room office.keeper ≡ K.holds_room keeper) }
-        ensures room_err { IfErr result (λ e. K.holds_room e.0 ≡ K.holds_room keeper) }
-        ensures spare { IfOk result (λ office. HasRoom (K.holds_room office.keeper) office.still (K.spare office.keeper)) }
+        ensures ok { IfOk result (GoesOn K.seen keeper) }
+        ensures fault { IfErr result (λ e. IsResumeFault (K.seen e.0).tables e.1) }
+        ensures err { IfErr result (λ e. AreTold (K.seen keeper).tables (K.seen e.0).tables) }
+        ensures blamed_err { IfErr result (λ e. Blames (e.1 ≡ ResumeFault.KeeperFault) (K.seen keeper) (K.seen e.0)) }
     {
         match Office::resume_or_season(alloc, keeper) {
             Ok(office) => Ok(office),
@@ -197,27 +181,14 @@ impl<K: Keeper> Office<K> {
         }
     }
 
-    /// As `resume`; where a kept seat is not the computed one, the season of the records is handed over too, so that this can be told with its codes.
+    /// Resumes as `resume` does. If a kept seat is not the computed one, it also returns the season of the records, so
+    /// that the difference can be reported with its codes.
     #[tactic(auto, using(crate::proofs::Resumed::stopped, crate::proofs::Resumed::loaded_told))]
     pub fn resume_or_season(alloc: Global, mut keeper: K) -> Result<Office<K>, (K, Unresumed)>
-        ensures resumed { IfOk result (λ office. IsResumed (K.tables office.keeper) office.season office.state) }
-        ensures entries { IfOk result (λ office. HoldsTheKept (K.tables office.keeper) office.entries) }
-        ensures counted { IfOk result (λ office. AreCounted office.entries) }
-        ensures history { IfOk result (λ office. IsHistory office.season office.entries office.state) }
-        ensures word { IfOk result (λ office. KeepsItsWord office.season office.state) }
-        ensures still { IfOk result (λ office. office.still ≡ still_of office.season office.state) }
-        ensures fault { IfErr result (λ e. IsUnresumed (K.tables e.0) e.1) }
-        ensures stands { IfOk result (λ office. Stand office.season office.state (K.tables office.keeper)) }
-        ensures told { IfOk result (λ office. AreTold (K.tables keeper) (K.tables office.keeper)) }
-        ensures err { IfErr result (λ e. AreTold (K.tables keeper) (K.tables e.0)) }
-        ensures cause { IfErr result (λ e. e.1 ≡ Unresumed.KeeperFault → Rose (K.faults keeper) (K.faults e.0)) }
-        ensures count { IfOk result (λ office. K.faults keeper ≤ K.faults office.keeper) }
-        ensures count_err { IfErr result (λ e. K.faults keeper ≤ K.faults e.0) }
-        ensures steady { IfOk result (λ office. K.faults office.keeper ≡ K.faults keeper) }
-        ensures steady_err { IfErr result (λ e. ¬ (e.1 ≡ Unresumed.KeeperFault) → K.faults e.0 ≡ K.faults keeper) }
-        ensures room { IfOk result (λ office. K.holds_room office.keeper ≡ K.holds_room keeper) }
-        ensures room_err { IfErr result (λ e. K.holds_room e.0 ≡ K.holds_room keeper) }
-        ensures spare { IfOk result (λ office. HasRoom (K.holds_room office.keeper) office.still (K.spare office.keeper)) }
+        ensures ok { IfOk result (GoesOn K.seen keeper) }
+        ensures fault { IfErr result (λ e. IsUnresumed (K.seen e.0).tables e.1) }
+        ensures err { IfErr result (λ e. AreTold (K.seen keeper).tables (K.seen e.0).tables) }
+        ensures blamed_err { IfErr result (λ e. Blames (e.1 ≡ Unresumed.KeeperFault) (K.seen keeper) (K.seen e.0)) }
     {
         let records = match load_records(alloc, &mut keeper) {
             Ok(records) => records,

@@ -8,5 +8,5 @@ pub returns-clause-stands : goal.returns-clause-stands
 returns-clause-stands g c =
     let none = found_told false _ _ c.reserve_answers.ensures.told c.requires in
     let text = c.as_slice.ensures ∙ ap (λ (f : SeasonFacts). f.text) c.season.ensures in
-    let told = subst (λ t. AreTold (with_season t (g.K.Keeper.tables c.reserve_answers.new.self)) (g.K.Keeper.tables c.put_season.new.self)) text c.in_ok-put_season.ensures.ok in
-    stand_begun c.args.book.now.season (g.K.Keeper.tables c.reserve_answers.new.self) (g.K.Keeper.tables c.put_season.new.self) none told
+    let told = subst (λ t. AreTold (with_season t (g.K.Keeper.seen c.reserve_answers.new.self).tables) (g.K.Keeper.seen c.put_season.new.self).tables) text c.in_ok-put_season.ensures.ok in
+    stand_begun c.args.book.now.season (g.K.Keeper.seen c.reserve_answers.new.self).tables (g.K.Keeper.seen c.put_season.new.self).tables none told

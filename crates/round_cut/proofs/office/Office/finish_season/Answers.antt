@@ -21,8 +21,8 @@ returns-clause-stands g c =
     let none = c.entries-entries.ensures.orderly.unfinished (omega (arith, last)) in
     let made = ap (λ (f : SeasonFacts). final_rows f c.reserve.new.self.state) c.reserve.ensures.season ∙ ap (λ (s : State). final_rows facts s) c.reserve.ensures.state in
     let rows = c.in_ok-admissions.ensures ∙ made in
-    let told = subst (λ r. AreTold (with_cut r (g.K.Keeper.tables c.self.inside.keeper)) (g.K.Keeper.tables c.put_cut.new.self)) (c.as_slice.ensures ∙ rows) c.in_ok-put_cut.ensures.ok in
-    let kept = stand_finals facts state (g.K.Keeper.tables c.self.inside.keeper) none c.self.invariant.0 in
+    let told = subst (λ r. AreTold (with_cut r (g.K.Keeper.seen c.self.inside.keeper).tables) (g.K.Keeper.seen c.put_cut.new.self).tables) (c.as_slice.ensures ∙ rows) c.in_ok-put_cut.ensures.ok in
+    let kept = stand_finals facts state (g.K.Keeper.seen c.self.inside.keeper).tables none c.self.invariant.0 in
     let after = c.finish.ensures.state ∙ (ap (λ (s : State). with_finals s c.in_ok-admissions.admissions) c.reserve.ensures.state ∙ ap (λ r. with_finals state r) rows) in
     stand_moved _ _ _ _ _ (c.finish.ensures.season ∙ c.reserve.ensures.season) after (stand_told facts (with_finals state (final_rows facts state)) _ _ told kept)
 
@@ -35,12 +35,12 @@ invariant_of-self-2 g c =
     let none = c.entries-entries.ensures.orderly.unfinished (omega (arith, last)) in
     let made = ap (λ (f : SeasonFacts). final_rows f c.reserve.new.self.state) c.reserve.ensures.season ∙ ap (λ (s : State). final_rows facts s) c.reserve.ensures.state in
     let rows = c.in_ok-admissions.ensures ∙ made in
-    let told = subst (λ r. AreTold (with_cut r (g.K.Keeper.tables c.self.inside.keeper)) (g.K.Keeper.tables c.put_cut.new.self)) (c.as_slice.ensures ∙ rows) c.in_ok-put_cut.ensures.ok in
-    let kept = stand_finals facts state (g.K.Keeper.tables c.self.inside.keeper) none c.self.invariant.0 in
+    let told = subst (λ r. AreTold (with_cut r (g.K.Keeper.seen c.self.inside.keeper).tables) (g.K.Keeper.seen c.put_cut.new.self).tables) (c.as_slice.ensures ∙ rows) c.in_ok-put_cut.ensures.ok in
+    let kept = stand_finals facts state (g.K.Keeper.seen c.self.inside.keeper).tables none c.self.invariant.0 in
     let after = c.finish.ensures.state ∙ (ap (λ (s : State). with_finals s c.in_ok-admissions.admissions) c.reserve.ensures.state ∙ ap (λ r. with_finals state r) rows) in (
       stand_moved _ _ _ _ _ (c.finish.ensures.season ∙ c.reserve.ensures.season) after (stand_told facts (with_finals state (final_rows facts state)) _ _ told kept),
       λ holds.
-          let few = c.self.invariant.1 (sym c.put_cut.ensures.room ∙ holds) in
+          let few = c.self.invariant.1 (sym c.put_cut.ensures.call.blamed.room ∙ holds) in
           let spare = c.in_ok-put_cut.ensures.spare in
           let falls = c.finish.ensures.still in
           let held = c.reserve.ensures.still in

@@ -3,4 +3,4 @@ use Rattle.office_moves.specs.Stands.{Stand}
 use Rattle.round_cut.proofs.office.Office.into_keeper.Goals as goal
 
 pub returns-clause-stands : goal.returns-clause-stands
-returns-clause-stands g c = subst (λ o. Stand o.season o.state (g.K.Keeper.tables c.self.inside.keeper)) c.self.view_is c.self.invariant.0
+returns-clause-stands g c = subst (λ o. Stand o.season o.state (g.K.Keeper.seen c.self.inside.keeper).tables) c.self.view_is c.self.invariant.0

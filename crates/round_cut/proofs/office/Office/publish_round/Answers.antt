@@ -23,8 +23,8 @@ returns-clause-stands g c =
     let number = c.in_ok-round.ensures.round.number ∙ ap (λ (s : State). s.now + 1) c.reserve.ensures.state in
     let made = ap (λ (f : SeasonFacts). allot_rows f round) c.reserve.ensures.season in
     let rows = c.as_slice.ensures ∙ (c.in_ok-round.ensures.rows ∙ made) in
-    let told = subst (λ r. AreTold (with_cut r (g.K.Keeper.tables c.self.inside.keeper)) (g.K.Keeper.tables c.put_cut.new.self)) rows c.in_ok-put_cut.ensures.ok in
-    let kept = stand_round facts state round (g.K.Keeper.tables c.self.inside.keeper) order less number c.self.invariant.0 in
+    let told = subst (λ r. AreTold (with_cut r (g.K.Keeper.seen c.self.inside.keeper).tables) (g.K.Keeper.seen c.put_cut.new.self).tables) rows c.in_ok-put_cut.ensures.ok in
+    let kept = stand_round facts state round (g.K.Keeper.seen c.self.inside.keeper).tables order less number c.self.invariant.0 in
     stand_moved _ _ _ _ _ (c.publish.ensures.season ∙ c.reserve.ensures.season) (c.publish.ensures.state ∙ ap (λ (s : State). with_round s round) c.reserve.ensures.state)
     (stand_told facts (with_round state round) _ _ told kept)
 
@@ -39,12 +39,12 @@ invariant_of-self-2 g c =
     let number = c.in_ok-round.ensures.round.number ∙ ap (λ (s : State). s.now + 1) c.reserve.ensures.state in
     let made = ap (λ (f : SeasonFacts). allot_rows f round) c.reserve.ensures.season in
     let rows = c.as_slice.ensures ∙ (c.in_ok-round.ensures.rows ∙ made) in
-    let told = subst (λ r. AreTold (with_cut r (g.K.Keeper.tables c.self.inside.keeper)) (g.K.Keeper.tables c.put_cut.new.self)) rows c.in_ok-put_cut.ensures.ok in
-    let kept = stand_round facts state round (g.K.Keeper.tables c.self.inside.keeper) order less number c.self.invariant.0 in (
+    let told = subst (λ r. AreTold (with_cut r (g.K.Keeper.seen c.self.inside.keeper).tables) (g.K.Keeper.seen c.put_cut.new.self).tables) rows c.in_ok-put_cut.ensures.ok in
+    let kept = stand_round facts state round (g.K.Keeper.seen c.self.inside.keeper).tables order less number c.self.invariant.0 in (
       stand_moved _ _ _ _ _ (c.publish.ensures.season ∙ c.reserve.ensures.season) (c.publish.ensures.state ∙ ap (λ (s : State). with_round s round) c.reserve.ensures.state)
           (stand_told facts (with_round state round) _ _ told kept),
       λ holds.
-          let few = c.self.invariant.1 (sym c.put_cut.ensures.room ∙ holds) in
+          let few = c.self.invariant.1 (sym c.put_cut.ensures.call.blamed.room ∙ holds) in
           let spare = c.in_ok-put_cut.ensures.spare in
           let after = c.publish.ensures.still in
           let held = c.reserve.ensures.still in
