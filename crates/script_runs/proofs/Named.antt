@@ -22,7 +22,7 @@ use Rattle.office_moves.specs.declared.refusal.Refusal.{Refusal}
 use Rattle.office_moves.specs.declared.refusal.Refusal.TheVariants.{UnknownCandidate, Denied, Ahead, NotChosen, NoSuchRound, LastWindow, StepFixed, Falling, SeatLimit}
 use Rattle.office_moves.proofs.Chains.{answer_keeps, seat_keeps}
 
--- the programme that a decision names, where it names one, is one of so many
+-- the programme that a decision names, if it names one, is one of this many
 abbrev pub Names : ℕ → Decision → Type 0
 Names count (Refuse refusal) = Unit {0}
 Names count (NotedAgain row) = Unit {0}
@@ -106,7 +106,7 @@ some_raise_names n facts state by window step seats (Some prog) below =
     let row : RaiseRow = record { window = window; prog = prog; step = step; seats = seats } in
     raise_names n (raise_looks facts state row) by row (below prog refl)
 
--- whatever a request comes to names programmes of the matrix
+-- what a request results in names programmes of the matrix
 pub decided_names : (facts : SeasonFacts) (state : State) (by : By) (ask : Ask) → Names (length facts.matrix.programmes) (decided_by facts state by ask)
 decided_names facts state by (Answer cand window turn choice) =
     answer_keeps (Names (length facts.matrix.programmes)) (answer_looks facts (view_of state cand.0) (record { window = window; cand = cand; turn = turn; choice = choice })) by

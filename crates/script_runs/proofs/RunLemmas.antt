@@ -1,4 +1,4 @@
--- A run goes on by one request at its end, and a prefix of a run is a run.
+-- A run continues with one request at its end, and a prefix of a run is a run.
 use Rattle.std.proofs.Common.{[], ◌∷◌, ◌++◌, refl, sym, ap, subst, ◌∙◌, append_assoc, append-nil}
 use Rattle.office_moves.specs.Facts.{SeasonFacts}
 use Rattle.office_moves.specs.State.{State}

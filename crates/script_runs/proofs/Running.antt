@@ -52,7 +52,7 @@ there_at [] j d less = absurd (omega (arith, less))
 there_at (request ∷ script) zero d less = refl
 there_at (request ∷ script) (suc j) d less = there_at script j d (omega (arith, less))
 
--- the request stands after the first j
+-- the request follows the first j
 pub record IsNext (script : List Request) (j : ℕ) (request : Request) : Type 0 where
   pub within : j < length script
   pub there : slice_get script j ≡ Some request

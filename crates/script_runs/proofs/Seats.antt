@@ -86,7 +86,7 @@ is_round_of facts round shows = record {
       (λ i seat at. seat_of_all facts seat (λ s e. shows.seats i s (subst (λ o. slice_get round.seats i ≡ Some o) e at)));
 }
 
--- the round of this number can be shown, where there is one
+-- the round of this number can be shown, if there is one
 pub round_at_shows : (facts : SeasonFacts) (state : State) (number : ℕ) (round : Round) → ChooseWell → IsSound facts → IsOrderly facts state → round_at state.rounds number ≡ Some round
     → IsShown facts round
 round_at_shows facts state zero round laws sound orderly at = absurd (cc)

@@ -1,4 +1,4 @@
--- A fault of a lower call as a run tells it.
+-- The fault that a run reports for a fault of a lower call.
 use Rattle.round_cut.specs.declared.fault.OfficeFault.{OfficeFault}
 use Rattle.round_cut.specs.declared.fault.OfficeFault.TheVariants.{KeeperFault as KeeperFailed, OutOfMemory as NoMemory}
 use Rattle.script_runs.specs.declared.fault.RunFault.{RunFault}

@@ -11,7 +11,7 @@ use Rattle.histories.specs.Orderly.{IsOrderly}
 use Rattle.script_runs.specs.Runs.{Answers, CameOf, CanBeShown, reply_bytes}
 use Rattle.script_runs.specs.Tally.{AreHandled, Handled, answers_in, noted_in, refused_in, requests_of}
 
--- A run goes on by one request at its end, whose reply comes after the others.
+-- A run continues with one request at its end, whose reply follows the others.
 abbrev pub GoesOn : SeasonFacts → Type 0
 GoesOn facts = (old mid new : State) (requests : List Request) (request : Request) (reply : Reply) (output : List ℕ) → Answers facts old requests output mid
     → IsMove facts mid request reply new → Answers facts old (requests ++ request ∷ []) (output ++ reply_bytes facts new reply) new

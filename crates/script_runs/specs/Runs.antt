@@ -3,6 +3,7 @@ use Rattle.std.specs.Prelude.{◌≡◌, ◌<◌, ◌+◌, ◌⊎◌, ℕ, List,
 use Rattle.std.specs.Option.{unwrap_or}
 use Rattle.office_base.specs.declared.asks.Request.{Request}
 use Rattle.office_base.specs.Outside.{Appends}
+use Rattle.keeper_mem.specs.Keeper.{Shelf}
 use Rattle.keeper_mem.specs.Tables.{Tables}
 use Rattle.keeper_mem.specs.declared.rows.AllotRow.{AllotRow}
 use Rattle.rounds.specs.declared.round.Round.{Round}
@@ -66,14 +67,15 @@ Accepts facts old held [] new kept = (new ≡ old) × (kept ≡ held)
 Accepts facts old held (request ∷ requests) new kept = (reply : Reply) × (mid : State) × IsMove facts old request reply mid
     × Accepts facts mid (grown held (last_of held + 1) (newly old.now (decided facts old request))) requests new kept
 
--- Requests are answered, with this output: a history leads to the state, in which the office keeps its word, and the tables stand for it.
+-- Requests are answered, with this output.
+-- A history leads to the state, in which the office keeps its word, and the tables represent it.
 pub record AfterSome (facts : SeasonFacts) (start : State) (requests : List Request) (output : List ℕ) (state : State) (tables : Tables) : Type 0 where
   pub answers : Answers facts start requests output state
   pub history : (entries : List Entry) × IsHistory facts entries state
   pub promise : KeepsItsWord facts state
   pub stands : Stand facts state tables
 
--- The first j requests are answered, with this output, and one more, with a reply whose text comes after it.
+-- The first j requests are answered, with this output, and one more, with a reply whose text follows the output.
 pub record AfterOneMore (facts : SeasonFacts) (start : State) (script : List Request) (output : List ℕ) (state : State) (tables : Tables) : Type 0 where
   pub j : ℕ
   pub mid : State
@@ -93,9 +95,9 @@ pub record Moment : Type 0 where
   pub tables : Tables
   pub written : Option (List ℕ)
 
--- the moment of an office, whose keeper has such tables, where this is written
-abbrev pub moment_of : {K : Type 0} → (K → Tables) → Opened K → Option (List ℕ) → Moment
-moment_of tables office written = record { state = office.state; entries = office.entries; tables = tables office.keeper; written = written }
+-- the moment of an office, by the tables of its keeper and what is written
+abbrev pub moment_of : {K : Type 0} → (K → Shelf) → Opened K → Option (List ℕ) → Moment
+moment_of seen office written = record { state = office.state; entries = office.entries; tables = (seen office.keeper).tables; written = written }
 
 -- all requests are answered, and all replies are written
 abbrev pub EndsWell : SeasonFacts → List Request → Moment → Moment → Type 0
@@ -112,10 +114,10 @@ EndsWithin facts script n old new =
     (output : List ℕ) × (more : AfterOneMore facts old.state script output new.state new.tables)
     × Appends (output ++ take n (reply_bytes facts new.state more.reply)) old.written new.written
 
--- for want of memory a request is not answered, or its reply is not written at all
+-- memory runs out: a request is not answered, or its reply is not written at all
 abbrev pub EndsShort : SeasonFacts → List Request → Moment → Moment → Type 0
 EndsShort facts script old new = EndsBefore facts script old new ⊎ EndsWithin facts script 0 old new
 
--- where the sink fails, of the reply to the last answered request a prefix is written
+-- if the sink fails, of the reply to the last answered request a prefix is written
 abbrev pub EndsCut : SeasonFacts → List Request → Moment → Moment → Type 0
 EndsCut facts script old new = (n : ℕ) × EndsWithin facts script n old new

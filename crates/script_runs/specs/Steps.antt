@@ -1,15 +1,19 @@
 -- One request of a run, from the moment before it to the moment after it.
 use Rattle.std.specs.Prelude.{◌≡◌, ◌+◌, ℕ, List, length, take}
+use Rattle.keeper_mem.specs.Keeper.{Shelf}
+use Rattle.keeper_mem.specs.Tables.{IsTold}
 use Rattle.office_base.specs.Outside.{Appends}
 use Rattle.office_base.specs.declared.asks.Request.{Request}
 use Rattle.office_moves.specs.Facts.{SeasonFacts}
 use Rattle.office_moves.specs.State.{State}
 use Rattle.office_moves.specs.Decided.{decided}
 use Rattle.office_moves.specs.Moves.{IsMove}
-use Rattle.office_moves.specs.History.{grown, newly}
+use Rattle.office_moves.specs.History.{IsHistory, grown, newly}
+use Rattle.office_moves.specs.Stands.{Stand}
 use Rattle.office_moves.specs.declared.moves.Entry.{Entry}
 use Rattle.office_moves.specs.declared.moves.Reply.{Reply}
 use Rattle.proceedings.specs.Proceeding.{last_of}
+use Rattle.round_cut.specs.Office.{Opened}
 use Rattle.script_runs.specs.Runs.{Moment, reply_bytes}
 
 -- the entries have what the request newly accepted, under the number after the last one
@@ -28,8 +32,16 @@ abbrev pub IsAnswered : SeasonFacts → Request → Moment → Moment → Type 0
 IsAnswered facts request old new =
     (n : ℕ) × (part : IsAnsweredInPart facts request n old new) × (n ≡ length (reply_bytes facts new.state part.reply))
 
--- the state and the entries are as before, and nothing is written
+-- the state and the entries are unchanged, and nothing is written
 pub record IsUnanswered (old new : Moment) : Type 0 where
   pub state : new.state ≡ old.state
   pub entries : new.entries ≡ old.entries
   pub written : new.written ≡ old.written
+
+-- The office of the same season, in a state to which its entries lead, over tables that represent the state.
+-- What is visible of the tables now was visible before.
+pub record Continues {K : Type 0} (seen : K → Shelf) (old new : Opened K) : Type 0 where
+  pub season : new.season ≡ old.season
+  pub history : IsHistory new.season new.entries new.state
+  pub stands : Stand new.season new.state (seen new.keeper).tables
+  pub told_before : IsTold (seen new.keeper).tables → IsTold (seen old.keeper).tables

@@ -1,4 +1,5 @@
--- Requests that are answered one after another, no reply written: what was asked and replied, and what is counted of it.
+-- Requests that are answered one after another, no reply written:
+-- what was asked and replied, and what is counted of it.
 use Rattle.std.specs.Prelude.{◌≡◌, ◌<◌, ◌+◌, ◌&&◌, ℕ, Bool, true, false, List, [], ◌∷◌, cond, count_by, length, map, take}
 use Rattle.office_base.specs.declared.asks.Ask.{Ask}
 use Rattle.office_base.specs.declared.asks.Ask.TheVariants.{Answer, Cut, Seat, Why, List as AskList, State as AskState, Raise}
@@ -94,7 +95,8 @@ pub record IsCounted (facts : SeasonFacts) (old : State) (request : Request) (ne
 
 -- ---- how they end
 
--- Requests were answered so: a history leads to the state, in which the office keeps its word, and the tables stand for it.
+-- Requests were answered in this way. A history leads to the state, in which the office keeps its word,
+-- and the tables represent it.
 pub record AfterHandled (facts : SeasonFacts) (start : State) (handled : List Handled) (state : State) (tables : Tables) : Type 0 where
   pub moves : AreHandled facts start handled state
   pub history : (entries : List Entry) × IsHistory facts entries state

@@ -12,10 +12,11 @@ pub enum RunFault {
     /// The keeper failed at the next request: its count of faults rose. The replies before it are written.
     #[error("the keeper failed")]
     KeeperFault,
-    /// There was no memory for the next request, or for the reply to the last one. The replies before it are written.
+    /// Memory ran out for the next request, or for the reply to the last one. The replies before it are written.
     #[error("out of memory")]
     OutOfMemory,
-    /// The sink failed: its count of faults rose. Of the reply to the last answered request a prefix is written, and those before it whole.
+    /// The sink failed: its count of faults rose.
+    /// A prefix of the reply to the last answered request is written, and the replies before it are written whole.
     #[error("the sink failed")]
     WriteFault,
 }

@@ -2,12 +2,12 @@
 ghost use Rattle.office_moves.specs.Facts.{SeasonFacts};
 ghost use Rattle.script_runs.specs.Laws.{EachAnswerIsCounted, GoesOn, OneRun, OneTally, PrefixIsARun, RepliesCanBeShown};
 
-/// A run goes on by one request at its end.
+/// Shows that a run continues with one request at its end.
 pub fn goes_on()
     ensures { (facts : SeasonFacts) → GoesOn facts }
 {}
 
-/// A prefix of a run is a run.
+/// Shows that a prefix of a run is a run.
 pub fn prefix_is_a_run()
     ensures { (facts : SeasonFacts) → PrefixIsARun facts }
 {}
@@ -32,12 +32,12 @@ pub fn one_tally()
     office_moves::laws::one_reply();
 }
 
-/// Each answer among the requests is noted or refused, and no other request is counted.
+/// Shows that each answer among the requests is noted or refused, and that no other request is counted.
 pub fn each_answer_is_counted()
     ensures { (facts : SeasonFacts) → EachAnswerIsCounted facts }
 {}
 
-/// The reply that led to a state in which all is in order can be shown.
+/// Shows that the reply that led to a state in which all is in order can be shown.
 pub fn replies_can_be_shown()
     ensures { (facts : SeasonFacts) → RepliesCanBeShown facts }
 {

@@ -10,8 +10,9 @@ use round_cut::Office;
 use rounds::Round;
 use std::alloc::Global;
 
-/// The text of a reply that can be shown in the office's state: its programmes are of the matrix, the round of a cut that published one is there, and so
-/// are the programmes of the final rows. The text of a cut shows what it published.
+/// Returns the text of a reply that can be shown in the office's state: its programmes are of the matrix.
+/// The round of a cut that published one is there, and the programmes of the final rows are of the matrix too.
+/// The text of a cut shows what it published.
 #[tactic(auto, unfolding(crate::specs::Runs::reply_bytes, crate::specs::Runs::CanBeShown))]
 pub fn reply_line<P: Keeper>(
     alloc: Global,
@@ -34,7 +35,7 @@ pub fn reply_line<P: Keeper>(
     )
 }
 
-/// The round that the text of a reply shows.
+/// Returns the round that the text of a reply shows.
 fn shown_round<'a, P: Keeper>(office: &'a Office<P>, reply: &Reply) -> Option<&'a Round>
     ensures { option_copied result ≡ round_shown office.now.state reply.now }
 {
@@ -51,7 +52,7 @@ fn shown_round<'a, P: Keeper>(office: &'a Office<P>, reply: &Reply) -> Option<&'
     }
 }
 
-/// The final rows, once they are.
+/// Returns the final rows, once there are any.
 fn shown_rows<P: Keeper>(office: &Office<P>) -> &[AllotRow]
     ensures { result.now ≡ rows_shown office.now.state }
 {

@@ -1,10 +1,11 @@
 // A script, answered request after request: no reply is written, and answers are counted.
 ghost use Rattle.std.specs.Prelude.{◌≡◌, ◌<◌, ◌≤◌, ◌+◌, ◌^◌, cond, IfOk, OnOk, OnErr, IsErrOf};
-ghost use Rattle.office_base.specs.Outside.{Rose};
+ghost use Rattle.office_base.specs.Outside.{Fails};
 ghost use Rattle.histories.specs.Orderly.{IsOrderly};
-ghost use Rattle.keeper_mem.specs.Tables.{IsTold};
 ghost use Rattle.office_moves.specs.History.{IsHistory};
 ghost use Rattle.office_moves.specs.Stands.{Stand};
+ghost use Rattle.round_cut.specs.Answering.{KeepsOn};
+ghost use Rattle.script_runs.specs.Steps.{Continues};
 ghost use Rattle.script_runs.specs.Tally.{CountsAll, IsCounted, StopsWithin, is_answer, is_receipt, is_refusal, is_refused_answer};
 
 use crate::run::{check_order, next_reply};
@@ -21,26 +22,22 @@ pub struct Tally {
     pub refused: usize,
 }
 
-/// Answers the requests one after another, each under the number after the last one, and counts the answers that are noted and those that are refused. No
-/// reply is written. The office has to be in the state to which its entries lead, and so it is at the end. `KeeperFault` comes where the keeper failed at a
-/// request, and `OutOfMemory` where there was no memory for one: the requests before it are answered, and it is not.
+/// Answers the requests one after another, each under the number after the last one.
+/// It counts the answers that are noted and those that are refused, and writes no reply.
+/// The office must be in the state to which its entries lead, and it is so at the end too.
+/// It returns `KeeperFault` if the keeper failed at a request, and `OutOfMemory` if memory ran out for one.
+/// In both cases the requests before it are answered, and that request is not.
 pub fn count_all<P: Keeper>(
     alloc: Global,
     office: &mut Office<P>,
     script: &[Request],
 ) -> Result<Tally, OfficeFault>
     requires history { IsHistory office.old.season office.old.entries office.old.state }
-    requires stands { Stand office.old.season office.old.state (P.tables office.old.keeper) }
-    ensures counted { IfOk result (CountsAll office.old.season office.old.state script.now office.new.state (P.tables office.new.keeper)) }
-    ensures stopped { OnErr result (StopsWithin office.old.season office.old.state script.now office.new.state (P.tables office.new.keeper)) }
-    ensures season { office.new.season ≡ office.old.season }
-    ensures history { IsHistory office.new.season office.new.entries office.new.state }
-    ensures stands { Stand office.new.season office.new.state (P.tables office.new.keeper) }
-    ensures told_before { IsTold (P.tables office.new.keeper) → IsTold (P.tables office.old.keeper) }
-    ensures cause { IsErrOf result OfficeFault.KeeperFault → Rose (P.faults office.old.keeper) (P.faults office.new.keeper) }
-    ensures count { P.faults office.old.keeper ≤ P.faults office.new.keeper }
-    ensures steady { OnOk result (P.faults office.new.keeper ≡ P.faults office.old.keeper) }
-    ensures steady_memory { IsErrOf result OfficeFault.OutOfMemory → P.faults office.new.keeper ≡ P.faults office.old.keeper }
+    requires stands { Stand office.old.season office.old.state (P.seen office.old.keeper).tables }
+    ensures counted { IfOk result (CountsAll office.old.season office.old.state script.now office.new.state (P.seen office.new.keeper).tables) }
+    ensures stopped { OnErr result (StopsWithin office.old.season office.old.state script.now office.new.state (P.seen office.new.keeper).tables) }
+    ensures continues { Continues P.seen office.old office.new }
+    ensures blamed { Fails (IsErrOf result OfficeFault.KeeperFault) (P.seen office.old.keeper).faults (P.seen office.new.keeper).faults }
 {
     check_order(office);
     let mut tally = Tally {
@@ -56,7 +53,7 @@ pub fn count_all<P: Keeper>(
     Ok(tally)
 }
 
-/// Answers one request, and counts it where it is an answer.
+/// Answers one request, and counts it if it is an answer.
 fn count_one<P: Keeper>(
     alloc: Global,
     office: &mut Office<P>,
@@ -64,20 +61,14 @@ fn count_one<P: Keeper>(
     tally: Tally,
 ) -> Result<Tally, OfficeFault>
     requires history { IsHistory office.old.season office.old.entries office.old.state }
-    requires stands { Stand office.old.season office.old.state (P.tables office.old.keeper) }
+    requires stands { Stand office.old.season office.old.state (P.seen office.old.keeper).tables }
     requires noted { tally.noted + 1 < 2 ^ 64 }
     requires refused { tally.refused + 1 < 2 ^ 64 }
     ensures counted { IfOk result (IsCounted office.old.season office.old.state request.now office.new.state tally) }
-    ensures err { OnErr result (office.new.state ≡ office.old.state) }
-    ensures season { office.new.season ≡ office.old.season }
     ensures history { IsHistory office.new.season office.new.entries office.new.state }
     ensures orderly { IsOrderly office.new.season office.new.state }
-    ensures stands { Stand office.new.season office.new.state (P.tables office.new.keeper) }
-    ensures told_before { IsTold (P.tables office.new.keeper) → IsTold (P.tables office.old.keeper) }
-    ensures cause { IsErrOf result OfficeFault.KeeperFault → Rose (P.faults office.old.keeper) (P.faults office.new.keeper) }
-    ensures count { P.faults office.old.keeper ≤ P.faults office.new.keeper }
-    ensures steady { OnOk result (P.faults office.new.keeper ≡ P.faults office.old.keeper) }
-    ensures steady_memory { IsErrOf result OfficeFault.OutOfMemory → P.faults office.new.keeper ≡ P.faults office.old.keeper }
+    ensures stands { Stand office.new.season office.new.state (P.seen office.new.keeper).tables }
+    ensures kept { KeepsOn P.seen office.old office.new result }
 {
     match next_reply(alloc, office, request) {
         Ok(reply) => Ok(tally.with(request, &reply)),
@@ -86,7 +77,7 @@ fn count_one<P: Keeper>(
 }
 
 impl Tally {
-    /// The tally with one request more, and its reply.
+    /// Returns the tally with one more request, and its reply.
     fn with(self, request: &Request, reply: &Reply) -> Tally
         requires noted { self.noted + 1 < 2 ^ 64 }
         requires refused { self.refused + 1 < 2 ^ 64 }
@@ -109,7 +100,7 @@ impl Tally {
     }
 }
 
-/// Whether a request is an answer.
+/// Returns whether a request is an answer.
 fn is_answer(request: &Request) -> bool
     ensures { result ≡ is_answer request.now.ask }
 {
@@ -124,7 +115,7 @@ fn is_answer(request: &Request) -> bool
     }
 }
 
-/// Whether a reply is the receipt of an answer.
+/// Returns whether a reply is the receipt of an answer.
 fn is_receipt(reply: &Reply) -> bool
     ensures { result ≡ is_receipt reply.now }
 {
@@ -141,7 +132,7 @@ fn is_receipt(reply: &Reply) -> bool
     }
 }
 
-/// Whether a reply is a refusal.
+/// Returns whether a reply is a refusal.
 fn is_refusal(reply: &Reply) -> bool
     ensures { result ≡ is_refusal reply.now }
 {

@@ -1,2 +1,2 @@
--- What the streams of a program tell.
+-- What is visible of the streams of a program.
 pub mod Streams

@@ -1,19 +1,20 @@
-// Standard input and output as a source and a sink. To the office they are the trusted edge: they tell it no bytes, and raise a counter, which begins
-// with 0, at each error. What they do to a reader and a writer that tell their bytes stands in clauses of their own.
-ghost use Rattle.std.specs.Prelude.{◌≡◌, ◌<◌, ◌≤◌, ◌⊎◌, [], ℕ, List, Option, IfOk, OnOk, OnErr, None, length, take, true};
+// Standard input and output as a source and a sink. To the office they are the trusted edge: it cannot see their bytes.
+// They raise a counter, which begins with 0, at each error.
+// Clauses of their own say what they do to a reader and a writer with visible bytes.
+ghost use Rattle.std.specs.Prelude.{◌≡◌, ◌<◌, ◌≤◌, ◌⊎◌, [], ℕ, List, Option, IfOk, IsErr, OnOk, OnErr, None, length, take, true};
 ghost use Rattle.std.specs.Io.KnownBytes.{Appends, Keeps, ReadConsumes};
 ghost use Rattle.office_base.specs.FaultLines.{memory_line};
 ghost use Rattle.office_base.specs.Memory.{counted};
-ghost use Rattle.office_base.specs.Outside.{AppendsPrefix, ComesAtTheEnd, Rose, TakesPrefix};
+ghost use Rattle.office_base.specs.Outside.{AppendsPrefix, ComesAtTheEnd, Fails, TakesPrefix};
 ghost use Rattle.command_answers.specs.declared.status.Status.TheVariants as status;
-ghost use Rattle.standard_streams.specs.Streams.{AppendsFront, AreFront, given_or_held, held, inner_writer};
+ghost use Rattle.standard_streams.specs.Streams.{AppendsFront, AreFront, Outputs, given_or_held, held, inner_writer};
 
 use command_answers::Status;
 use office_base::{Failed, OutOfMemory, Sink, Source};
 use std::alloc::Global;
 use std::io::{self, BufWriter, Read, Write};
 
-/// A reader whose bytes are not told to the office.
+/// A reader whose bytes the office cannot see.
 #[derive(Drop)]
 pub struct StandardInput<R: Read> {
     reader: R,
@@ -39,10 +40,9 @@ impl<R: Read> Source for StandardInput<R> {
         ensures taken { IfOk result (λ n. TakesPrefix n None None buf.new) }
         ensures ended { IfOk result (λ n. ComesAtTheEnd n (length buf.old) None) }
         ensures kept { OnErr result (◌≡◌ {A = Option (List ℕ)} None None) }
-        ensures count { self.old.faults ≤ self.new.faults }
-        ensures steady { OnOk result (self.new.faults ≡ self.old.faults) }
-        ensures cause { OnErr result (Rose self.old.faults self.new.faults) }
-        // what the reader gives is what is read: its end is one only where nothing is left in it, and a failure, which is one fault more, takes nothing
+        ensures blamed { Fails (IsErr result) self.old.faults self.new.faults }
+        // what the reader gives is what is read: its end is reported only if nothing is left in it;
+        // a failure is one fault more, and takes nothing
         ensures bytes { ReadConsumes (R.remaining self.old.reader) (R.remaining self.new.reader) result buf.new }
         ensures raised { OnErr result (self.new.faults ≡ counted self.old.faults) }
     {
@@ -59,7 +59,8 @@ impl<R: Read> Source for StandardInput<R> {
 // How many bytes are held before they are given on.
 const BLOCK_LEN: usize = 65_536;
 
-/// A writer whose bytes are not told to the office. They are held in a block, and given on where it is full, at the end, and where `at_once` is set at each write.
+/// A writer whose bytes the office cannot see. It holds them in a block.
+/// It passes them on when the block is full, at the end, and at each write if `at_once` is set.
 #[derive(Drop)]
 pub struct StandardOutput<W: Write + Drop> {
     writer: BufWriter<W>,
@@ -68,7 +69,8 @@ pub struct StandardOutput<W: Write + Drop> {
 }
 
 impl<W: Write + Drop> StandardOutput<W> {
-    /// It takes the memory of the block. `at_once` is for a terminal, where what is written should be seen before more is read.
+    /// Makes an output, and allocates its block.
+    /// `at_once` is for a terminal, where output should be seen before more is read.
     pub fn new(alloc: Global, writer: W, at_once: bool) -> Result<StandardOutput<W>, OutOfMemory>
         ensures faults { IfOk result (λ output. output.faults ≡ 0) }
         ensures at_once { IfOk result (λ output. output.at_once ≡ at_once) }
@@ -85,12 +87,12 @@ impl<W: Write + Drop> StandardOutput<W> {
         })
     }
 
-    /// Gives on what is held, and gives the writer back. After an error, here or before, what is still held is given up.
+    /// Passes on what is held, and returns the writer. After an error, here or before, it drops what is still held.
     pub fn finish(self) -> (W, Result<(), Failed>)
         ensures steady { OnOk result.1 (self.faults ≡ 0) }
         // all that was held follows what the writer had, in order and once
         ensures whole { OnOk result.1 (Keeps (given_or_held W.contents self) (W.contents result.0)) }
-        // else a front of it does; where a write failed before, nothing more is given on
+        // otherwise a front of it does; if a write failed before, nothing more is passed on
         ensures front { AreFront (W.contents result.0) (given_or_held W.contents self) }
         ensures given_up { 0 < self.faults → result.0 ≡ inner_writer self }
     {
@@ -108,7 +110,8 @@ impl<W: Write + Drop> StandardOutput<W> {
         }
     }
 
-    // Takes a prefix of the piece into the block, and gives on the block where nothing is to be held. At an error that prefix may be held.
+    // Takes a prefix of the piece into the block, and passes on the block if nothing should be held.
+    // At an error that prefix may be held.
     fn hold(&mut self, piece: &[u8]) -> io::Result<usize>
         ensures within { IfOk result (λ n. n ≤ length piece.now) }
         ensures faults { self.new.faults ≡ self.old.faults }
@@ -135,15 +138,9 @@ impl<W: Write + Drop> Sink for StandardOutput<W> {
         ensures some { IfOk result (λ n. 0 < length piece.now → 0 < n) }
         ensures appended { IfOk result (λ n. AppendsPrefix n piece.now None None) }
         ensures kept { OnErr result (◌≡◌ {A = Option (List ℕ)} None None) }
-        ensures count { self.old.faults ≤ self.new.faults }
-        ensures steady { OnOk result (self.new.faults ≡ self.old.faults) }
-        ensures cause { OnErr result (Rose self.old.faults self.new.faults) }
-        // the prefix that is told follows what was given on and held, once; with `at_once` all of it is given on. A failure is one fault more
-        ensures bytes { IfOk result (λ n. Appends (given_or_held W.contents self.old) (given_or_held W.contents self.new) (take n piece.now)) }
-        ensures front { AppendsFront (given_or_held W.contents self.old) (given_or_held W.contents self.new) piece.now }
-        ensures seen { OnOk result (self.old.at_once ≡ true → held self.new ≡ []) }
-        ensures at_once { self.new.at_once ≡ self.old.at_once }
+        ensures blamed { Fails (IsErr result) self.old.faults self.new.faults }
         ensures raised { OnErr result (self.new.faults ≡ counted self.old.faults) }
+        ensures output { Outputs W.contents piece.now self.old self.new result }
     {
         match self.hold(piece) {
             Ok(count) if 0 < count || piece.is_empty() => Ok(count),
@@ -155,7 +152,8 @@ impl<W: Write + Drop> Sink for StandardOutput<W> {
     }
 }
 
-/// Tells a writer that no memory was found to hold what is written to it. The status says whether it took the whole line.
+/// Writes to a writer that memory ran out for holding what is written to it.
+/// The status says whether it took the whole line.
 pub fn tell_unheld<W: Write>(writer: &mut W) -> Status
     ensures status { (result ≡ status.OutOfMemory) ⊎ (result ≡ status.WriteFault) }
     ensures bytes { result ≡ status.OutOfMemory → Appends (W.contents writer.old) (W.contents writer.new) memory_line }

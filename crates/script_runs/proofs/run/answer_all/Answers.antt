@@ -7,7 +7,7 @@ use Rattle.script_runs.proofs.run.answer_all.Goals as goal
 
 pub requests-init : goal.requests-init
 requests-init g c = record {
-  running = begins c.args.office.now.season c.args.script.now (moment_of g.P.Keeper.tables c.args.office.now (g.K.Sink.written c.args.sink.now))
+  running = begins c.args.office.now.season c.args.script.now (moment_of g.P.Keeper.seen c.args.office.now (g.K.Sink.written c.args.sink.now))
       c.requires.history c.check_order.ensures.word c.requires.stands;
   keeper = refl;
   sink = refl;
@@ -18,17 +18,17 @@ pub requests-preserved : goal.requests-preserved
 requests-preserved g c =
     let next = next_at c.args.script.now c.requests.request-index c.request-item.result c.requests-test.true c.request-item.is in
     let ends = c.in_ok-answer_one.ensures in
-    let left : IsLeft c.requests.office.season c.answer_one.new.office.season c.answer_one.new.office.entries c.answer_one.new.office.state (g.P.Keeper.tables c.answer_one.new.office.keeper) = record {
-      same = ends.season;
-      history = ends.history;
+    let left : IsLeft c.requests.office.season c.answer_one.new.office.season c.answer_one.new.office.entries c.answer_one.new.office.state (g.P.Keeper.seen c.answer_one.new.office.keeper).tables = record {
+      same = ends.continues.season;
+      history = ends.continues.history;
       word = ends.orderly.word;
-      stands = ends.stands;
+      stands = ends.continues.stands;
     } in
     record {
       running = goes _ _ _ _ _ _ _ _ _ c.requests.invariant.running next ends.done left;
-      keeper = ends.keeper_steady (λ e. cc) ∙ c.requests.invariant.keeper;
-      sink = ends.write_steady (λ e. cc) ∙ c.requests.invariant.sink;
-      told_before = λ told. c.requests.invariant.told_before (ends.told_before told);
+      keeper = ends.blamed.0.steady (λ e. cc) ∙ c.requests.invariant.keeper;
+      sink = ends.blamed.1.steady (λ e. cc) ∙ c.requests.invariant.sink;
+      told_before = λ told. c.requests.invariant.told_before (ends.continues.told_before told);
     }
 
 pub returns-in_err-answer_one-clause-memory : goal.returns-in_err-answer_one-clause-memory
@@ -36,11 +36,11 @@ returns-in_err-answer_one-clause-memory g c e =
     let next = next_at c.args.script.now c.requests.request-index c.request-item.result c.requests-test.true c.request-item.is in
     let ends = c.answer_one.ensures in
     let was : IsErrOf c.answer_one.result OutOfMemory = search rules in
-    let left : IsLeft c.requests.office.season c.answer_one.new.office.season c.answer_one.new.office.entries c.answer_one.new.office.state (g.P.Keeper.tables c.answer_one.new.office.keeper) = record {
-      same = ends.season;
-      history = ends.history;
+    let left : IsLeft c.requests.office.season c.answer_one.new.office.season c.answer_one.new.office.entries c.answer_one.new.office.state (g.P.Keeper.seen c.answer_one.new.office.keeper).tables = record {
+      same = ends.continues.season;
+      history = ends.continues.history;
       word = ends.orderly.word;
-      stands = ends.stands;
+      stands = ends.continues.stands;
     } in
     elim (ends.memory was) [
       | inl un ↦ inl (stops_before _ _ _ _ _ _ _ _ c.requests.invariant.running next.within un left)
@@ -52,11 +52,11 @@ returns-in_err-answer_one-clause-write g c e =
     let next = next_at c.args.script.now c.requests.request-index c.request-item.result c.requests-test.true c.request-item.is in
     let ends = c.answer_one.ensures in
     let was : IsErrOf c.answer_one.result WriteFault = search rules in
-    let left : IsLeft c.requests.office.season c.answer_one.new.office.season c.answer_one.new.office.entries c.answer_one.new.office.state (g.P.Keeper.tables c.answer_one.new.office.keeper) = record {
-      same = ends.season;
-      history = ends.history;
+    let left : IsLeft c.requests.office.season c.answer_one.new.office.season c.answer_one.new.office.entries c.answer_one.new.office.state (g.P.Keeper.seen c.answer_one.new.office.keeper).tables = record {
+      same = ends.continues.season;
+      history = ends.continues.history;
       word = ends.orderly.word;
-      stands = ends.stands;
+      stands = ends.continues.stands;
     } in
     let part = ends.write was in
     (part.0, stops_within _ _ _ _ _ _ _ _ _ _ c.requests.invariant.running next part.1 left)

@@ -7,8 +7,8 @@ use Rattle.script_runs.proofs.run.answer_all.Given as goal
 abbrev pub invariant-requests : goal.invariant-requests
 invariant-requests g l = record {
   running : IsRunning l.fn.office.season l.script l.request-index l.office.season
-      (moment_of g.P.Keeper.tables l.fn.office (g.K.Sink.written l.fn.sink)) (moment_of g.P.Keeper.tables l.office (g.K.Sink.written l.sink));
-  keeper : g.P.Keeper.faults l.office.keeper ≡ g.P.Keeper.faults l.fn.office.keeper;
+      (moment_of g.P.Keeper.seen l.fn.office (g.K.Sink.written l.fn.sink)) (moment_of g.P.Keeper.seen l.office (g.K.Sink.written l.sink));
+  keeper : (g.P.Keeper.seen l.office.keeper).faults ≡ (g.P.Keeper.seen l.fn.office.keeper).faults;
   sink : g.K.Sink.faults l.sink ≡ g.K.Sink.faults l.fn.sink;
-  told_before : IsTold (g.P.Keeper.tables l.office.keeper) → IsTold (g.P.Keeper.tables l.fn.office.keeper);
+  told_before : IsTold (g.P.Keeper.seen l.office.keeper).tables → IsTold (g.P.Keeper.seen l.fn.office.keeper).tables;
 }

@@ -9,6 +9,6 @@ returns-clause-done g c =
     let state = c.next_reply.new.office.state in
     let reply = c.in_ok-reply.reply in
     let text : c.as_slice.result.now ≡ reply_bytes c.args.office.now.season state reply =
-    c.as_slice.ensures ∙ (c.in_ok-text.ensures ∙ ap (λ f. reply_bytes f state reply) c.in_ok-reply.ensures.season) in
+    c.as_slice.ensures ∙ (c.in_ok-text.ensures ∙ ap (λ f. reply_bytes f state reply) c.in_ok-reply.ensures.kept.season) in
     answered_whole c.args.office.now.season c.args.request.now _ _ reply c.in_ok-reply.ensures.moves c.in_ok-reply.ensures.accepted
     (subst (λ xs. Appends xs (g.K.Sink.written c.args.sink.now) (g.K.Sink.written c.write_whole.new.sink)) text c.in_ok-write_whole.ensures.ok)

@@ -5,6 +5,6 @@ use Rattle.script_runs.proofs.tally.count_all.Given as goal
 
 abbrev pub invariant-requests : goal.invariant-requests
 invariant-requests g l =
-    (IsCounting l.fn.office.season l.fn.office.state l.script l.request-index l.office.season l.office.entries l.office.state (g.P.Keeper.tables l.office.keeper) l.tally
-    (g.P.Keeper.faults l.fn.office.keeper) (g.P.Keeper.faults l.office.keeper) × (l.tally.noted ≤ l.request-index) × (l.tally.refused ≤ l.request-index))
-    × (IsTold (g.P.Keeper.tables l.office.keeper) → IsTold (g.P.Keeper.tables l.fn.office.keeper))
+    (IsCounting l.fn.office.season l.fn.office.state l.script l.request-index l.office.season l.office.entries l.office.state (g.P.Keeper.seen l.office.keeper).tables l.tally
+    (g.P.Keeper.seen l.fn.office.keeper).faults (g.P.Keeper.seen l.office.keeper).faults × (l.tally.noted ≤ l.request-index) × (l.tally.refused ≤ l.request-index))
+    × (IsTold (g.P.Keeper.seen l.office.keeper).tables → IsTold (g.P.Keeper.seen l.fn.office.keeper).tables)
