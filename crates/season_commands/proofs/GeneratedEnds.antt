@@ -40,11 +40,11 @@ unmade_ends n seed tables written now broke result is =
     let (output, appends, writes) = told_is_written IsWantText OutOfMemory result memory_line written now broke refl is in
     (output, appends, inl (writes, refl))
 
--- where the sink takes all, want of memory is told
+-- if the sink takes all, the status reports that memory ran out
 pub unmade_is_told : (written now : Option (List ℕ)) (broke : Type 0) (result : Status) → IsTold OutOfMemory memory_line written now broke result → (broke → ⊥) → result ≡ OutOfMemory
 unmade_is_told written now broke result told wrote = elim told [ inl whole ↦ whole.0 | inr cut ↦ absurd (wrote cut.1) ]
 
--- bytes without a fault are not read for want of memory alone
+-- bytes without a fault are not read only when memory runs out
 pub only_memory : (bytes : List ℕ) (fault : SeasonFault) → ((other : SeasonFault) → HasFault true bytes other → ⊥) → IsSeasonFault true bytes fault → fault ≡ NoMemoryToRead
 only_memory bytes NoMemoryToRead none is = refl
 only_memory bytes fault none is = absurd (none fault is)
@@ -96,7 +96,7 @@ pub counted_ends : (n seed : ℕ) (facts : SeasonFacts) (script : List Request) 
 counted_ends n seed facts script tables summary written now broke result made keeper memory told =
     told_is_written (IsCountedText n seed facts script tables) (summed_status summary) result (summed_text summary) written now broke (text_of_counted n seed facts script tables summary made keeper memory) told
 
--- the same of the tables that are handed back
+-- the same of the tables of the returned keeper
 pub counted_handed : (n seed : ℕ) (facts : SeasonFacts) (script : List Request) (tables handed : Tables) (written now : Option (List ℕ)) (result : Status) → handed ≡ tables
     → (output : List ℕ) × Appends output written now × Writes (IsCountedText n seed facts script tables) result output
     → (output : List ℕ) × Appends output written now × Writes (IsCountedText n seed facts script handed) result output
@@ -110,7 +110,7 @@ pub counted_made : (n seed : ℕ) (season : Season) (script : List Request) (fac
 counted_made n seed season script facts before after written now result of none end =
     (end.0, end.1, inr (none, subst (λ (f : SeasonFacts). Writes (IsCountedText n seed f script after) result end.0) of end.2))
 
--- what the status tells of the keeper and the sink
+-- what the status reports of the keeper and the sink
 pub record IsSummaryTold (summary : Result (List ℕ) OfficeFault) (broke : Type 0) (result : Status) : Type 0 where
   pub no_read : result ≡ ReadFault → ⊥
   pub write : result ≡ WriteFault → broke
@@ -151,20 +151,20 @@ pub summary_told : (summary : Result (List ℕ) OfficeFault) (written now : Opti
 summary_told summary written now broke result told =
     elim told [ inl whole ↦ told_whole summary broke result whole.0 | inr cut ↦ told_in_part summary broke result cut.0 cut.1 ]
 
--- where no fault of the outside is told, there is a summary, or there was no memory
-whole_held : (summary : Result (List ℕ) OfficeFault) (Held : Type 0) (result : Status) → result ≡ summed_status summary → OnOk summary Held → (IsErrOf summary NoMemory → Held) → (result ≡ KeeperFault → ⊥) → Held
-whole_held (Ok text) Held result is held short kept = held
-whole_held (Err NoKeeper) Held result is held short kept = absurd (kept is)
-whole_held (Err NoMemory) Held result is held short kept = short refl
+-- if no fault of the outside is reported, the keeper did not fail
+whole_held : (summary : Result (List ℕ) OfficeFault) (Held : Type 0) (result : Status) → result ≡ summed_status summary → ((IsErrOf summary NoKeeper → ⊥) → Held) → (result ≡ KeeperFault → ⊥) → Held
+whole_held (Ok text) Held result is held kept = held (λ failed. cc)
+whole_held (Err NoKeeper) Held result is held kept = absurd (kept is)
+whole_held (Err NoMemory) Held result is held kept = held (λ failed. cc)
 
 pub summary_held : (summary : Result (List ℕ) OfficeFault) (written now : Option (List ℕ)) (broke Held : Type 0) (result : Status) → IsTold (summed_status summary) (summed_text summary) written now broke result
-    → OnOk summary Held → (IsErrOf summary NoMemory → Held) → (result ≡ KeeperFault → ⊥) → (result ≡ WriteFault → ⊥) → Held
-summary_held summary written now broke Held result told held short kept wrote =
-    elim told [ inl whole ↦ whole_held summary Held result whole.0 held short kept | inr cut ↦ absurd (wrote cut.0) ]
+    → ((IsErrOf summary NoKeeper → ⊥) → Held) → (result ≡ KeeperFault → ⊥) → (result ≡ WriteFault → ⊥) → Held
+summary_held summary written now broke Held result told held kept wrote =
+    elim told [ inl whole ↦ whole_held summary Held result whole.0 held kept | inr cut ↦ absurd (wrote cut.0) ]
 
 -- ---- along the rounds
 
--- the round after so many
+-- the round that follows the first i
 pub round_after : (rounds : List Round) (i : ℕ) → round_at rounds (i + 1) ≡ slice_get rounds i
 round_after rounds i = let next : i + 1 ≡ suc i = omega arith in ap (λ (k : ℕ). round_at rounds k) next
 

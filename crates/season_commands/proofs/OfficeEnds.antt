@@ -33,7 +33,7 @@ follows_some facts script old new after text end told =
     let (j, some, fewer, answered, written) = end in
     (some ++ text, appends_on some text old.written new.written after written told, record { j = j; some = some; state = new.state; fewer = fewer; answered = answered; written = refl })
 
--- a text after the output of the first requests, where one more is answered
+-- a text after the output of the first requests, if one more is answered
 follows_more : (facts : SeasonFacts) (script : List Request) (old new : Moment) (after : Option (List ℕ)) (text : List ℕ) → EndsWithin facts script 0 old new → Appends text new.written after
     → (output : List ℕ) × Appends output old.written after × FollowsOneMore facts old.state script new.tables text output
 follows_more facts script old new after text end told =
@@ -52,7 +52,7 @@ keeper_ends facts script old new after broke result here told =
           as_result facts old.state script new.tables old.written after WriteFault result cut.0 (some.0, some.1, inr (cut.2.0, inl some.2))
     ]
 
--- There was no memory for a request.
+-- Memory ran out for a request.
 short_before : (facts : SeasonFacts) (script : List Request) (old new : Moment) (after : Option (List ℕ)) (broke : Type 0) (result : Status)
     → EndsBefore facts script old new → IsTold OutOfMemory memory_line new.written after broke result → IsEnd facts old.state script new.tables old.written after result
 short_before facts script old new after broke result here told =
@@ -65,7 +65,7 @@ short_before facts script old new after broke result here told =
           as_result facts old.state script new.tables old.written after WriteFault result cut.0 (some.0, some.1, inr (cut.2.0, inr (inl some.2)))
     ]
 
--- there was no memory for a reply
+-- memory ran out for a reply
 short_within : (facts : SeasonFacts) (script : List Request) (old new : Moment) (after : Option (List ℕ)) (broke : Type 0) (result : Status)
     → EndsWithin facts script 0 old new → IsTold OutOfMemory memory_line new.written after broke result → IsEnd facts old.state script new.tables old.written after result
 short_within facts script old new after broke result here told =
@@ -78,7 +78,7 @@ short_within facts script old new after broke result here told =
           as_result facts old.state script new.tables old.written after WriteFault result cut.0 (more.0, more.1, inr (cut.2.0, inr (inr more.2)))
     ]
 
--- There was no memory.
+-- Memory ran out.
 pub memory_ends : (facts : SeasonFacts) (script : List Request) (old new : Moment) (after : Option (List ℕ)) (broke : Type 0) (result : Status)
     → EndsShort facts script old new → IsTold OutOfMemory memory_line new.written after broke result → IsEnd facts old.state script new.tables old.written after result
 memory_ends facts script old new after broke result end told =

@@ -41,7 +41,7 @@ line_left before after (BadRequest row) line read memory is told =
     let (bytes, took, end, text, err) = is in (bytes, all_left bytes before after took end, (BadRequest row, (text, err), told))
 line_left before after OutOfMemory line read memory is told = absurd (memory refl)
 
--- A failure that tells a fault of requests has its cause.
+-- A failure that reports a fault of requests has its cause.
 pub requests_failed : (before after : Option (List ℕ)) (failed : Type 0) (fault : SeasonFault) (failure : Failure) → (fault ≡ ReadFault → failed) → IsScriptFault before after fault
     → TellsSeasonFault fault failure → IsFailureOf script_answers before failed failure
 requests_failed before after failed fault Read cause is told = cause told

@@ -35,14 +35,14 @@ use Rattle.season_commands.specs.Resume.{AreLeftRequests, EndsAsked, EndsResume,
 use Rattle.season_commands.specs.Run.{TellsNoSeason}
 use Rattle.season_commands.specs.Stray.{differs_line, raise_line_of, stray_line}
 
--- ---- no office goes on
+-- ---- no office resumes
 
 -- what holds of a text that was made
 ok_map : {E : Type 0} (P Q : List ℕ → Type 0) (result : Result (List ℕ) E) → ((text : List ℕ) → P text → Q text) → IfOk result P → IfOk result Q
 ok_map P Q (Ok text) go holds = go text holds
 ok_map P Q (Err e) go holds = tt
 
--- The texts that go with their statuses, where there was memory: a text that is no bundle,
+-- The texts that go with their statuses, if memory did not run out: a text that is no bundle,
 pub text_told : {E : Type 0} (tables : Tables) (fault : SeasonFault) (made : Result (List ℕ) E) → IfOk made (λ text. text ≡ fault_line fault) → IsUnresumed tables (BadSeason fault)
     → IfOk made (IsUnresumedText tables BadInput)
 text_told tables fault made is stopped =
@@ -64,7 +64,7 @@ raise_told tables row made is stopped =
     let (season, read, fault) = has in
     ok_map (λ text. text ≡ raise_line_of row) (IsUnresumedText tables StatusDiffers) made (λ text same. (records, loaded, (season, StrayLift row, read, fault, (λ none. cc none), same))) is
 
--- and a difference, by the codes of the season that was handed over.
+-- and a difference, by the codes of the returned season.
 pub difference_told : {E : Type 0} (tables : Tables) (round : ℕ) (cand : CandId) (one other : Option Seat) (season : Season) (made : Result (List ℕ) E)
     → IfOk made (λ line. line ≡ differs_line season.matrix round cand.0 one other) → IsUnresumed tables (Differs round cand one other season) → IfOk made (IsUnresumedText tables StatusDiffers)
 difference_told tables round cand one other season made is stopped =
@@ -74,28 +74,28 @@ difference_told tables round cand one other season made is stopped =
     ok_map (λ line. line ≡ differs_line season.matrix round cand.0 one other) (IsUnresumedText tables StatusDiffers) made
     (λ line told. (records, loaded, (spelt, SeatsDiffer round cand one other, read, fault, (λ none. cc none), told ∙ ap (λ (t : SeatTable). differs_line t round cand.0 one other) codes))) is
 
--- It is told, or there was no memory for the line.
+-- The line is written, or memory ran out for it.
 pub made_is_written : {E : Type 0} (tables : Tables) (want : Status) (made : Result (List ℕ) E) (result : Status) (before after : Option (List ℕ)) (broke : Type 0) → IfOk made (IsUnresumedText tables want)
     → IsTold (made_status want made) (made_text made) before after broke result → (output : List ℕ) × Appends output before after × Writes (IsUnresumedText tables) result output
 made_is_written tables want (Ok line) result before after broke is told = told_is_written (IsUnresumedText tables) want result line before after broke is told
 made_is_written tables want (Err none) result before after broke is told = told_is_written (IsUnresumedText tables) OutOfMemory result memory_line before after broke refl told
 
--- There was no memory.
+-- Memory ran out.
 pub unlined_is_written : (result : Status) (before after : Option (List ℕ)) (broke : Type 0) (tables : Tables) → IsTold OutOfMemory memory_line before after broke result
     → (output : List ℕ) × Appends output before after × Writes (IsUnresumedText tables) result output
 unlined_is_written result before after broke tables told = told_is_written (IsUnresumedText tables) OutOfMemory result memory_line before after broke refl told
 
--- No season was found, in a line of its own.
+-- No season was found, which has its own line.
 pub none_is_written : (result : Status) (before after : Option (List ℕ)) (broke : Type 0) (tables : Tables) → IsTold BadInput no_season_line before after broke result → IsFound false tables
     → (output : List ℕ) × Appends output before after × Writes (IsUnresumedText tables) result output
 none_is_written result before after broke tables told none = told_is_written (IsUnresumedText tables) BadInput result no_season_line before after broke (inl (none, refl)) told
 
--- The keeper failed, in a line of its own.
+-- The keeper failed, which has its own line.
 pub failed_is_written : (result : Status) (before after : Option (List ℕ)) (broke : Type 0) (tables : Tables) → IsTold KeeperFailed keeper_line before after broke result
     → (output : List ℕ) × Appends output before after × Writes (IsUnresumedText tables) result output
 failed_is_written result before after broke tables told = told_is_written (IsUnresumedText tables) KeeperFailed result keeper_line before after broke refl told
 
--- What was written where no office goes on, by what was told before and after.
+-- What was written if no office resumes, by what is visible before and after.
 pub unresumed_ends : (left : Option (List ℕ)) (before after : Tables) (why : Unresumed) (written now : Option (List ℕ)) (status : Status) → AreTold before after → IsUnresumed after why
     → ((tables : Tables) → IsUnresumed tables why → (output : List ℕ) × Appends output written now × Writes (IsUnresumedText tables) status output)
     → (output : List ℕ) × Appends output written now × EndsResume left before after status output
@@ -111,7 +111,7 @@ text_of_unasked left failed Read cause = refl
 text_of_unasked left failed (Bad line) cause = cause
 text_of_unasked left failed NoMemory cause = refl
 
--- It is told.
+-- The failure is written.
 pub unasked_ends : (facts : SeasonFacts) (start : State) (left : Option (List ℕ)) (failed : Type 0) (failure : Failure) (before after : Tables) (written now : Option (List ℕ)) (broke : Type 0) (result : Status)
     → IsFailureOf script_answers left failed failure → IsTold (status_of (Err failure)) (text_of (Err failure)) written now broke result → AreTold before after
     → (output : List ℕ) × Appends output written now × EndsAsked facts start left before after result output
@@ -126,13 +126,7 @@ pub asked_ends : (facts : SeasonFacts) (start : State) (left : Option (List ℕ)
 asked_ends facts start left script shown before after written now status are same end =
     (end.0, end.1, inr (script, are, subst (λ (requests : List Request). EndsOffice facts start requests after status end.0) same end.2))
 
--- ---- what is told of the tables
-
--- What is told stays told.
-pub told_same : (tables : Tables) → AreTold tables tables
-told_same Untold = tt
-told_same NoSeason = refl
-told_same (Records kept) = refl
+-- ---- what is visible of the tables
 
 told_on : (first second third : Tables) → AreTold first second → AreTold second third → AreTold first third
 told_on first second Untold one other = tt
@@ -154,7 +148,7 @@ resumed_ends facts start left before held after written now status resumed told 
   ),
 )
 
--- An office that went on tells no difference.
+-- An office that resumed reports no difference.
 pub none_differs : (facts : SeasonFacts) (start : State) (left : Option (List ℕ)) (before after : Tables) (written now : Option (List ℕ)) (status : Status)
     → (output : List ℕ) × Appends output written now × EndsAsked facts start left before after status output → status ≡ StatusDiffers → ⊥
 none_differs facts start left before after written now status end same =

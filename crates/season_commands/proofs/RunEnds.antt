@@ -65,7 +65,7 @@ unread_ends left failed failure tables written now broke result cause is =
     let (output, appends, writes) = told_is_written (IsUnreadText left) (status_of (Err failure)) result (text_of (Err failure)) written now broke (text_of_failure left failed failure cause) is in
     (output, appends, inl (writes, refl))
 
--- No season can be read where a bundle has a fault.
+-- No season can be read if a bundle has a fault.
 pub no_faulty_bundle : (left : Option (List ℕ)) (season : Season) (script : List Request) → ((bytes : List ℕ) → HaveOneAnswer check_answers bytes) → IsLeftBundle left season script → Tells IsFaultyBundle left → ⊥
 no_faulty_bundle None season script laws is tells = tells
 no_faulty_bundle (Some bytes) season script laws is tells =

@@ -1,4 +1,4 @@
--- What a keeper told before a command, where it tells after it.
+-- The tables before a command, if the tables after it are visible.
 use Rattle.std.proofs.Common.{◌≡◌, Bool, true, false, refl, sym, subst}
 use Rattle.keeper_mem.specs.Tables.{Tables, Untold, NoSeason, Records, AreTold, IsFound, IsTold, still}
 use Rattle.office_moves.specs.Facts.{SeasonFacts}
@@ -6,7 +6,7 @@ use Rattle.office_moves.specs.State.{State}
 use Rattle.round_cut.specs.Resume.{IsResumed}
 use Rattle.season_commands.specs.Run.{TellsNoSeason, TellsSeason}
 
--- where nothing changed, it is what is told after
+-- if nothing changed, these are the visible tables after it
 pub still_same : (before after : Tables) → AreTold before after → still before after ≡ after
 still_same before Untold told = refl
 still_same before NoSeason told = told
@@ -18,7 +18,7 @@ still_from P before after told holds = subst P (sym (still_same before after tol
 pub still_to : (P : Tables → Type 0) (before after : Tables) → AreTold before after → P (still before after) → P after
 still_to P before after told holds = subst P (still_same before after told) holds
 
--- what held of the tables at first holds at the end too, where nothing is told or what was told was the same
+-- what held of the tables at first holds at the end too, if the last tables are hidden or the same ones were visible
 pub still_later : (P : Tables → Type 0) (before mid after : Tables) → (IsTold after → IsTold mid) → P Untold → P (still before mid) → P (still before after)
 still_later P before mid Untold was none holds = none
 still_later P before Untold NoSeason was none holds = absurd (was tt)

@@ -1,4 +1,4 @@
--- Where no office goes on, and why, by what a keeper told before a command and tells after it.
+-- When no office resumes, and why, by the tables that are visible before and after a command.
 use Rattle.std.proofs.Common.{◌≡◌, ◌≢◌, ◌⊎◌, ◌∙◌, ap, inl, inr, ℕ, Bool, false, List, [], refl, sym, subst}
 use Rattle.keeper_mem.specs.Tables.{Tables, Untold, NoSeason, Records, AreTold, IsTold, still}
 use Rattle.keeper_mem.specs.declared.rows.Kept.{Kept}
@@ -21,7 +21,7 @@ use Rattle.season_commands.proofs.Still.{still_to}
 
 -- ---- records without a fault
 
--- the fault of sound records is the keeper's, or want of memory
+-- the fault of sound records is the keeper's, or memory ran out
 sound_fault : (records : Kept) (why : Unresumed) → HaveNoFault records → HaveStopped records why → (why ≡ KeeperFault) ⊎ (why ≡ NoMemoryToResume)
 sound_fault records NoneKept sound is = absurd is
 sound_fault records (BadSeason fault) sound is = absurd (sound.text fault is)
@@ -32,7 +32,8 @@ sound_fault records (Differs round cand one other handed) sound is =
 sound_fault records KeeperFault sound is = inl refl
 sound_fault records NoMemoryToResume sound is = inr refl
 
--- what stops an office from going on from records that are told is of them, or the keeper failed, or there was no memory
+-- a fault that stops an office from resuming visible records is a fault of the records, or the keeper failed,
+-- or memory ran out
 of_records : (kept : Kept) (why : Unresumed) (P : Unresumed → Type 0) → IsUnresumed (Records kept) why → (HaveStopped kept why → P why) → P KeeperFault → P NoMemoryToResume → P why
 of_records kept NoneKept P is have failed short = absurd (cc is)
 of_records kept (BadSeason fault) P is have failed short = let (records, loaded, has) = is in have (subst (λ (k : Kept). HaveStopped k (BadSeason fault)) (sym loaded) has)
@@ -48,7 +49,8 @@ told_sound Untold why sound is = absurd sound
 told_sound NoSeason why sound is = absurd sound
 told_sound (Records kept) why sound is = of_records kept why (λ w. (w ≡ KeeperFault) ⊎ (w ≡ NoMemoryToResume)) is (λ has. sound_fault kept why sound has) (inl refl) (inr refl)
 
--- Where the records are sound, and neither the keeper nor the sink failed, only want of memory stops an office from going on.
+-- If the records are sound, and neither the keeper nor the sink failed,
+-- only a lack of memory stops an office from resuming.
 pub sound_stops : (before tables : Tables) (fault : Unresumed) (result : Status) (rose broke : Type 0) → AreTold before tables → TellsSound (still before tables) → IsUnresumed tables fault
     → (fault ≡ KeeperFault → rose) → (rose → ⊥) → (result ≡ unresumed_status fault) ⊎ ((result ≡ OutOfMemory) ⊎ (result ≡ WriteFault)) → (result ≡ WriteFault → broke) → (broke → ⊥)
     → result ≡ OutOfMemory
@@ -60,11 +62,11 @@ sound_stops before tables fault result rose broke same sound judged cause held s
 
 -- ---- records with a fault
 
--- why no office goes on: what has this status, or what may come at any time
+-- why no office resumes: what has this status, or what may happen at any time
 abbrev IsStop : Status → Unresumed → Type 0
 IsStop want fault = (unresumed_status fault ≡ want) ⊎ ((fault ≡ KeeperFault) ⊎ (fault ≡ NoMemoryToResume))
 
--- Where neither the keeper nor the sink failed, that is the status, or there was no memory.
+-- If neither the keeper nor the sink failed, that is the status, or memory ran out.
 stops : (want : Status) (fault : Unresumed) (result : Status) (rose broke : Type 0) → IsStop want fault → (fault ≡ KeeperFault → rose) → (rose → ⊥)
     → (result ≡ unresumed_status fault) ⊎ ((result ≡ OutOfMemory) ⊎ (result ≡ WriteFault)) → (result ≡ WriteFault → broke) → (broke → ⊥) → (result ≡ want) ⊎ (result ≡ OutOfMemory)
 stops want fault result rose broke stop cause held status wrote kept =
@@ -80,7 +82,7 @@ stops want fault result rose broke stop cause held status wrote kept =
 spells_none : (records : Kept) (season : Season) → HaveOneReading false records.season → HaveTextFault records → IsSeason records.season season → ⊥
 spells_none records season reading (fault, has) read = reading.apart (content_of season read.row) [] fault read.given has
 
--- An office does not go on from records whose text is no bundle.
+-- An office does not resume from records whose text is no bundle.
 pub none_goes_on_from_no_bundle : (tables : Tables) (facts : SeasonFacts) (start : State) → ((requests : Bool) (bytes : List ℕ) → HaveOneReading requests bytes) → IsResumed tables facts start
     → TellsTextFault tables → ⊥
 none_goes_on_from_no_bundle Untold facts start reading resumed tells = tells
@@ -103,14 +105,14 @@ told_text_fault NoSeason fault reading tells judged = absurd tells
 told_text_fault (Records kept) fault reading tells judged =
     of_records kept fault (IsStop BadInput) judged (λ has. text_fault kept fault (reading false kept.season) tells has) (inr (inl refl)) (inr (inr refl))
 
--- Where the text is no bundle, and neither the keeper nor the sink failed, that is told, or there was no memory.
+-- If the text is no bundle, and neither the keeper nor the sink failed, the status says so, or memory ran out.
 pub text_fault_stops : (before tables : Tables) (fault : Unresumed) (result : Status) (rose broke : Type 0) → ((requests : Bool) (bytes : List ℕ) → HaveOneReading requests bytes)
     → AreTold before tables → TellsTextFault (still before tables) → IsUnresumed tables fault → (fault ≡ KeeperFault → rose) → (rose → ⊥) → (result ≡ unresumed_status fault) ⊎ ((result ≡ OutOfMemory) ⊎ (result ≡ WriteFault))
     → (result ≡ WriteFault → broke) → (broke → ⊥) → (result ≡ BadInput) ⊎ (result ≡ OutOfMemory)
 text_fault_stops before tables fault result rose broke reading same tells judged =
     stops BadInput fault result rose broke (told_text_fault tables fault reading (still_to (λ t. TellsTextFault t) before tables same tells) judged)
 
--- Where there is no season, and neither the keeper nor the sink failed, that is told, or there was no memory.
+-- If there is no season, and neither the keeper nor the sink failed, the status says so, or memory ran out.
 told_none : (tables : Tables) (fault : Unresumed) → TellsNoSeason tables → IsUnresumed tables fault → IsStop BadInput fault
 told_none Untold fault tells is = absurd tells
 told_none NoSeason NoneKept tells is = inl refl
@@ -128,7 +130,7 @@ pub none_stops : (before tables : Tables) (fault : Unresumed) (result : Status) 
 none_stops before tables fault result rose broke same tells judged =
     stops BadInput fault result rose broke (told_none tables fault (still_to (λ t. TellsNoSeason t) before tables same tells) judged)
 
--- An office does not go on from records whose rows or seats have a fault.
+-- An office does not resume from records whose rows or seats have a fault.
 pub none_goes_on : (tables : Tables) (facts : SeasonFacts) (start : State) → ((facts : SeasonFacts) (kept : Kept) → IsSound facts → HaveOneEnd facts kept) → IsSound facts → IsResumed tables facts start
     → TellsRowFault tables → ⊥
 none_goes_on Untold facts start law sound resumed tells = tells
@@ -153,7 +155,7 @@ told_row_fault NoSeason fault reading tells judged = absurd tells
 told_row_fault (Records kept) fault reading tells judged =
     of_records kept fault (IsStop StatusDiffers) judged (λ has. row_fault kept fault (reading false kept.season) tells has) (inr (inl refl)) (inr (inr refl))
 
--- Where a row or a seat has a fault, and neither the keeper nor the sink failed, it is told, or there was no memory.
+-- If a row or a seat has a fault, and neither the keeper nor the sink failed, the status says so, or memory ran out.
 pub row_fault_stops : (before tables : Tables) (fault : Unresumed) (result : Status) (rose broke : Type 0) → ((requests : Bool) (bytes : List ℕ) → HaveOneReading requests bytes)
     → AreTold before tables → TellsRowFault (still before tables) → IsUnresumed tables fault → (fault ≡ KeeperFault → rose) → (rose → ⊥) → (result ≡ unresumed_status fault) ⊎ ((result ≡ OutOfMemory) ⊎ (result ≡ WriteFault))
     → (result ≡ WriteFault → broke) → (broke → ⊥) → (result ≡ StatusDiffers) ⊎ (result ≡ OutOfMemory)
@@ -162,7 +164,7 @@ row_fault_stops before tables fault result rose broke reading same tells judged 
 
 -- ---- before the source is read
 
--- An office does not go on where there is no season, nor from records with a fault.
+-- An office does not resume without a season, nor from records with a fault.
 pub no_office_goes_on : (tables : Tables) (facts : SeasonFacts) (start : State) → ((requests : Bool) (bytes : List ℕ) → HaveOneReading requests bytes)
     → ((facts : SeasonFacts) (kept : Kept) → IsSound facts → HaveOneEnd facts kept) → IsSound facts → IsResumed tables facts start → TellsNoOffice tables → ⊥
 no_office_goes_on tables facts start reading law sound resumed tells =

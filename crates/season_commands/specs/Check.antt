@@ -37,7 +37,8 @@ IsBundleFaultLine bytes line = (fault : SeasonFault) × HasFault true bytes faul
 abbrev pub check_answers : Answers
 check_answers = record { IsInput = IsBundle; IsFaulty = IsFaultyBundle; IsOutput = IsCheckOutput; IsFaultLine = IsBundleFaultLine }
 
--- The failure tells this fault of a season by its line, or that the source failed. Of memory it is claimed that the source did not fail.
+-- The failure reports this fault of a season by its line, or that the source failed.
+-- If memory ran out, the source did not fail.
 abbrev pub TellsSeasonFault : SeasonFault → Failure → Type 0
 TellsSeasonFault fault Read = fault ≡ ReadFault
 TellsSeasonFault fault (Bad line) = (fault ≡ ReadFault → ⊥) × (fault ≡ OutOfMemory → ⊥) × (line ≡ fault_line fault)

@@ -1,5 +1,6 @@
--- The command that runs a generated season: its input is the bundle that a number of candidates and a seed name. An office begins over the keeper that was
--- handed in and answers the requests of the bundle, and the output is a summary, of which nothing is written before the last request is answered.
+-- The command that runs a generated season. Its input is the bundle that a number of candidates and a seed name.
+-- An office begins over the given keeper and answers the requests of the bundle.
+-- The output is a summary. Nothing of it is written before the last request is answered.
 use Rattle.std.specs.Prelude.{◌≡◌, ◌⊎◌, ℕ, true, false, List, Result, Ok, Err, map, length}
 use Rattle.office_base.specs.declared.asks.Request.{Request}
 use Rattle.season_file.specs.Season.{IsSeasonWith}
@@ -25,7 +26,8 @@ use Rattle.season_commands.specs.Run.{IsUnbegunText}
 
 -- ---- where an office answers the requests
 
--- what the season came to, by the tally of its answers and the last state: how many have a seat in each round, and the final rows, each of which has one
+-- the result of the season, by the tally of its answers and the last state:
+-- how many have a seat in each round, and the final rows, each of which has one
 abbrev pub summary_of : ℕ → ℕ → Tally → State → Summary
 summary_of n seed tally state = record {
   candidates = n;
@@ -36,20 +38,20 @@ summary_of n seed tally state = record {
   admitted = length (rows_shown state);
 }
 
--- all requests are answered, the tables stand for that, and this is the text of the summary
+-- all requests are answered, the tables represent the state after them, and this is the text of the summary
 abbrev pub IsSummed : ℕ → ℕ → SeasonFacts → List Request → Tables → List ℕ → Type 0
 IsSummed n seed facts script tables text =
     (state : State) × (tally : Tally) × CountsAll facts opening script state tables tally × (text ≡ summary_text (summary_of n seed tally state))
 
--- the first requests are answered, and no more; the tables stand for that
+-- the first requests are answered, and no more; the tables represent the state after them
 abbrev pub StandsForFirst : SeasonFacts → List Request → Tables → Type 0
 StandsForFirst facts script tables = (state : State) × StopsWithin facts opening script state tables
 
--- all are answered; the tables stand for that
+-- all are answered; the tables represent the state after them
 abbrev pub StandsForAll : SeasonFacts → List Request → Tables → Type 0
 StandsForAll facts script tables = (state : State) × (tally : Tally) × CountsAll facts opening script state tables tally
 
--- the whole text that goes with each status, and what the tables stand for with it
+-- the whole text that goes with each status, and what the tables represent with it
 abbrev pub IsCountedText : ℕ → ℕ → SeasonFacts → List Request → Tables → Status → List ℕ → Type 0
 IsCountedText n seed facts script tables Done text = IsSummed n seed facts script tables text
 IsCountedText n seed facts script tables KeeperFault text = (text ≡ keeper_line) × StandsForFirst facts script tables
@@ -58,12 +60,14 @@ IsCountedText n seed facts script tables other text = ⊥
 
 -- ---- all together
 
--- how a generated season that was read ends: no office begins, and the tables are as before; or the keeper held no season, and an office answers its requests
+-- how a generated season that was read ends: no office begins, and the tables are unchanged;
+-- or the keeper held no season, and an office answers its requests
 abbrev pub EndsMade : ℕ → ℕ → Season → List Request → Tables → Tables → Status → List ℕ → Type 0
 EndsMade n seed season script before after status output = (Writes (IsUnbegunText (still before after)) status output × AreTold before after)
     ⊎ (IsFound false (still before after) × Writes (IsCountedText n seed (facts_of season) script after) status output)
 
--- how the command ends: there is no memory for the season, and the tables are as before; or the season of the generated bundle ends
+-- how the command ends: memory runs out for the season, and the tables are unchanged;
+-- or the season of the generated bundle ends
 abbrev pub EndsGeneratedRun : ℕ → ℕ → Tables → Tables → Status → List ℕ → Type 0
 EndsGeneratedRun n seed before after status output = (Writes IsWantText status output × (after ≡ before))
     ⊎ ((season : Season) × (script : List Request) × IsSeasonWith true (generated n seed) season script × EndsMade n seed season script before after status output)

@@ -1,6 +1,7 @@
 pub mod Check
 pub mod Generated
 pub mod Office
+pub mod Outside
 pub mod Resume
 pub mod Run
 pub mod Stray

@@ -10,8 +10,8 @@ use Rattle.command_answers.specs.Writes.{keeper_line}
 use Rattle.command_answers.specs.declared.status.Status.{Status}
 use Rattle.command_answers.specs.declared.status.Status.TheVariants.{Ok as Done, WriteFault, KeeperFault, OutOfMemory}
 
--- The first j requests are answered, and this text follows their output: a history leads to the state, in which the office keeps its word, and the tables
--- stand for it.
+-- The first j requests are answered, and this text follows their output.
+-- A history leads to the state, in which the office keeps its word, and the tables represent it.
 pub record FollowsSome (facts : SeasonFacts) (start : State) (script : List Request) (tables : Tables) (text output : List ℕ) : Type 0 where
   pub j : ℕ
   pub some : List ℕ
@@ -20,7 +20,7 @@ pub record FollowsSome (facts : SeasonFacts) (start : State) (script : List Requ
   pub answered : AfterSome facts start (take j script) some state tables
   pub written : output ≡ some ++ text
 
--- The same, and one more is answered, of whose reply nothing is written.
+-- The same, and one more is answered. Nothing of its reply is written.
 pub record FollowsOneMore (facts : SeasonFacts) (start : State) (script : List Request) (tables : Tables) (text output : List ℕ) : Type 0 where
   pub some : List ℕ
   pub state : State
@@ -40,7 +40,7 @@ abbrev pub EndsInLine : SeasonFacts → State → List Request → Tables → Li
 EndsInLine facts start script tables output = (n : ℕ) × (FollowsSome facts start script tables (take n keeper_line) output
     ⊎ (FollowsSome facts start script tables (take n memory_line) output ⊎ FollowsOneMore facts start script tables (take n memory_line) output))
 
--- how the requests end that are answered from a state, by the status: what is written, and what the tables stand for
+-- how the requests that are answered from a state end, by the status: what is written, and what the tables represent
 abbrev pub EndsOffice : SeasonFacts → State → List Request → Tables → Status → List ℕ → Type 0
 EndsOffice facts start script tables Done output = (state : State) × AfterSome facts start script output state tables
 EndsOffice facts start script tables WriteFault output = EndsInReply facts start script tables output ⊎ EndsInLine facts start script tables output

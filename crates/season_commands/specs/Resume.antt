@@ -1,8 +1,10 @@
--- The command `resume`: an office goes on from what the keeper holds; its input are requests alone, and its output are the replies to them.
+-- The command `resume`: an office resumes from what the keeper holds.
+-- The input is requests alone, and the output is the replies to them.
 use Rattle.std.specs.Prelude.{◌≡◌, ◌≢◌, ◌<◌, ◌≤◌, ◌⊎◌, ℕ, false, List, Option, Result, Ok, Err, codes, length}
 use Rattle.std.specs.Str.{IsUtf8}
 use Rattle.office_base.specs.Limits.{most_bundle_bytes}
-use Rattle.office_base.specs.Outside.{AreLeft}
+use Rattle.office_base.specs.Outside.{AreLeft, Rose}
+use Rattle.office_base.specs.Visible.{Readable}
 use Rattle.office_base.specs.declared.asks.Request.{Request}
 use Rattle.office_text.specs.Lines.{skip_mark}
 use Rattle.section_rows.specs.Rows.{rows_of}
@@ -24,12 +26,13 @@ use Rattle.replays.specs.declared.fault.ReplayFault.TheVariants.{OutOfMemory as 
 use Rattle.round_cut.specs.Resume.{IsResumed}
 use Rattle.round_cut.specs.declared.resume.Unresumed.{Unresumed}
 use Rattle.round_cut.specs.declared.resume.Unresumed.TheVariants.{NoSeason as NoneKept, BadSeason, Stray, StrayRaise, Differs as SeatsDiffer, KeeperFault as KeeperFailed, OutOfMemory as NoMemoryToResume}
-use Rattle.command_answers.specs.Answers.{Answers, HasLeft}
+use Rattle.command_answers.specs.Answers.{Answers, HasLeft, Tells}
 use Rattle.office_base.specs.FaultLines.{memory_line, read_line}
 use Rattle.command_answers.specs.Writes.{Writes, keeper_line}
 use Rattle.command_answers.specs.declared.status.Status.{Status}
-use Rattle.command_answers.specs.declared.status.Status.TheVariants.{BadInput, ReadFault, KeeperFault, OutOfMemory, Differs}
+use Rattle.command_answers.specs.declared.status.Status.TheVariants.{Ok as Done, BadInput, ReadFault, KeeperFault, OutOfMemory, Differs}
 use Rattle.season_commands.specs.Office.{EndsOffice}
+use Rattle.season_commands.specs.Outside.{EndsWith, Held, Outside, held}
 use Rattle.season_commands.specs.Run.{TellsNoSeason}
 use Rattle.season_commands.specs.Stray.{replay_line}
 
@@ -64,7 +67,7 @@ IsScript bytes = (script : List Request) × AreRequests bytes script
 abbrev pub IsFaultyScript : List ℕ → Type 0
 IsFaultyScript bytes = (fault : SeasonFault) × HaveRequestFault bytes fault
 
--- what the requests come to: their replies are no one text
+-- the answers to requests: their replies are not one text
 abbrev pub script_answers : Answers
 script_answers = record { IsInput = IsScript; IsFaulty = IsFaultyScript; IsOutput = λ bytes output. ⊥; IsFaultLine = IsRequestFaultLine }
 
@@ -85,7 +88,7 @@ IsKeptFaultLine tables line = (IsFound false tables × (line ≡ no_season_line)
 
 -- ---- how the command ends
 
--- the whole text that goes with each status where no office goes on, by what the tables told
+-- the whole text that goes with each status if no office resumes, by the visible tables
 abbrev pub IsUnresumedText : Tables → Status → List ℕ → Type 0
 IsUnresumedText tables BadInput text = IsKeptFaultLine tables text
 IsUnresumedText tables KeeperFault text = text ≡ keeper_line
@@ -93,20 +96,23 @@ IsUnresumedText tables OutOfMemory text = text ≡ memory_line
 IsUnresumedText tables Differs text = (records : Kept) × IsLoaded tables records × IsReplayFaultLine records text
 IsUnresumedText tables other text = ⊥
 
--- the whole text that goes with each status where an office goes on and no requests are read, for the bytes that the source had left
+-- the whole text that goes with each status if an office resumes and no requests are read,
+-- for the bytes that the source had left
 abbrev pub IsUnaskedText : Option (List ℕ) → Status → List ℕ → Type 0
 IsUnaskedText left BadInput text = HasLeft IsRequestFaultLine left text
 IsUnaskedText left ReadFault text = text ≡ read_line
 IsUnaskedText left OutOfMemory text = text ≡ memory_line
 IsUnaskedText left other text = ⊥
 
--- how an office that went on ends: no requests are read, and the tables are as before; or they are answered from its state
+-- how an office that resumed ends: no requests are read, and the tables are unchanged;
+-- or they are answered from its state
 abbrev pub EndsAsked : SeasonFacts → State → Option (List ℕ) → Tables → Tables → Status → List ℕ → Type 0
 EndsAsked facts start left before after status output = (Writes (IsUnaskedText left) status output × AreTold before after)
     ⊎ ((script : List Request) × AreLeftRequests left script × EndsOffice facts start script after status output)
 
--- how `resume` ends: no office goes on, and the tables are as before; or the records lead to the state of a season, and an office goes on from it. What was
--- kept is told where the keeper tells both before and after.
+-- how `resume` ends: no office resumes, and the tables are unchanged; or the records lead to the state of a season, and
+-- an office resumes from it.
+-- What was kept is visible if the tables are visible both before and after.
 abbrev pub EndsResume : Option (List ℕ) → Tables → Tables → Status → List ℕ → Type 0
 EndsResume left before after status output = (Writes (IsUnresumedText (still before after)) status output × AreTold before after)
     ⊎ ((facts : SeasonFacts) × (start : State) × IsResumed (still before after) facts start × EndsAsked facts start left before after status output)
@@ -116,7 +122,7 @@ pub record HaveNoFault (records : Kept) : Type 0 where
   pub text : (fault : SeasonFault) → HasFault false records.season fault → ⊥
   pub rows : (season : Season) (fault : ReplayFault) → IsSeason records.season season → IsReplayFault (facts_of season) records fault → fault ≡ NoMemory
 
--- the keeper tells records that have no fault
+-- the tables are visible records that have no fault
 abbrev pub TellsSound : Tables → Type 0
 TellsSound (Records records) = HaveNoFault records
 TellsSound other = ⊥
@@ -125,7 +131,7 @@ TellsSound other = ⊥
 abbrev pub HaveTextFault : Kept → Type 0
 HaveTextFault records = (fault : SeasonFault) × HasFault false records.season fault
 
--- the keeper tells records whose text is no bundle
+-- the tables are visible records whose text is no bundle
 abbrev pub TellsTextFault : Tables → Type 0
 TellsTextFault (Records records) = HaveTextFault records
 TellsTextFault other = ⊥
@@ -136,16 +142,16 @@ pub record HaveRowFault (records : Kept) : Type 0 where
   pub read : IsSeason records.season season
   pub faulty : (spelt : Season) → IsSeason records.season spelt → (fault : ReplayFault) × (fault ≢ NoMemory) × IsReplayFault (facts_of spelt) records fault
 
--- the keeper tells records that have such a fault
+-- the tables are visible records that have such a fault
 abbrev pub TellsRowFault : Tables → Type 0
 TellsRowFault (Records records) = HaveRowFault records
 TellsRowFault other = ⊥
 
--- the keeper tells that no office can go on: it holds no season, or records with a fault
+-- the visible tables show that no office can resume: they have no season, or records with a fault
 abbrev pub TellsNoOffice : Tables → Type 0
 TellsNoOffice tables = TellsNoSeason tables ⊎ (TellsTextFault tables ⊎ TellsRowFault tables)
 
--- the status of why no office goes on
+-- the status that reports why no office resumes
 abbrev pub unresumed_status : Unresumed → Status
 unresumed_status NoneKept = BadInput
 unresumed_status (BadSeason fault) = BadInput
@@ -155,7 +161,7 @@ unresumed_status (SeatsDiffer round cand one other season) = Differs
 unresumed_status KeeperFailed = KeeperFault
 unresumed_status NoMemoryToResume = OutOfMemory
 
--- a line that was made, with its status, or the line of want of memory
+-- the status of a line that was made, or of memory running out
 abbrev pub made_status : {E : Type 0} → Status → Result (List ℕ) E → Status
 made_status status (Ok line) = status
 made_status status (Err none) = OutOfMemory
@@ -163,3 +169,17 @@ made_status status (Err none) = OutOfMemory
 abbrev pub made_text : {E : Type 0} → Result (List ℕ) E → List ℕ
 made_text (Ok line) = line
 made_text (Err none) = memory_line
+
+-- ---- what `resume` keeps to
+
+-- The records of the keeper are judged before anything is read.
+-- If neither the sink nor the keeper failed, records that no office resumes from are refused.
+pub record JudgesRecords (old new : Outside) (status : Status) : Type 0 where
+  pub none_kept : TellsNoSeason (held old new) → Held old new → EndsWith BadInput status
+  pub kept_text : TellsTextFault (held old new) → Held old new → EndsWith BadInput status
+  pub differs : TellsRowFault (held old new) → Held old new → EndsWith Differs status
+
+-- What comes after sound records: if nothing failed, an input without errors is answered, and a faulty one is refused.
+pub record AnswersAfter (IsInput IsFaulty : List ℕ → Type 0) (source now : Readable) (old new : Outside) (status : Status) : Type 0 where
+  pub complete : Tells IsInput source.left → TellsSound (held old new) → ¬ Rose source.faults now.faults → Held old new → EndsWith Done status
+  pub refused : Tells IsFaulty source.left → TellsSound (held old new) → ¬ Rose source.faults now.faults → Held old new → EndsWith BadInput status

@@ -1,4 +1,4 @@
--- The line that tells why kept records do not replay.
+-- The line that reports why kept records do not replay.
 use Rattle.std.specs.Prelude.{ℕ, List, Option, Some, None, ◌++◌, codes, length, nat_lt, if◌then◌else◌}
 use Rattle.std.specs.Fmt.{decimal}
 use Rattle.office_base.specs.declared.asks.Seat.{Seat}
@@ -24,7 +24,7 @@ differs_line table round cand kept computed =
     codes "fault: differs round " ++ decimal round ++ codes " candidate " ++ decimal cand ++ codes " kept " ++ seat_or_none table kept
     ++ codes " computed " ++ seat_or_none table computed ++ codes "\n"
 
--- the line of a row, counted from 1, that is not newly accepted where it stands
+-- the line of a row, counted from 1, that is not newly accepted at its place
 abbrev pub stray_line : ℕ → List ℕ
 stray_line row = codes "fault: stray answer " ++ decimal row ++ codes "\n"
 

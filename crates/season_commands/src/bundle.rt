@@ -12,7 +12,7 @@ use season_file::{Season, SeasonFault};
 use season_texts::fault_text;
 use std::alloc::Global;
 
-/// The season and the requests of the bundle that the source gives.
+/// Reads the season and the requests of the bundle that the source gives.
 pub fn read_bundle<S: Source>(alloc: Global, source: &mut S) -> Result<(Season, Script), Failure>
     ensures bundle { IfOk result (λ read. IsLeftBundle (S.left source.old) read.0 read.1) }
     ensures text { IfOk result (λ read. IsSeason read.0.text read.0) }
@@ -27,7 +27,7 @@ pub fn read_bundle<S: Source>(alloc: Global, source: &mut S) -> Result<(Season, 
     }
 }
 
-/// The failure that tells why there is no season.
+/// Returns the failure that reports why there is no season.
 pub fn bundle_failure(alloc: Global, fault: SeasonFault) -> Failure
     ensures { TellsSeasonFault fault result }
 {

@@ -1,4 +1,4 @@
-// The command `check`: it reads a season bundle with its requests, where it has some, and answers how much the season has.
+// The command `check`: it reads a season bundle with its requests, if it has some, and answers how much the season has.
 ghost use Rattle.std.specs.Prelude.{◌≡◌, ◌≤◌, IfOk, IfErr, OnOk, IsErrOf};
 ghost use Rattle.office_base.specs.Outside.{Rose, IsAtEnd};
 ghost use Rattle.command_answers.specs.Answers.{HasLeft, IsFailureOf};
@@ -10,7 +10,7 @@ use office_base::{Source, Text};
 use season_texts::counts_text;
 use std::alloc::Global;
 
-/// The output of `check` for the bundle that the source gives.
+/// Returns the output of `check` for the bundle that the source gives.
 pub fn check_answer<S: Source>(alloc: Global, source: &mut S) -> Result<Text, Failure>
     ensures output { IfOk result (HasLeft check_answers.IsOutput (S.left source.old)) }
     ensures ended { OnOk result (IsAtEnd (S.left source.new)) }

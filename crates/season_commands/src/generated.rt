@@ -1,16 +1,19 @@
-// The command that runs a generated season: an office begins over the keeper that it was handed and answers the requests of the generated bundle one after
-// another. No reply is written; when all are answered, a summary is.
+// The command that runs a generated season. An office begins over the given keeper and answers the requests of the
+// generated bundle one after another.
+// It writes no reply. When all are answered, it writes a summary.
 ghost use Rattle.std.specs.Prelude.{◌≡◌, ◌≢◌, ◌≤◌, ◌⊎◌, ℕ, List, true, IfOk, IfErr, IsErrOf, OnOk};
-ghost use Rattle.office_base.specs.Outside.{Rose, Appends};
+ghost use Rattle.office_base.specs.Outside.{Fails, Rose};
+ghost use Rattle.office_base.specs.Visible.{sink_of};
 ghost use Rattle.season_file.specs.Season.{IsSeason, IsSeasonWith};
-ghost use Rattle.keeper_mem.specs.Tables.{IsTold, still};
+ghost use Rattle.keeper_mem.specs.Tables.{IsTold};
 ghost use Rattle.office_moves.specs.History.{IsHistory};
 ghost use Rattle.office_moves.specs.Stands.{Stand};
 ghost use Rattle.office_moves.specs.State.{opening};
 ghost use Rattle.season_generator.specs.Bundle.{generated};
-ghost use Rattle.command_answers.specs.Writes.{Writes};
+ghost use Rattle.command_answers.specs.Writes.{WritesFor};
 ghost use Rattle.season_commands.specs.Generated.{EndsGeneratedRun, EndsMade, IsCountedText, IsSummed, StandsForAll, StandsForFirst};
-ghost use Rattle.season_commands.specs.Run.{TellsNoSeason, TellsSeason};
+ghost use Rattle.season_commands.specs.Outside.{BlamesOffice, EndsWith, Writes, outside_of};
+ghost use Rattle.season_commands.specs.Run.{RunsScript};
 
 use crate::run::tell_unbegun;
 use crate::summed::{tallied_text, write_summary};
@@ -25,8 +28,9 @@ use season_file::{Season, SeasonFault};
 use season_generator::generate;
 use std::alloc::Global;
 
-/// Runs the season of `n` candidates, from 1 to 100,000, that the seed gives over the keeper, which is handed back, and writes what it came to. Nothing is
-/// written before the last request is answered.
+/// Runs the season of `n` candidates, from 1 to 100,000, that the seed gives over the keeper, and writes its summary.
+/// It returns the keeper.
+/// It writes nothing before the last request is answered.
 pub fn run_generated<K: Sink, P: Keeper>(
     alloc: Global,
     n: u32,
@@ -36,18 +40,10 @@ pub fn run_generated<K: Sink, P: Keeper>(
 ) -> (Status, P)
     requires low { 1 ≤ n }
     requires high { n ≤ 100000 }
-    ensures written { (output : List ℕ) × Appends output (K.written sink.old) (K.written sink.new)
-        × EndsGeneratedRun n seed (P.tables keeper) (P.tables result.1) result.0 output }
-    ensures no_read_fault { result.0 ≢ Status.ReadFault }
-    ensures write_fault { result.0 ≡ Status.WriteFault → Rose (K.faults sink.old) (K.faults sink.new) }
-    ensures keeper_fault { result.0 ≡ Status.KeeperFault → Rose (P.faults keeper) (P.faults result.1) }
-    ensures sink_steady { result.0 ≢ Status.WriteFault → K.faults sink.new ≡ K.faults sink.old }
-    ensures keeper_count { P.faults keeper ≤ P.faults result.1 }
-    ensures keeper_steady { result.0 ≢ Status.KeeperFault → result.0 ≢ Status.WriteFault → P.faults result.1 ≡ P.faults keeper }
-    ensures complete { TellsNoSeason (still (P.tables keeper) (P.tables result.1)) → ¬ Rose (K.faults sink.old) (K.faults sink.new) → ¬ Rose (P.faults keeper) (P.faults result.1)
-        → (result.0 ≡ Status.Ok) ⊎ (result.0 ≡ Status.OutOfMemory) }
-    ensures not_empty { TellsSeason (still (P.tables keeper) (P.tables result.1)) → ¬ Rose (K.faults sink.old) (K.faults sink.new) → ¬ Rose (P.faults keeper) (P.faults result.1)
-        → (result.0 ≡ Status.BadInput) ⊎ (result.0 ≡ Status.OutOfMemory) }
+    ensures written { Writes (EndsGeneratedRun n seed) (outside_of K.Sink P.Keeper sink.old keeper)
+        (outside_of K.Sink P.Keeper sink.new result.1) result.0 }
+    ensures runs { RunsScript (outside_of K.Sink P.Keeper sink.old keeper)
+        (outside_of K.Sink P.Keeper sink.new result.1) result.0 }
 {
     match read_generated(alloc, n, seed) {
         Ok((season, script)) => run_made(alloc, n, seed, season, script.as_slice(), sink, keeper),
@@ -55,7 +51,7 @@ pub fn run_generated<K: Sink, P: Keeper>(
     }
 }
 
-/// The season of the generated bundle, and its requests. The bundle has no fault.
+/// Returns the season of the generated bundle, and its requests. The bundle has no fault.
 fn read_generated(alloc: Global, n: u32, seed: u32) -> Result<(Season, Script), OutOfMemory>
     requires low { 1 ≤ n }
     requires high { n ≤ 100000 }
@@ -70,7 +66,7 @@ fn read_generated(alloc: Global, n: u32, seed: u32) -> Result<(Season, Script), 
     }
 }
 
-/// The only fault of a bundle that has none.
+/// Returns the only fault of a bundle that has none.
 fn no_memory(fault: SeasonFault) -> OutOfMemory
     requires { fault ≡ SeasonFault.OutOfMemory }
 {
@@ -78,7 +74,7 @@ fn no_memory(fault: SeasonFault) -> OutOfMemory
     OutOfMemory
 }
 
-/// Answers the requests in the season, which the keeper is to hold from now on, and writes what it came to.
+/// Answers the requests in the season, which the keeper holds from now on, and writes the summary.
 fn run_made<K: Sink, P: Keeper>(
     alloc: Global,
     n: u32,
@@ -89,18 +85,10 @@ fn run_made<K: Sink, P: Keeper>(
     keeper: P,
 ) -> (Status, P)
     requires { IsSeason season.text season }
-    ensures written { (output : List ℕ) × Appends output (K.written sink.old) (K.written sink.new)
-        × EndsMade n seed season script.now (P.tables keeper) (P.tables result.1) result.0 output }
-    ensures no_read_fault { result.0 ≢ Status.ReadFault }
-    ensures write_fault { result.0 ≡ Status.WriteFault → Rose (K.faults sink.old) (K.faults sink.new) }
-    ensures keeper_fault { result.0 ≡ Status.KeeperFault → Rose (P.faults keeper) (P.faults result.1) }
-    ensures sink_steady { result.0 ≢ Status.WriteFault → K.faults sink.new ≡ K.faults sink.old }
-    ensures keeper_count { P.faults keeper ≤ P.faults result.1 }
-    ensures keeper_steady { result.0 ≢ Status.KeeperFault → result.0 ≢ Status.WriteFault → P.faults result.1 ≡ P.faults keeper }
-    ensures complete { TellsNoSeason (still (P.tables keeper) (P.tables result.1)) → ¬ Rose (K.faults sink.old) (K.faults sink.new) → ¬ Rose (P.faults keeper) (P.faults result.1)
-        → (result.0 ≡ Status.Ok) ⊎ (result.0 ≡ Status.OutOfMemory) }
-    ensures not_empty { TellsSeason (still (P.tables keeper) (P.tables result.1)) → ¬ Rose (K.faults sink.old) (K.faults sink.new) → ¬ Rose (P.faults keeper) (P.faults result.1)
-        → (result.0 ≡ Status.BadInput) ⊎ (result.0 ≡ Status.OutOfMemory) }
+    ensures written { Writes (EndsMade n seed season script.now) (outside_of K.Sink P.Keeper sink.old keeper)
+        (outside_of K.Sink P.Keeper sink.new result.1) result.0 }
+    ensures runs { RunsScript (outside_of K.Sink P.Keeper sink.old keeper)
+        (outside_of K.Sink P.Keeper sink.new result.1) result.0 }
 {
     match Office::begin(alloc, season, keeper) {
         Ok(office) => count_office(alloc, n, seed, office, script, sink),
@@ -108,7 +96,7 @@ fn run_made<K: Sink, P: Keeper>(
     }
 }
 
-/// Answers the requests over an office that has answered none, writes what they came to, and gives back its keeper.
+/// Answers the requests over an office that has answered none, writes the summary, and returns its keeper.
 fn count_office<K: Sink, P: Keeper>(
     alloc: Global,
     n: u32,
@@ -119,24 +107,22 @@ fn count_office<K: Sink, P: Keeper>(
 ) -> (Status, P)
     requires opening { office.state ≡ opening }
     requires history { IsHistory office.season office.entries office.state }
-    requires stands { Stand office.season office.state (P.tables office.keeper) }
-    ensures written { (output : List ℕ) × Appends output (K.written sink.old) (K.written sink.new)
-        × Writes (IsCountedText n seed office.season script.now (P.tables result.1)) result.0 output }
-    ensures told_before { IsTold (P.tables result.1) → IsTold (P.tables office.keeper) }
+    requires stands { Stand office.season office.state (P.seen office.keeper).tables }
+    ensures written { WritesFor (IsCountedText n seed office.season script.now (P.seen result.1).tables)
+        (sink_of K.Sink sink.old) (sink_of K.Sink sink.new) result.0 }
+    ensures told_before { IsTold (P.seen result.1).tables → IsTold (P.seen office.keeper).tables }
     ensures no_read_fault { result.0 ≢ Status.ReadFault }
-    ensures write_fault { result.0 ≡ Status.WriteFault → Rose (K.faults sink.old) (K.faults sink.new) }
-    ensures keeper_fault { result.0 ≡ Status.KeeperFault → Rose (P.faults office.keeper) (P.faults result.1) }
-    ensures sink_steady { result.0 ≢ Status.WriteFault → K.faults sink.new ≡ K.faults sink.old }
-    ensures keeper_count { P.faults office.keeper ≤ P.faults result.1 }
-    ensures keeper_steady { result.0 ≢ Status.KeeperFault → result.0 ≢ Status.WriteFault → P.faults result.1 ≡ P.faults office.keeper }
-    ensures complete { ¬ Rose (K.faults sink.old) (K.faults sink.new) → ¬ Rose (P.faults office.keeper) (P.faults result.1)
-        → (result.0 ≡ Status.Ok) ⊎ (result.0 ≡ Status.OutOfMemory) }
+    ensures blamed { BlamesOffice result.0 (outside_of K.Sink P.Keeper sink.old office.keeper)
+        (outside_of K.Sink P.Keeper sink.new result.1) }
+    ensures complete { ¬ Rose (K.faults sink.old) (K.faults sink.new)
+        → ¬ Rose (P.seen office.keeper).faults (P.seen result.1).faults → EndsWith Status.Ok result.0 }
 {
     let status = count_script(alloc, n, seed, &mut office, script, sink);
     (status, office.into_keeper())
 }
 
-/// Answers the requests over an office that has answered none, and writes what they came to, or why they are not all answered.
+/// Answers the requests over an office that has answered none, and writes the summary,
+/// or why they are not all answered.
 fn count_script<K: Sink, P: Keeper>(
     alloc: Global,
     n: u32,
@@ -147,24 +133,21 @@ fn count_script<K: Sink, P: Keeper>(
 ) -> Status
     requires opening { office.old.state ≡ opening }
     requires history { IsHistory office.old.season office.old.entries office.old.state }
-    requires stands { Stand office.old.season office.old.state (P.tables office.old.keeper) }
-    ensures written { (output : List ℕ) × Appends output (K.written sink.old) (K.written sink.new)
-        × Writes (IsCountedText n seed office.old.season script.now (P.tables office.new.keeper)) result output }
-    ensures told_before { IsTold (P.tables office.new.keeper) → IsTold (P.tables office.old.keeper) }
+    requires stands { Stand office.old.season office.old.state (P.seen office.old.keeper).tables }
+    ensures written { WritesFor (IsCountedText n seed office.old.season script.now (P.seen office.new.keeper).tables)
+        (sink_of K.Sink sink.old) (sink_of K.Sink sink.new) result }
+    ensures told_before { IsTold (P.seen office.new.keeper).tables → IsTold (P.seen office.old.keeper).tables }
     ensures no_read_fault { result ≢ Status.ReadFault }
-    ensures write_fault { result ≡ Status.WriteFault → Rose (K.faults sink.old) (K.faults sink.new) }
-    ensures keeper_fault { result ≡ Status.KeeperFault → Rose (P.faults office.old.keeper) (P.faults office.new.keeper) }
-    ensures sink_steady { result ≢ Status.WriteFault → K.faults sink.new ≡ K.faults sink.old }
-    ensures keeper_count { P.faults office.old.keeper ≤ P.faults office.new.keeper }
-    ensures keeper_steady { result ≢ Status.KeeperFault → result ≢ Status.WriteFault → P.faults office.new.keeper ≡ P.faults office.old.keeper }
-    ensures complete { ¬ Rose (K.faults sink.old) (K.faults sink.new) → ¬ Rose (P.faults office.old.keeper) (P.faults office.new.keeper)
-        → (result ≡ Status.Ok) ⊎ (result ≡ Status.OutOfMemory) }
+    ensures blamed { BlamesOffice result (outside_of K.Sink P.Keeper sink.old office.old.keeper)
+        (outside_of K.Sink P.Keeper sink.new office.new.keeper) }
+    ensures complete { ¬ Rose (K.faults sink.old) (K.faults sink.new)
+        → ¬ Rose (P.seen office.old.keeper).faults (P.seen office.new.keeper).faults → EndsWith Status.Ok result }
 {
     let summary = counted_text(alloc, n, seed, office, script);
     write_summary(sink, summary)
 }
 
-/// The summary of the requests, answered over an office that has answered none.
+/// Returns the summary of the requests, answered over an office that has answered none.
 fn counted_text<P: Keeper>(
     alloc: Global,
     n: u32,
@@ -174,16 +157,13 @@ fn counted_text<P: Keeper>(
 ) -> Result<Text, OfficeFault>
     requires opening { office.old.state ≡ opening }
     requires history { IsHistory office.old.season office.old.entries office.old.state }
-    requires stands { Stand office.old.season office.old.state (P.tables office.old.keeper) }
-    ensures summed { IfOk result (IsSummed n seed office.old.season script.now (P.tables office.new.keeper)) }
-    ensures keeper { IsErrOf result OfficeFault.KeeperFault → StandsForFirst office.old.season script.now (P.tables office.new.keeper) }
+    requires stands { Stand office.old.season office.old.state (P.seen office.old.keeper).tables }
+    ensures summed { IfOk result (IsSummed n seed office.old.season script.now (P.seen office.new.keeper).tables) }
+    ensures keeper { IsErrOf result OfficeFault.KeeperFault → StandsForFirst office.old.season script.now (P.seen office.new.keeper).tables }
     ensures memory { IsErrOf result OfficeFault.OutOfMemory
-        → StandsForFirst office.old.season script.now (P.tables office.new.keeper) ⊎ StandsForAll office.old.season script.now (P.tables office.new.keeper) }
-    ensures told_before { IsTold (P.tables office.new.keeper) → IsTold (P.tables office.old.keeper) }
-    ensures cause { IsErrOf result OfficeFault.KeeperFault → Rose (P.faults office.old.keeper) (P.faults office.new.keeper) }
-    ensures count { P.faults office.old.keeper ≤ P.faults office.new.keeper }
-    ensures steady { OnOk result (P.faults office.new.keeper ≡ P.faults office.old.keeper) }
-    ensures steady_memory { IsErrOf result OfficeFault.OutOfMemory → P.faults office.new.keeper ≡ P.faults office.old.keeper }
+        → StandsForFirst office.old.season script.now (P.seen office.new.keeper).tables ⊎ StandsForAll office.old.season script.now (P.seen office.new.keeper).tables }
+    ensures told_before { IsTold (P.seen office.new.keeper).tables → IsTold (P.seen office.old.keeper).tables }
+    ensures blamed { Fails (IsErrOf result OfficeFault.KeeperFault) (P.seen office.old.keeper).faults (P.seen office.new.keeper).faults }
 {
     match count_all(alloc, office, script) {
         Ok(tally) => match tallied_text(alloc, n, seed, office, tally) {

@@ -1,8 +1,11 @@
-// The commands on a season: `check`, which reads a bundle and counts it, `run`, which answers its requests over a keeper, `resume`, which goes on with the
-// office that a keeper holds, and the one that runs a generated season and writes what it came to.
+// The commands on a season: `check`, which reads a bundle and counts it;
+// `run`, which answers its requests over a keeper;
+// `resume`, which resumes the office that a keeper holds;
+// and the one that runs a generated season and writes its summary.
 //
-// The program stands on it. `specs/Check`, `specs/Run`, `specs/Resume` and `specs/Generated` say what the commands answer to the bytes that a source had left, how they end with each status,
-// and what the tables of the keeper stand for then. It must never know of the words of a command line, nor of other commands.
+// The program builds on it. `specs/Check`, `specs/Run`, `specs/Resume` and `specs/Generated` say what the commands
+// answer to the bytes that a source had left, how they end with each status, and what the tables of the keeper
+// represent then. It must never know the words of a command line, nor other commands.
 #![tactic(auto)]
 
 mod bundle;

@@ -1,4 +1,5 @@
-// The command `resume`: an office goes on from what the keeper holds, then the requests that the source gives are read, and answered one after another.
+// The command `resume`: an office resumes from what the keeper holds. Then the requests that the source gives are read,
+// and answered one after another.
 ghost use Rattle.std.specs.Prelude.{◌≡◌, ◌≢◌, ◌≤◌, ◌⊎◌, ℕ, List, IfOk, IfErr, OnOk, IsErrOf};
 ghost use Rattle.office_base.specs.Outside.{Rose, IsAtEnd, Appends};
 ghost use Rattle.keeper_mem.specs.Tables.{IsTold, Tables, still};
@@ -6,9 +7,10 @@ ghost use Rattle.office_moves.specs.History.{IsHistory};
 ghost use Rattle.office_moves.specs.Stands.{Stand};
 ghost use Rattle.round_cut.specs.Resume.{IsUnresumed};
 ghost use Rattle.command_answers.specs.Answers.{IsFailureOf, Tells};
-ghost use Rattle.command_answers.specs.Writes.{IsTold as IsTextTold, Writes};
-ghost use Rattle.season_commands.specs.Resume.{AreLeftRequests, EndsAsked, EndsResume, IsFaultyScript, IsScript, IsUnresumedText, TellsNoOffice, TellsRowFault, TellsSound, TellsTextFault, made_status, made_text, script_answers, unresumed_status};
-ghost use Rattle.season_commands.specs.Run.{TellsNoSeason};
+ghost use Rattle.command_answers.specs.Writes.{IsTold as IsTextTold, Writes as WritesText};
+ghost use Rattle.office_base.specs.Visible.{source_of};
+ghost use Rattle.season_commands.specs.Outside.{BlamesOffice, BlamesSource, EndsWith, Writes, outside_of};
+ghost use Rattle.season_commands.specs.Resume.{AnswersAfter, AreLeftRequests, EndsAsked, EndsResume, IsFaultyScript, IsScript, IsUnresumedText, JudgesRecords, TellsNoOffice, made_status, made_text, script_answers, unresumed_status};
 
 use crate::bundle::bundle_failure;
 use crate::office::run_office;
@@ -27,37 +29,26 @@ use season_file::read_script;
 use season_texts::fault_text;
 use std::alloc::Global;
 
-/// Goes on with the office that the keeper holds, and answers the requests that the source gives. The source is read after the office stands. The keeper is
-/// handed back.
+/// Resumes the office that the keeper holds, and answers the requests that the source gives.
+/// The source is read after the office has resumed. It returns the keeper.
 pub fn resume_season<S: Source, K: Sink, P: Keeper>(
     alloc: Global,
     source: &mut S,
     sink: &mut K,
     keeper: P,
 ) -> (Status, P)
-    ensures written { (output : List ℕ) × Appends output (K.written sink.old) (K.written sink.new)
-        × EndsResume (S.left source.old) (P.tables keeper) (P.tables result.1) result.0 output }
+    ensures written { Writes (EndsResume (S.left source.old)) (outside_of K.Sink P.Keeper sink.old keeper)
+        (outside_of K.Sink P.Keeper sink.new result.1) result.0 }
     ensures read_whole { result.0 ≡ Status.Ok → IsAtEnd (S.left source.new) }
-    ensures read_fault { result.0 ≡ Status.ReadFault → Rose (S.faults source.old) (S.faults source.new) }
-    ensures write_fault { result.0 ≡ Status.WriteFault → Rose (K.faults sink.old) (K.faults sink.new) }
-    ensures keeper_fault { result.0 ≡ Status.KeeperFault → Rose (P.faults keeper) (P.faults result.1) }
-    ensures source_steady { result.0 ≢ Status.ReadFault → result.0 ≢ Status.WriteFault → S.faults source.new ≡ S.faults source.old }
-    ensures sink_steady { result.0 ≢ Status.WriteFault → K.faults sink.new ≡ K.faults sink.old }
-    ensures keeper_count { P.faults keeper ≤ P.faults result.1 }
-    ensures keeper_steady { result.0 ≢ Status.KeeperFault → result.0 ≢ Status.WriteFault → P.faults result.1 ≡ P.faults keeper }
-    ensures complete { Tells IsScript (S.left source.old) → TellsSound (still (P.tables keeper) (P.tables result.1))
-        → ¬ Rose (S.faults source.old) (S.faults source.new) → ¬ Rose (K.faults sink.old) (K.faults sink.new) → ¬ Rose (P.faults keeper) (P.faults result.1)
-        → (result.0 ≡ Status.Ok) ⊎ (result.0 ≡ Status.OutOfMemory) }
-    ensures refused { Tells IsFaultyScript (S.left source.old) → TellsSound (still (P.tables keeper) (P.tables result.1))
-        → ¬ Rose (S.faults source.old) (S.faults source.new) → ¬ Rose (K.faults sink.old) (K.faults sink.new) → ¬ Rose (P.faults keeper) (P.faults result.1)
-        → (result.0 ≡ Status.BadInput) ⊎ (result.0 ≡ Status.OutOfMemory) }
-    ensures none_kept { TellsNoSeason (still (P.tables keeper) (P.tables result.1)) → ¬ Rose (K.faults sink.old) (K.faults sink.new) → ¬ Rose (P.faults keeper) (P.faults result.1)
-        → (result.0 ≡ Status.BadInput) ⊎ (result.0 ≡ Status.OutOfMemory) }
-    ensures kept_text { TellsTextFault (still (P.tables keeper) (P.tables result.1)) → ¬ Rose (K.faults sink.old) (K.faults sink.new) → ¬ Rose (P.faults keeper) (P.faults result.1)
-        → (result.0 ≡ Status.BadInput) ⊎ (result.0 ≡ Status.OutOfMemory) }
-    ensures differs { TellsRowFault (still (P.tables keeper) (P.tables result.1)) → ¬ Rose (K.faults sink.old) (K.faults sink.new) → ¬ Rose (P.faults keeper) (P.faults result.1)
-        → (result.0 ≡ Status.Differs) ⊎ (result.0 ≡ Status.OutOfMemory) }
-    ensures unread { (result.0 ≡ Status.Differs) ⊎ TellsNoOffice (still (P.tables keeper) (P.tables result.1)) → source.new ≡ source.old }
+    ensures read_blamed { BlamesSource result.0 (source_of S.Source source.old) (source_of S.Source source.new) }
+    ensures blamed { BlamesOffice result.0 (outside_of K.Sink P.Keeper sink.old keeper)
+        (outside_of K.Sink P.Keeper sink.new result.1) }
+    ensures records { JudgesRecords (outside_of K.Sink P.Keeper sink.old keeper)
+        (outside_of K.Sink P.Keeper sink.new result.1) result.0 }
+    ensures answers { AnswersAfter IsScript IsFaultyScript (source_of S.Source source.old) (source_of S.Source source.new)
+        (outside_of K.Sink P.Keeper sink.old keeper) (outside_of K.Sink P.Keeper sink.new result.1) result.0 }
+    ensures unread { (result.0 ≡ Status.Differs) ⊎ TellsNoOffice (still (P.seen keeper).tables (P.seen result.1).tables)
+        → source.new ≡ source.old }
 {
     one_end();
     one_reading();
@@ -78,24 +69,19 @@ fn go_on<S: Source, K: Sink, P: Keeper>(
     sink: &mut K,
 ) -> (Status, P)
     requires history { IsHistory office.season office.entries office.state }
-    requires stands { Stand office.season office.state (P.tables office.keeper) }
-    ensures written { (output : List ℕ) × Appends output (K.written sink.old) (K.written sink.new)
-        × EndsAsked office.season office.state (S.left source.old) (P.tables office.keeper) (P.tables result.1) result.0 output }
-    ensures told_before { IsTold (P.tables result.1) → IsTold (P.tables office.keeper) }
+    requires stands { Stand office.season office.state (P.seen office.keeper).tables }
+    ensures written { Writes (EndsAsked office.season office.state (S.left source.old))
+        (outside_of K.Sink P.Keeper sink.old office.keeper) (outside_of K.Sink P.Keeper sink.new result.1) result.0 }
+    ensures told_before { IsTold (P.seen result.1).tables → IsTold (P.seen office.keeper).tables }
     ensures read_whole { result.0 ≡ Status.Ok → IsAtEnd (S.left source.new) }
-    ensures read_fault { result.0 ≡ Status.ReadFault → Rose (S.faults source.old) (S.faults source.new) }
-    ensures write_fault { result.0 ≡ Status.WriteFault → Rose (K.faults sink.old) (K.faults sink.new) }
-    ensures keeper_fault { result.0 ≡ Status.KeeperFault → Rose (P.faults office.keeper) (P.faults result.1) }
-    ensures source_steady { result.0 ≢ Status.ReadFault → result.0 ≢ Status.WriteFault → S.faults source.new ≡ S.faults source.old }
-    ensures sink_steady { result.0 ≢ Status.WriteFault → K.faults sink.new ≡ K.faults sink.old }
-    ensures keeper_count { P.faults office.keeper ≤ P.faults result.1 }
-    ensures keeper_steady { result.0 ≢ Status.KeeperFault → result.0 ≢ Status.WriteFault → P.faults result.1 ≡ P.faults office.keeper }
-    ensures complete { Tells IsScript (S.left source.old)
-        → ¬ Rose (S.faults source.old) (S.faults source.new) → ¬ Rose (K.faults sink.old) (K.faults sink.new) → ¬ Rose (P.faults office.keeper) (P.faults result.1)
-        → (result.0 ≡ Status.Ok) ⊎ (result.0 ≡ Status.OutOfMemory) }
-    ensures refused { Tells IsFaultyScript (S.left source.old)
-        → ¬ Rose (S.faults source.old) (S.faults source.new) → ¬ Rose (K.faults sink.old) (K.faults sink.new)
-        → (result.0 ≡ Status.BadInput) ⊎ (result.0 ≡ Status.OutOfMemory) }
+    ensures read_blamed { BlamesSource result.0 (source_of S.Source source.old) (source_of S.Source source.new) }
+    ensures blamed { BlamesOffice result.0 (outside_of K.Sink P.Keeper sink.old office.keeper)
+        (outside_of K.Sink P.Keeper sink.new result.1) }
+    ensures complete { Tells IsScript (S.left source.old) → ¬ Rose (S.faults source.old) (S.faults source.new)
+        → ¬ Rose (K.faults sink.old) (K.faults sink.new) → ¬ Rose (P.seen office.keeper).faults (P.seen result.1).faults
+        → EndsWith Status.Ok result.0 }
+    ensures refused { Tells IsFaultyScript (S.left source.old) → ¬ Rose (S.faults source.old) (S.faults source.new)
+        → ¬ Rose (K.faults sink.old) (K.faults sink.new) → EndsWith Status.BadInput result.0 }
 {
     match read_requests(alloc, source) {
         Ok(script) => run_office(alloc, office, script.as_slice(), sink),
@@ -103,7 +89,7 @@ fn go_on<S: Source, K: Sink, P: Keeper>(
     }
 }
 
-/// The requests that the source gives.
+/// Reads the requests that the source gives.
 fn read_requests<S: Source>(alloc: Global, source: &mut S) -> Result<Script, Failure>
     ensures requests { IfOk result (AreLeftRequests (S.left source.old)) }
     ensures ended { OnOk result (IsAtEnd (S.left source.new)) }
@@ -117,10 +103,10 @@ fn read_requests<S: Source>(alloc: Global, source: &mut S) -> Result<Script, Fai
     }
 }
 
-/// Writes why no office goes on.
+/// Writes why no office resumes.
 pub fn tell_unresumed<K: Sink>(alloc: Global, sink: &mut K, stopped: &Unresumed) -> Status
     ensures written { (tables : Tables) → IsUnresumed tables stopped.now
-        → (output : List ℕ) × Appends output (K.written sink.old) (K.written sink.new) × Writes (IsUnresumedText tables) result output }
+        → (output : List ℕ) × Appends output (K.written sink.old) (K.written sink.new) × WritesText (IsUnresumedText tables) result output }
     ensures status { (result ≡ unresumed_status stopped.now) ⊎ ((result ≡ Status.OutOfMemory) ⊎ (result ≡ Status.WriteFault)) }
     ensures keeper { stopped.now ≡ Unresumed.KeeperFault → (result ≡ Status.KeeperFault) ⊎ (result ≡ Status.WriteFault) }
     ensures write_fault { result ≡ Status.WriteFault → Rose (K.faults sink.old) (K.faults sink.new) }
@@ -159,7 +145,7 @@ pub fn tell_unresumed<K: Sink>(alloc: Global, sink: &mut K, stopped: &Unresumed)
     }
 }
 
-/// Writes a line that was made, with its status, or that there was no memory for it.
+/// Writes a line that was made, with its status, or that memory ran out for it.
 fn tell_line<K: Sink>(sink: &mut K, line: Result<Text, OutOfMemory>, status: Status) -> Status
     requires { status ≢ Status.WriteFault }
     ensures told { IsTextTold (made_status status line) (made_text line) (K.written sink.old) (K.written sink.new) (Rose (K.faults sink.old) (K.faults sink.new)) result }

@@ -1,5 +1,5 @@
-// The command `run`: it reads a season bundle with its requests, begins an office over the keeper that it was handed, and answers the requests one after
-// another, each reply written before the next request is handled.
+// The command `run`: it reads a season bundle with its requests and begins an office over the given keeper.
+// It answers the requests one after another, and writes each reply before it handles the next request.
 ghost use Rattle.std.specs.Prelude.{◌≡◌, ◌≢◌, ◌≤◌, ◌⊎◌, ℕ, List, [], true, take, IsErrOf};
 ghost use Rattle.office_base.specs.Outside.{Rose, IsAtEnd, Appends};
 ghost use Rattle.season_file.specs.Season.{IsSeason};
@@ -8,7 +8,9 @@ ghost use Rattle.office_moves.specs.Stands.{Stand};
 ghost use Rattle.office_moves.specs.State.{opening};
 ghost use Rattle.command_answers.specs.Answers.{IsFailureOf, Tells};
 ghost use Rattle.season_commands.specs.Check.{IsBundle, IsFaultyBundle, check_answers};
-ghost use Rattle.season_commands.specs.Run.{EndsRun, EndsSeason, TellsNoSeason, TellsSeason, begin_status, begin_text};
+ghost use Rattle.office_base.specs.Visible.{source_of};
+ghost use Rattle.season_commands.specs.Outside.{Writes, outside_of};
+ghost use Rattle.season_commands.specs.Run.{EndsRun, EndsSeason, RunsInput, RunsScript, begin_status, begin_text};
 ghost use Rattle.command_answers.specs.Writes.{IsTold};
 
 use crate::bundle::read_bundle;
@@ -21,32 +23,17 @@ use round_cut::{BeginFault, Office};
 use season_file::Season;
 use std::alloc::Global;
 
-/// Runs the season of the bundle that the source gives over the keeper, which is handed back.
+/// Runs the season of the bundle that the source gives over the keeper. It returns the keeper.
 pub fn run_season<S: Source, K: Sink, P: Keeper>(
     alloc: Global,
     source: &mut S,
     sink: &mut K,
     keeper: P,
 ) -> (Status, P)
-    ensures written { (output : List ℕ) × Appends output (K.written sink.old) (K.written sink.new)
-        × EndsRun (S.left source.old) (P.tables keeper) (P.tables result.1) result.0 output }
-    ensures read_whole { result.0 ≡ Status.Ok → IsAtEnd (S.left source.new) }
-    ensures read_fault { result.0 ≡ Status.ReadFault → Rose (S.faults source.old) (S.faults source.new) }
-    ensures write_fault { result.0 ≡ Status.WriteFault → Rose (K.faults sink.old) (K.faults sink.new) }
-    ensures keeper_fault { result.0 ≡ Status.KeeperFault → Rose (P.faults keeper) (P.faults result.1) }
-    ensures source_steady { result.0 ≢ Status.ReadFault → result.0 ≢ Status.WriteFault → S.faults source.new ≡ S.faults source.old }
-    ensures sink_steady { result.0 ≢ Status.WriteFault → K.faults sink.new ≡ K.faults sink.old }
-    ensures keeper_count { P.faults keeper ≤ P.faults result.1 }
-    ensures keeper_steady { result.0 ≢ Status.KeeperFault → result.0 ≢ Status.WriteFault → P.faults result.1 ≡ P.faults keeper }
-    ensures complete { Tells IsBundle (S.left source.old) → TellsNoSeason (still (P.tables keeper) (P.tables result.1))
-        → ¬ Rose (S.faults source.old) (S.faults source.new) → ¬ Rose (K.faults sink.old) (K.faults sink.new) → ¬ Rose (P.faults keeper) (P.faults result.1)
-        → (result.0 ≡ Status.Ok) ⊎ (result.0 ≡ Status.OutOfMemory) }
-    ensures refused { Tells IsFaultyBundle (S.left source.old)
-        → ¬ Rose (S.faults source.old) (S.faults source.new) → ¬ Rose (K.faults sink.old) (K.faults sink.new)
-        → (result.0 ≡ Status.BadInput) ⊎ (result.0 ≡ Status.OutOfMemory) }
-    ensures not_empty { TellsSeason (still (P.tables keeper) (P.tables result.1))
-        → ¬ Rose (S.faults source.old) (S.faults source.new) → ¬ Rose (K.faults sink.old) (K.faults sink.new) → ¬ Rose (P.faults keeper) (P.faults result.1)
-        → (result.0 ≡ Status.BadInput) ⊎ (result.0 ≡ Status.OutOfMemory) }
+    ensures written { Writes (EndsRun (S.left source.old)) (outside_of K.Sink P.Keeper sink.old keeper)
+        (outside_of K.Sink P.Keeper sink.new result.1) result.0 }
+    ensures runs { RunsInput IsBundle IsFaultyBundle (source_of S.Source source.old) (source_of S.Source source.new)
+        (outside_of K.Sink P.Keeper sink.old keeper) (outside_of K.Sink P.Keeper sink.new result.1) result.0 }
 {
     one_answer();
     match read_bundle(alloc, source) {
@@ -55,7 +42,7 @@ pub fn run_season<S: Source, K: Sink, P: Keeper>(
     }
 }
 
-/// Answers the requests in the season, which the keeper is to hold from now on.
+/// Answers the requests in the season, which the keeper holds from now on.
 pub fn run_script<K: Sink, P: Keeper>(
     alloc: Global,
     season: Season,
@@ -64,18 +51,10 @@ pub fn run_script<K: Sink, P: Keeper>(
     keeper: P,
 ) -> (Status, P)
     requires { IsSeason season.text season }
-    ensures written { (output : List ℕ) × Appends output (K.written sink.old) (K.written sink.new)
-        × EndsSeason season script.now (P.tables keeper) (P.tables result.1) result.0 output }
-    ensures no_read_fault { result.0 ≢ Status.ReadFault }
-    ensures write_fault { result.0 ≡ Status.WriteFault → Rose (K.faults sink.old) (K.faults sink.new) }
-    ensures keeper_fault { result.0 ≡ Status.KeeperFault → Rose (P.faults keeper) (P.faults result.1) }
-    ensures sink_steady { result.0 ≢ Status.WriteFault → K.faults sink.new ≡ K.faults sink.old }
-    ensures keeper_count { P.faults keeper ≤ P.faults result.1 }
-    ensures keeper_steady { result.0 ≢ Status.KeeperFault → result.0 ≢ Status.WriteFault → P.faults result.1 ≡ P.faults keeper }
-    ensures complete { TellsNoSeason (still (P.tables keeper) (P.tables result.1)) → ¬ Rose (K.faults sink.old) (K.faults sink.new) → ¬ Rose (P.faults keeper) (P.faults result.1)
-        → (result.0 ≡ Status.Ok) ⊎ (result.0 ≡ Status.OutOfMemory) }
-    ensures not_empty { TellsSeason (still (P.tables keeper) (P.tables result.1)) → ¬ Rose (K.faults sink.old) (K.faults sink.new) → ¬ Rose (P.faults keeper) (P.faults result.1)
-        → (result.0 ≡ Status.BadInput) ⊎ (result.0 ≡ Status.OutOfMemory) }
+    ensures written { Writes (EndsSeason season script.now) (outside_of K.Sink P.Keeper sink.old keeper)
+        (outside_of K.Sink P.Keeper sink.new result.1) result.0 }
+    ensures runs { RunsScript (outside_of K.Sink P.Keeper sink.old keeper)
+        (outside_of K.Sink P.Keeper sink.new result.1) result.0 }
 {
     match Office::begin(alloc, season, keeper) {
         Ok(office) => run_office(alloc, office, script, sink),

@@ -1,4 +1,4 @@
-// The line that tells why kept records do not replay.
+// The line that reports why kept records do not replay.
 ghost use Rattle.std.specs.Prelude.{◌≡◌, ◌++◌, codes, IfOk, OnOk};
 ghost use Rattle.std.specs.Fmt.{decimal};
 ghost use Rattle.season_commands.specs.Stray.{code_or_mark, differs_line, seat_or_none};
@@ -10,7 +10,8 @@ use seat_matrix::Matrix;
 use std::alloc::Global;
 use step_lines::step_name;
 
-/// The line of a row of a table, counted from 1, that is not newly accepted where it stands. `words` tell the table.
+/// Returns the line of a row of a table, counted from 1, that is not newly accepted at its place.
+/// `words` name the table.
 pub(crate) fn stray_text(alloc: Global, words: &[u8], row: u64) -> Result<Text, OutOfMemory>
     ensures { IfOk result (λ text. text ≡ words.now ++ decimal row ++ codes "\n") }
 {
@@ -22,7 +23,7 @@ pub(crate) fn stray_text(alloc: Global, words: &[u8], row: u64) -> Result<Text, 
     Ok(out)
 }
 
-/// The line of a candidate whose kept seat in a round is not the computed one.
+/// Returns the line of a candidate whose kept seat in a round is not the computed one.
 pub(crate) fn differs_text(
     alloc: Global,
     matrix: &Matrix,
@@ -58,7 +59,7 @@ fn push_seat(out: &mut Text, matrix: &Matrix, seat: Option<Seat>) -> Result<(), 
     out.extend_from_slice(step_name(seat.step).as_bytes())
 }
 
-/// Puts the code of a programme, or `?` where the matrix has none of this number.
+/// Puts the code of a programme, or `?` if the matrix has none of this number.
 fn push_code(out: &mut Text, matrix: &Matrix, prog: ProgId) -> Result<(), OutOfMemory>
     ensures { OnOk result (out.new ≡ out.old ++ code_or_mark matrix.now prog.0) }
 {

@@ -1,4 +1,4 @@
-// What a generated season came to, and how it is written.
+// The result of a generated season, and how it is written.
 ghost use Rattle.std.specs.Prelude.{◌≡◌, ◌≢◌, IfOk, length, map};
 ghost use Rattle.office_base.specs.Outside.{Rose};
 ghost use Rattle.rounds.specs.Round.{seated};
@@ -15,7 +15,7 @@ use script_runs::Tally;
 use season_generator::{Summary, summary_text};
 use std::alloc::Global;
 
-/// The summary of a generated season, by the tally of its answers and the state of its office.
+/// Returns the summary of a generated season, by the tally of its answers and the state of its office.
 pub(crate) fn tallied_text<P: Keeper>(
     alloc: Global,
     n: u32,
@@ -36,7 +36,7 @@ pub(crate) fn tallied_text<P: Keeper>(
     summary_text(alloc, &summary)
 }
 
-/// How many have a seat in each published round, from round 1 on.
+/// Counts how many have a seat in each published round, from round 1 on.
 fn seated_in_rounds<P: Keeper>(
     alloc: Global,
     office: &Office<P>,
@@ -53,7 +53,7 @@ fn seated_in_rounds<P: Keeper>(
     Ok(counts)
 }
 
-/// How many final admissions there are; 0 before the last cut.
+/// Returns how many final admissions there are; 0 before the last cut.
 fn final_admissions<P: Keeper>(office: &Office<P>) -> usize
     ensures { result ≡ length (rows_shown office.now.state) }
 {

@@ -22,23 +22,23 @@ use Rattle.special_command.specs.Special.{AreFaultyKeptLists, AreFaultyLists, Ar
 
 -- ---- why there is no special round
 
--- A failure that tells a fault of short lists has its cause.
+-- A failure that reports a fault of short lists has its cause.
 pub fault_failed : (facts : SeasonFacts) (state : State) (bytes : List ℕ) (fault : SpecialFault) (failure : Failure) → length bytes ≤ most_bundle_bytes → IsSpecialFault facts state bytes fault
     → IsToldFault fault failure → IsInputFailure (special_answers facts state) bytes failure
 fault_failed facts state bytes fault Read short has told = told
 fault_failed facts state bytes fault (Bad line) short has told = inr (fault, (short, has, told.0), told.1)
 fault_failed facts state bytes fault NoMemory short has told = tt
 
--- So has one that tells of too many bytes.
+-- So has one that reports too many bytes.
 pub long_failed : (facts : SeasonFacts) (state : State) (bytes : List ℕ) (failure : Failure) → most_bundle_bytes < length bytes → TellsLine too_long_line failure
     → IsInputFailure (special_answers facts state) bytes failure
 long_failed facts state bytes Read long told = told
 long_failed facts state bytes (Bad line) long told = inl (long, told)
 long_failed facts state bytes NoMemory long told = tt
 
--- ---- how the round is told
+-- ---- how the round is written
 
--- A special round was told.
+-- A special round was written.
 pub round_ends : (facts : SeasonFacts) (state : State) (left : Option (List ℕ)) (text shown : List ℕ) (written now : Option (List ℕ)) (broke : Type 0) (result : Status)
     → HasLeft (IsSpecialOutput facts state) left text → shown ≡ text → IsTold Done shown written now broke result
     → (output : List ℕ) × Appends output written now × Writes (IsSpecialText facts state left) result output
@@ -52,7 +52,7 @@ text_of_failure facts state left failed Read cause = refl
 text_of_failure facts state left failed (Bad line) cause = cause
 text_of_failure facts state left failed NoMemory cause = refl
 
--- It was told why there is none.
+-- It was written why there is none.
 pub none_ends : (facts : SeasonFacts) (state : State) (left : Option (List ℕ)) (failed : Type 0) (failure : Failure) (written now : Option (List ℕ)) (broke : Type 0) (result : Status)
     → IsFailureOf (special_answers facts state) left failed failure → IsTold (status_of (Err failure)) (text_of (Err failure)) written now broke result
     → (output : List ℕ) × Appends output written now × Writes (IsSpecialText facts state left) result output
@@ -61,7 +61,7 @@ none_ends facts state left failed failure written now broke result cause told =
 
 -- ---- which lists are answered
 
--- No round is told over lists with a fault,
+-- No round is written over lists with a fault,
 pub no_round : (facts : SeasonFacts) (state : State) (left : Option (List ℕ)) (text : List ℕ) → ((facts : SeasonFacts) (state : State) (bytes : List ℕ) → HaveOneSpecial facts state bytes)
     → HasLeft (IsSpecialOutput facts state) left text → Tells (AreFaultyLists facts state) left → ⊥
 no_round facts state None text laws made tells = tells
@@ -75,11 +75,11 @@ no_fault facts state None line laws has tells = tells
 no_fault facts state (Some bytes) line laws has tells =
     (laws facts state bytes).apart tells (subst (AreFaultyLists facts state) has.1 ((laws facts state has.0).of_fault line has.2))
 
--- where the sink did not fail, the status is that of the text
+-- if the sink did not fail, the status is that of the text
 status_is : (status result : Status) (text : List ℕ) (written now : Option (List ℕ)) (broke : Type 0) → IsTold status text written now broke result → (broke → ⊥) → result ≡ status
 status_is status result text written now broke told held = elim told [ inl whole ↦ whole.0 | inr cut ↦ absurd (held cut.1) ]
 
--- Lists without a fault are answered, where neither side failed and there was memory.
+-- Lists without a fault are answered, if neither side failed and memory did not run out.
 pub lists_are_answered : (facts : SeasonFacts) (state : State) (left : Option (List ℕ)) (failed : Type 0) (failure : Failure) (written now : Option (List ℕ)) (broke : Type 0) (result : Status)
     → ((facts : SeasonFacts) (state : State) (bytes : List ℕ) → HaveOneSpecial facts state bytes) → IsFailureOf (special_answers facts state) left failed failure
     → IsTold (status_of (Err failure)) (text_of (Err failure)) written now broke result → Tells (AreSpecialLists facts state) left → (failed → ⊥) → (broke → ⊥)
@@ -90,7 +90,7 @@ lists_are_answered facts state left failed NoMemory written now broke result law
 
 -- ---- all together
 
--- The records lead to its state by what was told before
+-- The records lead to its state by the tables that were visible before
 pub still_here : (facts : SeasonFacts) (state : State) (before held after : Tables) → IsResumed held facts state → AreTold before held → after ≡ held → IsResumed (still before after) facts state
 still_here facts state before held after resumed told same =
     still_resumed before held after facts state told (λ was. subst (λ (t : Tables). IsTablesTold t) same was) resumed
@@ -113,7 +113,7 @@ unresumed_ends left before after why written now status told stopped writes =
     let (output, appends, is) = writes (still before after) (still_from (λ t. IsUnresumed t why) before after told stopped) in
     (output, appends, inl (is, told))
 
--- What is told of the lists over every state is told over this one.
+-- What holds of the lists over every state holds over this one.
 pub tells_here : (Are : SeasonFacts → State → List ℕ → Type 0) (tables : Tables) (facts : SeasonFacts) (state : State) (left : Option (List ℕ)) → IsResumed tables facts state
     → Tells (λ bytes. (facts : SeasonFacts) (state : State) → IsResumed tables facts state → Are facts state bytes) left → Tells (Are facts state) left
 tells_here Are tables facts state None resumed tells = tells

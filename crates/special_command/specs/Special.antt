@@ -1,7 +1,9 @@
--- The command `special`: an office goes on from what the keeper holds, its input are lists of those without an admission, and its output is the special round
--- over them. Nothing is put into the keeper.
+-- The command `special`: an office resumes from what the keeper holds.
+-- The input is lists of those without an admission, and the output is the special round over them.
+-- Nothing is put into the keeper.
 use Rattle.std.specs.Prelude.{◌≡◌, ◌≢◌, ◌<◌, ◌≤◌, ◌⊎◌, ℕ, List, Option, codes, length}
 use Rattle.office_base.specs.Limits.{most_bundle_bytes}
+use Rattle.office_base.specs.Visible.{Readable}
 use Rattle.keeper_mem.specs.Tables.{Tables, AreTold, still}
 use Rattle.office_moves.specs.Facts.{SeasonFacts}
 use Rattle.office_moves.specs.State.{State}
@@ -17,7 +19,8 @@ use Rattle.command_answers.specs.Writes.{IsTextOf, Writes}
 use Rattle.command_answers.specs.declared.failure.Failure.{Failure}
 use Rattle.command_answers.specs.declared.failure.Failure.TheVariants.{Read, Bad, NoMemory}
 use Rattle.command_answers.specs.declared.status.Status.{Status}
-use Rattle.season_commands.specs.Resume.{IsUnresumedText}
+use Rattle.season_commands.specs.Outside.{Outside, held}
+use Rattle.season_commands.specs.Resume.{AnswersAfter, IsUnresumedText}
 
 abbrev pub too_long_line : List ℕ
 too_long_line = codes "fault: special TooLong\n"
@@ -54,8 +57,8 @@ special_answers facts state = record {
   IsFaultLine = IsListsFaultLine facts state;
 }
 
--- Bytes are such lists or have a fault, and never both; they have an output only where they are without faults, a line of a fault only where they have one, and
--- at most one such line.
+-- Bytes are such lists or have a fault, and never both. They have an output only if they are without faults, a line of
+-- a fault only if they have one, and at most one such line.
 pub record HaveOneSpecial (facts : SeasonFacts) (state : State) (bytes : List ℕ) : Type 0 where
   pub some : AreSpecialLists facts state bytes ⊎ AreFaultyLists facts state bytes
   pub apart : AreSpecialLists facts state bytes → AreFaultyLists facts state bytes → ⊥
@@ -63,7 +66,7 @@ pub record HaveOneSpecial (facts : SeasonFacts) (state : State) (bytes : List �
   pub of_fault : (line : List ℕ) → IsListsFaultLine facts state bytes line → AreFaultyLists facts state bytes
   pub one_line : (line other : List ℕ) → IsListsFaultLine facts state bytes line → IsListsFaultLine facts state bytes other → line ≡ other
 
--- The failure tells this fault by its line. Of memory nothing is claimed.
+-- The failure reports this fault by its line. Nothing is claimed of memory.
 abbrev pub IsToldFault : SpecialFault → Failure → Type 0
 IsToldFault fault Read = ⊥
 IsToldFault fault (Bad line) = (fault ≢ NoMemoryForRound) × (line ≡ special_fault_line fault)
@@ -81,12 +84,17 @@ AreFaultyKeptLists tables bytes = (facts : SeasonFacts) (state : State) → IsRe
 
 -- ---- how the command ends
 
--- the whole text that goes with each status where an office goes on, for the bytes that the source had left
+-- the whole text that goes with each status if an office resumes, for the bytes that the source had left
 abbrev pub IsSpecialText : SeasonFacts → State → Option (List ℕ) → Status → List ℕ → Type 0
 IsSpecialText facts state left = IsTextOf (special_answers facts state) left
 
--- how `special` ends: no office goes on; or the records lead to the state of a season, and the special round of that is told, or why there is none. The tables
--- are as before; what was kept is told where the keeper tells both before and after.
+-- how `special` ends: no office resumes; or the records lead to the state of a season, and its special round is
+-- written, or why there is none.
+-- The tables are unchanged. What was kept is visible if the tables are visible both before and after.
 abbrev pub EndsSpecial : Option (List ℕ) → Tables → Tables → Status → List ℕ → Type 0
 EndsSpecial left before after status output = (Writes (IsUnresumedText (still before after)) status output × AreTold before after)
     ⊎ ((facts : SeasonFacts) × (state : State) × IsResumed (still before after) facts state × Writes (IsSpecialText facts state left) status output × AreTold before after)
+
+-- what comes after sound records: lists without errors are answered, and faulty ones are refused
+abbrev pub AnswersLists : Readable → Readable → Outside → Outside → Status → Type 0
+AnswersLists source now old new status = AnswersAfter (AreKeptLists (held old new)) (AreFaultyKeptLists (held old new)) source now old new status

@@ -1,18 +1,21 @@
-// The command `special`: an office goes on from what the keeper holds, then the lists that the source gives are read, and the special round over them is told.
+// The command `special`: an office resumes from what the keeper holds. Then the lists that the source gives are read,
+// and the special round over them is written.
 ghost use Rattle.std.specs.Prelude.{◌≡◌, ◌≢◌, ◌<◌, ◌≤◌, ◌⊎◌, ℕ, List, length, IfOk, IfErr, OnOk, IsErrOf};
 ghost use Rattle.office_base.specs.Limits.{most_bundle_bytes};
-ghost use Rattle.office_base.specs.Outside.{Rose, IsAtEnd, Appends};
+ghost use Rattle.office_base.specs.Outside.{Rose, IsAtEnd};
 ghost use Rattle.keeper_mem.specs.Tables.{still};
 ghost use Rattle.office_moves.specs.Facts.{SeasonFacts};
 ghost use Rattle.office_moves.specs.State.{State};
 ghost use Rattle.special_round.specs.Special.{IsSpecial};
 ghost use Rattle.special_texts.specs.Texts.{special_text};
 ghost use Rattle.command_answers.specs.Answers.{HasLeft, IsFailureOf, IsInputFailure, Tells, TellsLine};
-ghost use Rattle.command_answers.specs.Writes.{Writes};
-ghost use Rattle.season_commands.specs.Resume.{TellsNoOffice, TellsRowFault, TellsSound, TellsTextFault};
-ghost use Rattle.season_commands.specs.Run.{TellsNoSeason};
+ghost use Rattle.command_answers.specs.Ends.{BlamesStreams};
+ghost use Rattle.command_answers.specs.Writes.{WritesFor};
+ghost use Rattle.office_base.specs.Visible.{sink_of, source_of, streams_of};
+ghost use Rattle.season_commands.specs.Outside.{BlamesOffice, BlamesSource, EndsWith, Writes, outside_of};
+ghost use Rattle.season_commands.specs.Resume.{JudgesRecords, TellsNoOffice};
 ghost use Rattle.special_round.specs.Season.{IsSpecialFault};
-ghost use Rattle.special_command.specs.Special.{AreFaultyKeptLists, AreFaultyLists, AreKeptLists, AreSpecialLists, EndsSpecial, IsSpecialOutput, IsSpecialText, IsToldFault, special_answers, too_long_line};
+ghost use Rattle.special_command.specs.Special.{AnswersLists, AreFaultyLists, AreSpecialLists, EndsSpecial, IsSpecialOutput, IsSpecialText, IsToldFault, special_answers, too_long_line};
 
 use crate::laws::one_special_answer;
 use command_answers::{Failure, Status, tell_failure, write_answer};
@@ -31,37 +34,27 @@ use std::alloc::Global;
 use std::marker::Brand;
 use std::sync::ledger::{Blank, Ledger};
 
-/// Goes on with the office that the keeper holds, reads the lists that the source gives, and writes the special round over them. The source is read after the
-/// office stands. Nothing is put into the keeper, which is handed back.
+/// Resumes the office that the keeper holds, reads the lists that the source gives,
+/// and writes the special round over them.
+/// The source is read after the office has resumed. It puts nothing into the keeper, and returns it.
 pub fn special_season<S: Source, K: Sink, P: Keeper>(
     alloc: Global,
     source: &mut S,
     sink: &mut K,
     keeper: P,
 ) -> (Status, P)
-    ensures written { (output : List ℕ) × Appends output (K.written sink.old) (K.written sink.new)
-        × EndsSpecial (S.left source.old) (P.tables keeper) (P.tables result.1) result.0 output }
+    ensures written { Writes (EndsSpecial (S.left source.old)) (outside_of K.Sink P.Keeper sink.old keeper)
+        (outside_of K.Sink P.Keeper sink.new result.1) result.0 }
     ensures read_whole { result.0 ≡ Status.Ok → IsAtEnd (S.left source.new) }
-    ensures read_fault { result.0 ≡ Status.ReadFault → Rose (S.faults source.old) (S.faults source.new) }
-    ensures write_fault { result.0 ≡ Status.WriteFault → Rose (K.faults sink.old) (K.faults sink.new) }
-    ensures keeper_fault { result.0 ≡ Status.KeeperFault → Rose (P.faults keeper) (P.faults result.1) }
-    ensures source_steady { result.0 ≢ Status.ReadFault → result.0 ≢ Status.WriteFault → S.faults source.new ≡ S.faults source.old }
-    ensures sink_steady { result.0 ≢ Status.WriteFault → K.faults sink.new ≡ K.faults sink.old }
-    ensures keeper_count { P.faults keeper ≤ P.faults result.1 }
-    ensures keeper_steady { result.0 ≢ Status.KeeperFault → result.0 ≢ Status.WriteFault → P.faults result.1 ≡ P.faults keeper }
-    ensures complete { Tells (AreKeptLists (still (P.tables keeper) (P.tables result.1))) (S.left source.old) → TellsSound (still (P.tables keeper) (P.tables result.1))
-        → ¬ Rose (S.faults source.old) (S.faults source.new) → ¬ Rose (K.faults sink.old) (K.faults sink.new) → ¬ Rose (P.faults keeper) (P.faults result.1)
-        → (result.0 ≡ Status.Ok) ⊎ (result.0 ≡ Status.OutOfMemory) }
-    ensures refused { Tells (AreFaultyKeptLists (still (P.tables keeper) (P.tables result.1))) (S.left source.old) → TellsSound (still (P.tables keeper) (P.tables result.1))
-        → ¬ Rose (S.faults source.old) (S.faults source.new) → ¬ Rose (K.faults sink.old) (K.faults sink.new) → ¬ Rose (P.faults keeper) (P.faults result.1)
-        → (result.0 ≡ Status.BadInput) ⊎ (result.0 ≡ Status.OutOfMemory) }
-    ensures none_kept { TellsNoSeason (still (P.tables keeper) (P.tables result.1)) → ¬ Rose (K.faults sink.old) (K.faults sink.new) → ¬ Rose (P.faults keeper) (P.faults result.1)
-        → (result.0 ≡ Status.BadInput) ⊎ (result.0 ≡ Status.OutOfMemory) }
-    ensures kept_text { TellsTextFault (still (P.tables keeper) (P.tables result.1)) → ¬ Rose (K.faults sink.old) (K.faults sink.new) → ¬ Rose (P.faults keeper) (P.faults result.1)
-        → (result.0 ≡ Status.BadInput) ⊎ (result.0 ≡ Status.OutOfMemory) }
-    ensures differs { TellsRowFault (still (P.tables keeper) (P.tables result.1)) → ¬ Rose (K.faults sink.old) (K.faults sink.new) → ¬ Rose (P.faults keeper) (P.faults result.1)
-        → (result.0 ≡ Status.Differs) ⊎ (result.0 ≡ Status.OutOfMemory) }
-    ensures unread { (result.0 ≡ Status.Differs) ⊎ TellsNoOffice (still (P.tables keeper) (P.tables result.1)) → source.new ≡ source.old }
+    ensures read_blamed { BlamesSource result.0 (source_of S.Source source.old) (source_of S.Source source.new) }
+    ensures blamed { BlamesOffice result.0 (outside_of K.Sink P.Keeper sink.old keeper)
+        (outside_of K.Sink P.Keeper sink.new result.1) }
+    ensures records { JudgesRecords (outside_of K.Sink P.Keeper sink.old keeper)
+        (outside_of K.Sink P.Keeper sink.new result.1) result.0 }
+    ensures answers { AnswersLists (source_of S.Source source.old) (source_of S.Source source.new)
+        (outside_of K.Sink P.Keeper sink.old keeper) (outside_of K.Sink P.Keeper sink.new result.1) result.0 }
+    ensures unread { (result.0 ≡ Status.Differs) ⊎ TellsNoOffice (still (P.seen keeper).tables (P.seen result.1).tables)
+        → source.new ≡ source.old }
 {
     one_end();
     one_reading();
@@ -81,20 +74,19 @@ fn tell_round<S: Source, K: Sink, P: Keeper>(
     source: &mut S,
     sink: &mut K,
 ) -> (Status, P)
-    ensures written { (output : List ℕ) × Appends output (K.written sink.old) (K.written sink.new)
-        × Writes (IsSpecialText office.season office.state (S.left source.old)) result.0 output }
+    ensures written { WritesFor (IsSpecialText office.season office.state (S.left source.old))
+        (sink_of K.Sink sink.old) (sink_of K.Sink sink.new) result.0 }
     ensures same { result.1 ≡ office.keeper }
     ensures read_whole { result.0 ≡ Status.Ok → IsAtEnd (S.left source.new) }
-    ensures read_fault { result.0 ≡ Status.ReadFault → Rose (S.faults source.old) (S.faults source.new) }
-    ensures write_fault { result.0 ≡ Status.WriteFault → Rose (K.faults sink.old) (K.faults sink.new) }
-    ensures no_keeper_fault { result.0 ≢ Status.KeeperFault }
     ensures no_difference { result.0 ≢ Status.Differs }
-    ensures source_steady { result.0 ≢ Status.ReadFault → result.0 ≢ Status.WriteFault → S.faults source.new ≡ S.faults source.old }
-    ensures sink_steady { result.0 ≢ Status.WriteFault → K.faults sink.new ≡ K.faults sink.old }
+    ensures blamed { BlamesStreams result.0 (streams_of S.Source K.Sink source.old sink.old)
+        (streams_of S.Source K.Sink source.new sink.new) }
     ensures complete { Tells (AreSpecialLists office.season office.state) (S.left source.old)
-        → ¬ Rose (S.faults source.old) (S.faults source.new) → ¬ Rose (K.faults sink.old) (K.faults sink.new) → (result.0 ≡ Status.Ok) ⊎ (result.0 ≡ Status.OutOfMemory) }
+        → ¬ Rose (S.faults source.old) (S.faults source.new) → ¬ Rose (K.faults sink.old) (K.faults sink.new)
+        → EndsWith Status.Ok result.0 }
     ensures refused { Tells (AreFaultyLists office.season office.state) (S.left source.old)
-        → ¬ Rose (S.faults source.old) (S.faults source.new) → ¬ Rose (K.faults sink.old) (K.faults sink.new) → (result.0 ≡ Status.BadInput) ⊎ (result.0 ≡ Status.OutOfMemory) }
+        → ¬ Rose (S.faults source.old) (S.faults source.new) → ¬ Rose (K.faults sink.old) (K.faults sink.new)
+        → EndsWith Status.BadInput result.0 }
 {
     one_special_answer();
     match special_answer(alloc, &office, source) {
@@ -106,7 +98,7 @@ fn tell_round<S: Source, K: Sink, P: Keeper>(
     }
 }
 
-/// The text of the special round over the lists that the source gives.
+/// Returns the text of the special round over the lists that the source gives.
 fn special_answer<S: Source, P: Keeper>(
     alloc: Global,
     office: &Office<P>,
@@ -126,7 +118,7 @@ fn special_answer<S: Source, P: Keeper>(
     }
 }
 
-/// The text of the special round over these lists.
+/// Returns the text of the special round over these lists.
 fn lists_answer<P: Keeper>(alloc: Global, office: &Office<P>, lists: &[u8]) -> Result<Text, Failure>
     requires { length lists.now ≤ most_bundle_bytes }
     ensures output { IfOk result (IsSpecialOutput office.now.season office.now.state lists.now) }
@@ -138,7 +130,7 @@ fn lists_answer<P: Keeper>(alloc: Global, office: &Office<P>, lists: &[u8]) -> R
     }
 }
 
-/// The special round over these lists, its steps counted in a newly opened ledger.
+/// Makes the special round over these lists, its steps counted in a newly opened ledger.
 fn round_of<L: Ledger, P: Keeper>(
     alloc: Global,
     office: &Office<P>,
@@ -155,7 +147,7 @@ fn round_of<L: Ledger, P: Keeper>(
     special(alloc, office, lists, &mut steps)
 }
 
-/// The text of a special round of some office.
+/// Returns the text of a special round of some office.
 fn shown(alloc: Global, special: &Special) -> Result<Text, OutOfMemory>
     requires { (facts : SeasonFacts) × (state : State) × (body : List ℕ) × IsSpecial facts state body special.now }
     ensures { IfOk result (λ text. text ≡ special_text special.now) }
@@ -165,7 +157,7 @@ fn shown(alloc: Global, special: &Special) -> Result<Text, OutOfMemory>
     special_text(alloc, special)
 }
 
-/// The failure that tells why there is no special round.
+/// Returns the failure that reports why there is no special round.
 fn lists_failure(alloc: Global, fault: SpecialFault) -> Failure
     ensures { IsToldFault fault result }
 {
@@ -178,7 +170,7 @@ fn lists_failure(alloc: Global, fault: SpecialFault) -> Failure
     }
 }
 
-/// The failure that tells of too many bytes of lists.
+/// Returns the failure that reports too many bytes of lists.
 fn too_long(alloc: Global) -> Failure
     ensures { TellsLine too_long_line result }
 {
@@ -188,7 +180,7 @@ fn too_long(alloc: Global) -> Failure
     }
 }
 
-/// The line that tells of too many bytes of lists.
+/// Returns the line that reports too many bytes of lists.
 fn too_long_text(alloc: Global) -> Result<Text, OutOfMemory>
     ensures { IfOk result (λ text. text ≡ too_long_line) }
 {

@@ -1,8 +1,8 @@
 -- The command `step`: its input is a step sheet, its output whom the sheet's step admits.
-use Rattle.std.specs.Prelude.{◌≡◌, ℕ, List, Option, length}
+use Rattle.std.specs.Prelude.{◌≡◌, ◌<◌, ◌^◌, ℕ, List, Option, length}
 use Rattle.office_base.specs.Certificate.{IsCanonical}
 use Rattle.office_base.specs.Outside.{AreLeft}
-use Rattle.office_base.specs.StepChoice.{IsStepChoice}
+use Rattle.office_base.specs.StepChoice.{IsStep, IsStepChoice}
 use Rattle.office_base.specs.declared.person.Person.{Person}
 use Rattle.office_base.specs.declared.step.Pair.{Pair}
 use Rattle.office_base.specs.declared.step.Step.{Step}
@@ -10,6 +10,11 @@ use Rattle.step_sheet.specs.Output.{step_output, fault_output}
 use Rattle.step_sheet.specs.Sheet.{SheetGives, HasFault}
 use Rattle.step_sheet.specs.declared.fault.SheetFault.{SheetFault}
 use Rattle.command_answers.specs.Answers.{Answers}
+
+-- A step of which the choice is made, with few enough people that their number can be written.
+pub record IsSoundStep (step : Step) : Type 0 where
+  pub is : IsStep step
+  pub few : length step.people < 2 ^ 32
 
 -- What `step` writes for a step: its choice and the canonical certificate.
 pub record IsStepText (step : Step) (output : List ℕ) : Type 0 where

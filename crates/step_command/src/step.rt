@@ -1,12 +1,11 @@
 // The command `step`: it reads a step sheet and answers whom the step admits.
-ghost use Rattle.std.specs.Prelude.{◌≡◌, ◌≤◌, ◌<◌, ◌^◌, ℕ, List, length, IfOk, IfErr, OnOk, IsErrOf};
+ghost use Rattle.std.specs.Prelude.{◌<◌, ℕ, List, length, IfOk, IfErr};
 ghost use Rattle.office_base.specs.Limits.{most_sheet_bytes};
-ghost use Rattle.office_base.specs.Outside.{Rose, IsAtEnd};
-ghost use Rattle.office_base.specs.StepChoice.{IsStep};
 ghost use Rattle.step_sheet.specs.Output.{fault_output};
-ghost use Rattle.command_answers.specs.Answers.{HasLeft, IsFailureOf, IsInputFailure, TellsLine};
+ghost use Rattle.command_answers.specs.Answers.{Answer, IsInputFailure, Reads, TellsLine};
+ghost use Rattle.office_base.specs.Visible.{source_of};
 ghost use Rattle.step_sheet.specs.Sheet.{SheetGives};
-ghost use Rattle.step_command.specs.Step.{IsLeftSheet, IsStepText, step_answers};
+ghost use Rattle.step_command.specs.Step.{IsLeftSheet, IsSoundStep, IsStepText, step_answers};
 
 use command_answers::Failure;
 use merit_choice::choose;
@@ -15,27 +14,18 @@ use office_base::{OutOfMemory, ReadFault, Source, Step, Text, read_whole};
 use std::alloc::Global;
 use step_sheet::{SheetError, SheetFault, SheetKind, fault_text, read_sheet, step_text};
 
-/// The output of `step` for the sheet that the source gives.
+/// Returns the output of `step` for the sheet that the source gives.
 pub fn step_answer<S: Source>(alloc: Global, source: &mut S) -> Result<Text, Failure>
-    ensures output { IfOk result (HasLeft step_answers.IsOutput (S.left source.old)) }
-    ensures ended { OnOk result (IsAtEnd (S.left source.new)) }
-    ensures failure { IfErr result (IsFailureOf step_answers (S.left source.old) (Rose (S.faults source.old) (S.faults source.new))) }
-    ensures count { S.faults source.old ≤ S.faults source.new }
-    ensures steady { ¬ IsErrOf result Failure.Read → S.faults source.new ≡ S.faults source.old }
+    ensures { Answer step_answers (source_of S.Source source.old) (source_of S.Source source.new) result }
 {
     let step = step_input(alloc, source)?;
     Ok(list_of(alloc, &step)?)
 }
 
-/// The input of `step`: the step of the sheet that the source gives.
+/// Reads the input of `step`: the step of the sheet that the source gives.
 fn step_input<S: Source>(alloc: Global, source: &mut S) -> Result<Step, Failure>
-    ensures sheet { IfOk result (IsLeftSheet (S.left source.old)) }
-    ensures step { IfOk result IsStep }
-    ensures few { IfOk result (λ step. length step.people < 2 ^ 32) }
-    ensures ended { OnOk result (IsAtEnd (S.left source.new)) }
-    ensures failure { IfErr result (IsFailureOf step_answers (S.left source.old) (Rose (S.faults source.old) (S.faults source.new))) }
-    ensures count { S.faults source.old ≤ S.faults source.new }
-    ensures steady { ¬ IsErrOf result Failure.Read → S.faults source.new ≡ S.faults source.old }
+    ensures read { Reads step_answers IsLeftSheet (source_of S.Source source.old) (source_of S.Source source.new) result }
+    ensures sound { IfOk result IsSoundStep }
 {
     match read_whole(alloc, source, MOST_SHEET_BYTES) {
         Ok(bytes) => sheet_step(alloc, bytes.as_slice()),
@@ -45,11 +35,10 @@ fn step_input<S: Source>(alloc: Global, source: &mut S) -> Result<Step, Failure>
     }
 }
 
-/// The step of the bytes of a sheet.
+/// Reads the step of the bytes of a sheet.
 fn sheet_step(alloc: Global, bytes: &[u8]) -> Result<Step, Failure>
     ensures sheet { IfOk result (SheetGives bytes.now) }
-    ensures step { IfOk result IsStep }
-    ensures few { IfOk result (λ step. length step.people < 2 ^ 32) }
+    ensures sound { IfOk result IsSoundStep }
     ensures failure { IfErr result (IsInputFailure step_answers bytes.now) }
 {
     match read_sheet(alloc, bytes) {
@@ -59,10 +48,9 @@ fn sheet_step(alloc: Global, bytes: &[u8]) -> Result<Step, Failure>
     }
 }
 
-/// The output of `step`: whom a step admits.
+/// Returns the output of `step`: whom a step admits.
 fn list_of(alloc: Global, step: &Step) -> Result<Text, OutOfMemory>
-    requires step { IsStep step.now }
-    requires few { length step.now.people < 2 ^ 32 }
+    requires { IsSoundStep step.now }
     ensures { IfOk result (IsStepText step.now) }
 {
     let chosen = choose(alloc, step)?;
@@ -75,7 +63,7 @@ fn list_of(alloc: Global, step: &Step) -> Result<Text, OutOfMemory>
     )
 }
 
-/// The failure that tells a fault of a sheet.
+/// Returns the failure that reports a fault of a sheet.
 fn sheet_failure(alloc: Global, fault: &SheetFault) -> Failure
     ensures { TellsLine (fault_output fault.now) result }
 {
@@ -85,7 +73,7 @@ fn sheet_failure(alloc: Global, fault: &SheetFault) -> Failure
     }
 }
 
-/// The failure that tells of too many bytes of a sheet.
+/// Returns the failure that reports too many bytes of a sheet.
 fn too_long(alloc: Global) -> Failure
     ensures { (bytes : List ℕ) → most_sheet_bytes < length bytes → IsInputFailure step_answers bytes result }
 {

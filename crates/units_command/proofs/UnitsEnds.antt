@@ -41,7 +41,7 @@ too_long bytes less = ap (λ (b : Bool). cond b (Err TooLong) (known bytes)) (lt
     known : List ℕ → Result (List ℕ) UnitFault
     known bytes = after (input_of (skip_mark bytes)) (λ input. after (with_row BadUnit (units_of (rows_of input.units))) (λ units. after (with_row BadState (states_of (rows_of input.states))) (λ states. expanded units states input.bundle)))
 
--- A failure that tells a fault of units has its cause.
+-- A failure that reports a fault of units has its cause.
 pub unit_failed : (left after : Option (List ℕ)) (failed : Type 0) (fault : UnitFault) (failure : Failure) → (fault ≡ ReadFault → failed)
     → IsUnitFault left after fault → TellsUnitFault fault failure → IsFailureOf units_answers left failed failure
 unit_failed left after failed fault Read cause first told = cause told
@@ -51,13 +51,13 @@ unit_failed left after failed OutOfMemory (Bad line) cause first told = absurd (
 unit_failed left after failed TooLong (Bad line) cause first told = let more = long_left most_bundle_bytes left after first in (more.0, more.1, inl (TooLong, too_long more.0 more.2, told.2))
 unit_failed left after failed fault (Bad line) cause first told = given_left left after failed fault line first told.2
 
--- Where it tells no failed source, the source did not fail.
+-- If it reports no failed source, the source did not fail.
 pub unit_held : (fault : UnitFault) (failure : Failure) (Held : Type 0) → ((fault ≡ ReadFault → ⊥) → Held) → TellsUnitFault fault failure → (failure ≡ Read → ⊥) → Held
 unit_held fault Read Held steady told other = absurd (other refl)
 unit_held fault (Bad line) Held steady told other = steady told.0
 unit_held fault NoMemory Held steady told other = steady told
 
--- bytes that are at hand do not fail to be read
+-- bytes that are in memory do not fail to be read
 has_fault : (text : List ℕ) (fault : SeasonFault) → IsSeasonFault true text fault → (fault ≡ season.OutOfMemory → ⊥) → HasFault true text fault
 has_fault text season.ReadFault first other = first
 has_fault text season.TooLong first other = first
@@ -74,14 +74,14 @@ has_fault text season.OutOfMemory first other = absurd (other refl)
 no_read : (text : List ℕ) (fault : SeasonFault) → IsSeasonFault true text fault → fault ≡ season.ReadFault → ⊥
 no_read text fault first same = let here = subst (λ (f : SeasonFault). IsSeasonFault true text f) same first in here.1.2
 
--- A failure that tells a fault of the plain bundle has its cause.
+-- A failure that reports a fault of the plain bundle has its cause.
 pub text_failed : (left : Option (List ℕ)) (bytes text : List ℕ) (failed : Type 0) (fault : SeasonFault) (failure : Failure) → AreLeft bytes left → expansion bytes ≡ Ok text → IsSeasonFault true text fault
     → TellsSeasonFault fault failure → IsFailureOf units_answers left failed failure
 text_failed left bytes text failed fault Read are made first told = absurd (no_read text fault first told)
 text_failed left bytes text failed fault (Bad line) are made first told = (bytes, are, inr (text, made, (fault, has_fault text fault first told.1, told.2)))
 text_failed left bytes text failed fault NoMemory are made first told = tt
 
--- it does not tell that the source failed
+-- it does not report that the source failed
 pub text_held : (text : List ℕ) (fault : SeasonFault) (failure : Failure) → IsSeasonFault true text fault → TellsSeasonFault fault failure → failure ≡ Read → ⊥
 text_held text fault Read first told is = no_read text fault first told
 text_held text fault (Bad line) first told is = absurd cc
@@ -103,7 +103,7 @@ unread_ends left failed failure tables written now broke result cause is =
     let (output, appends, writes) = told_is_written (IsUnitsText left) (status_of (Err failure)) result (text_of (Err failure)) written now broke (text_of_failure left failed failure cause) is in
     (output, appends, inl (writes, refl))
 
--- No season can be read where the bytes have a fault.
+-- No season can be read if the bytes have a fault.
 pub no_faulty_units : (left : Option (List ℕ)) (season : Season) (script : List Request) → ((bytes : List ℕ) → HaveOneAnswer units_answers bytes) → IsLeftExpansion left season script → Tells IsFaultyUnits left → ⊥
 no_faulty_units None season script laws is tells = tells
 no_faulty_units (Some all) season script laws (bytes, text, are, more) tells =

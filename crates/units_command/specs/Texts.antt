@@ -1,4 +1,4 @@
--- The lines that tell what is wrong with a bundle with units.
+-- The lines that report what is wrong with a bundle with units.
 use Rattle.std.specs.Prelude.{ℕ, List, ◌++◌, codes}
 use Rattle.std.specs.Fmt.{decimal}
 use Rattle.office_base.specs.FaultLines.{memory_line, read_line}
@@ -9,7 +9,7 @@ use Rattle.quota_units.specs.declared.fault.UnitFault.TheVariants.{ReadFault, To
 abbrev pub numbered_line : List ℕ → ℕ → List ℕ → List ℕ
 numbered_line begin number kind = codes "fault: " ++ begin ++ codes " " ++ decimal number ++ codes " " ++ kind ++ codes "\n"
 
--- the line that tells a fault
+-- the line that reports a fault
 abbrev pub unit_line : UnitFault → List ℕ
 unit_line ReadFault = read_line
 unit_line TooLong = codes "fault: units TooLong\n"

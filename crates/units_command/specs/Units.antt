@@ -1,5 +1,6 @@
--- The command `units`: its input is a bundle with units. The plain bundle that it comes to is run as `run` runs it.
+-- The command `units`: its input is a bundle with units. The plain bundle that results is run as `run` runs it.
 use Rattle.std.specs.Prelude.{◌≡◌, ◌⊎◌, ℕ, true, List, Option, Some, Ok, Err}
+use Rattle.office_base.specs.Lists.{IsAmong}
 use Rattle.office_base.specs.Outside.{AreLeft}
 use Rattle.office_base.specs.FaultLines.{memory_line, read_line}
 use Rattle.office_base.specs.declared.asks.Request.{Request}
@@ -7,6 +8,7 @@ use Rattle.office_base.specs.declared.asks.Seat.{Seat}
 use Rattle.season_file.specs.Season.{IsSeasonWith}
 use Rattle.season_file.specs.declared.season.Season.{Season}
 use Rattle.keeper_mem.specs.Tables.{Tables}
+use Rattle.keeper_mem.specs.declared.rows.AllotRow.{AllotRow}
 use Rattle.office_moves.specs.Facts.{SeasonFacts, code_in}
 use Rattle.office_moves.specs.History.{Reaches}
 use Rattle.office_moves.specs.Season.{facts_of}
@@ -30,15 +32,15 @@ use Rattle.units_command.specs.Texts.{unit_line}
 
 -- ---- the input
 
--- the bytes come to a plain bundle without faults
+-- the bytes result in a plain bundle without faults
 abbrev pub IsUnitsInput : List ℕ → Type 0
 IsUnitsInput bytes = (text : List ℕ) × (expansion bytes ≡ Ok text) × IsBundle text
 
--- the bytes come to none, or to one with a fault
+-- the bytes result in none, or in one with a fault
 abbrev pub IsFaultyUnits : List ℕ → Type 0
 IsFaultyUnits bytes = ((fault : UnitFault) × (expansion bytes ≡ Err fault)) ⊎ ((text : List ℕ) × (expansion bytes ≡ Ok text) × IsFaultyBundle text)
 
--- the line of the fault of the bytes, or else of the plain bundle
+-- the line of the fault of the bytes, or otherwise of the plain bundle
 abbrev pub IsUnitsFaultLine : List ℕ → List ℕ → Type 0
 IsUnitsFaultLine bytes line =
     ((fault : UnitFault) × (expansion bytes ≡ Err fault) × (line ≡ unit_line fault)) ⊎ ((text : List ℕ) × (expansion bytes ≡ Ok text) × IsBundleFaultLine text line)
@@ -49,34 +51,42 @@ units_answers = record { IsInput = IsUnitsInput; IsFaulty = IsFaultyUnits; IsOut
 
 -- ---- who has a seat
 
--- In every round of a state whoever has a seat in a unit lives where it is for.
+-- Everybody who has a seat in a unit, in any round of a state, lives where the unit is for.
 abbrev pub SeatsLiveRight : Homes → Homes → SeasonFacts → State → Type 0
 SeatsLiveRight units states facts state = (number id : ℕ) (seat : Seat) → seat_in facts state.rounds number id ≡ Some seat → LivesRight units states id (code_in facts seat.prog.0)
 
+-- So does everybody who is finally admitted to a unit.
+abbrev pub FinalsLiveRight : Homes → Homes → SeasonFacts → State → Type 0
+FinalsLiveRight units states facts state = (rows : List AllotRow) (row : AllotRow) → state.finals ≡ Some rows → IsAmong row rows
+    → LivesRight units states row.cand.0 (code_in facts row.prog.0)
+
 -- so it is in every state that a history of the season reaches
 abbrev pub AlwaysLiveRight : Homes → Homes → SeasonFacts → Type 0
-AlwaysLiveRight units states facts = (entries : List Entry) (state : State) → Reaches facts opening entries state → SeatsLiveRight units states facts state
+AlwaysLiveRight units states facts = (entries : List Entry) (state : State) → Reaches facts opening entries state
+    → SeatsLiveRight units states facts state × FinalsLiveRight units states facts state
 
 -- ---- how the command ends
 
--- The bytes that were left come to a plain bundle without faults, and these are its season and its requests; whoever has a seat lives right.
+-- The bytes that were left result in a plain bundle without faults, and these are its season and its requests.
+-- Everybody with a seat in a unit lives where the unit is for.
 abbrev pub IsLeftExpansion : Option (List ℕ) → Season → List Request → Type 0
 IsLeftExpansion left season script =
     (bytes text : List ℕ) × AreLeft bytes left × ((made : IsExpansion bytes text) × IsSeasonWith true text season script × AlwaysLiveRight made.units made.states (facts_of season))
 
--- the whole text that goes with each status, for the bytes that the source had left, where no bundle is read
+-- the whole text that goes with each status, for the bytes that the source had left, if no bundle is read
 abbrev pub IsUnitsText : Option (List ℕ) → Status → List ℕ → Type 0
 IsUnitsText left BadInput text = HasLeft IsUnitsFaultLine left text
 IsUnitsText left SourceFailed text = text ≡ read_line
 IsUnitsText left OutOfMemory text = text ≡ memory_line
 IsUnitsText left other text = ⊥
 
--- how `units` ends: no bundle is read, and the tables are as before; or the bytes that were left come to a bundle, and its season ends
+-- how `units` ends: no bundle is read, and the tables are unchanged;
+-- or the bytes that were left result in a bundle, and its season ends
 abbrev pub EndsUnits : Option (List ℕ) → Tables → Tables → Status → List ℕ → Type 0
 EndsUnits left before after status output = (Writes (IsUnitsText left) status output × (after ≡ before))
     ⊎ ((season : Season) × (script : List Request) × IsLeftExpansion left season script × EndsSeason season script before after status output)
 
--- The failure tells this fault by its line, or that the source failed. Of memory it is claimed that the source did not fail.
+-- The failure reports this fault by its line, or that the source failed. If memory ran out, the source did not fail.
 abbrev pub TellsUnitFault : UnitFault → Failure → Type 0
 TellsUnitFault fault Read = fault ≡ ReadFault
 TellsUnitFault fault (Bad line) = (fault ≡ ReadFault → ⊥) × (fault ≡ NoUnitMemory → ⊥) × (line ≡ unit_line fault)

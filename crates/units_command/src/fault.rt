@@ -1,4 +1,4 @@
-// The line that tells what is wrong with a bundle with units.
+// The line that reports what is wrong with a bundle with units.
 ghost use Rattle.std.specs.Prelude.{◌≡◌, IfOk};
 ghost use Rattle.units_command.specs.Texts.{numbered_line, unit_line};
 ghost use Rattle.units_command.specs.Units.{TellsUnitFault};
@@ -9,7 +9,7 @@ use office_text::push_number;
 use quota_units::UnitFault;
 use std::alloc::Global;
 
-/// The failure that tells why there is no plain bundle.
+/// Returns the failure that reports why there is no plain bundle.
 pub(crate) fn unit_failure(alloc: Global, fault: UnitFault) -> Failure
     ensures { TellsUnitFault fault result }
 {
@@ -23,7 +23,8 @@ pub(crate) fn unit_failure(alloc: Global, fault: UnitFault) -> Failure
     }
 }
 
-/// The line that tells the fault of a bundle with units. A source that failed and want of memory have their lines too.
+/// Returns the line that reports the fault of a bundle with units.
+/// A source that failed and memory that ran out have their lines too.
 fn unit_text(alloc: Global, fault: UnitFault) -> Result<Text, OutOfMemory>
     ensures { IfOk result (λ text. text ≡ unit_line fault) }
 {
@@ -40,7 +41,7 @@ fn unit_text(alloc: Global, fault: UnitFault) -> Result<Text, OutOfMemory>
     }
 }
 
-/// A line as it stands.
+/// Returns a line with these bytes.
 fn whole_line(alloc: Global, line: &[u8]) -> Result<Text, OutOfMemory>
     ensures { IfOk result (λ text. text ≡ line.now) }
 {
@@ -49,7 +50,7 @@ fn whole_line(alloc: Global, line: &[u8]) -> Result<Text, OutOfMemory>
     Ok(out)
 }
 
-/// The line of a fault at a line or a row, counted from 1.
+/// Returns the line of a fault at a line or a row, counted from 1.
 fn numbered_line(alloc: Global, begin: &str, number: u32, kind: &str) -> Result<Text, OutOfMemory>
     ensures { IfOk result (λ text. text ≡ numbered_line begin.now number kind.now) }
 {

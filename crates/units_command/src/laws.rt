@@ -1,4 +1,4 @@
-// What holds of bundles with units, whoever reads them.
+// What holds of bundles with units, for every reader.
 ghost use Rattle.std.specs.Prelude.{◌≡◌, ℕ, true, List};
 ghost use Rattle.office_base.specs.declared.asks.Request.{Request};
 ghost use Rattle.season_file.specs.Season.{IsSeasonWith};
@@ -9,14 +9,15 @@ ghost use Rattle.quota_units.specs.Expansion.{IsExpansion};
 ghost use Rattle.command_answers.specs.Answers.{HaveOneAnswer};
 ghost use Rattle.units_command.specs.Units.{AlwaysLiveRight, units_answers};
 
-/// Bytes come to a plain bundle without faults or have a fault, and never both; and at most one line tells that fault.
+/// Shows that bytes result in a plain bundle without faults or have a fault, and never both.
+/// At most one line reports that fault.
 pub fn one_units_answer()
     ensures { (bytes : List ℕ) → HaveOneAnswer units_answers bytes }
 {
     season_commands::laws::one_answer();
 }
 
-/// Whoever has a seat in a unit, in whatever round, lives where it is for.
+/// Shows that a candidate who has a seat in a unit, in any round, lives where the unit is for.
 pub fn seats_right()
     ensures { (bytes text : List ℕ) (made : IsExpansion bytes text) (season : Season) (script : List Request) → IsSeasonWith true text season script → IsSound (facts_of season) → AlwaysLiveRight made.units made.states (facts_of season) }
 {

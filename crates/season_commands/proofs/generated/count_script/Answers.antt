@@ -1,3 +1,4 @@
+use Rattle.std.proofs.Common.{rules}
 use Rattle.season_commands.proofs.GeneratedEnds.{counted_ends, summary_held, summary_told}
 use Rattle.season_commands.proofs.generated.count_script.Goals as goal
 
@@ -9,17 +10,17 @@ returns-clause-written g c =
 pub returns-clause-no_read_fault : goal.returns-clause-no_read_fault
 returns-clause-no_read_fault g c = (summary_told c.counted_text-summary.result _ _ _ c.write_summary.result c.write_summary.ensures.told).no_read
 
-pub returns-clause-write_fault : goal.returns-clause-write_fault
-returns-clause-write_fault g c = (summary_told c.counted_text-summary.result _ _ _ c.write_summary.result c.write_summary.ensures.told).write
-
-pub returns-clause-keeper_fault : goal.returns-clause-keeper_fault
-returns-clause-keeper_fault g c is = c.counted_text-summary.ensures.cause ((summary_told c.counted_text-summary.result _ _ _ c.write_summary.result c.write_summary.ensures.told).keeper is)
-
-pub returns-clause-keeper_steady : goal.returns-clause-keeper_steady
-returns-clause-keeper_steady g c =
-    summary_held c.counted_text-summary.result _ _ _ _ c.write_summary.result c.write_summary.ensures.told c.counted_text-summary.ensures.steady
-    c.counted_text-summary.ensures.steady_memory
+pub returns-clause-blamed : goal.returns-clause-blamed
+returns-clause-blamed g c =
+    let told = summary_told c.counted_text-summary.result _ _ _ c.write_summary.result c.write_summary.ensures.told in
+    let b = c.counted_text-summary.ensures.blamed in record {
+      write_fault = told.write;
+      keeper_fault = λ is. b.cause (told.keeper is);
+      sink_steady = search rules;
+      keeper_count = b.count;
+      keeper_steady = summary_held c.counted_text-summary.result _ _ _ _ c.write_summary.result c.write_summary.ensures.told b.steady;
+    }
 
 pub returns-clause-complete : goal.returns-clause-complete
 returns-clause-complete g c wrote kept =
-    (summary_told c.counted_text-summary.result _ _ _ c.write_summary.result c.write_summary.ensures.told).complete wrote (λ failed. kept (c.counted_text-summary.ensures.cause failed))
+    (summary_told c.counted_text-summary.result _ _ _ c.write_summary.result c.write_summary.ensures.told).complete wrote (λ failed. kept (c.counted_text-summary.ensures.blamed.cause failed))

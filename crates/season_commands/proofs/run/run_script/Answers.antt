@@ -1,11 +1,20 @@
+use Rattle.std.proofs.Common.{rules}
 use Rattle.season_commands.proofs.RunEnds.{begun_ends, unbegun_ends}
 use Rattle.season_commands.proofs.run.run_script.Goals as goal
 
 pub returns-in-Ok-clause-written : goal.returns-in-Ok-clause-written
 returns-in-Ok-clause-written g c =
-    begun_ends c.args.season c.args.script.now c.in-Ok.office.season c.in-Ok.office.state _ _ _ _ _ c.run_office.result.0 c.in-Ok.ensures.season c.in-Ok.ensures.state c.in-Ok.ensures.empty
+    begun_ends c.args.season c.args.script.now c.in-Ok.office.season c.in-Ok.office.state _ _ _ _ _ c.run_office.result.0 c.in-Ok.ensures.ok.season c.in-Ok.ensures.ok.state c.in-Ok.ensures.ok.empty
     c.run_office.ensures.told_before c.run_office.ensures.written
 
 pub returns-in-Err-clause-written : goal.returns-in-Err-clause-written
 returns-in-Err-clause-written g c =
     unbegun_ends c.args.season c.args.script.now _ _ c.in-Err.fault _ _ _ c.tell_unbegun.result c.in-Err.ensures.not_empty c.in-Err.ensures.err c.tell_unbegun.ensures.told
+
+pub returns-in-Ok-clause-runs : goal.returns-in-Ok-clause-runs
+returns-in-Ok-clause-runs g c = record {
+  no_read_fault = search rules;
+  blamed = record { write_fault = search rules; keeper_fault = search rules; sink_steady = search rules; keeper_count = search rules; keeper_steady = search rules };
+  complete = search rules;
+  not_empty = search rules;
+}

@@ -1,4 +1,4 @@
-use Rattle.std.proofs.Common.{Err}
+use Rattle.std.proofs.Common.{Err, rules}
 use Rattle.command_answers.proofs.Ended.{input_is_answered}
 use Rattle.units_command.specs.Units.{units_answers}
 use Rattle.units_command.proofs.UnitsEnds.{no_faulty_units, read_ends, unread_ends}
@@ -6,17 +6,30 @@ use Rattle.units_command.proofs.units.units_season.Goals as goal
 
 pub returns-in-Ok-clause-written : goal.returns-in-Ok-clause-written
 returns-in-Ok-clause-written g c =
-    read_ends (g.S.Source.left c.args.source.now) (g.P.Keeper.tables c.args.keeper) (g.P.Keeper.tables c.run_script.result.1) c.in-Ok.season c.in-Ok.script c.as_slice.result.now
+    read_ends (g.S.Source.left c.args.source.now) (g.P.Keeper.seen c.args.keeper).tables (g.P.Keeper.seen c.run_script.result.1).tables c.in-Ok.season c.in-Ok.script c.as_slice.result.now
     (g.K.Sink.written c.args.sink.now) (g.K.Sink.written c.run_script.new.sink) c.run_script.result.0 c.in-Ok.ensures.bundle c.as_slice.ensures c.run_script.ensures.written
 
-pub returns-in-Ok-clause-refused : goal.returns-in-Ok-clause-refused
-returns-in-Ok-clause-refused g c tells read wrote =
-    absurd (no_faulty_units _ c.in-Ok.season c.in-Ok.script c.one_units_answer.ensures c.in-Ok.ensures.bundle tells)
+pub returns-in-Ok-clause-runs : goal.returns-in-Ok-clause-runs
+returns-in-Ok-clause-runs g c =
+    let e = c.run_script.ensures.runs in record {
+      read_whole = search rules;
+      read_blamed = search rules;
+      blamed = e.blamed;
+      complete = λ tells none read kept. e.complete none kept;
+      refused = λ tells read wrote. absurd (no_faulty_units _ c.in-Ok.season c.in-Ok.script c.one_units_answer.ensures c.in-Ok.ensures.bundle tells);
+      not_empty = λ tells read kept. e.not_empty tells kept;
+    }
 
 pub returns-in-Err-clause-written : goal.returns-in-Err-clause-written
 returns-in-Err-clause-written g c =
     unread_ends _ _ c.in-Err.failure _ _ _ _ c.tell_failure.result c.in-Err.ensures.failure c.tell_failure.ensures.told
 
-pub returns-in-Err-clause-complete : goal.returns-in-Err-clause-complete
-returns-in-Err-clause-complete g c tells none read wrote kept =
-    input_is_answered units_answers _ _ (Err c.in-Err.failure) c.tell_failure.result _ _ _ c.one_units_answer.ensures c.in-Err.ensures.failure c.tell_failure.ensures.told tells read wrote
+pub returns-in-Err-clause-runs : goal.returns-in-Err-clause-runs
+returns-in-Err-clause-runs g c = record {
+  read_whole = search rules;
+  read_blamed = search rules;
+  blamed = search rules;
+  complete = λ tells none read kept. input_is_answered units_answers _ _ (Err c.in-Err.failure) c.tell_failure.result _ _ _ c.one_units_answer.ensures c.in-Err.ensures.failure c.tell_failure.ensures.told tells read kept.0;
+  refused = search rules;
+  not_empty = search rules;
+}
