@@ -30,7 +30,7 @@ audit_is_written left failed answer result before after broke made cause told =
     told_is_written (IsAuditText left) (status_of_audit answer) result (text_of_audit answer) before after broke (text_of_answer left failed answer made cause) told
 
 -- where the sink did not fail, the status is that of the text
-status_is_told : (status result : Status) (text : List ℕ) (before after : Option (List ℕ)) (broke : Type 0) → IsTold status text before after broke result → (broke → ⊥) → result ≡ status
+pub status_is_told : (status result : Status) (text : List ℕ) (before after : Option (List ℕ)) (broke : Type 0) → IsTold status text before after broke result → (broke → ⊥) → result ≡ status
 status_is_told status result text before after broke told held = elim told [ inl whole ↦ whole.0 | inr cut ↦ absurd (held cut.1) ]
 
 -- a dossier has no fault's line, and what has a fault has no verdict
@@ -42,7 +42,7 @@ not_dossier : (left : Option (List ℕ)) (output : List ℕ) → ((bytes : List 
 not_dossier None output laws tells made = tells
 not_dossier (Some bytes) output laws tells made = (laws bytes).apart (subst AreDossier made.1 ((laws made.0).of_input output made.2)) tells
 
--- A dossier is audited, where neither side failed and there was memory.
+-- A dossier is audited, if neither side failed and memory did not run out.
 pub dossier_is_audited : (left : Option (List ℕ)) (failed : Type 0) (answer : Result Audited Failure) (result : Status) (before after : Option (List ℕ)) (broke : Type 0)
     → ((bytes : List ℕ) → HaveOneAudit bytes) → IfErr answer (IsFailureOf audit_answers left failed) → IsTold (status_of_audit answer) (text_of_audit answer) before after broke result
     → Tells AreDossier left → (failed → ⊥) → (broke → ⊥) → EndsWell result ⊎ (result ≡ OutOfMemory)
@@ -52,7 +52,7 @@ dossier_is_audited left failed (Err Read) result before after broke laws cause t
 dossier_is_audited left failed (Err (Bad line)) result before after broke laws cause told tells read wrote = absurd (not_faulty left line laws tells cause)
 dossier_is_audited left failed (Err NoMemory) result before after broke laws cause told tells read wrote = inr (status_is_told OutOfMemory result _ before after broke told wrote)
 
--- Bytes with a fault are refused, where neither side failed and there was memory.
+-- Bytes with a fault are refused, if neither side failed and memory did not run out.
 pub fault_is_refused : (left : Option (List ℕ)) (failed : Type 0) (answer : Result Audited Failure) (result : Status) (before after : Option (List ℕ)) (broke : Type 0)
     → ((bytes : List ℕ) → HaveOneAudit bytes) → IfOk answer (IsAuditOf left) → IfErr answer (IsFailureOf audit_answers left failed)
     → IsTold (status_of_audit answer) (text_of_audit answer) before after broke result

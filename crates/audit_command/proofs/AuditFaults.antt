@@ -16,7 +16,7 @@ use Rattle.audit_command.specs.Texts.{dossier_line}
 use Rattle.audit_command.specs.declared.answer.Audited.{Audited}
 use Rattle.audit_command.specs.declared.answer.Audited.TheVariants.{Sound as SoundText, Broken as BrokenText}
 
--- the answer that tells a verdict on the bytes that were left
+-- the answer that reports a verdict on the bytes that were left
 verdict_left : (left after : Option (List ℕ)) (dossier : Dossier) (verdict : Verdict) (line : List ℕ) (answer : Audited) → GaveDossier left after dossier → HasLine dossier verdict line → TellsVerdict verdict line answer
     → IsAuditOf left answer
 verdict_left left after dossier (Sound rounds) line (SoundText text) given has told =
@@ -44,7 +44,7 @@ line_left left after TooLong line read memory given told = let long = long_left 
 line_left left after OutOfMemory line read memory given told = absurd (memory refl)
 line_left left after fault line read memory given told = told_left left after fault line given told
 
--- A failure that tells a dossier's fault has its cause.
+-- A failure that reports a dossier's fault has its cause.
 pub dossier_failed : (left after : Option (List ℕ)) (failed : Type 0) (fault : DossierFault) (failure : Failure) → (fault ≡ ReadFault → failed) → GaveDossierFault left after fault
     → TellsDossierFault fault failure → IsFailureOf audit_answers left failed failure
 dossier_failed left after failed fault Read cause given told = cause told

@@ -1,3 +1,4 @@
 mod AuditEnds
 mod AuditFaults
+mod BestEnds
 mod OneAudit

@@ -1,6 +1,7 @@
 -- The command `audit`: its input is a dossier, its output the verdict on it.
 use Rattle.std.specs.Prelude.{◌≡◌, ◌≢◌, ◌⊎◌, ℕ, List, Option, Result, Ok, Err}
 use Rattle.office_base.specs.FaultLines.{memory_line, read_line}
+use Rattle.office_base.specs.Outside.{Appends, IsAtEnd}
 use Rattle.office_base.specs.declared.person.CandId.{CandId}
 use Rattle.office_base.specs.declared.person.ProgId.{ProgId}
 use Rattle.list_audit.specs.declared.clause.Clause.{Clause}
@@ -14,8 +15,10 @@ use Rattle.dossier_file.specs.Dossier.{HasDossierFault, IsDossier}
 use Rattle.dossier_file.specs.declared.dossier.Dossier.{Dossier}
 use Rattle.dossier_file.specs.declared.fault.DossierFault.{DossierFault}
 use Rattle.dossier_file.specs.declared.fault.DossierFault.TheVariants.{ReadFault as SourceFailed, OutOfMemory as NoDossierMemory}
-use Rattle.command_answers.specs.Answers.{Answers, HasLeft}
-use Rattle.command_answers.specs.Writes.{status_of, text_of}
+use Rattle.command_answers.specs.Answers.{Answers, HasLeft, Tells}
+use Rattle.command_answers.specs.Ends.{BlamesStreams, EndedWith, Held}
+use Rattle.office_base.specs.Visible.{Streams}
+use Rattle.command_answers.specs.Writes.{Writes, status_of, text_of}
 use Rattle.command_answers.specs.declared.failure.Failure.{Failure}
 use Rattle.command_answers.specs.declared.failure.Failure.TheVariants.{Read, Bad, NoMemory}
 use Rattle.command_answers.specs.declared.status.Status.{Status}
@@ -36,7 +39,7 @@ AreFaultyDossier bytes = (fault : DossierFault) × HasDossierFault bytes fault
 
 -- ---- the output
 
--- A dossier has this verdict; where it says that no clause is broken, every round is fair, and nobody falls.
+-- A dossier has this verdict; if it says that no clause is broken, every round is fair, and nobody falls.
 pub record HasVerdict (dossier : Dossier) (verdict : Verdict) : Type 0 where
   pub is : IsVerdict (facts_of dossier.season) dossier.script (papers_in dossier) verdict
   pub fair : (rounds : ℕ) → verdict ≡ Sound rounds → AreFairRounds (facts_of dossier.season) dossier.script (papers_in dossier)
@@ -69,7 +72,8 @@ IsDossierFaultLine bytes line = (fault : DossierFault) × HasDossierFault bytes 
 abbrev pub audit_answers : Answers
 audit_answers = record { IsInput = AreDossier; IsFaulty = AreFaultyDossier; IsOutput = IsAuditOutput; IsFaultLine = IsDossierFaultLine }
 
--- Bytes that are a dossier have no fault as one; a verdict's line comes only of a dossier, a line of a fault only of bytes with one, and at most one such line.
+-- Bytes that are a dossier have no fault as one; a verdict's line comes only of a dossier, a line of a fault only of
+-- bytes with one, and at most one such line.
 pub record HaveOneAudit (bytes : List ℕ) : Type 0 where
   pub apart : AreDossier bytes → AreFaultyDossier bytes → ⊥
   pub of_input : (output : List ℕ) → IsAuditOutput bytes output → AreDossier bytes
@@ -78,14 +82,14 @@ pub record HaveOneAudit (bytes : List ℕ) : Type 0 where
 
 -- ---- the answer
 
--- the answer tells this verdict by this line
+-- the answer reports this verdict by this line
 abbrev pub TellsVerdict : Verdict → List ℕ → Audited → Type 0
 TellsVerdict (Sound rounds) line (SoundText text) = text ≡ line
 TellsVerdict (Sound rounds) line (BrokenText text) = ⊥
 TellsVerdict (Broken round clause prog cand) line (SoundText text) = ⊥
 TellsVerdict (Broken round clause prog cand) line (BrokenText text) = text ≡ line
 
--- the answer tells the verdict on a dossier
+-- the answer reports the verdict on a dossier
 abbrev pub IsAnswerTo : Dossier → Audited → Type 0
 IsAnswerTo dossier answer = (verdict : Verdict) × (line : List ℕ) × HasLine dossier verdict line × TellsVerdict verdict line answer
 
@@ -94,7 +98,8 @@ abbrev pub IsAuditOf : Option (List ℕ) → Audited → Type 0
 IsAuditOf left (SoundText text) = HasLeft IsSoundOutput left text
 IsAuditOf left (BrokenText text) = HasLeft IsBrokenOutput left text
 
--- The failure tells this fault of a dossier by its line, or that the source failed. Of memory it is claimed that the source did not fail.
+-- The failure reports this fault of a dossier by its line, or that the source failed.
+-- If memory ran out, the source did not fail.
 abbrev pub TellsDossierFault : DossierFault → Failure → Type 0
 TellsDossierFault fault Read = fault ≡ SourceFailed
 TellsDossierFault fault (Bad line) = (fault ≢ SourceFailed) × (fault ≢ NoDossierMemory) × (line ≡ dossier_line fault)
@@ -125,3 +130,14 @@ IsAuditText left other text = ⊥
 -- the statuses with which the command ends well: no clause is broken, or one is
 abbrev pub EndsWell : Status → Type 0
 EndsWell status = (status ≡ Done) ⊎ (status ≡ BrokenStatus)
+
+-- How `audit` ends, by the source and the sink as it finds them and leaves them.
+pub record Audits (old new : Streams) (status : Status) : Type 0 where
+  -- what is written is the text of the status for the bytes that the source had left,
+  -- or a prefix of a text if the sink failed
+  pub written : (output : List ℕ) × Appends output old.sink.written new.sink.written × Writes (IsAuditText old.source.left) status output
+  pub read_whole : EndsWell status → IsAtEnd new.source.left
+  pub blamed : BlamesStreams status old new
+  -- if neither failed, a dossier has a verdict, and bytes that are no dossier are refused
+  pub complete : Tells AreDossier old.source.left → Held old new → EndedWith EndsWell status
+  pub refused : Tells AreFaultyDossier old.source.left → Held old new → EndedWith (λ end. end ≡ BadInput) status

@@ -1,4 +1,4 @@
--- The texts of an audit: the line of a verdict, and the line that tells why a dossier was not read.
+-- The texts of an audit: the line of a verdict, and the line that reports why a dossier was not read.
 use Rattle.std.specs.Prelude.{ℕ, List, ◌++◌, Option, Some, None, codes}
 use Rattle.std.specs.Fmt.{decimal}
 use Rattle.office_base.specs.FaultLines.{memory_line, read_line}
@@ -19,12 +19,12 @@ abbrev pub code_or_dash : SeatTable → Option ProgId → List ℕ
 code_or_dash table None = codes "-"
 code_or_dash table (Some prog) = code_in table prog.0
 
--- the number of the candidate whom it names, or a dash
+-- the number of the candidate that a verdict names, or a dash
 abbrev pub candidate_or_dash : Option CandId → List ℕ
 candidate_or_dash None = codes "-"
 candidate_or_dash (Some cand) = decimal cand.0
 
--- the line of so many sound rounds
+-- the line of this many sound rounds
 abbrev pub sound_line : ℕ → List ℕ
 sound_line rounds = codes "audit sound rounds " ++ decimal rounds ++ codes "\n"
 
@@ -42,7 +42,7 @@ verdict_line table (Broken round clause prog cand) = broken_line table round cla
 abbrev pub published_line : ℕ → List ℕ
 published_line line = codes "fault: published line " ++ decimal line ++ codes "\n"
 
--- the line that tells why a dossier was not read
+-- the line that reports why a dossier was not read
 abbrev pub dossier_line : DossierFault → List ℕ
 dossier_line ReadFault = read_line
 dossier_line TooLong = codes "fault: dossier TooLong\n"

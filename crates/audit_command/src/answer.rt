@@ -1,7 +1,7 @@
 // The answer of the command `audit`.
-ghost use Rattle.std.specs.Prelude.{◌≡◌, ◌≤◌, List, ℕ, IfOk, IfErr, OnOk, IsErrOf};
-ghost use Rattle.office_base.specs.Outside.{Rose, IsAtEnd};
-ghost use Rattle.command_answers.specs.Answers.{IsFailureOf};
+ghost use Rattle.std.specs.Prelude.{IfOk};
+ghost use Rattle.command_answers.specs.Answers.{Reads};
+ghost use Rattle.office_base.specs.Visible.{source_of};
 ghost use Rattle.audit_command.specs.Audit.{IsAnswerTo, IsAuditOf, TellsDossierFault, TellsVerdict, audit_answers};
 
 use crate::texts::{dossier_text, verdict_text};
@@ -12,22 +12,18 @@ use office_base::{OutOfMemory, Source, Text};
 use season_audit::audit;
 use std::alloc::Global;
 
-/// What an audit comes to, told by its line.
+/// What an audit comes to, told by its lines.
 #[derive(Debug, Drop)]
 pub enum Audited {
-    /// No clause is broken.
+    /// No clause is broken, and under `audit best` every round is the best one.
     Sound(Text),
-    /// A clause is broken; the line names the first one.
+    /// A clause is broken, and the line names the first one; or under `audit best` a round is not the best one, and the second line names the first.
     Broken(Text),
 }
 
-/// The verdict on the dossier that the source gives.
+/// Returns the verdict on the dossier that the source gives.
 pub fn audit_answer<S: Source>(alloc: Global, source: &mut S) -> Result<Audited, Failure>
-    ensures output { IfOk result (IsAuditOf (S.left source.old)) }
-    ensures ended { OnOk result (IsAtEnd (S.left source.new)) }
-    ensures failure { IfErr result (IsFailureOf audit_answers (S.left source.old) (Rose (S.faults source.old) (S.faults source.new))) }
-    ensures count { S.faults source.old ≤ S.faults source.new }
-    ensures steady { ¬ IsErrOf result Failure.Read → S.faults source.new ≡ S.faults source.old }
+    ensures { Reads audit_answers IsAuditOf (source_of S.Source source.old) (source_of S.Source source.new) result }
 {
     match Dossier::read(alloc, source) {
         Ok(dossier) => Ok(verdict_of(alloc, &dossier)?),
@@ -35,7 +31,7 @@ pub fn audit_answer<S: Source>(alloc: Global, source: &mut S) -> Result<Audited,
     }
 }
 
-/// The verdict on a dossier.
+/// Returns the verdict on a dossier.
 fn verdict_of(alloc: Global, dossier: &Dossier) -> Result<Audited, OutOfMemory>
     ensures { IfOk result (IsAnswerTo dossier.now) }
 {
@@ -44,7 +40,7 @@ fn verdict_of(alloc: Global, dossier: &Dossier) -> Result<Audited, OutOfMemory>
     Ok(told(verdict, line))
 }
 
-/// The answer that tells a verdict by its line.
+/// Returns the answer that reports a verdict by its line.
 fn told(verdict: Verdict, line: Text) -> Audited
     ensures { TellsVerdict verdict line result }
 {
@@ -55,7 +51,7 @@ fn told(verdict: Verdict, line: Text) -> Audited
 }
 
 /// The failure that tells why there is no dossier.
-fn dossier_failure(alloc: Global, fault: DossierFault) -> Failure
+pub(crate) fn dossier_failure(alloc: Global, fault: DossierFault) -> Failure
     ensures { TellsDossierFault fault result }
 {
     match fault {

@@ -1,8 +1,8 @@
-// What holds of dossiers, whoever reads them.
+// What holds of dossiers, for every reader.
 ghost use Rattle.std.specs.Prelude.{ℕ, List};
 ghost use Rattle.audit_command.specs.Audit.{HaveOneAudit};
 
-/// Bytes are no dossier where they have a fault as one; and at most one line tells that fault.
+/// Shows that bytes with a fault are no dossier, and that at most one line reports that fault.
 pub fn one_audit()
     ensures { (bytes : List ℕ) → HaveOneAudit bytes }
 {

@@ -1,9 +1,12 @@
 // The lines of an audit.
 ghost use Rattle.std.specs.Prelude.{◌≡◌, ◌++◌, IfOk, OnOk, codes};
 ghost use Rattle.std.specs.Fmt.{decimal};
+ghost use Rattle.best_rounds.specs.declared.verdict.BestVerdict.TheVariants.{NotBest};
+ghost use Rattle.audit_command.specs.Best.{best_line};
 ghost use Rattle.audit_command.specs.Texts.{broken_line, candidate_or_dash, code_or_dash, dossier_line, published_line, sound_line, verdict_line};
 
 use audit_rules::Verdict;
+use best_rounds::BestVerdict;
 use dossier_file::DossierFault;
 use list_audit::Clause;
 use office_base::{CandId, OutOfMemory, ProgId, Text};
@@ -12,7 +15,7 @@ use season_texts::fault_text;
 use seat_matrix::Matrix;
 use std::alloc::Global;
 
-/// The line of a verdict on a season of this matrix.
+/// Returns the line of a verdict on a season of this matrix.
 pub(crate) fn verdict_text(
     alloc: Global,
     matrix: &Matrix,
@@ -31,11 +34,45 @@ pub(crate) fn verdict_text(
     }
 }
 
-/// The line of so many sound rounds.
+/// Returns the line of this many sound rounds.
 fn sound_text(alloc: Global, rounds: u16) -> Result<Text, OutOfMemory>
     ensures { IfOk result (λ text. text ≡ sound_line rounds) }
 {
     numbered_line(alloc, b"audit sound rounds ", u32::from(rounds))
+}
+
+/// Returns the lines of so many sound rounds and of a second verdict on them.
+pub(crate) fn best_text(
+    alloc: Global,
+    rounds: u16,
+    verdict: BestVerdict,
+) -> Result<Text, OutOfMemory>
+    ensures { IfOk result (λ text. text ≡ sound_line rounds ++ best_line verdict) }
+{
+    let mut out = sound_text(alloc, rounds)?;
+    push_best(&mut out, verdict)?;
+    Ok(out)
+}
+
+/// Puts the line of a second verdict after a text.
+fn push_best(out: &mut Text, verdict: BestVerdict) -> Result<(), OutOfMemory>
+    ensures { OnOk result (out.new ≡ out.old ++ best_line verdict) }
+{
+    match verdict {
+        BestVerdict::Best => out.extend_from_slice(b"best\n"),
+        BestVerdict::NotBest { round, cand } => push_not_best(out, round, cand),
+    }
+}
+
+/// Puts the line of the first round that is not the best one after a text.
+fn push_not_best(out: &mut Text, round: u16, cand: CandId) -> Result<(), OutOfMemory>
+    ensures { OnOk result (out.new ≡ out.old ++ best_line (NotBest round cand)) }
+{
+    out.extend_from_slice(b"not best round ")?;
+    push_number(out, u32::from(round))?;
+    out.extend_from_slice(b" ")?;
+    push_number(out, cand.0)?;
+    out.extend_from_slice(b"\n")
 }
 
 /// The line of a clause that is broken in a round, with the programme and the candidate whom it names.
@@ -87,7 +124,7 @@ fn push_candidate(out: &mut Text, cand: Option<CandId>) -> Result<(), OutOfMemor
     }
 }
 
-/// A line of some bytes and a number.
+/// Returns a line of some bytes and a number.
 fn numbered_line(alloc: Global, before: &[u8], number: u32) -> Result<Text, OutOfMemory>
     ensures { IfOk result (λ text. text ≡ before.now ++ decimal number ++ codes "\n") }
 {
@@ -98,7 +135,7 @@ fn numbered_line(alloc: Global, before: &[u8], number: u32) -> Result<Text, OutO
     Ok(out)
 }
 
-/// A line as it stands.
+/// Returns a line with these bytes.
 fn whole_line(alloc: Global, line: &[u8]) -> Result<Text, OutOfMemory>
     ensures { IfOk result (λ text. text ≡ line.now) }
 {
@@ -107,7 +144,8 @@ fn whole_line(alloc: Global, line: &[u8]) -> Result<Text, OutOfMemory>
     Ok(out)
 }
 
-/// The line that tells why a dossier was not read. A source that failed and want of memory have their lines too.
+/// Returns the line that reports why a dossier was not read.
+/// A source that failed and memory that ran out have their lines too.
 pub(crate) fn dossier_text(alloc: Global, fault: DossierFault) -> Result<Text, OutOfMemory>
     ensures { IfOk result (λ text. text ≡ dossier_line fault) }
 {

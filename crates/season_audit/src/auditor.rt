@@ -130,16 +130,16 @@ fn deed_at(dossier: &Dossier, at: usize) -> (By, Deed)
 
 /// A replay: the matrix with what was raised, how each candidate stands, the raises, and the open window.
 #[derive(Drop)]
-pub(crate) struct Auditor {
-    matrix: Matrix,
-    stands: Vec<Stand>,
-    raises: Vec<RaiseRow>,
-    pub(crate) window: u16,
+pub struct Auditor {
+    pub matrix: Matrix,
+    pub stands: Vec<Stand>,
+    pub raises: Vec<RaiseRow>,
+    pub window: u16,
 }
 
 impl Auditor {
     /// The replay of a season before everything.
-    pub(crate) fn begin(alloc: Global, season: &Season) -> Result<Auditor, OutOfMemory>
+    pub fn begin(alloc: Global, season: &Season) -> Result<Auditor, OutOfMemory>
         ensures { IfOk result (λ auditor. IsUpTo (facts_of season.now) opening auditor) }
     {
         says_what_is_sound(season);
@@ -262,7 +262,7 @@ impl Auditor {
 
     /// Takes the request at this place of the script: an answer that is noted, a raise that is accepted, a cut that breaks no clause. The first clause that a
     /// cut breaks is given; after it the replay goes no further. It fails for want of memory alone.
-    pub(crate) fn take(
+    pub fn take(
         &mut self,
         alloc: Global,
         dossier: &Dossier,

@@ -4,9 +4,11 @@
 // no clause is broken, or which one first. It must never call what makes rounds, chooses or handles requests, nor know how a dossier is written.
 #![tactic(auto)]
 
-mod auditor;
-mod texts;
+pub mod auditor;
+pub mod texts;
 pub mod whole;
 
 pub use audit_rules::Verdict;
+pub use auditor::Auditor;
+pub use texts::rows_after;
 pub use whole::audit;

@@ -9,7 +9,7 @@ use keeper_mem::AllotRow;
 use publish::ListRead;
 
 /// The rows of the round that follows so many; none where there is no text of it.
-pub(crate) fn rows_after(dossier: &Dossier, rounds: u16) -> &[AllotRow]
+pub fn rows_after(dossier: &Dossier, rounds: u16) -> &[AllotRow]
     ensures { result.now ≡ rows_after (papers_in dossier.now) rounds }
 {
     match dossier.rounds.as_slice().get(usize::from(rounds)) {
