@@ -11,10 +11,10 @@ ghost use Rattle.std.specs.List.{AllByRecursion};
 ghost use Rattle.command_words.specs.Words.{IsInRange};
 
 use command_answers::{Status, tell_no_memory};
-use command_words::{Command, Store, WordsFault, read_words};
+use command_words::{Command, WordsFault, read_words};
 use file_keepers::{close_keeper, open_keeper};
 use keeper_mem::{Keeper, SureKeeper};
-use loopback_links::LoopbackDoor;
+use loopback_links::{Edge, LoopbackDoor, SystemListener, Watched};
 use office_base::{OutOfMemory, Sink, Text, Words};
 use office_commands::allocate;
 use standard_streams::{StandardInput, StandardOutput, tell_unheld};
@@ -29,6 +29,15 @@ use std::{env, io};
 
 // How the program ends where the store that its words name cannot be opened, or the port cannot be bound.
 const NO_OPENING: u8 = 1;
+
+// The answers of which the first is reported on standard error: those by which the store failed.
+const STORE_FAULTS: Watched = Watched {
+    start: b"HTTP/1.1 503 ",
+    line: "answered 503: the store failed; later failures are not reported here",
+};
+
+// A door over a listener of the system.
+type SystemDoor<'e> = LoopbackDoor<'e, SystemListener<TcpListener>, HostRuntime>;
 
 // What the program is called with: its words; the name of the file that they name as the store, which is none where they name memory or spell no command; and
 // how they have an office served, if they do.
@@ -122,22 +131,7 @@ fn call_of(rt: &(impl Env + AllocGlobal), alloc: Global) -> Result<Call, OutOfMe
 
 // The name of the file that a command names as the store.
 fn file_of(command: Command) -> Option<Text> {
-    match command {
-        Command::Run(store) => name_of(store),
-        Command::Resume(store) => name_of(store),
-        Command::Units(store) => name_of(store),
-        Command::Special(store) => name_of(store),
-        Command::Serve { store, .. } => name_of(store),
-        _ => None,
-    }
-}
-
-// The name of the file that a store is.
-fn name_of(store: Store) -> Option<Text> {
-    match store {
-        Store::Memory => None,
-        Store::File(name) => Some(name),
-    }
+    command.store()?.file()
 }
 
 // How a command has an office served.
@@ -227,7 +221,8 @@ fn answer_at_doors<
     keeper: P,
     service: &Service,
 ) -> (Result<Status, Unopened>, P) {
-    let Some(mut doors) = doors_of(host, alloc, service) else {
+    let edge = Edge::new(*rt, STORE_FAULTS);
+    let Some(mut doors) = doors_of(host, alloc, service, &edge) else {
         return (Err(Unopened::Port), keeper);
     };
     tell_service(rt, service);
@@ -242,7 +237,7 @@ fn answer_at<H: Threads + Wait + Sync, K: Sink, P: Keeper + Send>(
     words: &Words,
     sink: &mut K,
     keeper: P,
-    doors: &mut Vec<LoopbackDoor<TcpListener>>,
+    doors: &mut Vec<SystemDoor<'_>>,
 ) -> (Result<Status, Unopened>, P)
     requires few { length doors.old.items ≤ 64 }
     requires suit { AllByRecursion (λ d. d.left ≤ 100000) doors.old.items }
@@ -261,11 +256,12 @@ fn answer_at<H: Threads + Wait + Sync, K: Sink, P: Keeper + Send>(
 }
 
 // Doors over one listener at the port of this machine, one for each worker. None where it cannot be bound.
-fn doors_of<H: Net<Listener = TcpListener, Stream = TcpStream>>(
+fn doors_of<'e, H: Net<Listener = TcpListener, Stream = TcpStream>>(
     host: &H,
     alloc: Global,
     service: &Service,
-) -> Option<Vec<LoopbackDoor<TcpListener>>>
+    edge: &'e Edge<HostRuntime>,
+) -> Option<Vec<SystemDoor<'e>>>
     ensures few { IfSome result (λ doors. length doors.items ≤ 64) }
     ensures suit { IfSome result (λ doors. AllByRecursion (λ d. d.left ≤ 100000) doors.items) }
 {
@@ -276,14 +272,13 @@ fn doors_of<H: Net<Listener = TcpListener, Stream = TcpStream>>(
         let Ok(other) = listener.try_clone() else {
             return None;
         };
-        if doors.push(LoopbackDoor::new(other, service.conns)).is_err() {
+        let door = LoopbackDoor::new(SystemListener::new(other), service.conns, edge);
+        if doors.push(door).is_err() {
             return None;
         }
     }
-    if doors
-        .push(LoopbackDoor::new(listener, service.conns))
-        .is_err()
-    {
+    let door = LoopbackDoor::new(SystemListener::new(listener), service.conns, edge);
+    if doors.push(door).is_err() {
         return None;
     }
     Some(doors)

@@ -258,7 +258,7 @@ head_of w words plain = no_flag w (both (is_plain w) (list_all is_plain words) p
 rest_of : (w : Text) (words : List Text) → ArePlain (w ∷ words) → ArePlain words
 rest_of w words plain = (both (is_plain w) (list_all is_plain words) plain).1
 
--- Plain words are divided into their places where there are one to six of them, and otherwise refused.
+-- Plain words are divided into their places if there are one to six of them, and otherwise refused.
 pub divides : (words : List Text) → ArePlain words → Divides words
 divides [] plain = (λ none. absurd (bad none), λ some. inl refl)
   where

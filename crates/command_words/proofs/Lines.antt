@@ -12,7 +12,7 @@ next_word words at word there =
     let within : at < length words = slice_get_within words at word there in
     drop_more words at word within ∙ ap (λ (w : List ℕ). w ∷ drop (at + 1) words) (get_or_from_slice_get words at word word there)
 
--- what is done and what is left make the words, and the words are plain where those left are
+-- what is done and what is left make the words, and the words are plain if those left are
 pub record IsDone (words done : List (List ℕ)) (at : ℕ) : Type 0 where
   pub whole : done ++ drop at words ≡ words
   pub plain : list_all is_plain (drop at words) ≡ list_all is_plain words
@@ -30,7 +30,7 @@ goes_on words done at word there plain is =
       plain = sym same ∙ is.plain;
     }
 
--- A word that is not plain stands among words that are not all plain.
+-- A word that is not plain is among words that are not all plain.
 pub not_plain : (words done : List (List ℕ)) (at : ℕ) (word : List ℕ) → slice_get words at ≡ Some word → is_plain word ≡ false → IsDone words done at → ArePlain words → ⊥
 not_plain words done at word there flag is all =
     let next = next_word words at word there in

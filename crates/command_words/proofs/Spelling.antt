@@ -10,7 +10,7 @@ use Rattle.command_words.specs.Parts.{ArePlain, AreParts, NamePlain, is_plain}
 use Rattle.command_words.specs.Words.{IsInRange, IsNamed, Spell, SpellNothing, word_of, word_out, word_start, words_of}
 use Rattle.command_words.specs.declared.parts.Parts.{Parts}
 use Rattle.command_words.specs.declared.words.Command.{Command}
-use Rattle.command_words.specs.declared.words.Command.TheVariants.{Step, Check, Run, Resume, Units, Special, Serve, Audit, Generate}
+use Rattle.command_words.specs.declared.words.Command.TheVariants.{Step, Check, Run, Resume, Units, Special, Serve, Audit, AuditBest, Generate}
 use Rattle.command_words.specs.declared.words.OutKind.{OutKind}
 use Rattle.command_words.specs.declared.words.OutKind.TheVariants as out_kind
 use Rattle.command_words.specs.declared.words.Start.{Start}
@@ -74,7 +74,7 @@ one_start New Kept same = absurd cc
 one_start Kept New same = absurd cc
 one_start Kept Kept same = refl
 
--- the first byte of words, 0 where there is none
+-- the first byte of words, 0 if there is none
 abbrev first_byte : List (List ℕ) → ℕ
 first_byte [] = 0
 first_byte ([] ∷ words) = 0
@@ -90,6 +90,7 @@ one_command own Step (Units other) first second same = absurd cc
 one_command own Step (Special other) first second same = absurd cc
 one_command own Step (Serve many crew begin place other) first second same = absurd cc
 one_command own Step Audit first second same = absurd cc
+one_command own Step AuditBest first second same = absurd cc
 one_command own Step (Generate m from last) first second same = absurd cc
 one_command own Check Step first second same = absurd cc
 one_command own Check Check first second same = refl
@@ -99,6 +100,7 @@ one_command own Check (Units other) first second same = absurd cc
 one_command own Check (Special other) first second same = absurd cc
 one_command own Check (Serve many crew begin place other) first second same = absurd cc
 one_command own Check Audit first second same = let bytes : 99 ≡ 97 = ap first_byte same in absurd (omega (arith, bytes))
+one_command own Check AuditBest first second same = absurd cc
 one_command own Check (Generate m from last) first second same = absurd cc
 one_command own (Run store) Step first second same = absurd cc
 one_command own (Run store) Check first second same = absurd cc
@@ -109,6 +111,7 @@ one_command own (Run store) (Units other) first second same = absurd cc
 one_command own (Run store) (Special other) first second same = absurd cc
 one_command own (Run store) (Serve many crew begin place other) first second same = absurd cc
 one_command own (Run store) Audit first second same = absurd cc
+one_command own (Run store) AuditBest first second same = let bytes : 114 ≡ 97 = ap first_byte same in absurd (omega (arith, bytes))
 one_command own (Run store) (Generate m from last) first second same = absurd cc
 one_command own (Resume store) Step first second same = absurd cc
 one_command own (Resume store) Check first second same = absurd cc
@@ -119,6 +122,7 @@ one_command own (Resume store) (Units other) first second same = absurd cc
 one_command own (Resume store) (Special other) first second same = absurd cc
 one_command own (Resume store) (Serve many crew begin place other) first second same = absurd cc
 one_command own (Resume store) Audit first second same = absurd cc
+one_command own (Resume store) AuditBest first second same = let bytes : 114 ≡ 97 = ap first_byte same in absurd (omega (arith, bytes))
 one_command own (Resume store) (Generate m from last) first second same = absurd cc
 one_command own (Units store) Step first second same = absurd cc
 one_command own (Units store) Check first second same = absurd cc
@@ -129,6 +133,7 @@ one_command own (Units store) (Units other) first second same =
 one_command own (Units store) (Special other) first second same = absurd cc
 one_command own (Units store) (Serve many crew begin place other) first second same = absurd cc
 one_command own (Units store) Audit first second same = absurd cc
+one_command own (Units store) AuditBest first second same = let bytes : 117 ≡ 97 = ap first_byte same in absurd (omega (arith, bytes))
 one_command own (Units store) (Generate m from last) first second same = absurd cc
 one_command own (Special store) Step first second same = absurd cc
 one_command own (Special store) Check first second same = absurd cc
@@ -139,6 +144,7 @@ one_command own (Special store) (Special other) first second same =
     let words : word_of store ≡ word_of other = cc in ap Special (one_store store other first second words)
 one_command own (Special store) (Serve many crew begin place other) first second same = absurd cc
 one_command own (Special store) Audit first second same = absurd cc
+one_command own (Special store) AuditBest first second same = let bytes : 115 ≡ 97 = ap first_byte same in absurd (omega (arith, bytes))
 one_command own (Special store) (Generate m from last) first second same = absurd cc
 one_command own (Serve conns workers start port store) Step first second same = absurd cc
 one_command own (Serve conns workers start port store) Check first second same = absurd cc
@@ -159,6 +165,7 @@ one_command own (Serve conns workers start port store) (Serve many crew begin pl
     let stores = one_store store other first.3 second.3 words in
     cc
 one_command own (Serve conns workers start port store) Audit first second same = absurd cc
+one_command own (Serve conns workers start port store) AuditBest first second same = absurd cc
 one_command own (Serve conns workers start port store) (Generate m from last) first second same = absurd cc
 one_command own Audit Step first second same = absurd cc
 one_command own Audit Check first second same = let bytes : 97 ≡ 99 = ap first_byte same in absurd (omega (arith, bytes))
@@ -168,7 +175,18 @@ one_command own Audit (Units other) first second same = absurd cc
 one_command own Audit (Special other) first second same = absurd cc
 one_command own Audit (Serve many crew begin place other) first second same = absurd cc
 one_command own Audit Audit first second same = refl
+one_command own Audit AuditBest first second same = absurd cc
 one_command own Audit (Generate m from last) first second same = absurd cc
+one_command own AuditBest Step first second same = absurd cc
+one_command own AuditBest Check first second same = absurd cc
+one_command own AuditBest (Run other) first second same = let bytes : 97 ≡ 114 = ap first_byte same in absurd (omega (arith, bytes))
+one_command own AuditBest (Resume other) first second same = let bytes : 97 ≡ 114 = ap first_byte same in absurd (omega (arith, bytes))
+one_command own AuditBest (Units other) first second same = let bytes : 97 ≡ 117 = ap first_byte same in absurd (omega (arith, bytes))
+one_command own AuditBest (Special other) first second same = let bytes : 97 ≡ 115 = ap first_byte same in absurd (omega (arith, bytes))
+one_command own AuditBest (Serve many crew begin place other) first second same = absurd cc
+one_command own AuditBest Audit first second same = absurd cc
+one_command own AuditBest AuditBest first second same = refl
+one_command own AuditBest (Generate m from last) first second same = absurd cc
 one_command own (Generate n seed out) Step first second same = absurd cc
 one_command own (Generate n seed out) Check first second same = absurd cc
 one_command own (Generate n seed out) (Run other) first second same = absurd cc
@@ -177,6 +195,7 @@ one_command own (Generate n seed out) (Units other) first second same = absurd c
 one_command own (Generate n seed out) (Special other) first second same = absurd cc
 one_command own (Generate n seed out) (Serve many crew begin place other) first second same = absurd cc
 one_command own (Generate n seed out) Audit first second same = absurd cc
+one_command own (Generate n seed out) AuditBest first second same = absurd cc
 one_command own (Generate n seed out) (Generate m from last) first second same =
     let numbers : decimal n ≡ decimal m = cc in
     let seeds : decimal seed ≡ decimal from = cc in
@@ -208,6 +227,7 @@ plain_command own (Serve conns workers New port store) range =
 plain_command own (Serve conns workers Kept port store) range =
     rw (plain_digits own conns (omega (arith, range.0.1)), plain_digits own workers (omega (arith, range.1.1)), plain_digits own port (omega (arith, range.2.1)), plain_store store range.3) refl
 plain_command own Audit range = refl
+plain_command own AuditBest range = refl
 plain_command own (Generate n seed out_kind.Text) range =
     rw (plain_digits own n (omega (arith, range.1)), plain_digits own seed range.2) refl
 plain_command own (Generate n seed out_kind.Run) range =
@@ -223,6 +243,7 @@ some_words (Units store) = (omega arith, omega arith, λ h. omega (arith, h), λ
 some_words (Special store) = (omega arith, omega arith, λ h. omega (arith, h), λ h. omega (arith, h))
 some_words (Serve conns workers start port store) = (omega arith, omega arith, λ h. omega (arith, h), λ h. omega (arith, h))
 some_words Audit = (omega arith, omega arith, λ h. omega (arith, h), λ h. omega (arith, h))
+some_words AuditBest = (omega arith, omega arith, λ h. omega (arith, h), λ h. omega (arith, h))
 some_words (Generate n seed out) = (omega arith, omega arith, λ h. omega (arith, h), λ h. omega (arith, h))
 
 -- Words that are not all plain spell no command.

@@ -1,9 +1,9 @@
 -- The words that spell a command.
-use Rattle.std.specs.Prelude.{◌≡◌, ◌≢◌, ◌<◌, ◌≤◌, ◌^◌, ℕ, true, List, [], ◌∷◌, codes}
+use Rattle.std.specs.Prelude.{◌≡◌, ◌≢◌, ◌<◌, ◌≤◌, ◌^◌, ℕ, true, List, [], ◌∷◌, Option, Some, None, codes}
 use Rattle.std.specs.Fmt.{decimal}
 use Rattle.command_words.specs.Parts.{is_plain}
 use Rattle.command_words.specs.declared.words.Command.{Command}
-use Rattle.command_words.specs.declared.words.Command.TheVariants.{Step, Check, Run, Resume, Units, Special, Serve, Audit, Generate}
+use Rattle.command_words.specs.declared.words.Command.TheVariants.{Step, Check, Run, Resume, Units, Special, Serve, Audit, AuditBest, Generate}
 use Rattle.command_words.specs.declared.words.OutKind.{OutKind}
 use Rattle.command_words.specs.declared.words.OutKind.TheVariants as out_kind
 use Rattle.command_words.specs.declared.words.Service.{Service}
@@ -32,7 +32,25 @@ abbrev pub word_start : Start → List ℕ
 word_start New = codes "new"
 word_start Kept = codes "kept"
 
--- the words of a command: its name alone; `run`, `resume`, `units` or `special`, and where the records are kept; `serve`, how many connections, how many
+-- where a command keeps its records, if it keeps any
+abbrev pub store_of : Command → Option Store
+store_of Step = None
+store_of Check = None
+store_of (Run store) = Some store
+store_of (Resume store) = Some store
+store_of (Units store) = Some store
+store_of (Special store) = Some store
+store_of (Serve conns workers start port store) = Some store
+store_of Audit = None
+store_of AuditBest = None
+store_of (Generate n seed out) = None
+
+-- the name of the file that a store is, if it is one
+abbrev pub file_of : Store → Option (List ℕ)
+file_of Memory = None
+file_of (File name) = Some name
+
+-- the words of a command: its name alone; `audit` with `best`; `run`, `resume`, `units` or `special`, and where the records are kept; `serve`, how many connections, how many
 -- workers, how the office begins, at which port, and where the records are kept; or `generate`, how many candidates, the seed, and what is written
 abbrev pub words_of : Command → List (List ℕ)
 words_of Step = codes "step" ∷ []
@@ -43,6 +61,7 @@ words_of (Units store) = codes "units" ∷ word_of store ∷ []
 words_of (Special store) = codes "special" ∷ word_of store ∷ []
 words_of (Serve conns workers start port store) = codes "serve" ∷ decimal conns ∷ decimal workers ∷ word_start start ∷ decimal port ∷ word_of store ∷ []
 words_of Audit = codes "audit" ∷ []
+words_of AuditBest = codes "audit" ∷ codes "best" ∷ []
 words_of (Generate n seed out) = codes "generate" ∷ decimal n ∷ decimal seed ∷ word_out out ∷ []
 
 -- the numbers of a command lie in their ranges, and its file has a name
@@ -55,6 +74,7 @@ IsInRange (Units store) = IsNamed store
 IsInRange (Special store) = IsNamed store
 IsInRange (Serve conns workers start port store) = ((1 ≤ conns) × (conns ≤ 100000)) × ((1 ≤ workers) × (workers ≤ 64)) × ((1 ≤ port) × (port < 2 ^ 16)) × IsNamed store
 IsInRange Audit = Unit {0}
+IsInRange AuditBest = Unit {0}
 IsInRange (Generate n seed out) = (1 ≤ n) × (n ≤ 100000) × (seed < 2 ^ 32)
 
 -- the words after `serve`, without the store, are those of this service, whose numbers lie in their ranges

@@ -20,7 +20,8 @@ pub struct Parts<'a> {
     pub fifth: Option<&'a str>,
 }
 
-/// The places of the words, of which none is empty or begins with `-`. `Usage` comes only where there is none, or more than six.
+/// Returns the places of the words. No word may be empty or begin with `-`.
+/// It returns `Usage` only if there is no word, or more than six.
 pub fn parts_of<'a>(alloc: Global, line: &'a [&'a str]) -> Result<Parts<'a>, WordsFault>
     requires { ArePlain (map (λ word. word.now) line.now) }
     ensures parts { IfOk result (AreParts (map (λ word. word.now) line.entry.now)) }
@@ -37,7 +38,7 @@ pub fn parts_of<'a>(alloc: Global, line: &'a [&'a str]) -> Result<Parts<'a>, Wor
     })
 }
 
-/// What `clap` finds in the words, of which none is empty or begins with `-`.
+/// Returns what `clap` finds in the words. No word may be empty or begin with `-`.
 fn divided<'a>(alloc: Global, line: &'a [&'a str]) -> Result<ArgMatches<'a>, WordsFault>
     requires { ArePlain (map (λ word. word.now) line.now) }
     ensures rows { IfOk result (λ matches. AreRows (map (λ word. word.now) line.entry.now) (rows_of (found_of matches))) }
@@ -50,7 +51,7 @@ fn divided<'a>(alloc: Global, line: &'a [&'a str]) -> Result<ArgMatches<'a>, Wor
     }
 }
 
-/// The fault for an error of `clap`.
+/// Returns the fault for an error of `clap`.
 fn fault_of(error: &Error) -> WordsFault
     ensures usage { result ≡ WordsFault.Usage → kind_of error.now ≢ ErrorKind.OutOfMemory }
     ensures memory { result ≡ WordsFault.OutOfMemory → kind_of error.now ≡ ErrorKind.OutOfMemory }
@@ -61,7 +62,7 @@ fn fault_of(error: &Error) -> WordsFault
     }
 }
 
-/// What `clap` reads: a command, and up to five words after it.
+/// Returns what `clap` reads: a command, and up to five words after it.
 fn parser<'a>(alloc: Global) -> Result<Parser<'a>, AllocError>
     ensures { IfOk result (λ parser. app_of parser ≡ program) }
 {
@@ -72,7 +73,7 @@ fn parser<'a>(alloc: Global) -> Result<Parser<'a>, AllocError>
     named.arg(third)?.arg(fourth)?.arg(fifth)
 }
 
-/// A command, and up to two words after it.
+/// Returns a parser for a command, and up to two words after it.
 fn short_parser<'a>(alloc: Global) -> Result<Parser<'a>, AllocError>
     ensures { IfOk result (λ parser. app_of parser ≡ short_program) }
 {

@@ -2,7 +2,7 @@
 ghost use Rattle.std.specs.Prelude.{◌≡◌, ◌≤◌, [], ◌∷◌, ℕ, List, true, IsErrOf, IfNone, IfOk, IfSome, OnOk, codes, map};
 ghost use Rattle.std.specs.Fmt.{decimal};
 ghost use Rattle.command_words.specs.Parts.{ArePlain, AreParts, NamePlain, is_plain};
-ghost use Rattle.command_words.specs.Words.{AreServiceWords, IsNamed, Spell, SpellNothing, word_of, word_out, word_start};
+ghost use Rattle.command_words.specs.Words.{AreServiceWords, IsNamed, Spell, SpellNothing, file_of, store_of, word_of, word_out, word_start};
 ghost use Rattle.command_words.specs.declared.words.OutKind.{OutKind as AnyOutKind};
 ghost use Rattle.command_words.specs.declared.words.Start.{Start as AnyStart};
 ghost use Rattle.command_words.specs.declared.words.WordsFault.TheVariants.{OutOfMemory as NoMemory};
@@ -32,14 +32,16 @@ pub enum Command {
     Check,
     /// Reads a season bundle with its requests and answers them over a keeper.
     Run(Store),
-    /// Goes on with the office that a keeper holds, and answers the requests that are read.
+    /// Resumes the office that a keeper holds, and answers the requests that are read.
     Resume(Store),
     /// Reads a season bundle with home-state quotas and its requests, and answers them over a keeper.
     Units(Store),
-    /// Goes on with the office that a keeper holds, reads lists, and gives the seats that its final cut left vacant in a special round.
+    /// Resumes the office that a keeper holds, reads lists,
+    /// and gives the seats that its final cut left vacant in a special round.
     Special(Store),
-    /// Answers requests over HTTP at a port of this machine: `workers` of them, 1 to 64, side by side, each of which takes at most `conns` connections, 1 to
-    /// 100,000. `start` says how the office begins; the port is 1 to 65,535.
+    /// Answers requests over HTTP at a port of this machine, with `workers` workers side by side, 1 to 64.
+    /// Each worker takes at most `conns` connections, 1 to 100,000.
+    /// `start` says how the office begins; the port is 1 to 65,535.
     Serve {
         conns: u32,
         workers: u8,
@@ -47,14 +49,37 @@ pub enum Command {
         port: u16,
         store: Store,
     },
-    /// Reads a dossier, which is a season bundle with requests and what was published, and writes whether what was published is what the rules give.
+    /// Reads a dossier, which is a season bundle with requests and what was published, and writes whether what was
+    /// published is what the rules give.
     Audit,
+    /// Reads a dossier as `Audit` does, and also writes whether every published round is the best one.
+    AuditBest,
     /// Generates a season bundle of 1 to 100,000 candidates from a seed, and writes it or runs it.
     Generate {
         n: u32,
         seed: u32,
         out: OutKind,
     },
+}
+
+impl Command {
+    /// Returns where the command keeps its records, or None if it keeps none.
+    pub fn store(self) -> Option<Store>
+        ensures { result ≡ store_of self }
+    {
+        match self {
+            Command::Run(store)
+            | Command::Resume(store)
+            | Command::Units(store)
+            | Command::Special(store)
+            | Command::Serve { store, .. } => Some(store),
+            Command::Step
+            | Command::Check
+            | Command::Audit
+            | Command::AuditBest
+            | Command::Generate { .. } => None,
+        }
+    }
 }
 
 /// How a served office begins.
@@ -75,12 +100,24 @@ pub enum Store {
     File(Text),
 }
 
+impl Store {
+    /// Returns the name of the file, or None for a store in memory.
+    pub fn file(self) -> Option<Text>
+        ensures { result ≡ file_of self }
+    {
+        match self {
+            Store::Memory => None,
+            Store::File(name) => Some(name),
+        }
+    }
+}
+
 /// What is written of a generated season.
 #[derive(Clone, Copy, Debug, PartialEq, Eq)]
 pub enum OutKind {
     /// Its bundle.
     Text,
-    /// What it comes to: it is run over a keeper, and a summary is written.
+    /// Its summary: it is run over a keeper, and a summary is written.
     Run,
 }
 
@@ -89,7 +126,7 @@ pub enum OutKind {
 pub enum WordsFault {
     /// The words spell no command.
     Usage,
-    /// There was no memory to divide the words, or for the name of a file.
+    /// Memory ran out to divide the words, or for the name of a file.
     OutOfMemory,
 }
 
@@ -117,7 +154,7 @@ impl<T: Drop> From<AllocFailed<T>> for WordsFault {
     }
 }
 
-/// The command that the words spell: its name alone; `run`, `resume`, `units` or `special` with `memory` or the name of a file; `serve` with how many
+/// The command that the words spell: its name alone; `audit` with `best`; `run`, `resume`, `units` or `special` with `memory` or the name of a file; `serve` with how many
 /// connections, how many workers, `new` or `kept`, a port, and `memory` or the name of a file; or `generate` with how many candidates, a seed, and `text` or
 /// `run`. `Usage` comes exactly where they spell none, but for want of memory.
 pub fn read_words(alloc: Global, words: &Words) -> Result<Command, WordsFault>
@@ -131,7 +168,7 @@ pub fn read_words(alloc: Global, words: &Words) -> Result<Command, WordsFault>
     }
 }
 
-/// The command that the words of a line spell, of which none is empty or begins with `-`.
+/// Returns the command that the words of a line spell. No word may be empty or begin with `-`.
 fn read_line(alloc: Global, line: &[&str]) -> Result<Command, WordsFault>
     requires { ArePlain (map (λ word. word.now) line.now) }
     ensures command { IfOk result (Spell (map (λ word. word.now) line.now)) }
@@ -143,7 +180,7 @@ fn read_line(alloc: Global, line: &[&str]) -> Result<Command, WordsFault>
     }
 }
 
-/// The words as texts. A word that is empty or begins with `-` is in no command.
+/// Returns the words as texts. A word that is empty or begins with `-` is in no command.
 fn line_of(alloc: Global, words: &Words) -> Result<Vec<&str>, WordsFault>
     ensures line { IfOk result (λ line. map (λ word. word.now) line.items ≡ words.now) }
     ensures plain { OnOk result (ArePlain words.now) }
@@ -162,7 +199,7 @@ fn line_of(alloc: Global, words: &Words) -> Result<Vec<&str>, WordsFault>
     Ok(line)
 }
 
-/// Whether a word is not empty and does not begin with `-`.
+/// Returns whether a word is not empty and does not begin with `-`.
 fn is_plain(word: &str) -> bool
     ensures { result ≡ is_plain word.now }
 {
@@ -172,7 +209,7 @@ fn is_plain(word: &str) -> bool
     }
 }
 
-/// The command of these words, of which the second and the last of six are not empty and do not begin with `-`.
+/// Returns the command of these words. The second and the last of six may not be empty or begin with `-`.
 fn command_of(alloc: Global, parts: Parts<'_>) -> Result<Command, WordsFault>
     requires { NamePlain parts }
     ensures some { IfOk result (λ command. (words : List (List ℕ)) → AreParts words parts.entry → Spell words command) }
@@ -199,7 +236,7 @@ fn command_of(alloc: Global, parts: Parts<'_>) -> Result<Command, WordsFault>
     read_service(alloc, name, first, second, third, fourth, fifth)
 }
 
-/// The command of this name alone.
+/// Returns the command of this name alone.
 fn read_name(name: &str) -> Result<Command, WordsFault>
     ensures command { IfOk result (Spell (name.now ∷ [])) }
     ensures none { IsErrOf result WordsFault.Usage → SpellNothing (name.now ∷ []) }
@@ -212,7 +249,7 @@ fn read_name(name: &str) -> Result<Command, WordsFault>
     }
 }
 
-/// The command of this name over the store of this word.
+/// The command of this name over the store of this word, or `audit` with it.
 fn read_store(alloc: Global, name: &str, word: &str) -> Result<Command, WordsFault>
     requires { is_plain word.now ≡ true }
     ensures command { IfOk result (Spell (name.now ∷ word.now ∷ [])) }
@@ -223,11 +260,23 @@ fn read_store(alloc: Global, name: &str, word: &str) -> Result<Command, WordsFau
         "resume" => Ok(Command::Resume(store_of(alloc, word)?)),
         "units" => Ok(Command::Units(store_of(alloc, word)?)),
         "special" => Ok(Command::Special(store_of(alloc, word)?)),
+        "audit" => read_audit(word),
         _ => Err(WordsFault::Usage),
     }
 }
 
-/// The store of a word that is not empty and does not begin with `-`.
+/// Returns the command `audit` with this second word.
+fn read_audit(word: &str) -> Result<Command, WordsFault>
+    ensures command { IfOk result (Spell (codes "audit" ∷ word.now ∷ [])) }
+    ensures none { IsErrOf result WordsFault.Usage → SpellNothing (codes "audit" ∷ word.now ∷ []) }
+{
+    match word {
+        "best" => Ok(Command::AuditBest),
+        _ => Err(WordsFault::Usage),
+    }
+}
+
+/// Returns the store of a word that is not empty and does not begin with `-`.
 fn store_of(alloc: Global, word: &str) -> Result<Store, OutOfMemory>
     requires { is_plain word.now ≡ true }
     ensures { IfOk result (λ store. (word.now ≡ word_of store) × IsNamed store) }
@@ -242,7 +291,7 @@ fn store_of(alloc: Global, word: &str) -> Result<Store, OutOfMemory>
     }
 }
 
-/// The command of this name with two numbers and this last word.
+/// Returns the command of this name with two numbers and this last word.
 fn read_season(name: &str, first: &str, second: &str, out: &str) -> Result<Command, WordsFault>
     ensures command { IfOk result (Spell (name.now ∷ first.now ∷ second.now ∷ out.now ∷ [])) }
     ensures none { IsErrOf result WordsFault.Usage → SpellNothing (name.now ∷ first.now ∷ second.now ∷ out.now ∷ []) }
@@ -250,7 +299,7 @@ fn read_season(name: &str, first: &str, second: &str, out: &str) -> Result<Comma
     season_of(name, first, second, out).ok_or(WordsFault::Usage)
 }
 
-/// The same, and None where there is none.
+/// Returns the same command, and None if there is none.
 fn season_of(name: &str, first: &str, second: &str, out: &str) -> Option<Command>
     ensures command { IfSome result (Spell (name.now ∷ first.now ∷ second.now ∷ out.now ∷ [])) }
     ensures none { IfNone result (SpellNothing (name.now ∷ first.now ∷ second.now ∷ out.now ∷ [])) }
@@ -265,7 +314,8 @@ fn season_of(name: &str, first: &str, second: &str, out: &str) -> Option<Command
     Some(Command::Generate { n, seed, out })
 }
 
-// How an office is served: how many connections a worker takes, how many workers there are, how the office begins, and at which port.
+// How an office is served: how many connections a worker takes, how many workers there are, how the office begins,
+// and at which port.
 #[derive(Clone, Copy, Debug)]
 struct Service {
     conns: u32,
@@ -274,7 +324,7 @@ struct Service {
     port: u16,
 }
 
-/// The command of this name with these words, of which the last is not empty and does not begin with `-`.
+/// Returns the command of this name with these words, of which the last is not empty and does not begin with `-`.
 fn read_service(
     alloc: Global,
     name: &str,
@@ -301,7 +351,7 @@ fn read_service(
     })
 }
 
-/// How an office is served, by the words of `serve`. None where no store makes them a command.
+/// Returns how an office is served, by the words of `serve`. None if no store makes them a command.
 fn service_of(name: &str, conns: &str, workers: &str, start: &str, port: &str) -> Option<Service>
     ensures some { IfSome result (λ service. (name.now ≡ codes "serve") × AreServiceWords service conns.now workers.now start.now port.now) }
     ensures none { IfNone result ((store : List ℕ) → SpellNothing (name.now ∷ conns.now ∷ workers.now ∷ start.now ∷ port.now ∷ store ∷ [])) }
@@ -321,7 +371,7 @@ fn service_of(name: &str, conns: &str, workers: &str, start: &str, port: &str) -
     })
 }
 
-/// The number from 1 to the highest that a word spells.
+/// Returns the number from 1 to the highest that a word spells.
 fn read_within(word: &str, high: u32) -> Option<u32>
     ensures some { IfSome result (λ n. (word.now ≡ decimal n) × (1 ≤ n) × (n ≤ high)) }
     ensures none { IfNone result ((n : ℕ) → 1 ≤ n → n ≤ high → word.now ≡ decimal n → ⊥) }
@@ -330,7 +380,7 @@ fn read_within(word: &str, high: u32) -> Option<u32>
     read_number(word.as_bytes(), 1, high)
 }
 
-/// How a served office begins, by its word.
+/// Returns how a served office begins, by its word.
 fn read_start(word: &str) -> Option<Start>
     ensures some { IfSome result (λ start. word.now ≡ word_start start) }
     ensures none { IfNone result ((start : AnyStart) → word.now ≡ word_start start → ⊥) }
@@ -342,7 +392,7 @@ fn read_start(word: &str) -> Option<Start>
     }
 }
 
-/// What is written, by its word.
+/// Returns what is written, by its word.
 fn read_out(word: &str) -> Option<OutKind>
     ensures some { IfSome result (λ out. word.now ≡ word_out out) }
     ensures none { IfNone result ((out : AnyOutKind) → word.now ≡ word_out out → ⊥) }

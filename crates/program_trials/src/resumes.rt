@@ -1,7 +1,9 @@
-// The command `resume` over the records in memory that stand after each failing call. Damaged ones stand in cases/stores.txt.
+// The command `resume` over the records in memory that remain after each failing call, and an office over given records. Damaged records are in
+// cases/stores.txt.
 use crate::commands::{REQUESTS, asked_season, first_replies, over};
 use command_answers::Status;
 use keeper_mem::{Keeper, Kept, MemKeeper};
+use round_cut::{Office, ResumeFault};
 use std::alloc::Global;
 use std::sync::Wait;
 use std::test::Fail;
@@ -76,5 +78,40 @@ fn an_office_goes_on_after_each_failing_call(rt: HostRuntime) -> Result<(), Fail
     for call in 1..=6 {
         assert!(rt; is_undisturbed(&rt, rt.alloc(), call, 0)?, "{call}");
     }
+    Ok(())
+}
+
+// Returns whether an office goes on from these records: its window is theirs, it has an entry for each row and each cut, and the records stay.
+fn goes_on_from(alloc: Global, kept: Kept, same: &Kept) -> Result<bool, Fail> {
+    let keeper = MemKeeper::from_tables(alloc, kept, &[])?;
+    match Office::resume(alloc, keeper) {
+        Ok(office) => {
+            let rows = same.answers.as_slice().len() + same.raises.as_slice().len();
+            let is_right = office.now() == same.cuts
+                && office.entries().len() == rows + usize::from(same.cuts);
+            let held = held_by(alloc, office.into_keeper())?;
+            Ok(is_right && are_same(&held, same))
+        }
+        Err(_) => Ok(false),
+    }
+}
+
+// Returns whether no office goes on from a keeper without a season, and that is the fault.
+fn none_goes_on(alloc: Global) -> Result<bool, Fail> {
+    match Office::resume(alloc, MemKeeper::new(alloc, &[])?) {
+        Ok(office) => {
+            let _keeper = office.into_keeper();
+            Ok(false)
+        }
+        Err((_, fault)) => Ok(fault == ResumeFault::NoSeason),
+    }
+}
+
+#[test]
+fn an_office_goes_on_from_given_records(rt: HostRuntime) -> Result<(), Fail> {
+    let kept = held_by(rt.alloc(), run_over(&rt, rt.alloc(), 0, 0)?)?;
+    let same = held_by(rt.alloc(), run_over(&rt, rt.alloc(), 0, 0)?)?;
+    assert!(rt; goes_on_from(rt.alloc(), kept, &same)?);
+    assert!(rt; none_goes_on(rt.alloc())?);
     Ok(())
 }
