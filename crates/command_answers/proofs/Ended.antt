@@ -34,11 +34,11 @@ pub answer_is_written : (answers : Answers) (left : Option (List ℕ)) (failed :
 answer_is_written answers left failed answer result before after broke made cause told =
     told_is_written (IsTextOf answers left) (status_of answer) result (text_of answer) before after broke (text_of_answer answers left failed answer made cause) told
 
--- where the sink did not fail, the status is that of the text
+-- if the sink did not fail, the status is that of the text
 status_is_told : (status result : Status) (text : List ℕ) (before after : Option (List ℕ)) (broke : Type 0) → IsTold status text before after broke result → (broke → ⊥) → result ≡ status
 status_is_told status result text before after broke told held = elim told [ inl whole ↦ whole.0 | inr cut ↦ absurd (held cut.1) ]
 
--- what a source tells without faults has no fault's line, and what it tells with one has no output
+-- visible bytes without faults have no fault's line, and visible bytes with a fault have no output
 not_faulty : (answers : Answers) (left : Option (List ℕ)) (line : List ℕ) → ((bytes : List ℕ) → HaveOneAnswer answers bytes) → Tells answers.IsInput left → HasLeft answers.IsFaultLine left line → ⊥
 not_faulty answers None line laws tells has = tells
 not_faulty answers (Some bytes) line laws tells has = (laws bytes).apart tells (subst answers.IsFaulty has.1 ((laws has.0).of_fault line has.2))
@@ -47,7 +47,7 @@ not_input : (answers : Answers) (left : Option (List ℕ)) (output : List ℕ) �
 not_input answers None output laws tells made = tells
 not_input answers (Some bytes) output laws tells made = (laws bytes).apart (subst answers.IsInput made.1 ((laws made.0).of_input output made.2)) tells
 
--- An input without faults is answered, where neither side failed and there was memory.
+-- An input without faults is answered, if neither side failed and memory did not run out.
 pub input_is_answered : (answers : Answers) (left : Option (List ℕ)) (failed : Type 0) (answer : Result (List ℕ) Failure) (result : Status) (before after : Option (List ℕ)) (broke : Type 0)
     → ((bytes : List ℕ) → HaveOneAnswer answers bytes) → IfErr answer (IsFailureOf answers left failed) → IsTold (status_of answer) (text_of answer) before after broke result
     → Tells answers.IsInput left → (failed → ⊥) → (broke → ⊥) → (result ≡ Done) ⊎ (result ≡ OutOfMemory)
@@ -56,7 +56,7 @@ input_is_answered answers left failed (Err Read) result before after broke laws 
 input_is_answered answers left failed (Err (Bad line)) result before after broke laws cause told tells read wrote = absurd (not_faulty answers left line laws tells cause)
 input_is_answered answers left failed (Err NoMemory) result before after broke laws cause told tells read wrote = inr (status_is_told OutOfMemory result _ before after broke told wrote)
 
--- An input with a fault is refused, where neither side failed and there was memory.
+-- An input with a fault is refused, if neither side failed and memory did not run out.
 pub fault_is_refused : (answers : Answers) (left : Option (List ℕ)) (failed : Type 0) (answer : Result (List ℕ) Failure) (result : Status) (before after : Option (List ℕ)) (broke : Type 0)
     → ((bytes : List ℕ) → HaveOneAnswer answers bytes) → IfOk answer (HasLeft answers.IsOutput left) → IfErr answer (IsFailureOf answers left failed)
     → IsTold (status_of answer) (text_of answer) before after broke result
@@ -66,7 +66,7 @@ fault_is_refused answers left failed (Err Read) result before after broke laws m
 fault_is_refused answers left failed (Err (Bad line)) result before after broke laws made cause told tells read wrote = inl (status_is_told BadInput result line before after broke told wrote)
 fault_is_refused answers left failed (Err NoMemory) result before after broke laws made cause told tells read wrote = inr (status_is_told OutOfMemory result _ before after broke told wrote)
 
--- Where neither side's fault is told, the source did not fail.
+-- If the status reports no fault of either side, the source did not fail.
 pub source_held : (answer : Result (List ℕ) Failure) (result : Status) (before after : Option (List ℕ)) (broke Held : Type 0) → ((IsErrOf answer Read → ⊥) → Held)
     → IsTold (status_of answer) (text_of answer) before after broke result → (result ≡ ReadFault → ⊥) → (result ≡ WriteFault → ⊥) → Held
 source_held (Ok output) result before after broke Held steady told read wrote = steady (λ same. cc)

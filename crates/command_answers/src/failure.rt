@@ -9,9 +9,9 @@ use office_base::{OutOfMemory, Text};
 pub enum Failure {
     /// The source failed.
     Read,
-    /// The input has a fault; this is the line that tells it.
+    /// The input has a fault; this is the line that reports it.
     Bad(Text),
-    /// There was no memory.
+    /// Memory ran out.
     NoMemory,
 }
 

@@ -17,18 +17,19 @@ pub enum Status {
     WriteFault = 5,
     /// The keeper failed: its count of faults rose. The output of the requests before the failure was written.
     KeeperFault = 6,
-    /// There was no memory. It is the one answer that no cause is claimed for.
+    /// Memory ran out. For this status alone no cause is claimed.
     OutOfMemory = 7,
     /// The listener of a served office failed: its count of faults rose.
     DoorFault = 8,
     /// The records of the keeper do not replay: the line written names the first row, or the first seat that differs.
     Differs = 9,
-    /// Published lists are not what the rules give: the line written names the first clause that does not hold. The input was read to its end.
+    /// Published lists are not what the rules give: the line written names the first clause that does not hold.
+    /// The input was read to its end.
     Broken = 10,
 }
 
 impl Status {
-    /// The exit status.
+    /// Returns the exit status.
     pub fn code(self) -> u8
         ensures { result ≡ code_of self }
     {

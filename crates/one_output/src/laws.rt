@@ -1,0 +1,32 @@
+// The laws that the same input gives the same output. Each is the contract of a function that does nothing.
+ghost use Rattle.one_output.specs.Laws.{OneKeptSeason, OneOutput, OneSeason, OneTally};
+
+/// Bytes give one sound season, but for the order in which its register keeps tokens, and one script.
+pub fn one_season()
+    ensures { OneSeason }
+{
+    season_file::laws::one_reading();
+}
+
+/// So does the text of a season that is kept, or is in a dossier.
+pub fn one_kept_season()
+    ensures { OneKeptSeason }
+{
+    season_file::laws::one_reading();
+}
+
+/// So the requests of a bundle have one output, and lead to one state.
+pub fn one_output()
+    ensures { OneOutput }
+{
+    one_season();
+    script_runs::laws::one_run();
+}
+
+/// And each of the requests has one reply.
+pub fn one_tally()
+    ensures { OneTally }
+{
+    one_season();
+    script_runs::laws::one_tally();
+}

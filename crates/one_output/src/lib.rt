@@ -1,0 +1,6 @@
+// That the same input gives the same output.
+//
+// Nothing uses it yet. It has no code but its laws, and knows of no source, no sink and no keeper.
+#![tactic(auto)]
+
+pub mod laws;
