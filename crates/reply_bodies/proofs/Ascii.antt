@@ -1,8 +1,7 @@
--- The texts of reasons and lists are all ASCII, where the codes of programmes are.
-use Rattle.std.proofs.Common.{◌≡◌, ◌<◌, ◌+◌, ◌/◌, ◌%◌, ◌==◌, ◌&&◌, ◌||◌, ℕ, zero, suc, Bool, true, false, List, [], ◌∷◌, ◌++◌, Option, Some, None, arith, refl, sym, subst, codes, if◌then◌else◌, nat_lt, nat_le, length, ap, slice_get, unwrap_or, option_map}
+-- The texts of reasons and lists are all ASCII, if the codes of programmes are.
+use Rattle.std.proofs.Common.{◌≡◌, ◌<◌, ◌+◌, ◌/◌, ◌%◌, ◌==◌, ◌&&◌, ℕ, zero, suc, Bool, true, false, List, [], ◌∷◌, ◌++◌, Option, Some, None, arith, refl, sym, subst, codes, if◌then◌else◌, nat_lt, nat_le, length, ap, slice_get, unwrap_or, option_map}
 use Rattle.std.specs.Str.{IsAscii}
 use Rattle.std.specs.List.{flat_map, list_all}
-use Rattle.std.specs.Char.{is_ascii_alphanumeric}
 use Rattle.std.specs.Fmt.{decimal, digits, digits_onto, digit_glyph}
 use Rattle.std.proofs.lemmas.Str.{IsAscii-append}
 use Rattle.std.proofs.lemmas.Str.Ascii.{IsAscii-nil, IsAscii-cons}
@@ -14,7 +13,7 @@ use Rattle.office_base.specs.declared.person.Person.{Person}
 use Rattle.office_base.specs.declared.step.Pair.{Pair}
 use Rattle.office_base.specs.declared.step.StepKind.{StepKind}
 use Rattle.office_base.specs.declared.step.StepKind.TheVariants.{Open, Ews, Obc, Sc, St, Dereserved}
-use Rattle.office_text.specs.Traits.{letters, letter}
+use Rattle.office_text.specs.Traits.{letters}
 use Rattle.programme_lists.specs.declared.programme.Programme.{Programme}
 use Rattle.programme_lists.specs.declared.programme.StepList.{StepList}
 use Rattle.published_texts.specs.Texts.{code_in, list_head, list_step, list_text, worse_words, step_why, why_line, reason_lines, better_line, answer_lines, reason_head, reason_text}
@@ -192,6 +191,6 @@ ascii_code text e = code_bytes text (last_part (nat_le shortest_code (length tex
 code_is : (found : Option (List ℕ)) (code : List ℕ) → found ≡ Some code → unwrap_or found [] ≡ code
 code_is found code e = ap (λ (o : Option (List ℕ)). unwrap_or o []) e
 
--- the code of a programme that the matrix tells
+-- the code of a programme that the matrix has
 pub ascii_in : (table : SeatTable) (prog : ℕ) (code : List ℕ) → option_map (λ held. held.0) (slice_get table.programmes prog) ≡ Some code → is_code code ≡ true → IsAscii (code_in table prog)
 ascii_in table prog code found spelled = subst IsAscii (sym (code_is _ code found)) (ascii_code code spelled)

@@ -1,5 +1,5 @@
 -- No body has a number that is not whole.
-use Rattle.std.proofs.Common.{◌≡◌, ℕ, Bool, false, Option, Some, None, refl}
+use Rattle.std.proofs.Common.{◌≡◌, ℕ, false, Option, Some, None, refl}
 use Rattle.serde_json.specs.Written.{has_float}
 use Rattle.office_base.specs.declared.asks.Seat.{Seat}
 use Rattle.office_moves.specs.declared.moves.Reply.{Reply}

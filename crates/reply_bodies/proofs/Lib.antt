@@ -1,2 +1,3 @@
 mod Ascii
 mod Floats
+mod Pieces

@@ -1,4 +1,4 @@
--- The bodies of replies in JSON. The members of an object stand in the rising order of their keys.
+-- The bodies of replies in JSON. The members of an object are in the rising order of their keys.
 use Rattle.std.specs.Prelude.{ℕ, List, Option, Some, None, codes}
 use Rattle.serde_json.specs.Data.{Data, Members, null, number, unsigned, string, object, member, no_members, put}
 use Rattle.serde_json.specs.Written.{compact_text}
@@ -65,7 +65,7 @@ abbrev pub seat_step : Option Seat → Data
 seat_step None = null
 seat_step (Some seat) = word (step_name seat.step)
 
--- how a candidate stands, and the seat
+-- the standing of a candidate, and the seat
 abbrev pub seat_data : SeatTable → ℕ → ℕ → Standing → Option Seat → Data
 seat_data table cand round standing seat =
     object (member (codes "cand") (count cand) (member (codes "programme") (seat_programme table seat) (member (codes "reply") (word (codes "seat"))

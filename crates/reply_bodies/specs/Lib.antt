@@ -1,3 +1,4 @@
 pub mod Bodies
+pub mod Built
 pub mod Plain
 pub mod Status

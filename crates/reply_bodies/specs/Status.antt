@@ -5,7 +5,8 @@ use Rattle.office_moves.specs.declared.moves.Reply.TheVariants.{Noted, Raised, P
 use Rattle.office_moves.specs.declared.refusal.Refusal.{Refusal}
 use Rattle.office_moves.specs.declared.refusal.Refusal.TheVariants.{UnknownCandidate, UnknownProgramme, Denied, TurnUsed, Late, Ahead, Gap, Gone, NoSeat, Widening, TooManyTurns, NotChosen, NoSuchRound, LastWindow, StepFixed, Falling, SeatLimit}
 
--- The status of a refusal: 403 where the one who asks may not; 404 where there is no such thing; 409 where the state of the office stands against it.
+-- The status of a refusal: 403 if the one who asks may not; 404 if there is no such thing;
+-- 409 if the state of the office rules it out.
 abbrev pub refusal_status : Refusal → ℕ
 refusal_status UnknownCandidate = 404
 refusal_status UnknownProgramme = 404

@@ -1,4 +1,4 @@
-// The object of a refusal: one for all, with what it carries under a key of its own.
+// The object of a refusal: one for all, with what it carries under a separate key.
 ghost use Rattle.std.specs.Prelude.{◌≡◌, IfOk};
 ghost use Rattle.serde_json.specs.Data.{object};
 ghost use Rattle.serde_json.specs.View.{view};
@@ -10,7 +10,7 @@ use reply_texts::{choice_name, standing_name};
 use serde_json::{Value, json};
 use std::alloc::Global;
 
-/// The object of a refusal that carries nothing.
+/// Returns the object of a refusal that carries nothing.
 fn bare(alloc: Global, refusal: Refusal) -> Result<Value, OutOfMemory>
     ensures { IfOk result (λ value. view value ≡ object (refused_members refusal)) }
 {
@@ -19,7 +19,7 @@ fn bare(alloc: Global, refusal: Refusal) -> Result<Value, OutOfMemory>
     Ok(json!(in alloc; {"name": name, "refused": number, "reply": "refused"})?)
 }
 
-/// The object of a refusal with what it carries, in its place by the order of keys.
+/// Returns the object of a refusal with what it carries, in its place by the order of keys.
 fn detailed(
     alloc: Global,
     refusal: Refusal,
@@ -33,7 +33,7 @@ fn detailed(
     Ok(json!(in alloc; {"name": name, "refused": number, "reply": "refused", key: detail})?)
 }
 
-/// The object of a refusal that carries a number.
+/// Returns the object of a refusal that carries a number.
 fn numbered(alloc: Global, refusal: Refusal, key: &str, n: u32) -> Result<Value, OutOfMemory>
     ensures { IfOk result (λ value. view value ≡ refused_with refusal key.now (count n)) }
 {
@@ -41,7 +41,7 @@ fn numbered(alloc: Global, refusal: Refusal, key: &str, n: u32) -> Result<Value,
     detailed(alloc, refusal, key, &detail)
 }
 
-/// The object of a refusal that carries a word.
+/// Returns the object of a refusal that carries a word.
 fn worded(alloc: Global, refusal: Refusal, key: &str, name: &str) -> Result<Value, OutOfMemory>
     ensures { IfOk result (λ value. view value ≡ refused_with refusal key.now (word name.now)) }
 {
@@ -49,7 +49,7 @@ fn worded(alloc: Global, refusal: Refusal, key: &str, name: &str) -> Result<Valu
     detailed(alloc, refusal, key, &detail)
 }
 
-/// The object of a refusal.
+/// Returns the object of a refusal.
 pub(crate) fn refused_value(alloc: Global, refusal: Refusal) -> Result<Value, OutOfMemory>
     ensures { IfOk result (λ value. view value ≡ refused_data refusal) }
 {

@@ -5,7 +5,7 @@ ghost use Rattle.reply_bodies.specs.Status.{refusal_status, status_of};
 
 use office_moves::{Refusal, Reply};
 
-/// The status of a reply: 200 for each but a refusal, and 403, 404 or 409 for a refusal.
+/// Returns the status of a reply: 200 for each but a refusal, and 403, 404 or 409 for a refusal.
 pub fn status_of(reply: &Reply) -> u16
     ensures value { result ≡ status_of reply.now }
     ensures valid { IsStatusCode result }
@@ -16,7 +16,8 @@ pub fn status_of(reply: &Reply) -> u16
     }
 }
 
-/// The status of a refusal: 403 where the one who asks may not; 404 where there is no such candidate, programme, choice or round; else 409.
+/// Returns the status of a refusal: 403 if the one who asks may not; 404 if there is no such candidate, programme,
+/// choice or round; otherwise 409.
 fn refusal_status(refusal: Refusal) -> u16
     ensures value { result ≡ refusal_status refusal }
     ensures valid { IsStatusCode result }

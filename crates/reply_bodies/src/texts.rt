@@ -3,18 +3,17 @@ ghost use Rattle.std.specs.Prelude.{◌≡◌, ◌<◌, IfOk, length};
 ghost use Rattle.std.specs.Str.{IsAscii};
 ghost use Rattle.serde_json.specs.Data.{string};
 ghost use Rattle.serde_json.specs.View.{view};
-ghost use Rattle.published_texts.specs.Texts.{IsAnswerOf, IsSeatOf, code_in};
-ghost use Rattle.reply_bodies.specs.Bodies.{code, seat_programme, seat_step};
+ghost use Rattle.published_texts.specs.Texts.{IsAnswerOf, code_in};
+ghost use Rattle.reply_bodies.specs.Bodies.{code};
 ghost use Rattle.reply_bodies.specs.Plain.{HasPlainCode};
 
-use office_base::{OutOfMemory, ProgId, Seat};
+use office_base::{OutOfMemory, ProgId};
 use reasons::WhyAnswer;
 use seat_matrix::Matrix;
 use serde_json::{Value, json};
 use std::alloc::Global;
-use step_lines::step_name;
 
-/// The value of a text, which is all ASCII.
+/// Returns the value of a text, which is all ASCII.
 pub(crate) fn text_value(alloc: Global, bytes: &[u8]) -> Result<Value, OutOfMemory>
     requires { IsAscii bytes.now }
     ensures { IfOk result (λ value. view value ≡ string bytes.now) }
@@ -25,7 +24,7 @@ pub(crate) fn text_value(alloc: Global, bytes: &[u8]) -> Result<Value, OutOfMemo
     Ok(json!(in alloc; text)?)
 }
 
-/// The value of the code of a programme, which is of the matrix.
+/// Returns the value of the code of a programme, which is of the matrix.
 pub(crate) fn code_value(alloc: Global, matrix: &Matrix, prog: ProgId) -> Result<Value, OutOfMemory>
     requires { prog.0 < length matrix.now.programmes }
     ensures { IfOk result (λ value. view value ≡ code matrix.now prog.0) }
@@ -43,40 +42,12 @@ pub(crate) fn codes_are_ascii(matrix: &Matrix, prog: ProgId)
     let _ = code.bytes();
 }
 
-/// The codes that an answer names are all ASCII.
+/// Shows that the codes that an answer names are all ASCII.
 pub(crate) fn answers_are_ascii(matrix: &Matrix, answer: &WhyAnswer)
     requires { IsAnswerOf matrix.now answer.now }
     ensures { HasPlainCode matrix.now answer.now }
 {
     if let WhyAnswer::Better(held) = answer {
         codes_are_ascii(matrix, *held);
-    }
-}
-
-/// The value of the programme of a seat, or null without one.
-pub(crate) fn programme_of(
-    alloc: Global,
-    matrix: &Matrix,
-    seat: Option<Seat>,
-) -> Result<Value, OutOfMemory>
-    requires { IsSeatOf matrix.now seat }
-    ensures { IfOk result (λ value. view value ≡ seat_programme matrix.now seat) }
-{
-    match seat {
-        None => Ok(Value::Null),
-        Some(seat) => code_value(alloc, matrix, seat.prog),
-    }
-}
-
-/// The value of the step of a seat, or null without one.
-pub(crate) fn step_of(alloc: Global, seat: Option<Seat>) -> Result<Value, OutOfMemory>
-    ensures { IfOk result (λ value. view value ≡ seat_step seat) }
-{
-    match seat {
-        None => Ok(Value::Null),
-        Some(seat) => {
-            let name = step_name(seat.step);
-            Ok(json!(in alloc; name)?)
-        }
     }
 }

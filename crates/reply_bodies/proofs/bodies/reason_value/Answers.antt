@@ -1,4 +1,4 @@
-use Rattle.std.proofs.Common.{◌≡◌, subst, sym, ◌∙◌}
+use Rattle.std.proofs.Common.{subst, sym, ◌∙◌}
 use Rattle.std.specs.Str.{IsAscii}
 use Rattle.reply_bodies.proofs.Ascii.{ascii_reason}
 use Rattle.reply_bodies.proofs.bodies.reason_value.Goals as goal

@@ -1,4 +1,3 @@
-use Rattle.std.proofs.Common.{◌≡◌, subst}
 use Rattle.reply_bodies.proofs.Ascii.{ascii_in}
 use Rattle.reply_bodies.proofs.texts.codes_are_ascii.Goals as goal
 

@@ -1,7 +1,7 @@
 use Rattle.std.proofs.Common.{◌≡◌, false, subst, sym}
 use Rattle.serde_json.specs.Written.{has_float}
 use Rattle.reply_bodies.proofs.Floats.{no_floats}
-use Rattle.reply_bodies.proofs.bodies.reply_json.Goals as goal
+use Rattle.reply_bodies.proofs.bodies.built_text.Goals as goal
 
 pub text_of-requires : goal.text_of-requires
-text_of-requires c = subst (λ d. has_float d ≡ false) (sym c.in_ok-value.ensures) (no_floats c.args.season.now.matrix c.args.reply.now)
+text_of-requires c = subst (λ d. has_float d ≡ false) (sym c.in_ok-value.ensures) (no_floats c.args.matrix.now c.args.reply.now)
