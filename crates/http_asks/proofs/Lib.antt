@@ -1,3 +1,4 @@
+mod NamedLemmas
 mod PagesLemmas
 mod RoadsLemmas
 mod WalkLemmas

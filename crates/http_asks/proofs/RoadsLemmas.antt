@@ -162,7 +162,7 @@ at-found (root ∷ version ∷ pieces) path page plain same e =
     let text : slashed (root ∷ version ∷ pieces) ≡ 47 ∷ codes "/v1" ++ slashed pieces = rw (none, v1) refl in
     found-as path (codes "/v1" ++ slashed pieces) (ap (λ (list : List ℕ). drop 1 list) (sym same ∙ text)) (named-found pieces page plain.1.1 named)
 
--- no page where the router finds nothing
+-- no page if the router finds nothing
 page-missing : (path : List ℕ) (page : Option Page) → page_at (cut_at 47 path) ≡ page → first road_rows path ≡ None → page ≡ None
 page-missing path None is none = refl
 page-missing path (Some page) is none =

@@ -5,7 +5,7 @@ use Rattle.std.specs.Cmp.Lexicographic.{pointwise}
 use Rattle.matchit.specs.Rows.{RowsOf, param_token, catch_all_token}
 use Rattle.matchit.specs.Seek.{own, step, or_else, seek, first, param_step, has_slash, segment, longest_suffix, with_suffix, same_text, cuts}
 
--- The bytes of the pattern before its first parameter begin the path, and are all of it where it has no parameter.
+-- The bytes of the pattern before its first parameter begin the path, and are all of it if it has no parameter.
 abbrev pub Follows : List ℕ → List ℕ → Type 0
 Follows [] path = path ≡ []
 Follows (token ∷ pattern) path = (256 ≤ token) ⊎ ((rest : List ℕ) × (path ≡ token ∷ rest) × Follows pattern rest)
@@ -39,7 +39,7 @@ plain-parts : (is rest : Bool) → cond is true rest ≡ false → (is ≡ false
 plain-parts true rest e = cc
 plain-parts false rest e = (refl, e)
 
--- the segment of a text that goes on behind a slash
+-- the segment of a text that continues behind a slash
 segment-plain : (taken more : List ℕ) → has_slash taken ≡ false → segment (taken ++ 47 ∷ more) ≡ taken ++ 47 ∷ []
 segment-plain [] more plain = refl
 segment-plain (byte ∷ taken) more plain =
@@ -100,7 +100,7 @@ module _ {K : Type 0} where
   wild-matched wild ((token ∷ pattern, kept) ∷ rows) key left path large it =
       wild-row wild token pattern kept rows key left path (token == wild) refl large (λ it. wild-matched wild rows key left path large it) it
 
-  -- the rows that go on behind a parameter are some of those that have one
+  -- the rows that continue behind a parameter are some of those that have one
   suffix-row : (pattern : List ℕ) (kept : K) (rows some : RowsOf K) (key : K) (path : List ℕ) (is : Bool) → (Matched some key path → Matched rows key path)
       → Matched (cond is ((pattern, kept) ∷ some) some) key path → Matched ((pattern, kept) ∷ rows) key path
   suffix-row pattern kept rows some key path true later (inl it) = inl it
@@ -180,7 +180,7 @@ module _ {K : Type 0} where
   skip-some rows [] path = refl
   skip-some rows (byte ∷ skipped) path = skip-some rows skipped path
 
-  -- a parameter goes on here, where it takes so many bytes
+  -- a parameter continues here, if it takes this many bytes
   by-param : (byte : ℕ) (rows : RowsOf K) (path : List ℕ) (n m : ℕ) (left : RowsOf K) → param_step (step param_token rows) (byte ∷ path) ≡ (m, left) → m - 1 ≡ n
       → is_some (seek n left path) ≡ true → is_some (first rows (byte ∷ path)) ≡ true
   unfolding seek
@@ -221,7 +221,7 @@ module _ {K : Type 0} where
       ∙ ap (λ (s : List ℕ). (length (segment (taken ++ 47 ∷ more)) - length s, with_suffix s rows)) longest
       ∙ ap (λ (n : ℕ). (n, rows)) len
 
-  -- two parameters with a slash between them take what stands round it
+  -- two parameters with a slash between them take what is on both sides of it
   pub pair-found : (key : K) (taken more : List ℕ) → 0 < length taken → has_slash taken ≡ false → 0 < length more → has_slash more ≡ false
       → is_some (first ((256 ∷ 47 ∷ 256 ∷ [], key) ∷ []) (taken ++ 47 ∷ more)) ≡ true
   pair-found key [] more filled plain some whole = absurd (omega arith)

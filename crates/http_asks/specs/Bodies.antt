@@ -15,15 +15,15 @@ use Rattle.office_text.specs.Names.{choice_of, code_of, step_of}
 use Rattle.http_asks.specs.declared.pages.Page.{Page}
 use Rattle.http_asks.specs.declared.pages.Page.TheVariants.{Answers, Cuts, Raises, Reads}
 
--- the value that a body is, as `serde_json` reads it; none where it is no text of JSON
+-- the value that a body is, as `serde_json` reads it; none if it is no text of JSON
 abbrev pub data_of : List ℕ → Option Data
 data_of body = if is_utf8 body then read body else None
 
--- the number, where it lies from low to high
+-- the number, if it lies from low to high
 abbrev pub within : ℕ → ℕ → ℕ → Option ℕ
 within low high n = if nat_le low n && nat_le n high then Some n else None
 
--- the whole number of that key, where it lies from low to high; a number with a point or an exponent is none
+-- the whole number of that key, if it lies from low to high; a number with a point or an exponent is none
 abbrev pub number_in : List ℕ → ℕ → ℕ → Data → Option ℕ
 number_in key low high value = option_and_then (λ n. within low high n) (option_and_then as_u64 (option_and_then as_number (get key value)))
 

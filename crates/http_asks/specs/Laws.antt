@@ -1,13 +1,15 @@
--- What holds of the paths of pages, whoever reads them.
-use Rattle.std.specs.Prelude.{◌≡◌, ℕ, List, [], ◌∷◌, ◌++◌, Some, codes}
+-- What holds of the paths of pages, for every reader.
+use Rattle.std.specs.Prelude.{◌≡◌, ◌≤◌, ℕ, List, [], ◌∷◌, ◌++◌, Some, true, codes}
 use Rattle.std.specs.Fmt.{decimal}
+use Rattle.office_base.specs.Codes.{is_code}
+use Rattle.office_base.specs.Limits.{last_id, last_window}
 use Rattle.office_base.specs.declared.asks.Ask.{Ask}
 use Rattle.office_base.specs.declared.asks.Ask.TheVariants.{Answer, Cut, Seat, Why, List as ListOf, State, Raise}
 use Rattle.http_asks.specs.Pages.{page_of, path_of}
 use Rattle.http_asks.specs.declared.pages.Page.{Page}
 use Rattle.http_asks.specs.declared.pages.Page.TheVariants.{Answers, Cuts, Raises, Reads}
 
--- the path that asks this; what a body asks has none of its own
+-- the path that asks this; what a body asks has no path
 abbrev pub asked_text : Ask → List ℕ
 asked_text (Seat cand) = codes "/v1/seat/" ++ decimal cand.0
 asked_text (Why cand prog) = codes "/v1/why/" ++ decimal cand.0 ++ 47 ∷ prog
@@ -24,6 +26,28 @@ page_text Cuts = codes "/v1/cut"
 page_text Raises = codes "/v1/raise"
 page_text (Reads ask) = asked_text ask
 
--- A page has one path alone: each target that names it has this path.
-abbrev pub HaveOnePath : Type 0
-HaveOnePath = (target : List ℕ) (page : Page) → page_of target ≡ Some page → path_of target ≡ page_text page
+-- the numbers and the code that are asked with lie in their ranges, and a path can ask this
+abbrev pub IsReadable : Ask → Type 0
+IsReadable (Seat cand) = (1 ≤ cand.0) × (cand.0 ≤ last_id)
+IsReadable (Why cand prog) = (1 ≤ cand.0) × (cand.0 ≤ last_id) × (is_code prog ≡ true)
+IsReadable (ListOf round prog) = (round ≤ last_window) × (is_code prog ≡ true)
+IsReadable State = Unit {0}
+IsReadable (Answer cand window turn choice) = ⊥
+IsReadable (Cut window) = ⊥
+IsReadable (Raise window prog step seats) = ⊥
+
+-- the page has a path
+abbrev pub HasPath : Page → Type 0
+HasPath Answers = Unit {0}
+HasPath Cuts = Unit {0}
+HasPath Raises = Unit {0}
+HasPath (Reads ask) = IsReadable ask
+
+-- A page has one path alone, and that path names it.
+pub record HaveOnePath : Type 0 where
+  -- each target that names a page has its path
+  pub one : (target : List ℕ) (page : Page) → page_of target ≡ Some page → path_of target ≡ page_text page
+  -- the path of a page names it
+  pub named : (page : Page) → HasPath page → page_of (page_text page) ≡ Some page
+  -- so does each target with this path, whatever follows its first `?`
+  pub queried : (target : List ℕ) (page : Page) → HasPath page → path_of target ≡ page_text page → page_of target ≡ Some page

@@ -40,7 +40,7 @@ why_of cand prog = option_and_then (λ cand. option_map (λ prog. Why cand prog)
 abbrev pub list_of : List ℕ → List ℕ → Option Ask
 list_of round prog = option_and_then (λ round. option_map (λ prog. ListOf round prog) (code_of prog)) (round_of round)
 
--- the page that is read and asks this, where it asks something
+-- the page that is read and asks this, if it asks something
 abbrev pub read_page : Option Ask → Option Page
 read_page ask = option_map (λ ask. Reads ask) ask
 

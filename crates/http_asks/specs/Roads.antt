@@ -17,7 +17,7 @@ road_start Why = codes "/v1/why/"
 road_start RoundList = codes "/v1/list/"
 road_start State = codes "/v1/state"
 
--- what follows in the pattern of a road: 256 stands for a parameter, 47 for a slash
+-- what follows in the pattern of a road: 256 is a parameter, 47 is a slash
 abbrev pub road_parameters : Road → List ℕ
 road_parameters Answer = []
 road_parameters Cut = []
@@ -27,7 +27,7 @@ road_parameters Why = 256 ∷ 47 ∷ 256 ∷ []
 road_parameters RoundList = 256 ∷ 47 ∷ 256 ∷ []
 road_parameters State = []
 
--- the pattern of a road beside it
+-- a road with its pattern
 abbrev pub road_row : Road → List ℕ × Road
 road_row road = (road_start road ++ road_parameters road, road)
 
@@ -44,11 +44,12 @@ abbrev pub Fits : Result Scan InsertError → RowsOf (RouteOf Road) → Type 0
 Fits (Ok route) routes = nearest route.pattern routes ≡ None
 Fits (Err fault) routes = ⊥
 
--- The path is on that road: it begins as its paths do, this comes after that, and nothing does where the road has no parameters.
+-- The path is on that road: it begins as its paths do, this comes after that,
+-- and nothing does if the road has no parameters.
 abbrev pub IsOn : Road → List ℕ → List ℕ → Type 0
 IsOn road path rest = (path ≡ road_start road ++ rest) × (road_parameters road ≡ [] → rest ≡ [])
 
--- the two pieces, where there are two
+-- the two pieces, if there are two
 abbrev pub two_of : List (List ℕ) → List (List ℕ)
 two_of [] = []
 two_of (first ∷ []) = []

@@ -1,4 +1,4 @@
--- What the values of the code tell.
+-- What the values of the code mean.
 use Rattle.std.specs.Prelude.{option_map}
 use Rattle.http_heads.specs.Messages.{Message}
 use Rattle.http_heads.specs.Methods.{method_name}

@@ -10,7 +10,8 @@ use office_text::{read_choice, read_step};
 use serde_json::Value;
 use std::alloc::Global;
 
-/// The value that a body is, None where it is no text of JSON. Memory may be wanted for any body that is not empty.
+/// Returns the value that a body is, and None if it is no text of JSON.
+/// Memory may run out for any body that is not empty.
 pub fn read_body(alloc: Global, body: &[u8]) -> Result<Option<Value>, OutOfMemory>
     ensures value { IfOk result (λ value. option_map view value ≡ data_of body.now) }
     ensures memory { OnErr result (0 < length body.now) }
@@ -22,8 +23,9 @@ pub fn read_body(alloc: Global, body: &[u8]) -> Result<Option<Value>, OutOfMemor
     }
 }
 
-/// What a page asks with the value of a body. None where the value lacks something that the page needs, or has it out of its
-/// range. Members that the page does not need are ignored.
+/// Returns what a page asks with the value of a body.
+/// None if the value lacks something that the page needs, or has it out of its range.
+/// Members that the page does not need are ignored.
 pub fn ask_in(page: &Page, value: &Value) -> Option<Ask>
     ensures { result ≡ ask_in page.now (view value.now) }
 {
@@ -35,7 +37,7 @@ pub fn ask_in(page: &Page, value: &Value) -> Option<Ask>
     }
 }
 
-/// What the body of an answer asks.
+/// Returns what the body of an answer asks.
 fn answer_in(value: &Value) -> Option<Ask>
     ensures { result ≡ answer_in (view value.now) }
 {
@@ -51,7 +53,7 @@ fn answer_in(value: &Value) -> Option<Ask>
     })
 }
 
-/// What the body of a cut asks.
+/// Returns what the body of a cut asks.
 fn cut_in(value: &Value) -> Option<Ask>
     ensures { result ≡ cut_in (view value.now) }
 {
@@ -61,7 +63,7 @@ fn cut_in(value: &Value) -> Option<Ask>
     })
 }
 
-/// What the body of a raise asks.
+/// Returns what the body of a raise asks.
 fn raise_in(value: &Value) -> Option<Ask>
     ensures { result ≡ raise_in (view value.now) }
 {
@@ -77,7 +79,7 @@ fn raise_in(value: &Value) -> Option<Ask>
     })
 }
 
-/// The whole number of that key, where it lies from `low` to `high`.
+/// Returns the whole number of that key, if it lies from `low` to `high`.
 fn number_in(value: &Value, key: &str, low: u32, high: u32) -> Option<u32>
     ensures { result ≡ number_in key.now low high (view value.now) }
 {
@@ -89,7 +91,7 @@ fn number_in(value: &Value, key: &str, low: u32, high: u32) -> Option<u32>
     }
 }
 
-/// The text of that key.
+/// Returns the text of that key.
 fn text_in<'a>(value: &'a Value, key: &str) -> Option<&'a [u8]>
     ensures { option_copied result ≡ text_in key.now (view value.now) }
 {
@@ -97,21 +99,21 @@ fn text_in<'a>(value: &'a Value, key: &str) -> Option<&'a [u8]>
     Some(text.as_bytes())
 }
 
-/// The choice that the value has.
+/// Returns the choice that the value has.
 fn choice_in(value: &Value) -> Option<Choice>
     ensures { result ≡ choice_in (view value.now) }
 {
     read_choice(text_in(value, "choice")?)
 }
 
-/// The code of a programme that the value has.
+/// Returns the code of a programme that the value has.
 fn code_in(value: &Value) -> Option<Code>
     ensures { result ≡ code_in (view value.now) }
 {
     Code::read(text_in(value, "programme")?)
 }
 
-/// The step that the value has.
+/// Returns the step that the value has.
 fn step_in(value: &Value) -> Option<StepKind>
     ensures { result ≡ step_in (view value.now) }
 {

@@ -1,4 +1,4 @@
-// What a message comes to: something that it asks, or a status that refuses it.
+// The verdict on a message: something that it asks, or a status that refuses it.
 ghost use Rattle.std.specs.Prelude.{◌≡◌, true, IfOk, OnErr, option_copied};
 ghost use Rattle.http_heads.specs.Told.{told_fields, told_message};
 ghost use Rattle.http_asks.specs.Bodies.{ask_of};
@@ -13,25 +13,26 @@ use http_heads::{Fields, HeldMessage, Method};
 use office_base::{Ask, OutOfMemory};
 use std::alloc::Global;
 
-/// What a message comes to. The connection may go on after either.
+/// The verdict on a message. The connection may continue after either.
 #[derive(Clone, Copy, Debug, PartialEq, Eq)]
 pub enum Judged {
-    /// It is refused with this status: 404 where its target names no page; else 405, with the method that the page has, where its
-    /// method is another; else 400 where its body is not what the page needs.
+    /// It is refused with this status: 404 if its target names no page.
+    /// Otherwise 405, with the method that the page has, if its method is another.
+    /// Otherwise 400, if its body is not what the page needs.
     Refused { status: u16, allow: Option<Method> },
     /// It asks this of the office, with its token.
     Asked(Ask),
 }
 
-/// The token of a message: the value of its first field `X-Office-Token`, where it has one.
+/// Returns the token of a message: the value of its first field `X-Office-Token`, if it has one.
 pub fn token<'a>(fields: &Fields<'a>) -> Option<&'a [u8]>
     ensures { option_copied result ≡ token_in (told_fields fields.now) }
 {
     fields.first(b"x-office-token")
 }
 
-/// What a message comes to; what it asks, it asks with its `token`. Memory may be wanted for a body that is read, and for nothing
-/// else.
+/// Returns the verdict on a message. What it asks, it asks with its `token`.
+/// Memory may run out for a body that is read, and for nothing else.
 pub fn judge(
     alloc: Global,
     routes: &Routes,
@@ -53,7 +54,7 @@ pub fn judge(
     }
 }
 
-/// The target of a message as text.
+/// Returns the target of a message as text.
 fn target_of<'a>(message: &HeldMessage<'a>) -> &'a str
     ensures { result.now ≡ message.now.target.now }
 {
@@ -63,14 +64,14 @@ fn target_of<'a>(message: &HeldMessage<'a>) -> &'a str
     target
 }
 
-/// A refusal with this status.
+/// Returns a refusal with this status.
 fn refused(status: u16, allow: Option<Method>) -> Judged
     ensures { result ≡ Refused status allow }
 {
     Judged::Refused { status, allow }
 }
 
-/// What a page asks with a body. None where the body is not what the page needs.
+/// Returns what a page asks with a body. None if the body is not what the page needs.
 fn read_ask(alloc: Global, page: &Page, body: &[u8]) -> Result<Option<Ask>, OutOfMemory>
     ensures value { IfOk result (λ asked. asked ≡ ask_of page.now body.now) }
     ensures memory { OnErr result (needs_memory page.now body.now ≡ true) }

@@ -25,7 +25,7 @@ pub enum Page {
 }
 
 impl Page {
-    /// The one method that the page has.
+    /// Returns the one method that the page has.
     pub fn method(&self) -> Method
         ensures { result ≡ method_of self.now }
     {
@@ -36,7 +36,7 @@ impl Page {
         }
     }
 
-    /// Whether the page takes a body.
+    /// Returns whether the page takes a body.
     pub fn takes_body(&self) -> bool
         ensures { result ≡ takes_body self.now }
     {
@@ -47,7 +47,7 @@ impl Page {
     }
 }
 
-/// The page that a target names, by its path up to the first `?`, which is not decoded. None where it names none.
+/// Returns the page that a target names, by its path up to the first `?`, which is not decoded. None if it names none.
 pub fn page_of(routes: &Routes, target: &str) -> Option<Page>
     ensures { result ≡ page_of target.now }
 {
@@ -55,7 +55,7 @@ pub fn page_of(routes: &Routes, target: &str) -> Option<Page>
     page_on(road, rest)
 }
 
-/// The path of a target: what comes before its first `?`.
+/// Returns the path of a target: what comes before its first `?`.
 fn path_of(target: &str) -> &str
     ensures { result.now ≡ path_of target.now }
 {
@@ -65,7 +65,7 @@ fn path_of(target: &str) -> &str
     }
 }
 
-/// The page on a road, by what comes after the start of its paths.
+/// Returns the page on a road, by what comes after the start of its paths.
 fn page_on(road: Road, rest: &[u8]) -> Option<Page>
     requires { road_parameters road ≡ [] → rest.now ≡ [] }
     ensures { result ≡ page_at (cut_at 47 (road_start road ++ rest.now)) }
@@ -81,7 +81,7 @@ fn page_on(road: Road, rest: &[u8]) -> Option<Page>
     }
 }
 
-/// The page of a candidate's seat.
+/// Returns the page of a candidate's seat.
 fn seat_page(rest: &[u8]) -> Option<Page>
     ensures { result ≡ page_named (codes "seat" ∷ cut_at 47 rest.now) }
 {
@@ -94,7 +94,7 @@ fn seat_page(rest: &[u8]) -> Option<Page>
     }
 }
 
-/// The page of why a candidate has a seat of a programme or none.
+/// Returns the page of why a candidate has a seat of a programme or none.
 fn why_page(rest: &[u8]) -> Option<Page>
     ensures { result ≡ page_named (codes "why" ∷ cut_at 47 rest.now) }
 {
@@ -104,7 +104,7 @@ fn why_page(rest: &[u8]) -> Option<Page>
     Some(Page::Reads(Ask::Why { cand, prog }))
 }
 
-/// The page of a programme's list of a round.
+/// Returns the page of a programme's list of a round.
 fn list_page(rest: &[u8]) -> Option<Page>
     ensures { result ≡ page_named (codes "list" ∷ cut_at 47 rest.now) }
 {
@@ -114,7 +114,7 @@ fn list_page(rest: &[u8]) -> Option<Page>
     Some(Page::Reads(Ask::List { round, prog }))
 }
 
-/// The two pieces round the one slash. None where there is none, or more than one.
+/// Returns the two pieces on both sides of the one slash. None if there is none, or more than one.
 fn two_pieces(rest: &[u8]) -> Option<(&[u8], &[u8])>
     ensures some { IfSome result (λ pieces. cut_at 47 rest.now ≡ pieces.0.now ∷ pieces.1.now ∷ []) }
     ensures none { IfNone result (two_of (cut_at 47 rest.now) ≡ []) }
@@ -126,7 +126,7 @@ fn two_pieces(rest: &[u8]) -> Option<(&[u8], &[u8])>
     }
 }
 
-/// The bytes before the first separator, and those after it where there is one.
+/// Returns the bytes before the first separator, and those after it if there is one.
 fn first_piece(bytes: &[u8], separator: u8) -> (&[u8], Option<&[u8]>)
     ensures last { IfNone result.1 (cut_at separator bytes.now ≡ result.0.now ∷ []) }
     ensures more { IfSome result.1 (λ rest. cut_at separator bytes.now ≡ result.0.now ∷ cut_at separator rest.now) }
@@ -137,7 +137,7 @@ fn first_piece(bytes: &[u8], separator: u8) -> (&[u8], Option<&[u8]>)
     }
 }
 
-/// The candidate's number that a piece spells.
+/// Returns the candidate's number that a piece spells.
 fn read_candidate(piece: &[u8]) -> Option<CandId>
     ensures { result ≡ candidate_of piece.now }
 {
@@ -145,7 +145,7 @@ fn read_candidate(piece: &[u8]) -> Option<CandId>
     Some(CandId(id))
 }
 
-/// The number of a round that a piece spells.
+/// Returns the number of a round that a piece spells.
 fn read_round(piece: &[u8]) -> Option<u16>
     ensures { result ≡ round_of piece.now }
 {

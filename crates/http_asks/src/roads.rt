@@ -23,7 +23,7 @@ pub enum Road {
 }
 
 impl Road {
-    /// How its paths begin, up to the first parameter.
+    /// Returns how its paths begin, up to the first parameter.
     fn start(self) -> &'static [u8]
         ensures { result.now ≡ road_start self }
     {
@@ -47,7 +47,7 @@ pub struct Routes {
 }
 
 impl Routes {
-    /// The routes of all pages, or there was no memory for them.
+    /// Returns the routes of all pages, unless memory runs out.
     pub fn new(alloc: Global) -> Result<Routes, OutOfMemory> {
         let mut router = Router::new(alloc);
         add(&mut router, "/v1/answer", Road::Answer)?;
@@ -60,7 +60,8 @@ impl Routes {
         Ok(Routes { router })
     }
 
-    /// The road that a path is on, and what comes after the start of its paths. None only where the path is no page's.
+    /// Returns the road that a path is on, and what comes after the start of its paths.
+    /// None only if the path is no page's.
     pub fn road_of<'a>(&self, path: &'a str) -> Option<(Road, &'a [u8])>
         ensures some { IfSome result (λ on. IsOn on.0 path.now on.1.now) }
         ensures none { IfNone result (page_at (cut_at 47 path.now) ≡ None) }
@@ -75,7 +76,7 @@ impl Routes {
     }
 }
 
-/// What comes after the start of the paths of a road.
+/// Returns what comes after the start of the paths of a road.
 fn after_start<'a>(road: Road, path: &'a str) -> &'a [u8]
     requires { (rest : List ℕ) × IsOn road path.now rest }
     ensures { IsOn road path.now result.now }
@@ -84,7 +85,8 @@ fn after_start<'a>(road: Road, path: &'a str) -> &'a [u8]
     rest
 }
 
-/// Adds a route that is read and that no other one conflicts with. It is kept out only where the router finds no memory for it.
+/// Adds a route that is read and that no other one conflicts with.
+/// It fails only if the router runs out of memory for it.
 fn add(router: &mut Router<Road>, route: &str, road: Road) -> Result<(), OutOfMemory>
     requires { Fits (parse_route route.now) router.old }
     ensures { OnOk result (InsertsRead (parse_route route.now) road router.old router.new (Ok tt)) }

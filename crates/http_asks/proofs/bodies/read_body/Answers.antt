@@ -6,7 +6,7 @@ use Rattle.serde_json.specs.Data.{Data}
 use Rattle.serde_json.specs.Read.{read}
 use Rattle.http_asks.proofs.bodies.read_body.Goals as goal
 
--- where no text is read, nothing is
+-- if no text is read, nothing is
 none-read : (is : Bool) (value : Option Data) → (is ≡ true → value ≡ None) → None ≡ cond is value None
 none-read true value none = sym (none refl)
 none-read false value none = refl
