@@ -15,6 +15,7 @@ use Rattle.office_asks.specs.Asking.{AnswersAt, UnanswersAt}
 abbrev pub known_of : {V I : Type 0} {g : Ghosts V I} → Pass V I g → Known I
 known_of pass = record { seen = seen_of pass; own = own_of pass; found = found_of pass; count = count_of pass; shares = shares_of pass }
 
--- One ask of an office of this season, at a desk, over a keeper that holds room in advance or does not: what the pass knows before and after it.
+-- One ask of an office of this season, at a desk, over a keeper that holds room in advance or does not:
+-- what the pass knows before and after it.
 abbrev pub AsksInTurn : SeasonFacts → Bool → Known Entry → Option (List ℕ) → Ask → Result Answered OfficeFault → Known Entry → Type 0
 AsksInTurn facts room = AsksDesk (AnswersAt facts) (UnanswersAt facts room)

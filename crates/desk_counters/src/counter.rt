@@ -24,7 +24,7 @@ pub struct DeskCounter<'a, V: Booked, R: Wait> {
 }
 
 impl<'a, V: Booked, R: Wait> DeskCounter<'a, V, R> {
-    /// A counter at this desk, with a pass of it. It takes no memory.
+    /// Returns a counter at this desk, with a pass of it. It allocates nothing.
     pub fn new(rt: &'a R, desk: &'a Desk<V>, pass: &'a mut Pass<V>) -> DeskCounter<'a, V, R>
         requires { belongs desk.now pass.old }
         ensures same_pass { result.pass.ghost_name ≡ pass.entry.ghost_name }
@@ -45,7 +45,7 @@ impl<K: Keeper, B: Beginning, R: Wait> Counter for DeskCounter<'_, Stood<K, B>, 
     ghost lender = { λ c. c.pass.ghost_name };
 
     ghost answers = { λ c token ask answer c'. (c'.desk.now ≡ c.desk.now)
-        × AsksInTurn (origin_of c.desk.now).season (K.holds_room (origin_of c.desk.now).keeper) (known_of c.pass.now) token ask answer (known_of c'.pass.now) };
+        × AsksInTurn (origin_of c.desk.now).season (K.seen (origin_of c.desk.now).keeper).holds_room (known_of c.pass.now) token ask answer (known_of c'.pass.now) };
 
     fn ask(
         &mut self,
@@ -59,7 +59,7 @@ impl<K: Keeper, B: Beginning, R: Wait> Counter for DeskCounter<'_, Stood<K, B>, 
             self.pass,
             |office: &mut Stood<K, B>, number: u64| -> Result<Answered, OfficeFault>
                 requires { last_of office.old.entries < number }
-                ensures { AsksOffice K.tables K.holds_room K.faults number (token_of has_token bytes.entry.now) ask.entry.now result office.old office.new }
+                ensures { AsksOffice K.seen number (token_of has_token bytes.entry.now) ask.entry.now result office.old office.new }
             { office.put(alloc, number, has_token, bytes, ask) },
         )
     }

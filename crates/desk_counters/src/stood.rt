@@ -13,7 +13,7 @@ use round_cut::{Office, OfficeFault};
 use std::alloc::Global;
 use std::marker::{Brand, Model, PhantomData};
 
-/// What the keeper of an office told when the office was given to a desk. Each desk picks it.
+/// The visible tables of an office's keeper when the office was given to a desk. Each desk picks them.
 pub trait Beginning {
     ghost use Rattle.keeper_mem.specs.Tables.{Tables};
 
@@ -26,7 +26,7 @@ impl Beginning for Brand {
     ghost tables = { Untold };
 }
 
-/// An office whose keeper tells its tables only where they were told at the beginning.
+/// An office whose keeper's tables are visible only if they were visible at the beginning.
 pub struct Stood<K: Keeper, B: Beginning> {
     pub(crate) office: Office<K>,
     of: PhantomData<B>,
@@ -40,7 +40,7 @@ impl<K: Keeper, B: Beginning> Model for Stood<K, B> {
 
     ghost view = { λ a. a.office };
 
-    ghost invariant = { λ a. IsTold (K.tables a.office.keeper) → IsTold B.tables };
+    ghost invariant = { λ a. IsTold (K.seen a.office.keeper).tables → IsTold B.tables };
 }
 
 /// It is the same book as the office.
@@ -52,13 +52,13 @@ impl<K: Keeper, B: Beginning> Booked for Stood<K, B> {
 
     ghost Basis = { SeasonFacts × Bool };
 
-    ghost basis = { λ office. (office.season, K.holds_room office.keeper) };
+    ghost basis = { λ office. (office.season, (K.seen office.keeper).holds_room) };
 
     ghost entries = { λ office. office.entries };
 
     ghost number = { λ entry. entry.number };
 
-    ghost count = { λ office. K.faults office.keeper };
+    ghost count = { λ office. (K.seen office.keeper).faults };
 
     fn last_number(&self) -> u64 {
         let _entries = self.office.entries();
@@ -67,9 +67,9 @@ impl<K: Keeper, B: Beginning> Booked for Stood<K, B> {
 }
 
 impl<K: Keeper, B: Beginning> Stood<K, B> {
-    /// The office as it stands, at the beginning.
+    /// Takes the office as it is at the beginning.
     pub fn new(office: Office<K>) -> Stood<K, B>
-        requires { K.tables office.keeper ≡ B.tables }
+        requires { (K.seen office.keeper).tables ≡ B.tables }
         ensures { result ≡ office }
     {
         Stood {
@@ -88,15 +88,15 @@ impl<K: Keeper, B: Beginning> Stood<K, B> {
         ask: &Ask,
     ) -> Result<Answered, OfficeFault>
         requires { last_of self.old.entries < number }
-        ensures { AsksOffice K.tables K.holds_room K.faults number (token_of has_token token.now) ask.now result self.old self.new }
+        ensures { AsksOffice K.seen number (token_of has_token token.now) ask.now result self.old self.new }
     {
         put_to_office(alloc, &mut self.office, number, has_token, token, ask)
     }
 
-    /// The office. Its keeper tells its tables only where they were told at the beginning.
+    /// Returns the office. The tables of its keeper are visible only if they were visible at the beginning.
     pub fn into_office(self) -> Office<K>
         ensures same { result ≡ self }
-        ensures told { IsTold (K.tables result.keeper) → IsTold B.tables }
+        ensures told { IsTold (K.seen result.keeper).tables → IsTold B.tables }
     {
         let Stood { office, of: _ } = self;
         office

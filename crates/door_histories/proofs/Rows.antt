@@ -1,4 +1,4 @@
--- A row of doors with a crew: each is served, and the own entries of all are those of its links.
+-- A row of doors with a crew: each is served, and all their own entries are those of its links.
 use Rattle.std.proofs.Common.{◌≡◌, ◌+◌, ◌≤◌, inl, inr, ℕ, false, List, [], ◌∷◌, ◌++◌, Option, map, arith, refl, sym, ap, subst, ◌∙◌}
 use Rattle.office_base.specs.declared.asks.Ask.{Ask}
 use Rattle.desk_rule.specs.Own.{Begins, AreMerged}
@@ -84,7 +84,8 @@ module _ {I : Type 0} (Answers : List I → Option (List ℕ) → Ask → Answer
             ((this.0, others.0), ap (λ (x : ℕ). x ∷ map of.faults es') this.1 ∙ ap (λ (xs : List ℕ). of.faults d ∷ xs) others.1);
       }
 
-  -- the row of a crew that began at the history A and with the count c, and ended where the history is H and the count k
+  -- the row of a crew that began at the history A and with the count c,
+  -- and ended where the history is H and the count k
   pub all_doors : (A H : List I) (c k : ℕ) (ds ds' : List D) (p p' : Worker I) → IsRow Answers Unanswers of p ds ds' p' → p.knows.seen ≡ A → p.knows.count ≡ c
       → H ≡ p'.knows.seen → H ≡ A ++ p'.knows.own → p'.knows.count ≤ k → AllDoorsServed Answers Unanswers of A c ds ds' H k
   all_doors A H c k ds ds' p p' row begins counts ends grows le =

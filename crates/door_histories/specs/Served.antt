@@ -3,6 +3,8 @@ use Rattle.std.specs.Prelude.{◌≡◌, ◌≢◌, ◌+◌, ◌≤◌, ◌⊎�
 use Rattle.office_base.specs.Outside.{AreLeft, Rose}
 use Rattle.office_base.specs.declared.asks.Ask.{Ask}
 use Rattle.office_links.specs.Visits.{Visits}
+use Rattle.office_links.specs.declared.outside.Door.{Ghosts as DoorGhosts}
+use Rattle.office_links.specs.declared.outside.Link.{Ghosts as LinkGhosts}
 use Rattle.desk_rule.specs.Own.{Begins, AreMerged}
 use Rattle.http_sessions.specs.Exchange.{Item, Outcome, wired, unread, heard, Cuts, IsRefusal, IsAsked, open_before}
 use Rattle.http_sessions.specs.Sessions.{IsTold}
@@ -24,6 +26,10 @@ pub record Telling (D L : Type 0) : Type 0 where
   pub written : L → Option (List ℕ)
   pub failures : L → ℕ
 
+-- the same, by the ghost members of a door and of its links
+abbrev pub telling : {D L : Type 0} → DoorGhosts D L → LinkGhosts L → Telling D L
+telling d l = record { to_come = d.to_come; out = d.out; told = d.told; faults = d.faults; left = l.left; written = l.written; failures = l.faults }
+
 -- how many failures of the keeper a fault is
 abbrev pub failures_of : OfficeFault → ℕ
 failures_of KeeperFault = 1
@@ -34,11 +40,14 @@ abbrev pub AreAllMerged : {I : Type 0} → List (List I) → List I → Type 0
 AreAllMerged [] zs = zs ≡ []
 AreAllMerged {I} (xs ∷ xss) zs = (rest : List I) × AreMerged xs rest zs × AreAllMerged xss rest
 
--- `Answers place token ask answered added`: after the entries of the place the ask is answered so, and adds these. `Unanswers place token ask fault`:
+-- `Answers place token ask answered added`: after the entries of the place the ask is answered so, and adds these.
+-- `Unanswers place token ask fault`:
 -- there it may stay unanswered with this fault.
 module _ {I : Type 0} (Answers : List I → Option (List ℕ) → Ask → Answered → List I → Type 0) (Unanswers : List I → Option (List ℕ) → Ask → OfficeFault → Type 0) where
-  -- One message after the history A, of a link that is served to the history B: what came of it, the entries that it added, how many failures of the
-  -- keeper it told, and the history that it left behind. An ask is put at a place that begins with A. An answer leaves that place and what it added;
+  -- One message after the history A, of a link that is served to the history B:
+  -- what came of it, the entries that it added, how many failures of the keeper it reported, and the history that it
+  -- left. An ask is put at a place that begins with A.
+  -- An answer leaves that place and what it added;
   -- without an answer nothing is added, and A stays.
   abbrev pub IsPlaced : List I → List I → Item → Outcome → List I → ℕ → List I → Type 0
   IsPlaced A B item wired added n behind = IsRefusal item.verdict × (added ≡ []) × (n ≡ 0) × (behind ≡ A)
@@ -48,7 +57,8 @@ module _ {I : Type 0} (Answers : List I → Option (List ℕ) → Ask → Answer
   IsPlaced A B item (heard (Err fault)) added n behind = (added ≡ []) × (n ≡ failures_of fault) × (behind ≡ A)
       × IsAsked item.verdict (λ token ask. (place : List I) × Begins A place × Begins place B × Unanswers place token ask fault)
 
-  -- The messages are answered one after another, from the history A to the history B, with these entries and so many failures of the keeper.
+  -- The messages are answered one after another, from the history A to the history B,
+  -- with these entries and f failures of the keeper.
   abbrev pub IsServing : List I → List Item → List Outcome → List I → ℕ → List I → Type 0
   IsServing A [] [] E f B = (E ≡ []) × (f ≡ 0) × Begins A B
   IsServing A [] (outcome ∷ outcomes) E f B = ⊥
@@ -57,8 +67,9 @@ module _ {I : Type 0} (Answers : List I → Option (List ℕ) → Ask → Answer
       × IsPlaced A B item outcome added n behind × IsServing behind items outcomes more k B × (E ≡ added ++ more) × (f ≡ n + k)
 
   module _ {D L : Type 0} (of : Telling D L) where
-    -- A link, as its session found it and left it, is served from the history A to the history B, with the entries E and f failures of the keeper told.
-    -- Its session ends with a fault exactly where the link failed.
+    -- A link, as its session found it and left it, is served from the history A to the history B, with the entries E
+    -- and f reported failures of the keeper.
+    -- Its session ends with a fault if and only if the link failed.
     pub record IsServed (A : List I) (link link' : L) (E : List I) (f : ℕ) (B : List I) : Type 0 where
       pub bytes : List ℕ
       pub end : SessionEnd
@@ -80,8 +91,9 @@ module _ {I : Type 0} (Answers : List I → Option (List ℕ) → Ask → Answer
     AreServed A (pair ∷ pairs) E f B = (first : List I) × (n : ℕ) × (mid : List I) × (more : List I) × (k : ℕ)
         × IsServed A pair.0 pair.1 first n mid × AreServed mid pairs more k B × (E ≡ first ++ more) × (f ≡ n + k)
 
-    -- A door, before and after: the connections that it gave came back to it in their order, each served, the first from the history A and the last one to
-    -- the history B. None stays out, and none is still to come unless the door failed.
+    -- A door, before and after: the connections that it gave came back to it in their order, each served, the first
+    -- from the history A and the last one to the history B.
+    -- None stays out, and none is still to come unless the door failed.
     pub record DoorServed (door door' : D) (A : List I) (E : List I) (f : ℕ) (B : List I) : Type 0 where
       pub links : List (L × L)
       pub passed : HasPassed (of.told door) links (of.told door')
@@ -89,15 +101,16 @@ module _ {I : Type 0} (Answers : List I → Option (List ℕ) → Ask → Answer
       pub back : of.out door' ≡ of.out door
       pub ended : (of.to_come door' ≡ 0) ⊎ Rose (of.faults door) (of.faults door')
 
-    -- Each door is served from the history A to a history with which H begins. So many failures of the keeper as were told at a door, by so much at least
-    -- its count rose, from c to k.
+    -- Each door is served from the history A to a history with which H begins. The keeper's count rose, from c to k, by
+    -- at least as many failures as were reported at each door.
     abbrev pub EachDoor : List I → ℕ → List D → List D → List (List I) → List ℕ → List I → ℕ → Type 0
     EachDoor A c [] doors' Es fs H k = (doors' ≡ []) × (Es ≡ []) × (fs ≡ [])
     EachDoor A c (door ∷ doors) doors' Es fs H k = (door' : D) × (others : List D) × (E : List I) × (Fs : List (List I)) × (f : ℕ) × (gs : List ℕ) × (B : List I)
         × (doors' ≡ door' ∷ others) × (Es ≡ E ∷ Fs) × (fs ≡ f ∷ gs) × DoorServed door door' A E f B × Begins B H × RoseBy f c k × EachDoor A c doors others Fs gs H k
 
-    -- All doors are served, from the history A to the history H: it goes on from A by the entries of all doors together, each once, and those of each
-    -- door in their order. The keeper's count went from c to k.
+    -- All doors are served, from the history A to the history H.
+    -- H continues A with the entries of all doors together, each once, and those of each door in their order.
+    -- The keeper's count went from c to k.
     pub record AllDoorsServed (A : List I) (c : ℕ) (doors doors' : List D) (H : List I) (k : ℕ) : Type 0 where
       pub entries : List (List I)
       pub failures : List ℕ

@@ -15,7 +15,8 @@ pub record Worker (I : Type 0) : Type 0 where
   pub failed : Bool
 
 module _ {I : Type 0} where
-  -- A share went to the worker w, who has seen as much, has no entries of its own and no door yet; all else of the crew p stays in q.
+  -- A share went to the worker w, who has seen as much, has no entries of its own and no door yet;
+  -- the rest of the crew p stays in q.
   pub record IsHired (p q w : Worker I) : Type 0 where
     pub shares : p.knows.shares ≡ q.knows.shares + 1
     pub seen : q.knows.seen ≡ p.knows.seen
@@ -38,8 +39,9 @@ module _ {I : Type 0} where
     pub failed : p.failed ≡ m.failed || w.failed
 
 module _ {I : Type 0} (Answers : List I → Option (List ℕ) → Ask → Answered → List I → Type 0) (Unanswers : List I → Option (List ℕ) → Ask → OfficeFault → Type 0) {D L : Type 0} (of : Telling D L) where
-  -- The worker of this number served a door: from what it had seen to what it has seen then, with the entries by which its own grew, and the failures of
-  -- the keeper by which the count rose. It tells whether the door failed.
+  -- The worker of this number served a door: from what it had seen to what it has seen then.
+  -- With it come the entries by which its own grew, and the failures of the keeper by which the count rose.
+  -- It reports whether the door failed.
   pub record HasWorked (number : ℕ) (door door' : D) (w w' : Worker I) : Type 0 where
     pub entries : List I
     pub failures : ℕ

@@ -1,8 +1,8 @@
 -- The last number of entries.
-use Rattle.std.proofs.Common.{◌≡◌, ◌≤◌, ◌+◌, ℕ, Bool, List, [], ◌∷◌, ◌++◌, Option, Some, None, Result, Ok, Err, map, refl, sym, ap, subst, arith}
+use Rattle.std.proofs.Common.{◌≡◌, ◌≤◌, ◌+◌, ℕ, List, [], ◌∷◌, ◌++◌, Option, Some, None, Result, Ok, Err, map, refl, sym, ap, subst, arith}
 use Rattle.office_base.specs.Numbered.{last_from}
 use Rattle.office_base.specs.declared.asks.Ask.{Ask}
-use Rattle.keeper_mem.specs.Tables.{Tables}
+use Rattle.keeper_mem.specs.Keeper.{Shelf}
 use Rattle.office_moves.specs.Decided.{decided}
 use Rattle.office_moves.specs.History.{grown, newly}
 use Rattle.office_moves.specs.declared.moves.Act.{Act}
@@ -24,9 +24,9 @@ last_of_grown entries number (Some act) e =
     let last = last_from_more 0 entries (record { number = number; act = act }) in
     omega (arith, last, e)
 
-module _ {K : Type 0} (tables : K → Tables) (holds_room : K → Bool) (faults : K → ℕ) where
+module _ {K : Type 0} (seen : K → Shelf) where
   -- an ask under the next number raises the last number by one at most
-  pub last_after : (number : ℕ) (token : Option (List ℕ)) (ask : Ask) (result : Result Answered OfficeFault) (old new : Opened K) → AsksOffice tables holds_room faults number token ask result old new
+  pub last_after : (number : ℕ) (token : Option (List ℕ)) (ask : Ask) (result : Result Answered OfficeFault) (old new : Opened K) → AsksOffice seen number token ask result old new
       → number ≡ last_of old.entries + 1 → last_of new.entries ≤ last_of old.entries + 1
   last_after number token ask (Ok answered) old new asked next =
       subst (λ entries. last_of entries ≤ last_of old.entries + 1) (sym asked.entries)

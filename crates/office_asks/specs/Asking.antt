@@ -5,7 +5,8 @@ use Rattle.office_base.specs.declared.asks.Ask.{Ask}
 use Rattle.office_base.specs.declared.asks.By.{By}
 use Rattle.office_base.specs.declared.asks.By.TheVariants.{Nobody}
 use Rattle.office_base.specs.declared.asks.Request.{Request}
-use Rattle.keeper_mem.specs.Tables.{AreTold, IsTold, Tables}
+use Rattle.keeper_mem.specs.Keeper.{Shelf}
+use Rattle.keeper_mem.specs.Tables.{AreTold, IsTold}
 use Rattle.office_moves.specs.Facts.{SeasonFacts}
 use Rattle.office_moves.specs.State.{State}
 use Rattle.office_moves.specs.Decided.{decided}
@@ -27,7 +28,7 @@ abbrev pub token_of : Bool → List ℕ → Option (List ℕ)
 token_of true bytes = Some bytes
 token_of false bytes = None
 
--- whom a token stands for; without one it is nobody
+-- who a token is for; without a token it is nobody
 abbrev pub by_token : SeasonFacts → Option (List ℕ) → By
 by_token facts None = Nobody
 by_token facts (Some bytes) = who_by facts bytes
@@ -38,11 +39,12 @@ request_of facts token ask = record { by = by_token facts token; ask = ask }
 
 -- ---- one ask after a history
 
--- The body, where there is one, is that of the reply.
+-- The body, if there is one, is that of the reply.
 abbrev pub HasItsBody : SeasonFacts → Answered → Type 0
 HasItsBody facts answered = IfOk answered.body (λ text. text ≡ reply_body facts.matrix answered.reply)
 
--- A request after a history is answered: it is the move of the state to which the history leads, and these entries, one or none, are what it newly accepted.
+-- A request after a history is answered: it is the move of the state to which the history leads.
+-- These entries, one or none, are what it newly accepted.
 pub record IsAnsweredAt (facts : SeasonFacts) (place : List Entry) (request : Request) (answered : Answered) (added : List Entry) : Type 0 where
   pub old : State
   pub new : State
@@ -52,13 +54,15 @@ pub record IsAnsweredAt (facts : SeasonFacts) (place : List Entry) (request : Re
   pub grows : place ++ added ≡ grown place number (newly old.now (decided facts old request))
   pub body : HasItsBody facts answered
 
--- A request after a history is not answered. It is none of those that take nothing, and, over a keeper that holds room in advance, no withdrawal that finds no
--- memory.
+-- A request after a history is not answered. It is none of those that take nothing.
+-- Over a keeper that holds room in advance, it is no withdrawal for which memory runs out.
+-- If it would keep nothing, the fault is not the keeper's.
 pub record IsUnanswered (facts : SeasonFacts) (room : Bool) (place : List Entry) (request : Request) (fault : OfficeFault) : Type 0 where
   pub old : State
   pub history : IsHistory facts place old
   pub some : takes_nothing (decided facts old request) ≡ true → ⊥
   pub spared : room ≡ true → withdraws (decided facts old request) ≡ true → fault ≡ OutOfMemory → ⊥
+  pub asked : newly old.now (decided facts old request) ≡ None → fault ≡ KeeperFault → ⊥
 
 -- the same two of an ask with its token, in a season
 abbrev pub AnswersAt : SeasonFacts → List Entry → Option (List ℕ) → Ask → Answered → List Entry → Type 0
@@ -69,32 +73,33 @@ UnanswersAt facts room place token ask fault = IsUnanswered facts room place (re
 
 -- ---- one ask of an office
 
-module _ {K : Type 0} (tables : K → Tables) (holds_room : K → Bool) (faults : K → ℕ) where
-  -- The office answered a request under this number: the move begins where the last one ended, what is newly accepted is kept and is the last entry, and
-  -- the keeper did not fail.
+module _ {K : Type 0} (seen : K → Shelf) where
+  -- The office answered a request under this number. The move begins where the last one ended.
+  -- What is newly accepted is kept and is the last entry, and the keeper did not fail.
   pub record HasAnswered (number : ℕ) (request : Request) (answered : Answered) (old new : Opened K) : Type 0 where
     pub history : IsHistory old.season old.entries old.state
     pub moves : IsMove old.season old.state request answered.reply new.state
     pub entries : new.entries ≡ grown old.entries number (newly old.state.now (decided old.season old.state request))
     pub season : new.season ≡ old.season
-    pub stands : Stand new.season new.state (tables new.keeper)
-    pub told_before : IsTold (tables new.keeper) → IsTold (tables old.keeper)
+    pub stands : Stand new.season new.state (seen new.keeper).tables
+    pub told_before : IsTold (seen new.keeper).tables → IsTold (seen old.keeper).tables
     pub body : HasItsBody old.season answered
-    pub room : holds_room new.keeper ≡ holds_room old.keeper
-    pub steady : faults new.keeper ≡ faults old.keeper
+    pub room : (seen new.keeper).holds_room ≡ (seen old.keeper).holds_room
+    pub steady : (seen new.keeper).faults ≡ (seen old.keeper).faults
 
-  -- The office did not answer a request: it and what its keeper tells are as before. The keeper failed exactly where that is the fault.
+  -- The office did not answer a request: the office and the visible tables of its keeper are unchanged.
+  -- The keeper failed if and only if that is the fault.
   pub record HasNotAnswered (request : Request) (fault : OfficeFault) (old new : Opened K) : Type 0 where
-    pub unanswered : IsUnanswered old.season (holds_room old.keeper) old.entries request fault
+    pub unanswered : IsUnanswered old.season (seen old.keeper).holds_room old.entries request fault
     pub entries : new.entries ≡ old.entries
     pub state : new.state ≡ old.state
     pub season : new.season ≡ old.season
-    pub told : AreTold (tables old.keeper) (tables new.keeper)
-    pub told_before : IsTold (tables new.keeper) → IsTold (tables old.keeper)
-    pub room : holds_room new.keeper ≡ holds_room old.keeper
-    pub count : faults old.keeper ≤ faults new.keeper
-    pub cause : fault ≡ KeeperFault → Rose (faults old.keeper) (faults new.keeper)
-    pub steady : fault ≡ OutOfMemory → faults new.keeper ≡ faults old.keeper
+    pub told : AreTold (seen old.keeper).tables (seen new.keeper).tables
+    pub told_before : IsTold (seen new.keeper).tables → IsTold (seen old.keeper).tables
+    pub room : (seen new.keeper).holds_room ≡ (seen old.keeper).holds_room
+    pub count : (seen old.keeper).faults ≤ (seen new.keeper).faults
+    pub cause : fault ≡ KeeperFault → Rose (seen old.keeper).faults (seen new.keeper).faults
+    pub steady : fault ≡ OutOfMemory → (seen new.keeper).faults ≡ (seen old.keeper).faults
 
   -- an ask with its token, put to an office under a number: its answer, and the office before and after it
   abbrev pub AsksOffice : ℕ → Option (List ℕ) → Ask → Result Answered OfficeFault → Opened K → Opened K → Type 0

@@ -8,14 +8,15 @@ use office_base::Ask;
 use round_cut::{Office, OfficeFault};
 use std::alloc::Global;
 
-/// An office to which asks are put one after another, each under the number after the last one. So many asks are left as the last number is below 2^42.
+/// An office to which asks are put one after another, each under the number after the last one.
+/// The asks left are 2^42 less the last number.
 #[derive(Drop)]
 pub struct OfficeCounter<'a, K: Keeper> {
     pub office: &'a mut Office<K>,
 }
 
 impl<'a, K: Keeper> OfficeCounter<'a, K> {
-    /// A counter over this office. It takes no memory.
+    /// Returns a counter over this office. It allocates nothing.
     pub fn new(office: &'a mut Office<K>) -> OfficeCounter<'a, K>
         ensures same_office { result.office.ghost_name ≡ office.entry.ghost_name }
         ensures office { result.office.now ≡ office.old }
@@ -33,7 +34,7 @@ impl<K: Keeper> Counter for OfficeCounter<'_, K> {
 
     ghost lender = { λ c. c.office.ghost_name };
 
-    ghost answers = { λ c token ask answer c'. AsksOffice K.tables K.holds_room K.faults (last_of c.office.now.entries + 1) token ask answer c.office.now c'.office.now };
+    ghost answers = { λ c token ask answer c'. AsksOffice K.seen (last_of c.office.now.entries + 1) token ask answer c.office.now c'.office.now };
 
     fn ask(
         &mut self,

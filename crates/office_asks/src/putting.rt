@@ -16,7 +16,7 @@ use round_cut::{Office, OfficeFault};
 use script_runs::laws::replies_can_be_shown;
 use std::alloc::Global;
 
-/// A token in two parts: whether there is one, and its bytes.
+/// Returns a token in two parts: whether there is one, and its bytes.
 pub fn token_parts(token: Option<&[u8]>) -> (bool, &[u8])
     ensures { option_copied token.entry ≡ token_of result.0 result.1.now }
 {
@@ -26,9 +26,11 @@ pub fn token_parts(token: Option<&[u8]>) -> (bool, &[u8])
     }
 }
 
-/// Puts an ask with its token, whose two parts are whether there is one and its bytes, to an office. What is newly accepted has this number, which has to be
-/// above the last one. The body is made with the reply; where there is no memory for it, what was asked is done all the same. `KeeperFault` comes only
-/// where the keeper failed in this call, and `OutOfMemory` where it did not; after either the office and what its keeper tells are as before.
+/// Puts an ask with its token to an office. The token has two parts: whether there is one, and its bytes.
+/// What is newly accepted has this number, which must be above the last one.
+/// The body is made with the reply. If memory runs out for the body, what was asked is done all the same.
+/// It returns `KeeperFault` only if the keeper failed in this call, and `OutOfMemory` if it did not.
+/// Both leave the office and the visible tables of its keeper unchanged.
 pub fn put_to_office<K: Keeper>(
     alloc: Global,
     office: &mut Office<K>,
@@ -38,8 +40,8 @@ pub fn put_to_office<K: Keeper>(
     ask: &Ask,
 ) -> Result<Answered, OfficeFault>
     requires { last_of office.old.entries < number }
-    ensures asked { AsksOffice K.tables K.holds_room K.faults number (token_of has_token token.now) ask.now result office.old office.new }
-    ensures told_before { IsTold (K.tables office.new.keeper) → IsTold (K.tables office.old.keeper) }
+    ensures asked { AsksOffice K.seen number (token_of has_token token.now) ask.now result office.old office.new }
+    ensures told_before { IsTold (K.seen office.new.keeper).tables → IsTold (K.seen office.old.keeper).tables }
 {
     let _entries = office.entries();
     let request = request_by(office, has_token, token, ask);
@@ -48,7 +50,7 @@ pub fn put_to_office<K: Keeper>(
     Ok(Answered { reply, body })
 }
 
-/// Who asks what, by a token in two parts. It takes no memory.
+/// Returns who asks what, by a token in two parts. It allocates nothing.
 fn request_by<K: Keeper>(office: &Office<K>, has_token: bool, token: &[u8], ask: &Ask) -> Request
     ensures { result ≡ request_of office.now.season (token_of has_token token.now) ask.now }
 {
@@ -60,7 +62,7 @@ fn request_by<K: Keeper>(office: &Office<K>, has_token: bool, token: &[u8], ask:
     Request { by, ask: *ask }
 }
 
-/// The body of a reply that led to the office's state.
+/// Returns the body of a reply that led to the office's state.
 fn body_of<K: Keeper>(alloc: Global, office: &Office<K>, reply: &Reply) -> Result<Text, OutOfMemory>
     requires { CameOf office.now.season office.now.state reply.now }
     ensures { IfOk result (λ text. text ≡ reply_body office.now.season.matrix reply.now) }
@@ -69,7 +71,7 @@ fn body_of<K: Keeper>(alloc: Global, office: &Office<K>, reply: &Reply) -> Resul
     reply_json(alloc, office.season(), reply)
 }
 
-/// A reply that led to the office's state has a body. It takes no memory.
+/// Shows that a reply that led to the office's state has a body. It allocates nothing.
 fn can_be_written<K: Keeper>(office: &Office<K>, reply: &Reply)
     requires { CameOf office.now.season office.now.state reply.now }
     ensures { IsReplyOf office.now.season.matrix [] None [] reply.now }

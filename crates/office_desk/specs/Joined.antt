@@ -13,7 +13,7 @@ abbrev pub united : {V I : Type 0} → View V I → View V I → View V I
 united v w = record (both_of v w) { stage = Idle }
 
 module _ {V I : Type 0} {g : Ghosts V I} where
-  -- A share and these turns went to a new pass, which has seen what the old one has; all else of the old one stays.
+  -- A share and these turns went to a new pass, which has seen what the old one has; the rest of the old one stays.
   pub record IsSplitOff (turns : ℕ) (before after new : Pass V I g) : Type 0 where
     pub shares : shares_of before ≡ shares_of after + 1
     pub left : left_of before ≡ left_of after + turns
@@ -29,8 +29,9 @@ module _ {V I : Type 0} {g : Ghosts V I} where
     pub new_found : found_of new ≡ found_of before
     pub new_count : count_of new ≡ count_of before
 
-  -- Shares, turns and tickets of both are joined. Of the two lists that were seen one is a prefix of the other, and the longer one stays; the own entries are
-  -- those of both, each once. The larger count stays, with what was found before it.
+  -- Shares, turns and tickets of both are joined.
+  -- Of the two lists that were seen one is a prefix of the other, and the longer one stays.
+  -- The passes' own entries are joined, each once. The larger count stays, with what was found before it.
   pub record IsUnion (one other both : Pass V I g) : Type 0 where
     pub shares : shares_of both ≡ shares_of one + shares_of other
     pub left : left_of both ≡ left_of one + left_of other

@@ -12,7 +12,8 @@ use Rattle.office_desk.specs.declared.handles.Desk.{Desk}
 use Rattle.office_desk.specs.declared.handles.Pass.{Pass}
 use Rattle.office_desk.specs.Words.{origin_of, shares_of, left_of, tickets_of, seen_of, own_of, found_of, count_of}
 
--- The value x may be put back by whoever holds the value with the ticket t: it goes on from the list that was taken, on the same basis, and its count is not lower.
+-- The holder of the ticket t may put back the value x:
+-- it continues the list that was taken, on the same basis, and its count is not lower.
 pub record MayReturn {V I B : Type 0} (basis : V → B) (entries : V → List I) (number : I → ℕ) (count : V → ℕ) (t : ℕ) (v : View V I) (x : V) : Type 0 where
   pub kept : List I
   pub counted : ℕ
@@ -46,7 +47,8 @@ module _ {V I : Type 0} {g : Ghosts V I} {F X : Type 0} (once : Once F (MutBor V
     pub later : AllByRecursion (λ t. t < number) (tickets_of before)
     pub above : AllByRecursion (λ e. g.number e < number) (g.entries held)
     pub small : number < 2 ^ 41
-    -- the value stands on the desk's basis, for a list that begins with what the pass had seen, and its count is no lower than the one that it had seen
+    -- the value has the desk's basis, and a list that begins with what the pass had seen, and its count is no lower
+    -- than the one that it had seen
     pub basis : g.basis held ≡ g.basis (origin_of desk)
     pub begins : Begins (seen_of before) (g.entries held)
     pub counts : count_of before ≤ g.count held
@@ -54,7 +56,8 @@ module _ {V I : Type 0} {g : Ghosts V I} {F X : Type 0} (once : Once F (MutBor V
     pub tickets : tickets_of after ≡ tickets_of before ++ number ∷ []
     pub turns : left_of before ≡ left_of after + 1
     pub shares : shares_of after ≡ shares_of before
-    -- it has seen the list as the job left it: with the one entry of this number, by which its own entries have grown, or as it was
+    -- it has seen the list as the job left it:
+    -- with the one entry of this number, by which its own entries have grown, or unchanged
     pub seen : seen_of after ≡ g.entries left
     pub grown : ((g.entries left ≡ g.entries held) × (own_of after ≡ own_of before))
         ⊎ ((e : I) × (g.number e ≡ number) × (g.entries left ≡ g.entries held ++ e ∷ []) × (own_of after ≡ own_of before ++ e ∷ []))

@@ -8,10 +8,12 @@ use atomic_table::{Refused, Table};
 use office_base::{Booked, OutOfMemory};
 use std::alloc::Global;
 use std::snapshot::Snapshot;
+use std::sync::Mutex;
 
 impl<V: Booked> Desk<V> {
-    /// A desk for this value, and its first pass, with 2^30 shares and 2^40 turns. Tickets go on from the value's last number.
-    /// Where there is no memory, the value comes back.
+    /// Makes a desk for this value, and its first pass, with 2^30 shares and 2^40 turns.
+    /// Tickets follow the value's last number.
+    /// If memory runs out, it returns the value.
     pub fn begin(alloc: Global, value: V) -> Result<(Desk<V>, Pass<V>), (V, OutOfMemory)>
         requires { last_of (map V.number (V.entries value)) < 2 ^ 40 }
         ensures desk { IfOk result (λ made. (origin_of made.0 ≡ value) × belongs made.0 made.1) }
@@ -26,7 +28,10 @@ impl<V: Booked> Desk<V> {
         let first = value.last_number() + 1;
         slots.push_reserved(Some(value));
         match Table::new(alloc, &[first, first], slots, &about) {
-            Ok((table, seat)) => Ok((Desk { table }, Pass::first(seat))),
+            Ok((table, seat)) => {
+                let gate = Mutex::new(());
+                Ok((Desk { gate, table }, Pass::first(seat)))
+            }
             Err(Refused { mut slots }) => {
                 let value = slots.pop().unwrap().unwrap();
                 slots.destroy_empty();
@@ -35,7 +40,7 @@ impl<V: Booked> Desk<V> {
         }
     }
 
-    /// Ends the desk with its whole pass, and gives the value back. It takes no memory.
+    /// Ends the desk with its whole pass, and returns the value. It allocates nothing.
     pub fn close(self, pass: Pass<V>) -> V
         requires desk { belongs self pass }
         requires whole { shares_of pass ≡ 2 ^ 30 }
@@ -44,7 +49,7 @@ impl<V: Booked> Desk<V> {
         ensures own { V.entries result ≡ V.entries (origin_of self) ++ own_of pass }
         ensures count { count_of pass ≤ V.count result }
     {
-        let Desk { table } = self;
+        let Desk { gate: _, table } = self;
         let mut closed = table.close_with(pass.into_seat());
         let value = closed.take(0).unwrap();
         closed.free();

@@ -7,14 +7,19 @@ use desk_rule::{Turns, View};
 use office_base::Booked;
 use std::alloc::Global;
 use std::snapshot::Snapshot;
+use std::sync::Mutex;
 
 /// A place at which one value is used in turns.
 pub struct Desk<V: Booked> {
+    // Callers wait here. The caller who has it draws a ticket, which is served at once.
+    // A caller that drew a ticket and then slept would hold up all others.
+    pub(crate) gate: Mutex<()>,
     pub(crate) table: Table<Option<V>, View<V>, Snapshot<V>, Turns, Global>,
     ghost sized: { (table.shared.table_id.words ≡ 2) × (table.shared.table_id.slots ≡ 1) },
 }
 
-/// The right to some turns at a desk, and what its holder knows of the history. A pass that is dropped keeps its shares for good.
+/// The right to some turns at a desk, and what its holder knows of the history.
+/// A pass that is dropped keeps its shares for good.
 #[derive(Drop)]
 pub struct Pass<V: Booked> {
     pub(crate) seat: Seat<Option<V>, View<V>>,

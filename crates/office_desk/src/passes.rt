@@ -58,21 +58,22 @@ impl<V: Booked> Pass<V> {
         seat
     }
 
-    /// How many turns are left.
+    /// Returns how many turns are left.
     pub fn left(&self) -> u64
         ensures { result ≡ left_of self.now }
     {
         self.left
     }
 
-    /// Whether all shares of the desk are here: no other pass of it is left.
+    /// Returns whether this is the only pass of the desk.
     pub fn is_whole(&self) -> bool
         ensures { IsTrue result ↔ (shares_of self.now ≡ 2 ^ 30) }
     {
         self.shares == WHOLE
     }
 
-    /// Gives one share and these turns to a new pass, which has seen what this one has. It takes no memory, so it never fails.
+    /// Gives one share and these turns to a new pass, which has seen what this one has. Never fails:
+    /// it allocates nothing.
     pub fn split(&mut self, desk: &Desk<V>, turns: u64) -> Result<Pass<V>, OutOfMemory>
         requires desk { belongs desk.now self.old }
         requires shares { 2 ≤ shares_of self.old }
@@ -90,7 +91,7 @@ impl<V: Booked> Pass<V> {
         })
     }
 
-    /// Takes in another pass of the same desk. It takes no memory.
+    /// Takes in another pass of the same desk. It allocates nothing.
     pub fn join(&mut self, desk: &Desk<V>, other: Pass<V>)
         requires desk { belongs desk.now self.old }
         requires other { belongs desk.now other }
@@ -104,7 +105,7 @@ impl<V: Booked> Pass<V> {
     }
 }
 
-// Two seats in one, which then learns how they stand to one another.
+// Makes one of two seats, and finds how the two are related.
 fn unite<V: Booked>(
     desk: &Desk<V>,
     seat: &mut Seat<Option<V>, View<V>>,

@@ -5,5 +5,5 @@ use Rattle.office_asks.proofs.counter.OfficeCounterCounter.ask.Goals as goal
 pub returns-clause-left : goal.returns-clause-left
 returns-clause-left g c =
     let next = ap (λ n. n + 1) c.last_number-number.ensures in
-    let last = last_after g.K.Keeper.tables g.K.Keeper.holds_room g.K.Keeper.faults _ _ c.args.ask.now c.put_to_office.result c.args.self.now.office.now c.put_to_office.new.office c.put_to_office.ensures.asked next in
+    let last = last_after g.K.Keeper.seen _ _ c.args.ask.now c.put_to_office.result c.args.self.now.office.now c.put_to_office.new.office c.put_to_office.ensures.asked next in
     omega (arith, last)

@@ -1,5 +1,5 @@
 use Rattle.std.proofs.Common.{◌≡◌}
-use Rattle.office_desk.proofs.turning.take_value.Given as goal
+use Rattle.office_desk.proofs.turning.await_turn.Given as goal
 
 abbrev pub invariant-loop : goal.invariant-loop
 invariant-loop g l =
