@@ -1,4 +1,4 @@
--- How a session goes on, and how it ends.
+-- How a session continues, and how it ends.
 use Rattle.std.proofs.Common.{◌≡◌, ◌≢◌, ◌<◌, ◌≤◌, ◌+◌, ◌==◌, ◌⊎◌, if◌then◌else◌, inl, inr, ℕ, Bool, true, false, List, [], ◌∷◌, ◌++◌, Option, Some, None, Result, length, take, drop, arith, refl, sym, ap, subst, ◌∙◌, append_assoc, length-append}
 use Rattle.std.proofs.lemmas.List.{append-nil, drop-append-le, take_at, drop_at, length-take}
 use Rattle.std.proofs.Math.Seq.{take-add}
@@ -24,13 +24,13 @@ item_within : (bytes : List ℕ) (item : Item) (len : ℕ) → IsItem bytes item
 item_within bytes item len (inl is) = let come = is.1.come in let e = is.1.len_is in omega (arith, come, e)
 item_within bytes item len (inr is) = let e = is.3 in omega (arith, e)
 
--- a beginning and so many bytes of what follows it
+-- a beginning and n bytes of what follows it
 pub take-append-add : (xs ys : List ℕ) (n : ℕ) → take (length xs + n) (xs ++ ys) ≡ xs ++ take n ys
 take-append-add xs ys n =
     take-add (length xs) n (xs ++ ys) ∙ (ap (λ (a : List ℕ). a ++ take n (drop (length xs) (xs ++ ys))) (take_at xs ys (length xs) refl) ∙ ap (λ (b : List ℕ). xs ++ take n b) (drop_at xs ys (length xs) refl))
 
 module _ {C : Type 0} (R : C → Option (List ℕ) → Ask → Result Answered OfficeFault → C → Type 0) where
-  -- So many messages came and were answered, none of which closes, and later these bytes are held.
+  -- This many messages came and were answered, none of which closes, and later these bytes are held.
   pub record IsTalking (c0 c : C) (left0 left before after : Option (List ℕ)) (held : List ℕ) (done : ℕ) : Type 0 where
     pub got : List ℕ
     pub took : Took got left0 left
@@ -61,7 +61,7 @@ module _ {C : Type 0} (R : C → Option (List ℕ) → Ask → Result Answered O
       subst (λ (b : List ℕ). Cuts b items ((held ++ more) ++ later)) (sym (append_assoc got more later))
       (subst (λ (b : List ℕ). Cuts (got ++ (more ++ later)) items b) (sym (append_assoc held more later)) (cuts (more ++ later)))
 
-  -- the messages up to one more, of which the next bytes are told
+  -- the messages up to one more, of which the next bytes are visible
   cut_more : (got more held : List ℕ) (items : List Item) (item : Item) (len : ℕ) → ((later : List ℕ) → Cuts (got ++ later) items (held ++ later)) → ((later : List ℕ) → IsItem ((held ++ more) ++ later) item len)
       → (later : List ℕ) → Cuts ((got ++ more) ++ later) (items ++ item ∷ []) (drop len (held ++ more) ++ later)
   cut_more got more held items item len cuts is later =
@@ -94,7 +94,7 @@ module _ {C : Type 0} (R : C → Option (List ℕ) → Ask → Result Answered O
   abbrev pub Ends : C → C → Option (List ℕ) → Option (List ℕ) → Option (List ℕ) → Option (List ℕ) → SessionEnd → Type 0
   Ends c0 c left0 left before after end = (bytes : List ℕ) × AreLeft bytes left0 × IsSession R c0 c bytes (talk_of left0 left before after) end
 
-  -- so many messages are answered
+  -- this many messages are answered
   pub full : (c0 c : C) (left0 left before after : Option (List ℕ)) (held : List ℕ) (done : ℕ) → IsTalking c0 c left0 left before after held done → done ≡ 100 → Ends c0 c left0 left before after LimitReached
   full c0 c left0 left before after held done talk all = (
     talk.got ++ unwrap_or left [],
@@ -276,7 +276,7 @@ not_faulty : (b : Bool) → (if b then LimitReached else EndsOpen) ≡ LinkFault
 not_faulty true e = cc
 not_faulty false e = cc
 
--- a session ends with a fault of the link exactly where the step does
+-- a session ends with a fault of the link if and only if the step does
 pub faulty : (step : Step) (done : ℕ) → end_of step done ≡ LinkFault → (step ≡ Unwritten) ⊎ (step ≡ Unread)
 faulty Next done e = absurd (cc)
 faulty Last done e = absurd (not_faulty _ e)

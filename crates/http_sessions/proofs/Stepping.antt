@@ -1,4 +1,4 @@
--- One message: what is told of it.
+-- One message: what is visible of it.
 use Rattle.std.proofs.Common.{◌≡◌, ◌<◌, ◌+◌, ℕ, Bool, true, false, List, [], ◌∷◌, ◌++◌, Option, Result, length, take, drop, arith, refl, sym, ap, subst, ◌∙◌}
 use Rattle.std.proofs.lemmas.List.{append-nil, nil_from_length}
 use Rattle.office_base.specs.Outside.{Appends}

@@ -23,7 +23,7 @@ pub appends_on : (a b : List ℕ) (first mid last : Option (List ℕ)) → Appen
 appends_on a b None mid last t u = subst (λ (m : Option (List ℕ)). Appends b m last) t u
 appends_on a b (Some bytes) mid last t u = subst (λ (m : Option (List ℕ)). Appends b m last) t u ∙ ap Some (append_assoc bytes a b)
 
--- what was taken and what is left, where it is told, are what was left before
+-- what was taken and what is left, if it is visible, are what was left before
 pub are_left : (taken : List ℕ) (before after : Option (List ℕ)) → Took taken before after → AreLeft (taken ++ unwrap_or after []) before
 are_left taken None after t = tt
 are_left taken (Some left) after t = ap (λ (m : Option (List ℕ)). taken ++ unwrap_or m []) t.1 ∙ sym t.2

@@ -12,7 +12,7 @@ module _ {L : Type 0} where
   none_passed None = refl
   none_passed (Some visits) = (refl, sym (append-nil visits.returned))
 
-  -- where one is told, one is told before it came
+  -- if connections are visible after one came, they were visible before
   passed_on : (first mid then last : Option (Visits L)) (pairs : List (L × L)) (conn back : L) → HasPassed first pairs mid → GivesFirst mid conn then → TakesBack then back last → HasPassed first (pairs ++ (conn, back) ∷ []) last
   passed_on None None None last pairs conn back p g t = t
   passed_on None None (Some v) last pairs conn back p g t = absurd cc

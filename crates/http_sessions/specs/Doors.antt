@@ -10,14 +10,14 @@ use Rattle.http_sessions.specs.declared.conversation.SessionEnd.{SessionEnd}
 use Rattle.http_sessions.specs.declared.conversation.SessionEnd.TheVariants.{LinkFault}
 
 module _ {L : Type 0} where
-  -- these connections came and were given back, in their order; where none is told, none is told then
+  -- these connections came and were given back, in their order; hidden connections stay hidden
   abbrev pub HasPassed : Option (Visits L) → List (L × L) → Option (Visits L) → Type 0
   HasPassed None pairs after = after ≡ None
   HasPassed (Some before) pairs None = ⊥
   HasPassed (Some before) pairs (Some after) = (before.coming ≡ map (λ pair. pair.0) pairs ++ after.coming) × (after.returned ≡ before.returned ++ map (λ pair. pair.1) pairs)
 
 module _ {C L : Type 0} (R : C → Option (List ℕ) → Ask → Result Answered OfficeFault → C → Type 0) (left written : L → Option (List ℕ)) (faults : L → ℕ) where
-  -- A session over a link, as it was found and as it was left: it ends with a fault exactly where the link failed.
+  -- A session over a link, as it was found and as it was left: it ends with a fault if and only if the link failed.
   pub record IsHeld (c c' : C) (link link' : L) : Type 0 where
     pub bytes : List ℕ
     pub end : SessionEnd
@@ -30,7 +30,7 @@ module _ {C L : Type 0} (R : C → Option (List ℕ) → Ask → Result Answered
   AreHeld c [] c' = c' ≡ c
   AreHeld c (pair ∷ pairs) c' = (mid : C) × IsHeld c mid pair.0 pair.1 × AreHeld mid pairs c'
 
-  -- the links that came, each beside what it was when it was given back
+  -- the links that came, each with the same link as it was given back
   pub record HasVisited (c c' : C) (before after : Option (Visits L)) : Type 0 where
     pub links : List (L × L)
     pub passed : HasPassed before links after

@@ -18,7 +18,8 @@ use Rattle.round_cut.specs.declared.fault.OfficeFault.TheVariants.{KeeperFault, 
 
 -- ---- messages
 
--- A message as it is answered: what it comes to, whether the connection closes after the reply, and whether its body is read.
+-- A message as it is answered: the verdict on it, whether the connection closes after the reply,
+-- and whether its body is read.
 pub record Item : Type 0 where
   pub verdict : Verdict
   pub closes : Bool
@@ -31,7 +32,7 @@ item_of message = record { verdict = verdict_of message; closes = closes message
 abbrev pub refused_item : ℕ → Item
 refused_item status = record { verdict = refuses status None; closes = true; reads_body = false }
 
--- the bytes begin with that message, which takes so many of them
+-- the bytes begin with that message, which takes this many of them
 abbrev pub IsItem : List ℕ → Item → ℕ → Type 0
 IsItem bytes item len = ((message : Message) × IsWhole bytes message len × (item ≡ item_of message))
     ⊎ ((status : ℕ) × IsRefused bytes status × (item ≡ refused_item status) × (len ≡ 0))
@@ -63,7 +64,7 @@ but_last (item ∷ next ∷ items) = item ∷ but_last (next ∷ items)
 
 -- ---- replies
 
--- What came of a message: nothing was asked; there was no memory to read its body; or the counter answered this.
+-- What came of a message: nothing was asked; memory ran out to read its body; or the counter answered this.
 pub data Outcome : Type 0 where
   wired : Outcome
   unread : Outcome
@@ -72,7 +73,7 @@ pub data Outcome : Type 0 where
 abbrev pub fault_text : Bool → Fault → List ℕ
 fault_text close fault = reply_text (fault_status fault) (Some (fault_body fault)) None close
 
--- the reply with a body, or that there was no memory for it
+-- the reply with a body, or that memory ran out for it
 abbrev pub body_text : Bool → Reply → Result (List ℕ) Want → List ℕ
 body_text close reply (Ok body) = reply_text (status_of reply) (Some body) None close
 body_text close reply (Err want) = fault_text close Memory

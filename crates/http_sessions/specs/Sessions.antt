@@ -10,7 +10,7 @@ use Rattle.round_cut.specs.declared.fault.OfficeFault.{OfficeFault}
 use Rattle.http_sessions.specs.declared.conversation.SessionEnd.{SessionEnd}
 use Rattle.http_sessions.specs.declared.conversation.SessionEnd.TheVariants.{Ended, Torn, LimitReached, LinkFault}
 
--- no more messages are answered: so many were, or the last one closes, or no whole one follows
+-- no more messages are answered: the limit is reached, or the last one closes, or no whole one follows
 abbrev pub IsEnd : SessionEnd → List Item → List ℕ → Type 0
 IsEnd Ended items rest = (length items < 100) × ((closes_last items ≡ true) ⊎ ((list_any is_last items ≡ false) × (rest ≡ [])))
 IsEnd Torn items rest = (length items < 100) × (list_any is_last items ≡ false) × IsTorn rest
@@ -28,7 +28,8 @@ pub record Talk : Type 0 where
 abbrev pub AreWritten : Talk → List Item → List Outcome → Type 0
 AreWritten talk items outcomes = Appends (replies 1 items outcomes) talk.written_before talk.written_after
 
--- The link failed in a read: it did so before the hundredth reply, the replies were written whole, and what was taken holds no further whole message.
+-- The link failed in a read: it did so before the hundredth reply, the replies were written whole, and what was taken
+-- holds no further whole message.
 pub record FailsReading (bytes : List ℕ) (talk : Talk) (items : List Item) (outcomes : List Outcome) : Type 0 where
   pub taken : List ℕ
   pub rest : List ℕ

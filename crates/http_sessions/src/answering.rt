@@ -21,7 +21,8 @@ use reply_bodies::status_of;
 use round_cut::OfficeFault;
 use std::alloc::Global;
 
-/// What a message is read and answered with: the places of its fields, the routes of the pages, and the room for a reply.
+/// What a message is read and answered with:
+/// the places of its fields, the routes of the pages, and the room for a reply.
 #[derive(Drop)]
 pub(crate) struct Tools {
     pub room: [HeaderSpan; 64],
@@ -46,7 +47,8 @@ pub(crate) struct At {
     pub message: u32,
 }
 
-/// A reply that is ready: its message took so many of the held bytes, and whether it asks to close. What follows the bytes of the outbox.
+/// A reply that is ready: how many of the held bytes its message took, whether it asks to close,
+/// and what follows the bytes of the outbox.
 #[derive(Drop)]
 pub(crate) struct Ready {
     pub len: usize,
@@ -74,7 +76,7 @@ fn ask_at<C: Counter, G: Gate>(
     answer
 }
 
-/// Puts the reply to what was asked; the body comes back where it does not fit.
+/// Puts the reply to what was asked; it returns the body if it does not fit.
 fn put_answer(
     outbox: &mut Outbox,
     answer: Result<Answered, OfficeFault>,
@@ -95,7 +97,7 @@ fn put_answer(
     }
 }
 
-/// Puts a reply with its body, or that there was no memory for it; the body comes back where it does not fit.
+/// Puts a reply with its body, or that memory ran out for it. It returns the body if it does not fit.
 fn put_body(
     outbox: &mut Outbox,
     reply: &Reply,
@@ -118,7 +120,7 @@ fn put_body(
     }
 }
 
-/// Whether the connection closes after the reply to the message of this number.
+/// Returns whether the connection closes after the reply to the message of this number.
 fn closes_after(message: &HeldMessage<'_>, number: u32) -> bool
     ensures { result ≡ closes message.now.minor (told_fields message.now.fields) || number == 100 }
 {
@@ -158,7 +160,7 @@ fn answer_message<C: Counter, G: Gate>(
     }
 }
 
-/// Answers the message that the held bytes begin with. None where more bytes are wanted.
+/// Answers the message that the held bytes begin with. Returns None if it needs more bytes.
 pub(crate) fn answer_held<C: Counter, G: Gate>(
     alloc: Global,
     counter: &mut C,

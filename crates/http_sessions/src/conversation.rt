@@ -13,7 +13,8 @@ use office_base::OutOfMemory;
 use office_links::Link;
 use std::alloc::Global;
 
-/// What a session is lent: room for the bytes of messages, the routes of the pages and the room for a reply. What it held before does not matter.
+/// What a session is lent: room for the bytes of messages, the routes of the pages and the room for a reply.
+/// What it held before does not matter.
 #[derive(Drop)]
 pub struct Buffers {
     inbox: Inbox,
@@ -43,7 +44,7 @@ pub enum SessionEnd {
     LinkFault,
 }
 
-/// The end of a session after so many replies.
+/// Returns the end of a session after this many replies.
 fn end_of(step: Step, done: u32) -> SessionEnd
     ensures { result ≡ end_of step done }
 {
@@ -55,7 +56,8 @@ fn end_of(step: Step, done: u32) -> SessionEnd
     }
 }
 
-/// Answers the messages of a link one after another, until one closes the connection, a hundred are answered, the input ends or the link fails.
+/// Answers the messages of a link one after another, until one closes the connection, a hundred are answered, the input
+/// ends or the link fails.
 pub fn session<C: Counter, L: Link, G: Gate>(
     alloc: Global,
     counter: &mut C,

@@ -10,7 +10,7 @@ use office_moves::Reply;
 use round_cut::OfficeFault;
 use std::alloc::Global;
 
-/// A reply of the office, and its body, for which there may have been no memory. What was asked is done either way.
+/// A reply of the office, and its body, for which memory may have run out. What was asked is done either way.
 #[derive(Debug, Drop)]
 pub struct Answered {
     pub reply: Reply,
@@ -28,7 +28,8 @@ pub trait Counter {
     /// The counter before, a token, what is asked with it, the answer, and the counter after.
     ghost answers: { Self → Option (List ℕ) → AnyAsk → Result AnyAnswered AnyFault → Self → Type 0 };
 
-    /// Puts an ask with its token, and lowers the number of asks left by at most one. `KeeperFault` and `OutOfMemory` are the office's own.
+    /// Puts an ask with its token, and lowers the number of asks left by at most one.
+    /// `KeeperFault` and `OutOfMemory` are faults of the office.
     fn ask(
         &mut self,
         alloc: Global,

@@ -50,8 +50,9 @@ fn serve_one<C: Counter, D: Door, G: Gate>(
     door.give_back(conn);
 }
 
-/// Takes the connections of a door one after another, holds a session on each, and gives it back, until the door has none or fails. It answers
-/// whether the door failed. No connection stays out.
+/// Takes the connections of a door one after another, holds a session on each, and gives it back.
+/// It stops when the door has none or fails, and returns whether the door failed.
+/// No connection stays out.
 pub fn serve_door<C: Counter, D: Door, G: Gate>(
     alloc: Global,
     counter: &mut C,

@@ -1,12 +1,12 @@
 // What is called around each message that reaches the counter.
 
-/// It is called around each message that reaches a counter, outside any turn. Workers are numbered from 0, and the messages of a connection from 1, all of
-/// them counted.
+/// It is called around each message that reaches a counter, outside any turn. Workers are numbered from 0.
+/// The messages of a connection are numbered from 1, and all of them are counted.
 pub trait Gate {
-    /// Before the message is put to the counter.
+    /// Runs before the message is put to the counter.
     fn before(&self, worker: u32, message: u32);
 
-    /// After the counter answered it.
+    /// Runs after the counter answered it.
     fn after(&self, worker: u32, message: u32);
 }
 

@@ -1,6 +1,6 @@
 // Bytes that came over a link and are not used up yet.
-ghost use Rattle.std.specs.Prelude.{◌≡◌, ℕ, ◌+◌, ◌-◌, ◌<◌, ◌≤◌, List, Option, [], ◌++◌, length, take, drop, IfOk, OnOk, OnErr};
-ghost use Rattle.office_base.specs.Outside.{IsAtEnd, Rose, TakesPrefix, Took};
+ghost use Rattle.std.specs.Prelude.{◌≡◌, ℕ, ◌+◌, ◌-◌, ◌<◌, ◌≤◌, List, Option, [], ◌++◌, length, take, drop, IfOk, IsErr, OnOk, OnErr};
+ghost use Rattle.office_base.specs.Outside.{Fails, IsAtEnd, Rose, TakesPrefix, Took};
 
 use office_base::{Failed, OutOfMemory};
 use office_links::Link;
@@ -35,9 +35,7 @@ fn read_behind<L: Link>(link: &mut L, bytes: &mut [u8], end: usize) -> Result<us
     ensures ended { IfOk result (λ n. n ≡ 0 → IsAtEnd (L.left link.new)) }
     ensures kept { OnErr result (L.left link.new ≡ L.left link.old) }
     ensures apart { L.written link.new ≡ L.written link.old }
-    ensures cause { OnErr result (Rose (L.faults link.old) (L.faults link.new)) }
-    ensures count { L.faults link.old ≤ L.faults link.new }
-    ensures steady { OnOk result (L.faults link.new ≡ L.faults link.old) }
+    ensures blamed { Fails (IsErr result) (L.faults link.old) (L.faults link.new) }
 {
     let (_, free) = bytes.split_at_mut(end);
     link.read(free)
@@ -55,7 +53,7 @@ impl Inbox {
         })
     }
 
-    /// What is held.
+    /// Returns what is held.
     pub fn held(&self) -> &[u8]
         ensures { result.now ≡ self.now }
     {

@@ -1,9 +1,11 @@
 // The messages of a connection, answered one after another over any counter, and the connections of a door.
 //
-// `serve` and whoever holds a session over an office stand on it. `specs/Exchange` cuts the bytes of a link into messages and says the reply to each,
-// `specs/Sessions` how a session ends, `specs/Doors` what became of the connections of a door. A counter is whatever asks are put to; what it answers
-// is its own matter, and a session is proved once over all of them. The text of a reply is written from a room that was made before, so only bodies
-// take memory. It must never know of seasons, of states or of histories, nor whether the counter is an office or stands at a desk.
+// `serve` and code that holds a session over an office build on it.
+// `specs/Exchange` cuts the bytes of a link into messages and says the reply to each, `specs/Sessions` says how a
+// session ends, `specs/Doors` what became of the connections of a door.
+// A counter is anything that takes asks. What it answers is its own matter, and a session is proved once over all of
+// them. The text of a reply is written from a room that was made before, so only bodies allocate.
+// It must never know of seasons, of states or of histories, nor whether the counter is an office or is at a desk.
 #![tactic(auto)]
 
 mod answering;

@@ -78,7 +78,7 @@ pub(crate) fn exchange_one<C: Counter, L: Link, G: Gate>(
     }
 }
 
-/// What it is where the input ends.
+/// Returns the step at the end of the input.
 fn at_end(inbox: &Inbox) -> Step
     ensures { result ≡ step_of inbox.now }
 {

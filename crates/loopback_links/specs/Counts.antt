@@ -1,8 +1,9 @@
--- What a door over a listener of the system shows of itself.
+-- What a door over a listener shows of itself.
 use Rattle.std.specs.Prelude.{ℕ}
 
--- how many connections it still takes, how many are out, and the faults
-pub record DoorCounts : Type 0 where
+-- the listener, how many connections the door still takes, how many are out, and its faults
+pub record DoorCounts (L : Type 0) : Type 0 where
+  pub listener : L
   pub left : ℕ
   pub out : ℕ
   pub faults : ℕ

@@ -1,4 +1,4 @@
--- What several writes, one after another, do to what is told.
+-- What several writes, one after another, do to the visible bytes.
 use Rattle.std.proofs.Common.{◌≡◌, ℕ, List, ◌++◌, Option, take, length, ◌<◌, refl, sym, ap, ◌∙◌, subst, arith, length-append}
 use Rattle.std.proofs.lemmas.List.{take_at}
 use Rattle.office_base.specs.Outside.{Appends}

@@ -1,4 +1,4 @@
--- What a door tells of its connections, and what a call does to it.
+-- What is visible of a door's connections, and what a call does to the door.
 use Rattle.std.specs.Prelude.{◌≡◌, ℕ, List, [], ◌∷◌, ◌++◌, Option, Some, None, length}
 
 -- the connections still to come, and those given back, the first given back first
@@ -6,7 +6,7 @@ pub record Visits (C : Type 0) : Type 0 where
   pub coming : List C
   pub returned : List C
 
--- the first connection to come is given out, and those given back stay; where connections are not told, they stay untold
+-- the first connection to come is given out, and those given back stay; hidden connections stay hidden
 abbrev pub GivesFirst : {C : Type 0} → Option (Visits C) → C → Option (Visits C) → Type 0
 GivesFirst None conn after = after ≡ None
 GivesFirst (Some before) conn None = ⊥
@@ -18,7 +18,7 @@ TakesBack None conn after = after ≡ None
 TakesBack (Some before) conn None = ⊥
 TakesBack (Some before) conn (Some after) = (after.coming ≡ before.coming) × (after.returned ≡ before.returned ++ conn ∷ [])
 
--- where connections are told, so many are still to come
+-- if the connections are visible, this many are still to come
 abbrev pub AreComing : {C : Type 0} → ℕ → Option (Visits C) → Type 0
 AreComing n None = Unit {0}
 AreComing n (Some visits) = n ≡ length visits.coming

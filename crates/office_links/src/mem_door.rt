@@ -1,8 +1,7 @@
-// A door in memory, which gives the links that it was made of and tells them.
+// A door in memory, which gives the links that it was made of. They are visible.
 ghost use Rattle.std.specs.Prelude.{◌≡◌, ◌<◌, ◌≤◌, ◌+◌, ◌↔◌, [], ◌∷◌, ◌++◌, ℕ, List, Option, length, IfOk, OnOk, OnErr, IfSome, IfNone, IsErr, Some, Contains, vec_capacity};
-ghost use Rattle.office_base.specs.Outside.{Rose};
-ghost use Rattle.office_base.specs.Memory.{counted};
-ghost use Rattle.office_links.specs.Memory.{visits};
+ghost use Rattle.office_base.specs.Outside.{Fails};
+ghost use Rattle.office_links.specs.Memory.{IsDoorAccept, visits};
 ghost use Rattle.office_links.specs.Visits.{GivesFirst, TakesBack};
 
 use crate::{Door, MemLink};
@@ -10,7 +9,8 @@ use office_base::{Failed, OutOfMemory, fails_at};
 use std::alloc::Global;
 use std::marker::Model;
 
-/// Links in memory, given one after another in their order. The room for those that come back is taken when it is made.
+/// Gives links in memory one after another, in their order.
+/// The room for those that come back is allocated when it is made.
 #[derive(Debug, Drop)]
 pub struct MemDoor {
     coming: Vec<MemLink>,
@@ -33,7 +33,7 @@ impl Model for MemDoor {
 }
 
 impl MemDoor {
-    /// A door that gives these links. The calls of `accept` with the numbers in `fail_at`, from 1, fail.
+    /// Makes a door that gives these links. The calls of `accept` with the numbers in `fail_at`, from 1, fail.
     pub fn new(alloc: Global, links: Vec<MemLink>, fail_at: &[u32]) -> Result<MemDoor, OutOfMemory>
         ensures { IfOk result (λ door. door ≡ record { coming = links.items; returned = []; out = 0; calls = 0; fail_at = fail_at.now; faults = 0 }) }
     {
@@ -48,7 +48,7 @@ impl MemDoor {
         })
     }
 
-    /// The links given back, in the order in which they came back.
+    /// Returns the links given back, in the order in which they came back.
     pub fn returned(&self) -> &[MemLink]
         ensures { result.now ≡ self.now.returned }
     {
@@ -91,13 +91,8 @@ impl Door for MemDoor {
             × GivesFirst (Some (visits self.old)) conn (Some (visits self.new)))) }
         ensures kept { OnErr result ((length self.new.coming ≡ length self.old.coming) × (self.new.out ≡ self.old.out)
             × (Some (visits self.new) ≡ Some (visits self.old))) }
-        ensures count { self.old.faults ≤ self.new.faults }
-        ensures steady { OnOk result (self.new.faults ≡ self.old.faults) }
-        ensures cause { OnErr result (Rose self.old.faults self.new.faults) }
-        // it fails exactly where its number says so; a failure is one fault more
-        ensures fails { IsErr result ↔ Contains self.old.fail_at (counted self.old.calls) }
-        ensures raised { OnErr result (self.new.faults ≡ counted self.old.faults) }
-        ensures rest { self.new ≡ record { coming = self.new.coming; returned = self.old.returned; out = self.new.out; calls = counted self.old.calls; fail_at = self.old.fail_at; faults = self.new.faults } }
+        ensures blamed { Fails (IsErr result) self.old.faults self.new.faults }
+        ensures memory { IsDoorAccept self.old self.new result }
     {
         self.calls = self.calls.saturating_add(1);
         if fails_at(&self.fail_at, self.calls) {

@@ -1,15 +1,17 @@
-// A link in memory, which tells its bytes and fails where it is told to or where its room is at an end.
+// A link in memory with visible bytes. It fails at chosen calls, and when its room is used up.
 ghost use Rattle.std.specs.Prelude.{◌≡◌, ◌<◌, ◌≤◌, ◌-◌, ◌↔◌, ◌⊎◌, [], ℕ, List, Option, length, take, drop, min, IfOk, OnOk, OnErr, IsErr, Some, Contains};
-ghost use Rattle.office_base.specs.Outside.{Rose, TakesPrefix, ComesAtTheEnd, AppendsPrefix};
+ghost use Rattle.office_base.specs.Outside.{Fails, TakesPrefix, ComesAtTheEnd, AppendsPrefix};
 ghost use Rattle.office_base.specs.Memory.{counted};
+ghost use Rattle.office_links.specs.Memory.{IsLinkRead, IsLinkWrite};
 
 use crate::Link;
 use office_base::{Failed, MemSink, MemSource, OutOfMemory, Sink, Source, fails_at};
 use std::alloc::Global;
 use std::marker::Model;
 
-/// Bytes to read, in pieces of at most `piece` bytes, and room for those that are written: a source and a sink in memory, which are told
-/// of no call to fail, with one number over the calls of both. All room is taken when it is made, so reads and writes take no memory.
+/// Holds bytes to read, in pieces of at most `piece` bytes, and room for those that are written: a source and a sink in
+/// memory that themselves never fail, with one number over the calls of both.
+/// All room is allocated when it is made, so reads and writes allocate nothing.
 #[derive(Debug, Drop)]
 pub struct MemLink {
     source: MemSource,
@@ -31,8 +33,8 @@ impl Model for MemLink {
 }
 
 impl MemLink {
-    /// A link that gives these bytes, at most `piece` a read, and has room for `room` bytes written in all. The calls with the numbers
-    /// in `fail_at`, from 1 over reads and writes together, fail.
+    /// Makes a link that gives these bytes, at most `piece` a read, and has room for `room` bytes written in all.
+    /// The calls with the numbers in `fail_at`, from 1 over reads and writes together, fail.
     pub fn new(
         alloc: Global,
         bytes: &[u8],
@@ -52,14 +54,14 @@ impl MemLink {
         })
     }
 
-    /// The bytes written so far.
+    /// Returns the bytes written so far.
     pub fn bytes(&self) -> &[u8]
         ensures { result.now ≡ self.now.written }
     {
         self.sink.bytes()
     }
 
-    /// The failure of a call, which is one fault more.
+    /// Counts one more fault, and returns the failure of a call.
     fn failed(&mut self) -> Failed
         ensures { self.new ≡ record self.old { faults = counted self.old.faults } }
     {
@@ -81,14 +83,8 @@ impl Link for MemLink {
         ensures ended { IfOk result (λ n. ComesAtTheEnd n (length buf.old) (Some self.old.left)) }
         ensures kept { OnErr result (Some self.new.left ≡ Some self.old.left) }
         ensures apart { Some self.new.written ≡ Some self.old.written }
-        ensures count { self.old.faults ≤ self.new.faults }
-        ensures steady { OnOk result (self.new.faults ≡ self.old.faults) }
-        ensures cause { OnErr result (Rose self.old.faults self.new.faults) }
-        // it gives as much as the piece and the buffer allow, and fails exactly where its number says so; a failure is one fault more
-        ensures piece { IfOk result (λ n. n ≡ min self.old.piece (min (length buf.old) (length self.old.left))) }
-        ensures fails { IsErr result ↔ Contains self.old.fail_at (counted self.old.calls) }
-        ensures raised { OnErr result (self.new.faults ≡ counted self.old.faults) }
-        ensures rest { self.new ≡ record { left = self.new.left; piece = self.old.piece; written = self.old.written; room = self.old.room; calls = counted self.old.calls; fail_at = self.old.fail_at; faults = self.new.faults } }
+        ensures blamed { Fails (IsErr result) self.old.faults self.new.faults }
+        ensures memory { IsLinkRead (length buf.old) self.old self.new result }
     {
         self.calls = self.calls.saturating_add(1);
         if fails_at(&self.fail_at, self.calls) {
@@ -106,15 +102,8 @@ impl Link for MemLink {
         ensures appended { IfOk result (λ n. AppendsPrefix n piece.now (Some self.old.written) (Some self.new.written)) }
         ensures kept { OnErr result (Some self.new.written ≡ Some self.old.written) }
         ensures apart { Some self.new.left ≡ Some self.old.left }
-        ensures count { self.old.faults ≤ self.new.faults }
-        ensures steady { OnOk result (self.new.faults ≡ self.old.faults) }
-        ensures cause { OnErr result (Rose self.old.faults self.new.faults) }
-        // it takes as much as there is room for, and fails exactly where its number says so or there is none; a failure is one fault more
-        ensures room { IfOk result (λ n. n ≡ min (length piece.now) (self.old.room - length self.old.written)) }
-        ensures fails { IsErr result
-            ↔ (Contains self.old.fail_at (counted self.old.calls) ⊎ ((0 < length piece.now) × (self.old.room ≤ length self.old.written))) }
-        ensures raised { OnErr result (self.new.faults ≡ counted self.old.faults) }
-        ensures rest { self.new ≡ record { left = self.old.left; piece = self.old.piece; written = self.new.written; room = self.old.room; calls = counted self.old.calls; fail_at = self.old.fail_at; faults = self.new.faults } }
+        ensures blamed { Fails (IsErr result) self.old.faults self.new.faults }
+        ensures memory { IsLinkWrite piece.now self.old self.new result }
     {
         self.calls = self.calls.saturating_add(1);
         if fails_at(&self.fail_at, self.calls) {

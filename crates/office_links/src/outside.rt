@@ -1,4 +1,4 @@
-// Links and doors. What an object holds is told or not; its count of faults always is.
+// Links and doors. What an object holds is visible or hidden; its count of faults is always visible.
 ghost use Rattle.std.specs.Prelude.{◌≤◌, ◌<◌, ◌+◌, ◌≡◌, ℕ, List, Option, Some, length, IfOk, OnOk, OnErr, IfSome, IfNone};
 ghost use Rattle.office_base.specs.Outside.{Rose, TakesPrefix, ComesAtTheEnd, AppendsPrefix};
 ghost use Rattle.office_links.specs.Visits.{Visits, GivesFirst, TakesBack, AreComing};
@@ -7,17 +7,18 @@ use office_base::Failed;
 
 /// What one connection is read from and written to.
 pub trait Link {
-    /// The bytes left to read, or None where they are not told.
+    /// The bytes left to read, or None if they are hidden.
     ghost left: { Self → Option (List ℕ) };
 
-    /// The bytes written so far, or None where they are not told.
+    /// The bytes written so far, or None if they are hidden.
     ghost written: { Self → Option (List ℕ) };
 
     /// How often the link has failed, in both directions together. It never falls, and stays at 2^64 - 1.
     ghost faults: { Self → ℕ };
 
     /// Puts bytes at the start of the buffer and says how many. 0 at a buffer that is not empty is the end of input.
-    /// What follows them in the buffer is left open. `Failed` comes only where the link failed in this call: its count rose.
+    /// What follows them in the buffer is left open. It returns `Failed` only if the link failed in this call:
+    /// its count rose.
     fn read(&mut self, buf: &mut [u8]) -> Result<usize, Failed>
         ensures within { IfOk result (λ n. n ≤ length buf.old) }
         ensures taken { IfOk result (λ n. TakesPrefix n (left self.old) (left self.new) buf.new) }
@@ -28,8 +29,9 @@ pub trait Link {
         ensures steady { OnOk result (faults self.new ≡ faults self.old) }
         ensures cause { OnErr result (Rose (faults self.old) (faults self.new)) };
 
-    /// Takes a prefix of the piece and says how long it is: at least one byte, unless the piece is empty. `Failed` comes only
-    /// where the link failed in this call: its count rose.
+    /// Takes a prefix of the piece and says how long it is: at least one byte, unless the piece is empty.
+    /// It returns `Failed` only if the link failed in this call:
+    /// its count rose.
     fn write(&mut self, piece: &[u8]) -> Result<usize, Failed>
         ensures within { IfOk result (λ n. n ≤ length piece.now) }
         ensures some { IfOk result (λ n. 0 < length piece.now → 0 < n) }
@@ -51,14 +53,15 @@ pub trait Door {
     /// How many connections are out: given, and not given back.
     ghost out: { Self → ℕ };
 
-    /// The connections still to come and those given back, or None where they are not told.
+    /// The connections still to come and those given back, or None if they are hidden.
     ghost told: { Self → Option (Visits Self.Conn) };
 
     /// How often the door has failed. It never falls, and stays at 2^64 - 1.
     ghost faults: { Self → ℕ };
 
-    /// The next connection, or None exactly where none is still to come. `Failed` comes only where the door failed in this call, its
-    /// count rose, and then no connection came.
+    /// Returns the next connection, and None if and only if none is still to come.
+    /// It returns `Failed` only if the door failed in this call:
+    /// its count rose, and then no connection came.
     fn accept(&mut self) -> Result<Option<Self::Conn>, Failed>
         ensures none { IfOk result (λ r. IfNone r ((to_come self.old ≡ 0) × (to_come self.new ≡ 0))) }
         ensures none_same { IfOk result (λ r. IfNone r ((out self.new ≡ out self.old) × (told self.new ≡ told self.old))) }
@@ -69,13 +72,13 @@ pub trait Door {
         ensures steady { OnOk result (faults self.new ≡ faults self.old) }
         ensures cause { OnErr result (Rose (faults self.old) (faults self.new)) };
 
-    /// Takes a connection back. It takes no memory.
+    /// Takes a connection back. It allocates nothing.
     fn give_back(&mut self, conn: Self::Conn)
         requires { 1 ≤ out self.old }
         ensures numbers { (out self.old ≡ out self.new + 1) × (to_come self.new ≡ to_come self.old) }
         ensures told { TakesBack (told self.old) conn (told self.new) }
         ensures count { faults self.new ≡ faults self.old };
 
-    /// Where the connections still to come are told, so many they are.
+    /// If the connections still to come are visible, this is their number.
     ghost told_number: { (door : Self) → AreComing (to_come door) (told door) };
 }

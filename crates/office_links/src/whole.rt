@@ -5,8 +5,10 @@ ghost use Rattle.office_base.specs.Outside.{Rose, Appends};
 use crate::Link;
 use office_base::Failed;
 
-/// Writes a piece whole. After an `Err` a prefix of it was written, shorter than the piece. It goes on after no failure: where it
-/// answers `Ok`, the link did not fail. What is left to read stays.
+/// Writes a piece whole. After an `Err` a prefix of it was written, shorter than the piece.
+/// It stops at the first failure:
+/// if it returns `Ok`, the link did not fail.
+/// What is left to read stays.
 pub fn write_link<L: Link>(link: &mut L, piece: &[u8]) -> Result<(), Failed>
     ensures ok { OnOk result (Appends piece.now (L.written link.old) (L.written link.new)) }
     ensures err { OnErr result ((n : ℕ) × (n < length piece.now) × Appends (take n piece.now) (L.written link.old) (L.written link.new)) }

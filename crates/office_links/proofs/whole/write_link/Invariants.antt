@@ -2,7 +2,7 @@ use Rattle.std.proofs.Common.{◌≡◌, ℕ, length, List, ◌++◌}
 use Rattle.office_base.specs.Outside.{Appends}
 use Rattle.office_links.proofs.whole.write_link.Given as goal
 
--- a prefix of the piece is written, the rest is left, what is left to read is as before, and the link did not fail
+-- a prefix of the piece is written, the rest is left, what is left to read is unchanged, and the link did not fail
 abbrev pub invariant-loop-rest : goal.invariant-loop-rest
 invariant-loop-rest g l =
     let written = g.L.Link.written in
