@@ -1,6 +1,7 @@
 // The workers behind the doors.
 ghost use Rattle.std.specs.Prelude.{◌≡◌, ◌≤◌, ◌+◌, ◌*◌, ◌<◌, ◌^◌, ℕ, length};
 ghost use Rattle.desk_counters.specs.Knowing.{known_of};
+ghost use Rattle.door_histories.specs.Served.{telling};
 ghost use Rattle.door_histories.specs.Workers.{IsHired, IsTakenIn, HasWorked};
 ghost use Rattle.office_asks.specs.Asking.{AnswersAt, UnanswersAt};
 ghost use Rattle.office_desk.specs.Words.{belongs, left_of, origin_of, shares_of};
@@ -44,8 +45,8 @@ impl<K: Keeper, B: Beginning, G: Gate, D: Door> Crew<Shop<'_, Stood<K, B>, G>, D
     ghost hired = { λ shop p q w. IsHired (worker_of p) (worker_of q) (worker_of w) };
 
     ghost worked = { λ shop number door door' w w'. HasWorked (AnswersAt (origin_of shop.desk.now).season)
-        (UnanswersAt (origin_of shop.desk.now).season (K.holds_room (origin_of shop.desk.now).keeper))
-        (record { to_come = D.to_come; out = D.out; told = D.told; faults = D.faults; left = D.Conn.left; written = D.Conn.written; failures = D.Conn.faults })
+        (UnanswersAt (origin_of shop.desk.now).season (K.seen (origin_of shop.desk.now).keeper).holds_room)
+        (telling D.Door D.Conn.Link)
         number door door' (worker_of w) (worker_of w') };
 
     ghost joined = { λ shop m w p. IsTakenIn (worker_of m) (worker_of w) (worker_of p) };

@@ -1,8 +1,9 @@
 // The office over HTTP: its doors served at once, with one history.
 //
-// The command that serves stands on it, and whoever holds sessions over an office. Each door has a worker on a thread of its own, and all workers take
-// turns at one desk, so that what they were answered is one history. It hands on the sessions, the counters and the gate. It must never know how a
-// season came, what a real connection is, nor how a server ends.
+// The command that serves builds on it, and so does code that holds sessions over an office. Each door has a worker on
+// a thread of its own, and all workers take turns at one desk, so that what they were answered is one history.
+// It passes on the sessions, the counters and the gate.
+// It must never know how a season came, what a real connection is, nor how a server ends.
 #![tactic(auto)]
 
 mod hands;

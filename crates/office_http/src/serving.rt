@@ -2,6 +2,7 @@
 ghost use Rattle.std.specs.Prelude.{◌≡◌, ◌≤◌, ◌<◌, ◌^◌, ◌++◌, [], true, false, length, IfOk, IfErr, OnErr};
 ghost use Rattle.std.specs.List.{AllByRecursion};
 ghost use Rattle.door_histories.specs.Ending.{SomeRose, AllEnded};
+ghost use Rattle.door_histories.specs.Served.{telling};
 ghost use Rattle.door_histories.specs.Workers.{IsRow};
 ghost use Rattle.keeper_mem.specs.Tables.{IsTold};
 ghost use Rattle.office_asks.specs.Asking.{AnswersAt, UnanswersAt};
@@ -30,10 +31,13 @@ pub struct Served<K: Keeper> {
     pub door_failed: bool,
 }
 
-/// Serves an office to all doors at once: each has one worker, who takes its connections one after another, holds a session on each and gives it back,
-/// until the door has none or fails. Workers are numbered from 0 in the order of the doors. It returns when all have ended; where no thread can be made,
-/// they work one after another. There are at most 64 doors, each with at most 100,000 connections still to come, and the last number of the office is below
-/// 2^40. `OutOfMemory` comes only before the first connection is taken, with the office as it was.
+/// Serves an office to all doors at once. Each door has one worker, who takes its connections one after another.
+/// The worker holds a session on each and gives it back, until the door has none or fails.
+/// Workers are numbered from 0 in the order of the doors. It returns when all have ended.
+/// If no thread can be made, they work one after another.
+/// There are at most 64 doors, each with at most 100,000 connections still to come,
+/// and the last number of the office is below 2^40.
+/// It returns `OutOfMemory` only before the first connection is taken, with the office unchanged.
 pub fn serve<
     R: Threads + Wait + Sync,
     K: Keeper + Send,
@@ -50,20 +54,21 @@ pub fn serve<
     requires suit { AllByRecursion (λ door. D.to_come door ≤ 100000) doors.old }
     requires last { last_of office.entries < 2 ^ 40 }
     ensures season { IfOk result (λ served. served.office.season ≡ office.season) }
-    ensures room { IfOk result (λ served. K.holds_room served.office.keeper ≡ K.holds_room office.keeper) }
-    ensures served { IfOk result (λ served. DoorsServed office.season (K.holds_room office.keeper)
-        (record { to_come = D.to_come; out = D.out; told = D.told; faults = D.faults; left = D.Conn.left; written = D.Conn.written; failures = D.Conn.faults })
-        office.entries (K.faults office.keeper) doors.old doors.new served.office.entries (K.faults served.office.keeper)) }
+    ensures room { IfOk result (λ served. (K.seen served.office.keeper).holds_room ≡ (K.seen office.keeper).holds_room) }
+    ensures served { IfOk result (λ served. DoorsServed office.season (K.seen office.keeper).holds_room
+        (telling D.Door D.Conn.Link)
+        office.entries (K.seen office.keeper).faults doors.old doors.new served.office.entries (K.seen served.office.keeper).faults) }
     ensures failed { IfOk result (λ served. served.door_failed ≡ true → SomeRose D.faults doors.old doors.new) }
     ensures done { IfOk result (λ served. served.door_failed ≡ false → AllEnded D.faults D.to_come doors.old doors.new) }
-    ensures told_before { IfOk result (λ served. IsTold (K.tables served.office.keeper) → IsTold (K.tables office.keeper)) }
+    ensures told_before { IfOk result (λ served. IsTold (K.seen served.office.keeper).tables → IsTold (K.seen office.keeper).tables) }
     ensures err { IfErr result (λ refused. refused.0 ≡ office) }
     ensures spared { OnErr result (doors.new ≡ doors.old) }
 {
     serve_stood::<Brand, R, K, D, G>(rt, alloc, office, doors, gate)
 }
 
-/// The same with what the keeper tells at the beginning named, so that the office at the desk can remember it.
+/// Serves in the same way, with the keeper's visible tables at the beginning named,
+/// so that the office at the desk can remember them.
 fn serve_stood<
     B: Beginning + Send + Sync,
     R: Threads + Wait + Sync,
@@ -77,18 +82,18 @@ fn serve_stood<
     doors: &mut [D],
     gate: &G,
 ) -> Result<Served<K>, (Office<K>, OutOfMemory)>
-    requires tells { K.tables office.keeper ≡ B.tables }
+    requires tells { (K.seen office.keeper).tables ≡ B.tables }
     requires few { length doors.old ≤ 64 }
     requires suit { AllByRecursion (λ door. D.to_come door ≤ 100000) doors.old }
     requires last { last_of office.entries < 2 ^ 40 }
     ensures season { IfOk result (λ served. served.office.season ≡ office.season) }
-    ensures room { IfOk result (λ served. K.holds_room served.office.keeper ≡ K.holds_room office.keeper) }
-    ensures served { IfOk result (λ served. DoorsServed office.season (K.holds_room office.keeper)
-        (record { to_come = D.to_come; out = D.out; told = D.told; faults = D.faults; left = D.Conn.left; written = D.Conn.written; failures = D.Conn.faults })
-        office.entries (K.faults office.keeper) doors.old doors.new served.office.entries (K.faults served.office.keeper)) }
+    ensures room { IfOk result (λ served. (K.seen served.office.keeper).holds_room ≡ (K.seen office.keeper).holds_room) }
+    ensures served { IfOk result (λ served. DoorsServed office.season (K.seen office.keeper).holds_room
+        (telling D.Door D.Conn.Link)
+        office.entries (K.seen office.keeper).faults doors.old doors.new served.office.entries (K.seen served.office.keeper).faults) }
     ensures failed { IfOk result (λ served. served.door_failed ≡ true → SomeRose D.faults doors.old doors.new) }
     ensures done { IfOk result (λ served. served.door_failed ≡ false → AllEnded D.faults D.to_come doors.old doors.new) }
-    ensures told_before { IfOk result (λ served. IsTold (K.tables served.office.keeper) → IsTold (K.tables office.keeper)) }
+    ensures told_before { IfOk result (λ served. IsTold (K.seen served.office.keeper).tables → IsTold (K.seen office.keeper).tables) }
     ensures err { IfErr result (λ refused. refused.0 ≡ office) }
     ensures spared { OnErr result (doors.new ≡ doors.old) }
 {
@@ -121,15 +126,15 @@ fn serve_desk<
     requires as_many { length buffers.old ≡ length doors.old }
     requires suit { AllByRecursion (λ door. D.to_come door ≤ 100000) doors.old }
     requires whole { belongs desk pass × (shares_of pass ≡ 2 ^ 30) × (left_of pass ≡ 2 ^ 40) }
-    requires first { (tickets_of pass ≡ []) × (seen_of pass ≡ (origin_of desk).entries) × (count_of pass ≡ K.faults (origin_of desk).keeper) }
+    requires first { (tickets_of pass ≡ []) × (seen_of pass ≡ (origin_of desk).entries) × (count_of pass ≡ (K.seen (origin_of desk).keeper).faults) }
     ensures season { result.office.season ≡ (origin_of desk).season }
-    ensures room { K.holds_room result.office.keeper ≡ K.holds_room (origin_of desk).keeper }
-    ensures served { DoorsServed (origin_of desk).season (K.holds_room (origin_of desk).keeper)
-        (record { to_come = D.to_come; out = D.out; told = D.told; faults = D.faults; left = D.Conn.left; written = D.Conn.written; failures = D.Conn.faults })
-        (origin_of desk).entries (K.faults (origin_of desk).keeper) doors.old doors.new result.office.entries (K.faults result.office.keeper) }
+    ensures room { (K.seen result.office.keeper).holds_room ≡ (K.seen (origin_of desk).keeper).holds_room }
+    ensures served { DoorsServed (origin_of desk).season (K.seen (origin_of desk).keeper).holds_room
+        (telling D.Door D.Conn.Link)
+        (origin_of desk).entries (K.seen (origin_of desk).keeper).faults doors.old doors.new result.office.entries (K.seen result.office.keeper).faults }
     ensures failed { result.door_failed ≡ true → SomeRose D.faults doors.old doors.new }
     ensures done { result.door_failed ≡ false → AllEnded D.faults D.to_come doors.old doors.new }
-    ensures told { IsTold (K.tables result.office.keeper) → IsTold B.tables }
+    ensures told { IsTold (K.seen result.office.keeper).tables → IsTold B.tables }
 {
     let mut hand = first_hand(pass);
     serve_all(rt, alloc, &desk, gate, &mut hand, doors, buffers);
@@ -140,7 +145,7 @@ fn serve_desk<
     }
 }
 
-/// The first worker, with the pass of a desk that has just begun.
+/// Returns the first worker, with the pass of a desk that has just begun.
 fn first_hand<V: Booked>(pass: Pass<V>) -> Hand<V>
     requires { tickets_of pass ≡ [] }
     ensures pass { result.pass ≡ pass }
@@ -158,16 +163,16 @@ fn end_desk<K: Keeper, B: Beginning>(desk: Desk<Stood<K, B>>, pass: Pass<Stood<K
     requires desk { belongs desk pass }
     requires whole { shares_of pass ≡ 2 ^ 30 }
     ensures season { result.season ≡ (origin_of desk).season }
-    ensures room { K.holds_room result.keeper ≡ K.holds_room (origin_of desk).keeper }
+    ensures room { (K.seen result.keeper).holds_room ≡ (K.seen (origin_of desk).keeper).holds_room }
     ensures seen { result.entries ≡ seen_of pass }
     ensures own { result.entries ≡ (origin_of desk).entries ++ own_of pass }
-    ensures count { count_of pass ≤ K.faults result.keeper }
-    ensures told { IsTold (K.tables result.keeper) → IsTold B.tables }
+    ensures count { count_of pass ≤ (K.seen result.keeper).faults }
+    ensures told { IsTold (K.seen result.keeper).tables → IsTold B.tables }
 {
     desk.close(pass).into_office()
 }
 
-/// Buffers for so many workers.
+/// Makes buffers for this many workers.
 fn make_buffers(alloc: Global, count: usize) -> Result<Vec<Buffers>, OutOfMemory>
     ensures { IfOk result (λ buffers. length buffers.items ≡ count) }
 {
@@ -178,7 +183,7 @@ fn make_buffers(alloc: Global, count: usize) -> Result<Vec<Buffers>, OutOfMemory
     Ok(buffers)
 }
 
-/// Has all doors served by a crew, who begins as one worker with the whole pass and with no entries of its own.
+/// Has all doors served by a crew, which begins as one worker with the whole pass and with no entries of its own.
 fn serve_all<
     R: Threads + Wait + Sync,
     K: Keeper + Send,
@@ -200,8 +205,8 @@ fn serve_all<
     requires whole { belongs desk.now hand.old.pass × (shares_of hand.old.pass ≡ 2 ^ 30) × (left_of hand.old.pass ≡ 2 ^ 40) }
     requires fresh { (own_of hand.old.pass ≡ []) × (hand.old.failed ≡ false) }
     ensures same_desk { belongs desk.now hand.new.pass }
-    ensures row { IsRow (AnswersAt (origin_of desk.now).season) (UnanswersAt (origin_of desk.now).season (K.holds_room (origin_of desk.now).keeper))
-        (record { to_come = D.to_come; out = D.out; told = D.told; faults = D.faults; left = D.Conn.left; written = D.Conn.written; failures = D.Conn.faults })
+    ensures row { IsRow (AnswersAt (origin_of desk.now).season) (UnanswersAt (origin_of desk.now).season (K.seen (origin_of desk.now).keeper).holds_room)
+        (telling D.Door D.Conn.Link)
         (worker_of hand.old) doors.old doors.new (worker_of hand.new) }
     ensures shares { shares_of hand.new.pass ≡ shares_of hand.old.pass }
     ensures failed { hand.new.failed ≡ true → SomeRose D.faults doors.old doors.new }

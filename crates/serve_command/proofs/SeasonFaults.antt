@@ -26,14 +26,14 @@ line_left left after TooLong line read memory first told = let long = long_left 
 line_left left after OutOfMemory line read memory first told = absurd (memory refl)
 line_left left after fault line read memory first told = told_left left after fault line first (λ bytes h. h) told
 
--- A failure that tells a season's fault has its cause.
+-- A failure that reports a season's fault has its cause.
 pub season_failed : (left after : Option (List ℕ)) (failed : Type 0) (fault : SeasonFault) (failure : Failure) → (fault ≡ ReadFault → failed) → IsSourceFault false left after fault
     → TellsSeasonFault fault failure → IsFailureOf season_answers left failed failure
 season_failed left after failed fault Read cause first told = cause told
 season_failed left after failed fault (Bad line) cause first told = line_left left after fault line told.0 told.1 first told.2
 season_failed left after failed fault NoMemory cause first told = tt
 
--- Where it tells no failed source, the source did not fail.
+-- If it reports no failed source, the source did not fail.
 pub season_held : (fault : SeasonFault) (failure : Failure) (Held : Type 0) → ((fault ≡ ReadFault → ⊥) → Held) → TellsSeasonFault fault failure → (failure ≡ Read → ⊥) → Held
 season_held fault Read Held steady told other = absurd (other refl)
 season_held fault (Bad line) Held steady told other = steady told.0

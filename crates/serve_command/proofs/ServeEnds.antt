@@ -70,7 +70,7 @@ unread_ends left failed failure tables doors written now broke result cause spar
     let (output, appends, writes) = told_is_written (IsUnreadText left) (status_of (Err failure)) result (text_of (Err failure)) written now broke (text_of_failure left failed failure cause) is in
     (output, appends, inl (writes, refl, spared))
 
--- No season can be read where a bundle has a fault.
+-- No season can be read if a bundle has a fault.
 pub no_faulty_season : (left : Option (List ℕ)) (season : Season) → ((bytes : List ℕ) → HaveOneAnswer season_answers bytes) → IsLeftSeason left season → Tells IsFaultySeason left → ⊥
 no_faulty_season None season laws is tells = tells
 no_faulty_season (Some bytes) season laws is tells =
@@ -93,9 +93,9 @@ none_held before mid after empty was = apart (still before after) (still_later (
     apart NoSeason found tells = tells
     apart (Records kept) found tells = true≢false (sym found)
 
--- ---- an office goes on
+-- ---- an office resumes
 
--- the entries of the records are kept by what was told before
+-- the entries of the records are kept by the tables that were visible before
 still_held : (before mid after : Tables) (held : List Entry) → AreTold before mid → (IsTablesTold after → IsTablesTold mid) → HoldsTheKept mid held → HoldsTheKept (still before after) held
 still_held before mid after held told was holds =
     let (records, loaded, same) = holds in

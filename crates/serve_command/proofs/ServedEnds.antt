@@ -39,7 +39,7 @@ text_of_end : (facts : SeasonFacts) (history : List Entry) (tables : Tables) (st
 text_of_end facts history tables state failed (Ok text) after made = (state, after, inl (refl, made))
 text_of_end facts history tables state failed (Err none) after made = (state, after, inr (refl, refl))
 
--- It was told how far an office is.
+-- It was written how far an office is.
 pub end_is_told : (facts : SeasonFacts) (history : List Entry) (tables : Tables) (state : State) (failed : Bool) {E : Type 0} (text : Result (List ℕ) E) (written now : Option (List ℕ)) (broke : Type 0) (result : Status)
     → IsOfficeAfter facts history tables state → IfOk text (λ made. made ≡ served_text facts state (length history) failed) → IsTold (told_status failed text) (told_text text) written now broke result
     → (output : List ℕ) × Appends output written now × Writes (IsEndText facts history tables failed) result output
@@ -62,7 +62,7 @@ served_ends facts other held history tables doors failed written now result same
       (subst (λ (f : SeasonFacts). Writes (IsEndText f history tables failed) result end.0) same end.2),
 )
 
--- No office was served, for want of memory.
+-- No office was served, because memory ran out.
 pub spared_ends : (facts : SeasonFacts) (held : List Entry) (tables : Tables) (doors : Doors) (state : State) (written now : Option (List ℕ)) (broke : Type 0) (result : Status)
     → IsHistory facts held state → Stand facts state tables → doors.spared → IsTold OutOfMemory memory_line written now broke result
     → (output : List ℕ) × Appends output written now × EndsServed facts held tables doors result output
@@ -77,13 +77,13 @@ pub have_ended : {D L : Type 0} (of : Telling D L) (failed : Bool) (doors doors'
 have_ended of true doors doors' rose ended = rose refl
 have_ended of false doors doors' rose ended = ended refl
 
--- the keeper that is handed back is that of the office
+-- the returned keeper is that of the office
 pub served_at : {D L K : Type 0} (of : Telling D L) (faults : K → ℕ) (facts : SeasonFacts) (room : Bool) (held : List Entry) (before : ℕ) (doors doors' : List D) (history : List Entry) (kept now : K) → now ≡ kept
     → DoorsServed facts room of held before doors doors' history (faults kept) → DoorsServed facts room of held before doors doors' history (faults now)
 served_at of faults facts room held before doors doors' history kept now same served =
     subst (λ k. DoorsServed facts room of held before doors doors' history (faults k)) (sym same) served
 
--- What the status of a served office tells of its doors.
+-- What the status of a served office reports of its doors.
 pub record TellsDoors (failed : Bool) (result : Status) : Type 0 where
   pub own : (result ≡ Done) ⊎ ((result ≡ WriteFault) ⊎ ((result ≡ OutOfMemory) ⊎ (result ≡ DoorFault)))
   pub broke : result ≡ DoorFault → failed ≡ true
@@ -116,7 +116,7 @@ tells_doors failed result (inr (inr same)) = record {
   held = λ broke wrote short. absurd (wrote same);
 }
 
--- Where neither the sink nor a door failed, an office is served, or there was no memory.
+-- If neither the sink nor a door failed, an office is served, or memory ran out.
 pub ends_well : (failed : Bool) (result : Status) (wrote rose : Type 0) → (result ≡ served_status failed) ⊎ ((result ≡ OutOfMemory) ⊎ (result ≡ WriteFault)) → (result ≡ WriteFault → wrote) → (failed ≡ true → rose)
     → (wrote → ⊥) → (rose → ⊥) → (result ≡ Done) ⊎ (result ≡ OutOfMemory)
 ends_well true result wrote rose status broke failed sink doors = absurd (doors (failed refl))
@@ -124,7 +124,8 @@ ends_well false result wrote rose (inl same) broke failed sink doors = inl same
 ends_well false result wrote rose (inr (inl short)) broke failed sink doors = inr short
 ends_well false result wrote rose (inr (inr cut)) broke failed sink doors = absurd (sink (broke cut))
 
--- What is said of doors over the keeper of the office is said over the keeper that was handed in, which has as many faults and holds room alike.
+-- What holds of doors over the keeper of the office holds over the given keeper.
+-- The given keeper has as many faults and holds room in the same way.
 pub handed_in : {D L : Type 0} (of : Telling D L) (room held_room : Bool) (before held_before after : ℕ) (doors doors' : List D) (facts : SeasonFacts) (held : List Entry) (tables : Tables) (written now : Option (List ℕ)) (result : Status)
     → held_room ≡ room → held_before ≡ before → (output : List ℕ) × Appends output written now × EndsServed facts held tables (doors_of of held_room held_before after doors doors') result output
     → (output : List ℕ) × Appends output written now × EndsServed facts held tables (doors_of of room before after doors doors') result output
@@ -132,6 +133,6 @@ handed_in of room held_room before held_before after doors doors' facts held tab
     subst (λ (r : Bool). (output : List ℕ) × Appends output written now × EndsServed facts held tables (doors_of of r before after doors doors') result output) rooms
     (subst (λ (n : ℕ). (output : List ℕ) × Appends output written now × EndsServed facts held tables (doors_of of held_room n after doors doors') result output) counts end)
 
--- The tables stand for the same office.
+-- The tables represent the same office.
 pub stands_at : {K : Type 0} (one other : Opened K) (tables : Tables) → one ≡ other → Stand one.season one.state tables → Stand other.season other.state tables
 stands_at {K} one other tables same stands = subst (λ (o : Opened K). Stand o.season o.state tables) same stands

@@ -6,8 +6,8 @@ use Rattle.office_http.specs.Serving.{DoorsServed}
 use Rattle.office_moves.specs.Facts.{SeasonFacts}
 use Rattle.office_moves.specs.declared.moves.Entry.{Entry}
 
--- What is said of doors: that they are as they were; and that the office of a season was served at them, from one history to another, and that one of them
--- failed or none.
+-- What holds of doors: that they are unchanged; and that the office of a season was served at them, from one history to
+-- another, and that one of them failed or none.
 pub record Doors : Type 1 where
   pub spared : Type 0
   pub served : SeasonFacts → List Entry → List Entry → Bool → Type 0
@@ -18,7 +18,8 @@ module _ {D L : Type 0} (of : Telling D L) where
   HaveEnded true doors doors' = SomeRose of.faults doors doors'
   HaveEnded false doors doors' = AllEnded of.faults of.to_come doors doors'
 
-  -- The doors, as they were and as they are: over a keeper that holds room in advance or does not, whose count of faults went from one number to the other.
+  -- The doors before and after. The keeper holds room in advance or does not,
+  -- and its count of faults went from `before` to `after`.
   abbrev pub doors_of : Bool → ℕ → ℕ → List D → List D → Doors
   doors_of room before after doors doors' = record {
     spared = doors' ≡ doors;

@@ -1,3 +1,4 @@
+pub mod Blames
 pub mod Doors
 pub mod Ending
 pub mod Serve

@@ -1,14 +1,19 @@
 // An office begins with the season of the bundle that a source gives, over a keeper that holds none, and is served.
-ghost use Rattle.std.specs.Prelude.{◌≡◌, ◌≢◌, ◌≤◌, ◌⊎◌, ℕ, List, length, map, IfOk, IfErr, OnOk, IsErrOf};
+ghost use Rattle.std.specs.Prelude.{◌≡◌, ◌≢◌, ◌≤◌, ◌⊎◌, ℕ, List, length, IfOk, IfErr, OnOk, IsErrOf};
 ghost use Rattle.std.specs.List.{AllByRecursion};
 ghost use Rattle.office_base.specs.Outside.{Rose, IsAtEnd, Appends};
 ghost use Rattle.season_file.specs.Season.{IsSeason};
 ghost use Rattle.keeper_mem.specs.Tables.{still};
-ghost use Rattle.command_answers.specs.Answers.{IsFailureOf, Tells};
+ghost use Rattle.command_answers.specs.Answers.{IsFailureOf};
 ghost use Rattle.door_histories.specs.Ending.{SomeRose};
+ghost use Rattle.door_histories.specs.Served.{telling};
 ghost use Rattle.season_commands.specs.Run.{TellsNoSeason, TellsSeason};
+ghost use Rattle.command_answers.specs.Ends.{BlamesSink};
+ghost use Rattle.office_base.specs.Visible.{sink_of, source_of};
+ghost use Rattle.season_commands.specs.Outside.{BlamesSource, EndsWith, outside_of};
+ghost use Rattle.serve_command.specs.Blames.{BlamesDoors, BlamesKeeper};
 ghost use Rattle.serve_command.specs.Doors.{doors_of};
-ghost use Rattle.serve_command.specs.Serve.{EndsBegun, EndsServe, IsFaultySeason, IsLeftSeason, IsSeasonBundle, season_answers};
+ghost use Rattle.serve_command.specs.Serve.{AnswersBundle, EndsBegun, EndsServe, IsLeftSeason, season_answers};
 
 use crate::laws::one_season_answer;
 use crate::serving::serve_office;
@@ -23,8 +28,9 @@ use std::alloc::Global;
 use std::sync::Wait;
 use std::thread::Threads;
 
-/// Begins an office over the keeper with the season that the source gives, a bundle without requests, serves it at the doors, tells how far it is then, and hands
-/// the keeper back. There are at most 64 doors, each with at most 100,000 connections still to come.
+/// Begins an office over the keeper with the season that the source gives, a bundle without requests.
+/// Serves it at the doors, writes how far it is then, and returns the keeper.
+/// There are at most 64 doors, each with at most 100,000 connections still to come.
 pub fn serve_season<
     R: Threads + Wait + Sync,
     S: Source,
@@ -35,31 +41,20 @@ pub fn serve_season<
     requires few { length doors.old ≤ 64 }
     requires suit { AllByRecursion (λ d. D.to_come d ≤ 100000) doors.old }
     ensures written { (output : List ℕ) × Appends output (K.written sink.old) (K.written sink.new)
-        × EndsServe (S.left source.old) (P.tables keeper) (P.tables result.1)
-        (doors_of (record { to_come = D.to_come; out = D.out; told = D.told; faults = D.faults; left = D.Conn.left; written = D.Conn.written; failures = D.Conn.faults })
-        (P.holds_room keeper) (P.faults keeper) (P.faults result.1) doors.old doors.new)
+        × EndsServe (S.left source.old) (P.seen keeper).tables (P.seen result.1).tables
+        (doors_of (telling D.Door D.Conn.Link)
+        (P.seen keeper).holds_room (P.seen keeper).faults (P.seen result.1).faults doors.old doors.new)
         result.0 output }
     ensures read_whole { (result.0 ≡ Status.Ok) ⊎ (result.0 ≡ Status.DoorFault) → IsAtEnd (S.left source.new) }
     ensures no_difference { result.0 ≢ Status.Differs }
-    ensures read_fault { result.0 ≡ Status.ReadFault → Rose (S.faults source.old) (S.faults source.new) }
-    ensures write_fault { result.0 ≡ Status.WriteFault → Rose (K.faults sink.old) (K.faults sink.new) }
-    ensures keeper_fault { result.0 ≡ Status.KeeperFault → Rose (P.faults keeper) (P.faults result.1) }
-    ensures door_fault { result.0 ≡ Status.DoorFault → SomeRose D.faults doors.old doors.new }
-    ensures all_served { result.0 ≡ Status.Ok → AllByRecursion (λ d. D.to_come d ≡ 0) doors.new }
-    ensures source_steady { result.0 ≢ Status.ReadFault → result.0 ≢ Status.WriteFault → S.faults source.new ≡ S.faults source.old }
-    ensures sink_steady { result.0 ≢ Status.WriteFault → K.faults sink.new ≡ K.faults sink.old }
-    ensures doors_steady { result.0 ≢ Status.DoorFault → result.0 ≢ Status.WriteFault → result.0 ≢ Status.OutOfMemory → map D.faults doors.new ≡ map D.faults doors.old }
-    ensures keeper_early { (result.0 ≡ Status.BadInput) ⊎ (result.0 ≡ Status.ReadFault) → P.faults result.1 ≡ P.faults keeper }
-    ensures keeper_count { P.faults keeper ≤ P.faults result.1 }
-    ensures complete { Tells IsSeasonBundle (S.left source.old) → TellsNoSeason (still (P.tables keeper) (P.tables result.1))
-        → ¬ Rose (S.faults source.old) (S.faults source.new) → ¬ Rose (K.faults sink.old) (K.faults sink.new) → ¬ Rose (P.faults keeper) (P.faults result.1)
-        → ¬ SomeRose D.faults doors.old doors.new → (result.0 ≡ Status.Ok) ⊎ (result.0 ≡ Status.OutOfMemory) }
-    ensures refused { Tells IsFaultySeason (S.left source.old)
-        → ¬ Rose (S.faults source.old) (S.faults source.new) → ¬ Rose (K.faults sink.old) (K.faults sink.new)
-        → (result.0 ≡ Status.BadInput) ⊎ (result.0 ≡ Status.OutOfMemory) }
-    ensures not_empty { TellsSeason (still (P.tables keeper) (P.tables result.1))
-        → ¬ Rose (S.faults source.old) (S.faults source.new) → ¬ Rose (K.faults sink.old) (K.faults sink.new) → ¬ Rose (P.faults keeper) (P.faults result.1)
-        → (result.0 ≡ Status.BadInput) ⊎ (result.0 ≡ Status.OutOfMemory) }
+    ensures read_blamed { BlamesSource result.0 (source_of S.Source source.old) (source_of S.Source source.new) }
+    ensures sink { BlamesSink result.0 (sink_of K.Sink sink.old) (sink_of K.Sink sink.new) }
+    ensures keeper { BlamesKeeper (λ status. (status ≡ Status.BadInput) ⊎ (status ≡ Status.ReadFault))
+        (P.seen keeper).faults (P.seen result.1).faults result.0 }
+    ensures doors { BlamesDoors (telling D.Door D.Conn.Link) doors.old doors.new result.0 }
+    ensures answers { AnswersBundle (source_of S.Source source.old) (source_of S.Source source.new)
+        (outside_of K.Sink P.Keeper sink.old keeper) (outside_of K.Sink P.Keeper sink.new result.1)
+        (SomeRose D.faults doors.old doors.new) result.0 }
 {
     one_season_answer();
     match read_season(alloc, source) {
@@ -68,7 +63,7 @@ pub fn serve_season<
     }
 }
 
-/// The season of the bundle without requests that the source gives.
+/// Reads the season of the bundle without requests that the source gives.
 fn read_season<S: Source>(alloc: Global, source: &mut S) -> Result<Season, Failure>
     ensures season { IfOk result (IsLeftSeason (S.left source.old)) }
     ensures text { IfOk result (λ season. IsSeason season.text season) }
@@ -83,7 +78,7 @@ fn read_season<S: Source>(alloc: Global, source: &mut S) -> Result<Season, Failu
     }
 }
 
-/// Begins an office with the season, which the keeper is to hold from now on, and serves it.
+/// Begins an office with the season, which the keeper holds from now on, and serves it.
 fn begin_and_serve<R: Threads + Wait + Sync, K: Sink, P: Keeper + Send, D: Door<Conn: Send> + Send>(
     rt: &R,
     alloc: Global,
@@ -96,24 +91,20 @@ fn begin_and_serve<R: Threads + Wait + Sync, K: Sink, P: Keeper + Send, D: Door<
     requires few { length doors.old ≤ 64 }
     requires suit { AllByRecursion (λ d. D.to_come d ≤ 100000) doors.old }
     ensures written { (output : List ℕ) × Appends output (K.written sink.old) (K.written sink.new)
-        × EndsBegun season (P.tables keeper) (P.tables result.1)
-        (doors_of (record { to_come = D.to_come; out = D.out; told = D.told; faults = D.faults; left = D.Conn.left; written = D.Conn.written; failures = D.Conn.faults })
-        (P.holds_room keeper) (P.faults keeper) (P.faults result.1) doors.old doors.new)
+        × EndsBegun season (P.seen keeper).tables (P.seen result.1).tables
+        (doors_of (telling D.Door D.Conn.Link)
+        (P.seen keeper).holds_room (P.seen keeper).faults (P.seen result.1).faults doors.old doors.new)
         result.0 output }
     ensures no_read_fault { result.0 ≢ Status.ReadFault }
     ensures no_difference { result.0 ≢ Status.Differs }
-    ensures write_fault { result.0 ≡ Status.WriteFault → Rose (K.faults sink.old) (K.faults sink.new) }
-    ensures keeper_fault { result.0 ≡ Status.KeeperFault → Rose (P.faults keeper) (P.faults result.1) }
-    ensures door_fault { result.0 ≡ Status.DoorFault → SomeRose D.faults doors.old doors.new }
-    ensures all_served { result.0 ≡ Status.Ok → AllByRecursion (λ d. D.to_come d ≡ 0) doors.new }
-    ensures sink_steady { result.0 ≢ Status.WriteFault → K.faults sink.new ≡ K.faults sink.old }
-    ensures doors_steady { result.0 ≢ Status.DoorFault → result.0 ≢ Status.WriteFault → result.0 ≢ Status.OutOfMemory → map D.faults doors.new ≡ map D.faults doors.old }
-    ensures keeper_early { result.0 ≡ Status.BadInput → P.faults result.1 ≡ P.faults keeper }
-    ensures keeper_count { P.faults keeper ≤ P.faults result.1 }
-    ensures complete { TellsNoSeason (still (P.tables keeper) (P.tables result.1)) → ¬ Rose (K.faults sink.old) (K.faults sink.new) → ¬ Rose (P.faults keeper) (P.faults result.1)
-        → ¬ SomeRose D.faults doors.old doors.new → (result.0 ≡ Status.Ok) ⊎ (result.0 ≡ Status.OutOfMemory) }
-    ensures not_empty { TellsSeason (still (P.tables keeper) (P.tables result.1)) → ¬ Rose (K.faults sink.old) (K.faults sink.new) → ¬ Rose (P.faults keeper) (P.faults result.1)
-        → (result.0 ≡ Status.BadInput) ⊎ (result.0 ≡ Status.OutOfMemory) }
+    ensures sink { BlamesSink result.0 (sink_of K.Sink sink.old) (sink_of K.Sink sink.new) }
+    ensures keeper { BlamesKeeper (λ status. status ≡ Status.BadInput) (P.seen keeper).faults (P.seen result.1).faults result.0 }
+    ensures doors { BlamesDoors (telling D.Door D.Conn.Link) doors.old doors.new result.0 }
+    ensures complete { TellsNoSeason (still (P.seen keeper).tables (P.seen result.1).tables) → ¬ Rose (K.faults sink.old) (K.faults sink.new)
+        → ¬ Rose (P.seen keeper).faults (P.seen result.1).faults
+        → ¬ SomeRose D.faults doors.old doors.new → EndsWith Status.Ok result.0 }
+    ensures not_empty { TellsSeason (still (P.seen keeper).tables (P.seen result.1).tables) → ¬ Rose (K.faults sink.old) (K.faults sink.new)
+        → ¬ Rose (P.seen keeper).faults (P.seen result.1).faults → EndsWith Status.BadInput result.0 }
 {
     match Office::begin(alloc, season, keeper) {
         Ok(office) => serve_office(rt, alloc, office, sink, doors),

@@ -1,4 +1,4 @@
-// An office is served, and tells how far it is.
+// An office is served, and writes how far it is.
 ghost use Rattle.std.specs.Prelude.{◌≡◌, ◌≢◌, ◌≤◌, ◌⊎◌, ℕ, List, length, map};
 ghost use Rattle.std.specs.List.{AllByRecursion};
 ghost use Rattle.office_base.specs.Outside.{Rose, Appends};
@@ -6,7 +6,12 @@ ghost use Rattle.keeper_mem.specs.Tables.{IsTold};
 ghost use Rattle.office_moves.specs.History.{IsHistory};
 ghost use Rattle.office_moves.specs.Stands.{Stand};
 ghost use Rattle.door_histories.specs.Ending.{AllEnded, SomeRose};
+ghost use Rattle.door_histories.specs.Served.{telling};
 ghost use Rattle.office_http.specs.Serving.{DoorsServed};
+ghost use Rattle.command_answers.specs.Ends.{BlamesSink};
+ghost use Rattle.office_base.specs.Visible.{sink_of};
+ghost use Rattle.season_commands.specs.Outside.{EndsWith};
+ghost use Rattle.serve_command.specs.Blames.{BlamesDoors};
 ghost use Rattle.serve_command.specs.Doors.{HaveEnded, doors_of};
 ghost use Rattle.serve_command.specs.Ending.{served_status};
 ghost use Rattle.command_answers.specs.Writes.{Writes};
@@ -28,8 +33,8 @@ use std::thread::Threads;
 // The numbers of entries with which an office can be served are below this one.
 const MOST_NUMBER: u64 = 1 << 40;
 
-/// Serves an office at the doors, tells how far it is then, and gives back its keeper. An office whose last number is too high to be served is told as want of
-/// memory.
+/// Serves an office at the doors, writes how far it is then, and returns its keeper.
+/// If the office's last number is too high for it to be served, it reports that memory ran out.
 pub(crate) fn serve_office<
     R: Threads + Wait + Sync,
     K: Sink,
@@ -39,19 +44,17 @@ pub(crate) fn serve_office<
     requires few { length doors.old ≤ 64 }
     requires suit { AllByRecursion (λ d. D.to_come d ≤ 100000) doors.old }
     ensures written { (output : List ℕ) × Appends output (K.written sink.old) (K.written sink.new)
-        × EndsServed office.season office.entries (P.tables result.1)
-        (doors_of (record { to_come = D.to_come; out = D.out; told = D.told; faults = D.faults; left = D.Conn.left; written = D.Conn.written; failures = D.Conn.faults })
-        (P.holds_room office.keeper) (P.faults office.keeper) (P.faults result.1) doors.old doors.new)
+        × EndsServed office.season office.entries (P.seen result.1).tables
+        (doors_of (telling D.Door D.Conn.Link)
+        (P.seen office.keeper).holds_room (P.seen office.keeper).faults (P.seen result.1).faults doors.old doors.new)
         result.0 output }
-    ensures told_before { IsTold (P.tables result.1) → IsTold (P.tables office.keeper) }
+    ensures told_before { IsTold (P.seen result.1).tables → IsTold (P.seen office.keeper).tables }
     ensures own { (result.0 ≡ Status.Ok) ⊎ ((result.0 ≡ Status.WriteFault) ⊎ ((result.0 ≡ Status.OutOfMemory) ⊎ (result.0 ≡ Status.DoorFault))) }
-    ensures write_fault { result.0 ≡ Status.WriteFault → Rose (K.faults sink.old) (K.faults sink.new) }
-    ensures door_fault { result.0 ≡ Status.DoorFault → SomeRose D.faults doors.old doors.new }
-    ensures all_served { result.0 ≡ Status.Ok → AllByRecursion (λ d. D.to_come d ≡ 0) doors.new }
-    ensures sink_steady { result.0 ≢ Status.WriteFault → K.faults sink.new ≡ K.faults sink.old }
-    ensures doors_steady { result.0 ≢ Status.DoorFault → result.0 ≢ Status.WriteFault → result.0 ≢ Status.OutOfMemory → map D.faults doors.new ≡ map D.faults doors.old }
-    ensures keeper_count { P.faults office.keeper ≤ P.faults result.1 }
-    ensures complete { ¬ Rose (K.faults sink.old) (K.faults sink.new) → ¬ SomeRose D.faults doors.old doors.new → (result.0 ≡ Status.Ok) ⊎ (result.0 ≡ Status.OutOfMemory) }
+    ensures sink { BlamesSink result.0 (sink_of K.Sink sink.old) (sink_of K.Sink sink.new) }
+    ensures doors { BlamesDoors (telling D.Door D.Conn.Link) doors.old doors.new result.0 }
+    ensures keeper_count { (P.seen office.keeper).faults ≤ (P.seen result.1).faults }
+    ensures complete { ¬ Rose (K.faults sink.old) (K.faults sink.new) → ¬ SomeRose D.faults doors.old doors.new
+        → EndsWith Status.Ok result.0 }
 {
     let _entries = office.entries();
     if office.last_number() >= MOST_NUMBER {
@@ -63,10 +66,10 @@ pub(crate) fn serve_office<
     }
 }
 
-/// Tells how far an office is that was served, and gives back its keeper.
+/// Writes how far an office is that was served, and returns its keeper.
 fn tell_served<K: Sink, P: Keeper>(alloc: Global, served: Served<P>, sink: &mut K) -> (Status, P)
     ensures written { (output : List ℕ) × Appends output (K.written sink.old) (K.written sink.new)
-        × Writes (IsEndText served.office.season served.office.entries (P.tables result.1) served.door_failed) result.0 output }
+        × Writes (IsEndText served.office.season served.office.entries (P.seen result.1).tables served.door_failed) result.0 output }
     ensures same { result.1 ≡ served.office.keeper }
     ensures status { (result.0 ≡ served_status served.door_failed) ⊎ ((result.0 ≡ Status.OutOfMemory) ⊎ (result.0 ≡ Status.WriteFault)) }
     ensures write_fault { result.0 ≡ Status.WriteFault → Rose (K.faults sink.old) (K.faults sink.new) }

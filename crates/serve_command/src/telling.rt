@@ -16,7 +16,7 @@ use reply_texts::reply_text;
 use round_cut::Office;
 use std::alloc::Global;
 
-/// How far the office is, how many entries its history has, and whether a door failed.
+/// Returns the text of how far the office is, how many entries its history has, and whether a door failed.
 pub(crate) fn served_text<P: Keeper>(
     alloc: Global,
     office: &Office<P>,
@@ -29,7 +29,7 @@ pub(crate) fn served_text<P: Keeper>(
     Ok(out)
 }
 
-/// The line of how far the office is.
+/// Returns the line of how far the office is.
 fn state_text<P: Keeper>(alloc: Global, office: &Office<P>) -> Result<Text, OutOfMemory>
     ensures { IfOk result (λ text. text ≡ state_line office.now.state.now office.now.season.rounds (length office.now.state.rounds)) }
 {
@@ -53,14 +53,14 @@ fn push_entries(out: &mut Text, entries: usize, door_failed: bool) -> Result<(),
     out.extend_from_slice(door_line(door_failed))
 }
 
-/// The line of a door that failed, or nothing.
+/// Returns the line of a door that failed, or nothing.
 fn door_line(door_failed: bool) -> &'static [u8]
     ensures { result.now ≡ door_line door_failed }
 {
     if door_failed { b"fault: door\n" } else { b"" }
 }
 
-/// Writes how far the office is, with the status of that, or that there was no memory for it.
+/// Writes how far the office is, with the status of that, or that memory ran out for it.
 pub(crate) fn write_served<K: Sink>(
     sink: &mut K,
     text: Result<Text, OutOfMemory>,
@@ -75,7 +75,7 @@ pub(crate) fn write_served<K: Sink>(
     }
 }
 
-/// The status of an office that was served.
+/// Returns the status of an office that was served.
 fn status_of(door_failed: bool) -> Status
     ensures { result ≡ served_status door_failed }
 {

@@ -3,6 +3,7 @@ use Rattle.office_asks.specs.Asking.{AnswersAt, UnanswersAt}
 use Rattle.office_desk.specs.Words.{origin_of}
 use Rattle.door_histories.proofs.Rows.{rows_are_served}
 use Rattle.office_http.specs.Hands.{worker_of}
+use Rattle.door_histories.specs.Served.{telling}
 use Rattle.office_http.proofs.Sending.{buffers_sent}
 use Rattle.office_http.proofs.serving.serve_all.Goals as goal
 
@@ -14,8 +15,8 @@ returns-clause-row g c =
     let D = g.D.Door in
     let L = g.D.Conn.Link in
     let origin = origin_of c.args.desk.now in
-    rows_are_served (AnswersAt origin.season) (UnanswersAt origin.season (g.K.Keeper.holds_room origin.keeper))
-    (record { to_come = D.to_come; out = D.out; told = D.told; faults = D.faults; left = L.left; written = L.written; failures = L.faults })
+    rows_are_served (AnswersAt origin.season) (UnanswersAt origin.season (g.K.Keeper.seen origin.keeper).holds_room)
+    (telling D L)
     worker_of 0 c.args.doors.now c.work_all.new.doors c.args.hand.now c.work_all.new.crew c.requires.fresh.0 c.requires.fresh.1 c.work_all.ensures.served
 
 pub returns-clause-shares : goal.returns-clause-shares

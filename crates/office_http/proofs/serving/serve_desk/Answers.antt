@@ -1,6 +1,7 @@
 use Rattle.std.proofs.Common.{◌≡◌, ap, ◌∙◌}
 use Rattle.office_asks.specs.Asking.{AnswersAt, UnanswersAt}
 use Rattle.office_desk.specs.Words.{count_of, origin_of, seen_of}
+use Rattle.door_histories.specs.Served.{telling}
 use Rattle.door_histories.proofs.Rows.{all_doors}
 use Rattle.office_http.proofs.serving.serve_desk.Goals as goal
 
@@ -10,7 +11,7 @@ returns-clause-served g c =
     let L = g.D.Conn.Link in
     let origin = origin_of c.args.desk in
     let e = c.end_desk.ensures in
-    all_doors (AnswersAt origin.season) (UnanswersAt origin.season (g.K.Keeper.holds_room origin.keeper))
-    (record { to_come = D.to_come; out = D.out; told = D.told; faults = D.faults; left = L.left; written = L.written; failures = L.faults })
-    origin.entries c.end_desk.result.entries (g.K.Keeper.faults origin.keeper) (g.K.Keeper.faults c.end_desk.result.keeper) c.args.doors.now c.serve_all.new.doors _ _
+    all_doors (AnswersAt origin.season) (UnanswersAt origin.season (g.K.Keeper.seen origin.keeper).holds_room)
+    (telling D L)
+    origin.entries c.end_desk.result.entries (g.K.Keeper.seen origin.keeper).faults (g.K.Keeper.seen c.end_desk.result.keeper).faults c.args.doors.now c.serve_all.new.doors _ _
     c.serve_all.ensures.row (ap (λ p. seen_of p) c.first_hand-hand.ensures.pass ∙ c.requires.first.1) (ap (λ p. count_of p) c.first_hand-hand.ensures.pass ∙ c.requires.first.2) e.seen e.own e.count

@@ -1,29 +1,28 @@
-use Rattle.std.proofs.Common.{refl}
+use Rattle.std.proofs.Common.{refl, rules}
 use Rattle.serve_command.specs.Doors.{doors_of}
+use Rattle.door_histories.specs.Served.{telling}
 use Rattle.serve_command.proofs.ServedEnds.{ends_well, have_ended, served_at, served_ends, spared_ends, stands_at, tells_doors}
 use Rattle.serve_command.proofs.serving.serve_office.Goals as goal
 
 pub returns-in-Ok-clause-written : goal.returns-in-Ok-clause-written
 returns-in-Ok-clause-written g c =
     let at = c.in-Ok.served in
-    served_ends c.args.office.season at.office.season c.args.office.entries at.office.entries _ (doors_of (record { to_come = g.D.Door.to_come; out = g.D.Door.out; told = g.D.Door.told; faults = g.D.Door.faults; left = g.D.Conn.Link.left; written = g.D.Conn.Link.written; failures = g.D.Conn.Link.faults }) _ _ _ _ _) at.door_failed _ _ c.tell_served.result.0 c.in-Ok.ensures.season (
-      served_at (record { to_come = g.D.Door.to_come; out = g.D.Door.out; told = g.D.Door.told; faults = g.D.Door.faults; left = g.D.Conn.Link.left; written = g.D.Conn.Link.written; failures = g.D.Conn.Link.faults }) g.P.Keeper.faults _ _ _ _ _ _ _ at.office.keeper c.tell_served.result.1 c.tell_served.ensures.same c.in-Ok.ensures.served,
-      have_ended (record { to_come = g.D.Door.to_come; out = g.D.Door.out; told = g.D.Door.told; faults = g.D.Door.faults; left = g.D.Conn.Link.left; written = g.D.Conn.Link.written; failures = g.D.Conn.Link.faults }) at.door_failed _ _ c.in-Ok.ensures.failed c.in-Ok.ensures.done,
+    served_ends c.args.office.season at.office.season c.args.office.entries at.office.entries _ (doors_of (telling g.D.Door g.D.Conn.Link) _ _ _ _ _) at.door_failed _ _ c.tell_served.result.0 c.in-Ok.ensures.season (
+      served_at (telling g.D.Door g.D.Conn.Link) (λ k. (g.P.Keeper.seen k).faults) _ _ _ _ _ _ _ at.office.keeper c.tell_served.result.1 c.tell_served.ensures.same c.in-Ok.ensures.served,
+      have_ended (telling g.D.Door g.D.Conn.Link) at.door_failed _ _ c.in-Ok.ensures.failed c.in-Ok.ensures.done,
     )
     c.tell_served.ensures.written
 
 pub returns-in-Ok-clause-own : goal.returns-in-Ok-clause-own
 returns-in-Ok-clause-own g c = (tells_doors c.in-Ok.served.door_failed c.tell_served.result.0 c.tell_served.ensures.status).own
 
-pub returns-in-Ok-clause-door_fault : goal.returns-in-Ok-clause-door_fault
-returns-in-Ok-clause-door_fault g c is = c.in-Ok.ensures.failed ((tells_doors c.in-Ok.served.door_failed c.tell_served.result.0 c.tell_served.ensures.status).broke is)
-
-pub returns-in-Ok-clause-all_served : goal.returns-in-Ok-clause-all_served
-returns-in-Ok-clause-all_served g c is = (c.in-Ok.ensures.done ((tells_doors c.in-Ok.served.door_failed c.tell_served.result.0 c.tell_served.ensures.status).whole is)).0
-
-pub returns-in-Ok-clause-doors_steady : goal.returns-in-Ok-clause-doors_steady
-returns-in-Ok-clause-doors_steady g c broke wrote short =
-    (c.in-Ok.ensures.done ((tells_doors c.in-Ok.served.door_failed c.tell_served.result.0 c.tell_served.ensures.status).held broke wrote short)).1
+pub returns-in-Ok-clause-doors : goal.returns-in-Ok-clause-doors
+returns-in-Ok-clause-doors g c =
+    let told = tells_doors c.in-Ok.served.door_failed c.tell_served.result.0 c.tell_served.ensures.status in record {
+      door_fault = λ is. c.in-Ok.ensures.failed (told.broke is);
+      all_served = λ is. (c.in-Ok.ensures.done (told.whole is)).0;
+      doors_steady = λ broke wrote short. (c.in-Ok.ensures.done (told.held broke wrote short)).1;
+    }
 
 pub returns-in-Ok-clause-complete : goal.returns-in-Ok-clause-complete
 returns-in-Ok-clause-complete g c =
@@ -31,10 +30,16 @@ returns-in-Ok-clause-complete g c =
 
 pub returns-in-Err-clause-written : goal.returns-in-Err-clause-written
 returns-in-Err-clause-written g c =
-    spared_ends c.args.office.season c.args.office.entries _ (doors_of (record { to_come = g.D.Door.to_come; out = g.D.Door.out; told = g.D.Door.told; faults = g.D.Door.faults; left = g.D.Conn.Link.left; written = g.D.Conn.Link.written; failures = g.D.Conn.Link.faults }) _ _ _ _ _) c.args.office.state _ _ _ c.tell_no_memory-in-Err.result c.entries-entries.ensures.history (stands_at _ _ _ c.in-Err.ensures.err c.into_keeper-in-Err.ensures.stands)
+    spared_ends c.args.office.season c.args.office.entries _ (doors_of (telling g.D.Door g.D.Conn.Link) _ _ _ _ _) c.args.office.state _ _ _ c.tell_no_memory-in-Err.result c.entries-entries.ensures.history (stands_at _ _ _ c.in-Err.ensures.err c.into_keeper-in-Err.ensures.stands)
     c.in-Err.ensures.spared c.tell_no_memory-in-Err.ensures.told
 
 pub returns-then-last_number-ge-MOST_NUMBER-clause-written : goal.returns-then-last_number-ge-MOST_NUMBER-clause-written
 returns-then-last_number-ge-MOST_NUMBER-clause-written g c =
-    spared_ends c.args.office.season c.args.office.entries _ (doors_of (record { to_come = g.D.Door.to_come; out = g.D.Door.out; told = g.D.Door.told; faults = g.D.Door.faults; left = g.D.Conn.Link.left; written = g.D.Conn.Link.written; failures = g.D.Conn.Link.faults }) _ _ _ _ _) c.args.office.state _ _ _ c.tell_no_memory.result c.entries-entries.ensures.history c.into_keeper.ensures.stands
+    spared_ends c.args.office.season c.args.office.entries _ (doors_of (telling g.D.Door g.D.Conn.Link) _ _ _ _ _) c.args.office.state _ _ _ c.tell_no_memory.result c.entries-entries.ensures.history c.into_keeper.ensures.stands
     refl c.tell_no_memory.ensures.told
+
+pub returns-in-Err-clause-sink : goal.returns-in-Err-clause-sink
+returns-in-Err-clause-sink g c = record { write_fault = search rules; sink_steady = search rules }
+
+pub returns-in-Err-clause-doors : goal.returns-in-Err-clause-doors
+returns-in-Err-clause-doors g c = record { door_fault = search rules; all_served = search rules; doors_steady = search rules }

@@ -3,6 +3,7 @@ use Rattle.office_asks.specs.Asking.{AnswersAt, UnanswersAt}
 use Rattle.desk_counters.specs.Knowing.{known_of}
 use Rattle.office_desk.specs.Words.{belongs, origin_of, shares_of}
 use Rattle.door_histories.proofs.Linked.{visited_is_served}
+use Rattle.door_histories.specs.Served.{telling}
 use Rattle.office_http.proofs.Handing.{asked_there, ended_so}
 use Rattle.office_http.proofs.hands.HandStoodCrewShopStoodBuffers.work.Goals as goal
 
@@ -11,15 +12,14 @@ returns g c =
     let v = c.serve_door-self.ensures in
     let D = g.D.Door in
     let L = g.D.Conn.Link in
-    let holds = g.K.Keeper.holds_room in
     let shop = c.args.shop.now.desk.now in
     let facts = (origin_of shop).season in
-    let room = holds (origin_of shop).keeper in
+    let room = (g.K.Keeper.seen (origin_of shop).keeper).holds_room in
     let after = c.serve_door-self.new.counter in
     let some = c.requires.ready in
     let w = visited_is_served (AnswersAt facts) (UnanswersAt facts room) _ (λ k. known_of k.pass.now) (λ k. k.desk.now ≡ shop)
-    (λ k k' token ask r keeps a. asked_there holds shop k.desk.now k'.desk.now (known_of k.pass.now) (known_of k'.pass.now) token ask r keeps a)
-    (record { to_come = D.to_come; out = D.out; told = D.told; faults = D.faults; left = L.left; written = L.written; failures = L.faults })
+    (λ k k' token ask r keeps a. asked_there (λ o. (g.K.Keeper.seen o).holds_room) shop k.desk.now k'.desk.now (known_of k.pass.now) (known_of k'.pass.now) token ask r keeps a)
+    (telling D L)
     c.args.door.now c.serve_door-self.new.door _ after refl v.visited v.out (ended_so c.serve_door-self.result _ _ _ v.done v.failed) in
     let shares = w.shares in
     record {
