@@ -1,4 +1,4 @@
--- Whom the status of a command blames.
+-- Which objects the status of a command blames.
 use Rattle.std.proofs.Common.{◌≡◌, ◌≢◌, ◌⊎◌, ◌∙◌, ◌≤◌, inl, inr, ℕ, List, [], ◌∷◌, Option, map, refl, sym, subst}
 use Rattle.office_base.specs.Outside.{Appends, Rose}
 use Rattle.keeper_mem.specs.Tables.{Tables, still}
@@ -13,6 +13,7 @@ use Rattle.special_command.specs.Special.{EndsSpecial, IsSpecialText}
 use Rattle.units_command.specs.Units.{IsUnitsText}
 use Rattle.step_command.specs.Step.{step_answers}
 use Rattle.audit_command.specs.Audit.{IsAuditText}
+use Rattle.audit_command.specs.Best.{IsBestText}
 use Rattle.door_histories.specs.Ending.{SomeRose}
 use Rattle.serve_command.specs.Doors.{Doors}
 use Rattle.office_commands.specs.Blames.{Blames, Counts}
@@ -20,7 +21,7 @@ use Rattle.command_answers.specs.Writes.{IsTextOf, IsWantText, Writes}
 use Rattle.command_answers.specs.declared.status.Status.{Status}
 use Rattle.command_answers.specs.declared.status.Status.TheVariants.{BadInput, ReadFault, WriteFault, KeeperFault, OutOfMemory, DoorFault, Differs}
 use Rattle.command_words.specs.declared.words.Command.{Command}
-use Rattle.command_words.specs.declared.words.Command.TheVariants.{Step, Check, Run, Resume, Units, Special, Serve, Audit, Generate}
+use Rattle.command_words.specs.declared.words.Command.TheVariants.{Step, Check, Run, Resume, Units, Special, Serve, Audit, AuditBest, Generate}
 use Rattle.command_words.specs.declared.words.OutKind.TheVariants as out_kind
 use Rattle.office_commands.specs.Program.{Ends, IsGeneratedText, Serves}
 
@@ -56,24 +57,16 @@ no_door (Units store) left before after doors output other (inr (season, script,
 no_door (Special store) left before after doors output other ends = no_special left before after output ends
 no_door (Serve conns workers start port store) left before after doors output other ends = other tt
 no_door Audit left before after doors output other ends = no_text (IsAuditText left) output (λ text h. h) ends.0
+no_door AuditBest left before after doors output other ends = no_text (IsBestText left) output (λ text h. h) ends.0
 no_door (Generate n seed out_kind.Text) left before after doors output other ends = no_text (IsGeneratedText n seed) output (λ text h. h) ends.0
 no_door (Generate n seed out_kind.Run) left before after doors output other (inl unmade) = no_text IsWantText output (λ text h. h) unmade.0
 no_door (Generate n seed out_kind.Run) left before after doors output other (inr (season, script, is, inl unbegun)) = no_text (IsUnbegunText (still before after)) output (λ text h. h) unbegun.0
 no_door (Generate n seed out_kind.Run) left before after doors output other (inr (season, script, is, inr (found, writes))) =
     no_text (IsCountedText n seed (facts_of season) script after) output (λ text h. h) writes
 
--- no doors
-abbrev pub no_doors : Doors
-no_doors = record { spared = Unit {0}; served = λ facts held history failed. Unit {0} }
-
-pub no_door_fault : (command : Command) (left : Option (List ℕ)) (before after : Tables) (written now : Option (List ℕ)) (result : Status) → (Serves command → ⊥)
-    → (output : List ℕ) × Appends output written now × Ends command left before after no_doors result output → result ≡ DoorFault → ⊥
-no_door_fault command left before after written now result other end same =
-    no_door command left before after no_doors end.0 other (subst (λ (s : Status). Ends command left before after no_doors s end.0) same end.2)
-
 -- ---- who is blamed
 
--- what is met before an office stands is no fault of the keeper
+-- what happens before an office has begun or resumed is no fault of the keeper
 early : (result : Status) (Held : Type 0) → (result ≡ BadInput) ⊎ ((result ≡ ReadFault) ⊎ (result ≡ Differs)) → (result ≢ KeeperFault → result ≢ WriteFault → Held) → Held
 early result Held (inl is) held = held (λ same. let wrong : BadInput ≡ KeeperFault = sym is ∙ same in cc wrong) (λ same. let wrong : BadInput ≡ WriteFault = sym is ∙ same in cc wrong)
 early result Held (inr (inl is)) held = held (λ same. let wrong : ReadFault ≡ KeeperFault = sym is ∙ same in cc wrong) (λ same. let wrong : ReadFault ≡ WriteFault = sym is ∙ same in cc wrong)
@@ -97,7 +90,7 @@ blames serves source source_now sink sink_now keeper keeper_now doors result no_
   keeper_count = count;
 }
 
--- where one of the doors failed, one of their counts rose
+-- if one of the doors failed, one of their counts rose
 counted : {D : Type 0} (faults : D → ℕ) (doors doors' : List D) → SomeRose faults doors doors' → SomeRose (λ count. count) (map faults doors) (map faults doors')
 counted faults [] doors' rose = rose
 counted faults (door ∷ doors) [] rose = rose

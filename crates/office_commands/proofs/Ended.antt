@@ -1,4 +1,4 @@
--- How a command that answers with one text ends, and leaves the tables as before.
+-- How a command that answers with one text ends. It leaves the tables unchanged.
 use Rattle.std.proofs.Common.{◌≡◌, ◌∙◌, inl, inr, ℕ, List, Option, Result, Ok, Err, refl, sym, arith}
 use Rattle.std.specs.Prelude.{IfOk, IfErr, IsErrOf}
 use Rattle.office_base.specs.Outside.{Appends, Rose}
@@ -14,14 +14,14 @@ use Rattle.command_answers.proofs.Ended.{answer_is_written, source_held}
 use Rattle.office_commands.proofs.Blaming.{blames}
 use Rattle.office_commands.specs.Program.{EndsText}
 
--- The text of an answer was written, and the tables are as before.
+-- The text of an answer was written, and the tables are unchanged.
 pub text_is_written : (answers : Answers) (left : Option (List ℕ)) (failed : Type 0) (answer : Result (List ℕ) Failure) (result : Status) (before after : Option (List ℕ)) (broke : Type 0) (tables : Tables)
     → IfOk answer (HasLeft answers.IsOutput left) → IfErr answer (IsFailureOf answers left failed) → IsTold (status_of answer) (text_of answer) before after broke result
     → (output : List ℕ) × Appends output before after × EndsText answers left tables tables result output
 text_is_written answers left failed answer result before after broke tables made cause told =
     let (output, appends, writes) = answer_is_written answers left failed answer result before after broke made cause told in (output, appends, (writes, refl))
 
--- the status of an answer is no fault of the sink's or the keeper's, and a read fault only where the source failed
+-- the status of an answer is no fault of the sink or the keeper, and a read fault only if the source failed
 read_alone : (answers : Answers) (left : Option (List ℕ)) (failed : Type 0) (answer : Result (List ℕ) Failure) → IfErr answer (IsFailureOf answers left failed) → ReadFault ≡ status_of answer → failed
 read_alone answers left failed (Ok output) cause same = absurd (cc same)
 read_alone answers left failed (Err Read) cause same = cause
@@ -47,7 +47,7 @@ no_door (Err Read) same = cc same
 no_door (Err (Bad line)) same = cc same
 no_door (Err NoMemory) same = cc same
 
--- What was written of an answer blames the source and the sink where they failed, and no keeper and no door.
+-- What was written of an answer blames the source and the sink if they failed, and no keeper and no door.
 pub answer_blames : (serves : Type 0) (answers : Answers) (left : Option (List ℕ)) (source source_now sink sink_now keeper : ℕ) (doors : List ℕ) (answer : Result (List ℕ) Failure) (result : Status) (before after : Option (List ℕ))
     → IfErr answer (IsFailureOf answers left (Rose source source_now)) → ((IsErrOf answer Read → ⊥) → source_now ≡ source)
     → IsTold (status_of answer) (text_of answer) before after (Rose sink sink_now) result → ((result ≡ WriteFault → ⊥) → sink_now ≡ sink)

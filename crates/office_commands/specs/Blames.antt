@@ -1,4 +1,4 @@
--- Whom a status blames: each object of the outside that failed in a call, and no other.
+-- Which objects a status blames: each object of the outside that failed in a call, and no other.
 use Rattle.std.specs.Prelude.{◌≡◌, ◌≢◌, ◌≤◌, ◌⊎◌, ℕ, List}
 use Rattle.office_base.specs.Outside.{Rose}
 use Rattle.door_histories.specs.Ending.{SomeRose}
@@ -12,9 +12,13 @@ pub record Counts : Type 0 where
   pub keeper : ℕ
   pub doors : List ℕ
 
--- A fault is told by its status, and only where that object failed: its count rose. Where no fault of an object is told, its count is as before; the sink's
--- fault alone hides one of the source or of the keeper, and it and want of memory one of a door. An office that is served tells the keeper's faults to whoever
--- asked: there the keeper's count is as before where the status tells a fault that is met before that.
+-- The status reports a fault only if that object failed: its count rose.
+-- If it reports no fault of an object, that count is unchanged.
+-- Only a fault of the sink can hide one of the source or of the keeper.
+-- A fault of the sink or a lack of memory can hide one of a door.
+-- An office that is served reports the keeper's faults in its replies,
+-- so there the keeper's count may rise under other statuses.
+-- It is unchanged if the status reports a fault that comes before the office answers.
 pub record Blames (serves : Type 0) (status : Status) (old new : Counts) : Type 0 where
   pub read : status ≡ ReadFault → Rose old.source new.source
   pub write : status ≡ WriteFault → Rose old.sink new.sink

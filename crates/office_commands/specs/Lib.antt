@@ -1,2 +1,4 @@
 pub mod Blames
+pub mod Call
+pub mod Keeping
 pub mod Program

@@ -2,6 +2,7 @@
 use Rattle.std.specs.Prelude.{◌≡◌, ◌⊎◌, ℕ, List, Option, codes}
 use Rattle.keeper_mem.specs.Tables.{Tables}
 use Rattle.audit_command.specs.Audit.{AreDossier, AreFaultyDossier, EndsWell, IsAuditText}
+use Rattle.audit_command.specs.Best.{IsBestText}
 use Rattle.command_answers.specs.Answers.{Answers, Tells}
 use Rattle.season_commands.specs.Check.{IsBundle, IsFaultyBundle, check_answers}
 use Rattle.season_commands.specs.Generated.{EndsGeneratedRun}
@@ -19,7 +20,7 @@ use Rattle.command_answers.specs.Writes.{IsTextOf, IsWantText, Writes}
 use Rattle.command_answers.specs.declared.status.Status.{Status}
 use Rattle.command_answers.specs.declared.status.Status.TheVariants.{Ok as Done, Usage, OutOfMemory}
 use Rattle.command_words.specs.declared.words.Command.{Command}
-use Rattle.command_words.specs.declared.words.Command.TheVariants.{Step, Check, Run, Resume, Units, Special, Serve, Audit, Generate}
+use Rattle.command_words.specs.declared.words.Command.TheVariants.{Step, Check, Run, Resume, Units, Special, Serve, Audit, AuditBest, Generate}
 use Rattle.command_words.specs.declared.words.OutKind.{OutKind}
 use Rattle.command_words.specs.declared.words.OutKind.TheVariants as out_kind
 use Rattle.command_words.specs.declared.words.Start.TheVariants as start
@@ -27,22 +28,22 @@ use Rattle.command_words.specs.declared.words.Start.TheVariants as start
 abbrev pub usage_line : List ℕ
 usage_line = codes "fault: usage\n"
 
--- the whole text that goes with each status where the words spell no command
+-- the whole text that goes with each status if the words spell no command
 abbrev pub IsUsageText : Status → List ℕ → Type 0
 IsUsageText Usage text = text ≡ usage_line
 IsUsageText other text = ⊥
 
--- what a command that answers with one text writes, with its status; the tables are as before
+-- what a command that answers with one text writes, with its status; the tables are unchanged
 abbrev pub EndsText : Answers → Option (List ℕ) → Tables → Tables → Status → List ℕ → Type 0
 EndsText answers left before after status output = Writes (IsTextOf answers left) status output × (after ≡ before)
 
--- the whole text that goes with each status where a season is generated and written
+-- the whole text that goes with each status if a season is generated and written
 abbrev pub IsGeneratedText : ℕ → ℕ → Status → List ℕ → Type 0
 IsGeneratedText n seed Done text = text ≡ generated n seed
 IsGeneratedText n seed OutOfMemory text = text ≡ memory_line
 IsGeneratedText n seed other text = ⊥
 
--- what is written of a generated season, with its status; the tables are as before
+-- what is written of a generated season, with its status; the tables are unchanged
 abbrev pub EndsGenerated : ℕ → ℕ → Tables → Tables → Status → List ℕ → Type 0
 EndsGenerated n seed before after status output = Writes (IsGeneratedText n seed) status output × (after ≡ before)
 
@@ -51,11 +52,17 @@ abbrev pub EndsGenerate : ℕ → ℕ → OutKind → Tables → Tables → Stat
 EndsGenerate n seed out_kind.Text before after = EndsGenerated n seed before after
 EndsGenerate n seed out_kind.Run before after = EndsGeneratedRun n seed before after
 
--- what is written of a dossier, with its status; the tables are as before
+-- what is written of a dossier, with its status; the tables are unchanged
 abbrev pub EndsAudit : Option (List ℕ) → Tables → Tables → Status → List ℕ → Type 0
 EndsAudit left before after status output = Writes (IsAuditText left) status output × (after ≡ before)
 
--- what a command writes, the status with which it ends, what the tables of the keeper stand for, by what they told before, and what became of the doors
+-- what is written of a dossier with its second verdict; the tables are unchanged
+abbrev pub EndsAuditBest : Option (List ℕ) → Tables → Tables → Status → List ℕ → Type 0
+EndsAuditBest left before after status output = Writes (IsBestText left) status output × (after ≡ before)
+
+-- what a command writes, the status with which it ends, what the tables of the keeper represent,
+-- by the visible tables before,
+-- and what became of the doors
 abbrev pub Ends : Command → Option (List ℕ) → Tables → Tables → Doors → Status → List ℕ → Type 0
 Ends Step left before after doors = EndsText step_answers left before after
 Ends Check left before after doors = EndsText check_answers left before after
@@ -66,23 +73,25 @@ Ends (Special store) left before after doors = EndsSpecial left before after
 Ends (Serve conns workers start.New port store) left before after doors = EndsServe left before after doors
 Ends (Serve conns workers start.Kept port store) left before after doors = EndsServeKept before after doors
 Ends Audit left before after doors = EndsAudit left before after
+Ends AuditBest left before after doors = EndsAuditBest left before after
 Ends (Generate n seed out) left before after doors = EndsGenerate n seed out before after
 
--- the same for words that spell no command: the tables are as before
+-- the same for words that spell no command: the tables are unchanged
 abbrev pub EndsUsage : Tables → Tables → Status → List ℕ → Type 0
 EndsUsage before after status output = Writes IsUsageText status output × (after ≡ before)
 
--- the same where there was no memory to divide the words: the doors are as before too
+-- the same if memory ran out to divide the words: the doors are unchanged too
 abbrev pub EndsUnread : Tables → Tables → Doors → Status → List ℕ → Type 0
 EndsUnread before after doors status output = Writes IsWantText status output × (after ≡ before) × doors.spared
 
--- what is written, the status with it, what the tables stand for, and what became of the doors, for the words, the bytes that the source had left and the
--- tables before
+-- what is written, the status with it, what the tables represent, and what became of the doors, for the words, the
+-- bytes that the source had left and the tables before
 abbrev pub IsWritten : List (List ℕ) → Option (List ℕ) → Tables → Tables → Doors → Status → List ℕ → Type 0
 IsWritten words left before after doors status output = EndsUnread before after doors status output
     ⊎ ((SpellNothing words × EndsUsage before after status output) ⊎ ((command : Command) × Spell words command × Ends command left before after doors status output))
 
--- the source tells its bytes, and they are the command's input without faults; what `special` takes hangs on the tables too, and is told beside them
+-- the bytes of the source are visible, and they are the command's input without faults;
+-- what `special` takes depends on the tables too, and has its own clause
 abbrev pub TellsInput : Command → Option (List ℕ) → Type 0
 TellsInput Step left = Tells IsSheet left
 TellsInput Check left = Tells IsBundle left
@@ -93,10 +102,12 @@ TellsInput (Special store) left = ⊥
 TellsInput (Serve conns workers start.New port store) left = Tells IsSeasonBundle left
 TellsInput (Serve conns workers start.Kept port store) left = Unit {0}
 TellsInput Audit left = Tells AreDossier left
+TellsInput AuditBest left = Tells AreDossier left
 TellsInput (Generate n seed out) left = Unit {0}
 
--- the source tells its bytes, and they have a fault as the command's input, which is read before all else; under `resume` and `special` the records are
--- judged first, under `serve` with `kept` there is no input, and a generated season has none either: its own bundle has no fault
+-- the bytes of the source are visible, and they have a fault as the command's input, which is read before all else;
+-- under `resume` and `special` the records are judged first;
+-- under `serve` with `kept` there is no input, and a generated season has none either: its own bundle has no fault
 abbrev pub TellsFault : Command → Option (List ℕ) → Type 0
 TellsFault Step left = Tells IsFaultySheet left
 TellsFault Check left = Tells IsFaultyBundle left
@@ -104,10 +115,12 @@ TellsFault (Run store) left = Tells IsFaultyBundle left
 TellsFault (Units store) left = Tells IsFaultyUnits left
 TellsFault (Serve conns workers start.New port store) left = Tells IsFaultySeason left
 TellsFault Audit left = Tells AreFaultyDossier left
+TellsFault AuditBest left = Tells AreFaultyDossier left
 TellsFault other left = ⊥
 
--- the keeper is as the command needs it: under `run`, `units`, `serve` with `new` and `generate` with `run` it tells that it holds no season, under `resume`, `special` and `serve` with
--- `kept` records without a fault. The others need nothing of a keeper.
+-- the keeper is as the command needs it. Under `run`, `units`, `serve` with `new` and `generate` with `run`, the
+-- visible tables have no season. Under `resume`, `special` and `serve` with `kept`, they are records without a fault.
+-- The others need nothing of a keeper.
 abbrev pub IsReady : Command → Tables → Type 0
 IsReady (Run store) tables = TellsNoSeason tables
 IsReady (Resume store) tables = TellsSound tables
@@ -126,7 +139,7 @@ BeginsOffice (Serve conns workers start.New port store) = Unit {0}
 BeginsOffice (Generate n seed out_kind.Run) = Unit {0}
 BeginsOffice other = ⊥
 
--- the command goes on with the office that the keeper holds
+-- the command resumes the office that the keeper holds
 abbrev pub Resumes : Command → Type 0
 Resumes (Resume store) = Unit {0}
 Resumes (Special store) = Unit {0}
@@ -148,7 +161,8 @@ Serves other = ⊥
 abbrev pub SpellServing : List (List ℕ) → Type 0
 SpellServing words = (command : Command) × Spell words command × Serves command
 
--- the status with which the command ends well: an audit also where a clause is broken
+-- the status with which the command ends well: an audit also where a clause is broken or a round is not the best one
 abbrev pub Succeeds : Command → Status → Type 0
 Succeeds Audit status = EndsWell status
+Succeeds AuditBest status = EndsWell status
 Succeeds other status = status ≡ Done

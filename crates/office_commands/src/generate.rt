@@ -7,7 +7,7 @@ use office_base::{OutOfMemory, Text};
 use season_generator::generate;
 use std::alloc::Global;
 
-/// The bundle of the season of `n` candidates that the seed gives.
+/// Returns the bundle of the season of `n` candidates that the seed gives.
 pub fn generate_answer(alloc: Global, n: u32, seed: u32) -> Result<Text, Failure>
     requires low { 1 ≤ n }
     requires high { n ≤ 100000 }
