@@ -1,4 +1,6 @@
-"""The generated season by a plain recipe of its own, line by line: what `generate` is held against, and inputs for the measurements."""
+"""The generated season, line by line, by a plain recipe that shares no code with the program.
+
+The output of `generate` is compared with it, and the measurements take inputs from it."""
 
 CATEGORIES = ("GEN",) * 8 + ("EWS",) * 2 + ("OBC",) * 6 + ("SC",) * 3 + ("ST",)
 CHOICES = ("withdraw",) + ("freeze",) * 3 + ("slide",) * 3 + ("float",) * 13

@@ -1,4 +1,4 @@
-"""What the measurements share: a program run over an input, its best wall time, its peak memory, and how many instructions it takes."""
+"""Measures a program over an input: its best wall time, its peak memory, and how many instructions it takes."""
 import os
 import re
 import subprocess

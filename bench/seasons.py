@@ -1,4 +1,4 @@
-"""Season bundles of any size, line by line, that the measurements share."""
+"""Makes season bundles of any size, line by line, for the measurements."""
 
 CATEGORIES = ("GEN", "EWS", "OBC-NCL", "SC", "ST")
 STEPS = (("OPEN", 40), ("GEN-EWS", 10), ("OBC-NCL", 20), ("SC", 12), ("ST", 6))

@@ -1,6 +1,8 @@
-/* Counts a program's requests for memory and the bytes that it holds, and tells them on standard error before each write to
-   standard output and at the end: how many requests so far, how many bytes are held, and how many were held at most since it
-   told last. It is loaded before the C library (LD_PRELOAD), for a program of one thread. */
+/* Counts the requests of a program for memory and the bytes that it holds.
+
+   On standard error, before each write to standard output and at the end, it prints how many requests came so far, how many bytes
+   are held, and how many were held at most since it printed last.
+   It is loaded before the C library (LD_PRELOAD), for a program of one thread. */
 #define _GNU_SOURCE
 #include <dlfcn.h>
 #include <malloc.h>

@@ -1,9 +1,11 @@
-// A plain load for a server of a season: so many connections at once, a hundred requests on each before the next one, one request after another.
+// A plain load for a server of a season.
 //
 //     plain_load PORT CLIENTS COUNT KIND CANDIDATES      KIND is state, seat or answer; CANDIDATES is a file with lines `ID TOKEN`
 //
-// It prints how many replies came, the seconds, the 50th and the 99th percentile of a reply in microseconds, how many replies were no 200, and the sum of the
-// checksums of all bodies, which is the same for servers that reply the same. For `answer` each candidate of the file answers once, so COUNT is at most theirs.
+// CLIENTS connections are open at once, and each sends a hundred requests, one after another, before the next connection takes its place.
+// It prints how many replies came, the seconds, the 50th and the 99th percentile of a reply in microseconds, and how many replies were not 200.
+// It also prints the sum of the checksums of all bodies, which is the same for servers that reply the same.
+// With `answer`, each candidate of the file answers once, so COUNT is at most the number of candidates.
 use std::io::{Read, Write};
 use std::net::{Ipv4Addr, TcpStream};
 use std::time::Instant;

@@ -1,5 +1,7 @@
-//! A programme that people come to one at a time, in plain Rust with the standard library: the same steps by the same
-//! algorithm as the product's, the same people in the same order, and no proof. It prints how many it admits.
+//! A programme that people come to one at a time, in plain Rust with the standard library and no proof.
+//!
+//! It has the same steps by the same algorithm as the product, and the same people in the same order.
+//! It prints how many it admits.
 
 const SETS: usize = 64;
 const PEOPLE: u32 = 10_000;

@@ -1,7 +1,9 @@
-//! A plain Rust office with the standard library, to measure the command `run` beside it: it reads a season bundle of the first
-//! version with its requests, answers them one after another, and writes each reply. It makes the rounds by the same algorithm
-//! as the product, keeps the same facts (the rows of answers and rounds, the lists of every round with their certificates), and
-//! has no proof. It answers `answer`, `cut`, `seat` and `state`, which the measured scripts have; other requests end it.
+//! A plain Rust office with the standard library and no proof, against which the command `run` is measured.
+//!
+//! It reads a season bundle of the first version with its requests, answers them one after another, and writes each reply.
+//! It makes the rounds by the same algorithm as the product.
+//! It keeps the same facts: the rows of answers and rounds, and the lists of every round with their certificates.
+//! It answers `answer`, `cut`, `seat` and `state`, which the measured scripts have. Other requests end it.
 #![allow(dead_code)]
 
 #[path = "../plain_offers/main.rs"]

@@ -1,5 +1,6 @@
-// A plain Rust reader of season bundles with the standard library, to measure the command `check` beside it. It makes the
-// same checks and keeps the same facts, with no proof and no first fault by kind: `check` runs both. The plain office reads with it.
+// A plain Rust reader of season bundles with the standard library and no proof, against which the command `check` is measured.
+//
+// It makes the same checks and keeps the same facts, but does not report the first fault by kind. The plain office reads with it.
 use std::collections::{HashMap, HashSet};
 use std::io::Read;
 

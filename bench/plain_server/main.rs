@@ -1,8 +1,10 @@
-// A plain Rust server of a season with the standard library, to measure the command `serve` beside it: a thread for each clone of the listener, heads cut
-// by hand, and the same replies from the same arrays under a mutex. It makes no round: the first one is read from the office's own text. It answers how far
-// the office is, seats, and the answers of window 1, and over a file it keeps each answer, with a sync, before it is told.
+// A plain Rust server of a season with the standard library, against which the command `serve` is measured.
 //
 //     plain_server WORKERS PORT BUNDLE ROUND STORE      STORE is `memory` or the name of a file
+//
+// It has a thread for each clone of the listener, cuts heads by hand, and gives the same replies from the same arrays under a mutex.
+// It makes no round: it reads the first one from the office's own text.
+// It answers how far the office is, seats, and the answers of window 1. Over a file it keeps each answer, with a sync, before the reply.
 use std::collections::HashMap;
 use std::fs::{File, OpenOptions};
 use std::io::{Read, Write};

@@ -1,6 +1,8 @@
-//! The text of a round in plain Rust with the standard library, and no proof: a round's text is read from standard input into
-//! rows, and written from these again, in one pass into one vector of known size. With the word `write` a line is written by
-//! `write!`, with `append` its pieces are appended one after another. It ends with status 1 where the bytes are not those read.
+//! The text of a round in plain Rust with the standard library and no proof.
+//!
+//! It reads a round's text from standard input into rows, and writes it from these again, in one pass into one vector of known size.
+//! With the word `write` it writes a line by `write!`; with `append` it appends the pieces of a line one after another.
+//! It exits with status 1 if the bytes are not those that it read.
 use std::io::{Read, Write};
 
 const STEPS: [&str; 6] = ["OPEN", "EWS", "OBC", "SC", "ST", "D"];
