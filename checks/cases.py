@@ -45,7 +45,7 @@ class Case:
         return any(not isinstance(it, str) and sum(map(len, it.source)) > 1_000_000 for it in self.steps)
 
     def of_row(self, number, given, line):
-        """The case of one row of a table: what is given stands for the statement of the line `!=`, else where `>=` is, else at the end of the input."""
+        """The case of one row of a table: what is given replaces the statement of the line `!=`, or else the line `>=`, or else follows the input."""
         made = Case(f"{self.label}, line {number}")
         made.steps = [it.copy() if isinstance(it, Call) else it or given for it in self.steps]
         call = made.steps[-1]
@@ -222,7 +222,7 @@ def fault_of_call(program, call, room):
 
 
 def fault_of(program, case):
-    """Why the program does not answer the case as it stands there, or None."""
+    """Why the program does not answer the case as it is written, or None."""
     if not READS_STORES and any(isinstance(it, str) for it in case.steps):
         return None
     with tempfile.TemporaryDirectory(prefix="case-", dir=ROOMS) as room:

@@ -1,5 +1,6 @@
 """The program at its edge: input and output that fail, stores that cannot be opened, and little memory. How the program ends there, and what it writes, is held
 against docs/FORMATS.md; the other statuses are those of cases/."""
+import contextlib
 import functools
 import os
 import resource
@@ -69,7 +70,7 @@ def full_output(room, program, given, words):
 
 @in_a_room
 def lost_replies(room, program, bundle):
-    """Over a file each reply is given on at once: where the output has no room, the first request alone was answered. What it kept stands, and with all
+    """Over a file each reply is given on at once: where the output has no room, the first request alone was answered. What it kept remains, and with all
     requests again the season goes on as where every reply was written."""
     with open("/dev/full", "wb") as it:
         lost = ended([program, "run", "lost.db"], room, input=bundle, stdout=it)
@@ -114,16 +115,33 @@ def only_read(room, program, bundle):
     return is_so("resume of a store that may only be read", came, NO_STORE)
 
 
+def is_locked(path):
+    """Whether some program has a lock on a file: the system lists it by the file's number."""
+    number = os.stat(path).st_ino
+    with open("/proc/locks", encoding="ascii") as table:
+        return any(field.endswith(f":{number}") for line in table for field in line.split())
+
+
+def has_open(office, path):
+    """Whether a running program has opened a file."""
+    folder = f"/proc/{office.pid}/fd"
+    with contextlib.suppress(OSError):
+        return any(os.path.realpath(f"{folder}/{it}") == os.path.realpath(path) for it in os.listdir(folder))
+    return False
+
+
 def with_the_store(room, program):
-    """A running office that has the store of the room, whose requests have not ended."""
+    """A running office that has the store of the room, whose requests have not ended: it has opened the file and locked it. Where the system lists no locks,
+    the office gets a second for it."""
+    store = f"{room}/season.db"
     for _ in range(20):
         office = subprocess.Popen([program, "resume", "season.db"], cwd=room, stdin=subprocess.PIPE, stdout=subprocess.PIPE)
-        folder = f"/proc/{office.pid}/fd"
+        opened = None
         while office.poll() is None:
-            time.sleep(0.1)
-            if any(os.path.realpath(f"{folder}/{it}").endswith("/season.db") for it in os.listdir(folder)):
-                time.sleep(0.5)
+            opened = opened or (time.monotonic() if has_open(office, store) else None)
+            if opened and (is_locked(store) or time.monotonic() > opened + 1):
                 return office
+            time.sleep(0.005)
     raise OSError("no office has the store")
 
 
@@ -138,7 +156,7 @@ def open_elsewhere(room, program, bundle):
     office.communicate(b"")
     fault = is_so("resume of a store that another office has", came, NO_STORE)
     if fault or office.returncode:
-        return fault or f"resume beside another: ended with status {office.returncode}"
+        return fault or f"resume while another has the store: ended with status {office.returncode}"
     connection = sqlite3.connect(f"{room}/season.db", isolation_level=None)
     try:
         connection.execute("BEGIN EXCLUSIVE")
@@ -205,10 +223,10 @@ def full_disk(room, program):
 
 @in_a_room
 def launcher_forms(room, words):
-    """Words of no command: the launcher tells the forms, without any proof."""
+    """Words of no command: the launcher prints the forms, without any proof."""
     _, said, status = ended([f"{TOP}/office", *words], room)
     wants = [b"    ./office run STORE ", b"    ./office try WORDS.. "]
-    return None if status == 2 and all(it in said for it in wants) else f"./office {' '.join(words)}: ended with status {status} and told {said!r:.200}"
+    return None if status == 2 and all(it in said for it in wants) else f"./office {' '.join(words)}: ended with status {status} and printed {said!r:.200}"
 
 
 def trials(program, bundle, sheet):

@@ -126,7 +126,7 @@ def own_faults():
     for where, content in parts:
         values = [it["value"] for it in content.get("examples", {}).values()]
         faults += [f"{PATH}: {where}: {why}" for it in values for why in [why_not(content["schema"], it)] if why]
-        faults += [f"{PATH}: {where}: the members of {it} do not stand in order" for it in values if where[-1] != "?" and list(it) != sorted(it)]
+        faults += [f"{PATH}: {where}: the members of {it} are not in order" for it in values if where[-1] != "?" and list(it) != sorted(it)]
     return faults
 
 
@@ -158,7 +158,7 @@ def section(title):
 
 
 def differ(what, *told):
-    """Two sides that tell something, each with its name, agree."""
+    """Two sides that say something, each with its name, agree."""
     (one, these), (other, those) = told
     return [f"{what}: {one} and {other} differ in {', '.join(sorted(map(str, these ^ those)))}"] if these != those else []
 
@@ -252,9 +252,17 @@ def as_bytes(method, path, token, body, status, told):
     return "".join(f"    {line}\n" if line else "\n" for line in shown.split("\n"))
 
 
+def versions():
+    """The document and the newest section of CHANGELOG.md have the version of the repository."""
+    version = text_of("VERSION").strip()
+    newest = re.search(r"^## (\S+), ", text_of("CHANGELOG.md"), re.M)
+    document_faults = differ("version", ("VERSION", {version}), (PATH, {document()["info"]["version"]}))
+    return document_faults + differ("version", ("VERSION", {version}), ("CHANGELOG.md", {newest[1] if newest else ""}))
+
+
 def faults():
     try:
         told = differ("refusals", (PATH, refusals()), (FORMATS, refusals_told())) + differ("refusals", (PATH, refusals()), ("the code", refusals_of_code()))
-        return [*as_a_whole(), *own_faults(), *routes(), *told, *statuses(), *examples_are_so()]
+        return [*as_a_whole(), *own_faults(), *versions(), *routes(), *told, *statuses(), *examples_are_so()]
     except KeyError as why:
         return [*as_a_whole(), f"{PATH}: there is no {why}"]

@@ -3,11 +3,11 @@
 It reads a dossier, which is a bundle with its requests and the texts that were published for it, and replays the season with the rounds that it finds there. Whom a
 step should have admitted is not made: each clause is tried on what is listed, and each exchange by trying every placement. So it serves for small dossiers, and for a season of
 some hundred candidates. Of the faults of a season it knows the few
-that are drawn in checks/plain_dossiers.py or stand in cases/audit.txt."""
+that are drawn in checks/plain_dossiers.py or are in cases/audit.txt."""
 import itertools
 import re
 
-from plain_office import STAYS, STEPS, TRAITS, Office, Season, greatest
+from plain_office import STAYS, STEPS, TRAITS, Office, Round, Season, greatest
 from plain_scripts import is_request
 
 MOST_INPUT = 134_217_728
@@ -114,13 +114,13 @@ def is_number(word):
 
 
 def fits(form, line):
-    """Whether a line is of a form: each of its words is one of those that may stand there."""
+    """Whether a line is of a form: each of its words is one of those that may be there."""
     words = line.split(" ")
     return len(words) == len(form) and all(is_number(it) if may is NUMBER_OF_32_BITS else it in may for it, may in zip(words, form))
 
 
 def could_fit(form, piece):
-    """Whether more letters may make a line of the form of what stands there."""
+    """Whether more letters may make a line of the form of what is there."""
     *whole, last = piece.split(" ")
     if len(whole) >= len(form) or not fits(form[: len(whole)], " ".join(whole)) and whole:
         return False
@@ -225,9 +225,12 @@ class Published:
 class Audited(Office):
     """An office that takes each round from the papers and makes none. It stops at the first clause that is broken."""
 
-    def __init__(self, season, papers):
+    def __init__(self, season, papers, is_best):
         super().__init__(season)
+        self.is_best = is_best
         self.papers, self.broken, self.known, self.seen = papers, None, {}, 0
+        # the first round that is not the best one, with the first candidate whom the best one gives a better place
+        self.worse = None
 
     def kept(self, cand, window):
         for it in self.answers[self.seen :]:
@@ -240,10 +243,20 @@ class Audited(Office):
             if window < self.season.rounds:
                 found = Published(self.papers.rounds[window], self.papers.lists[window])
                 self.broken = next(broken_in(self, found), None)
+                if self.is_best and not self.worse:
+                    self.worse = next(((window + 1, cand) for cand in self.gainers(found)), None)
                 self.rounds.append(found)
             elif self.papers.finals != self.admitted():
                 self.broken = "FinalDiffers - -"
             self.cuts += 1
+
+    def gainers(self, found):
+        """The candidates whom the best round gives a better place than the published one, in the order of the register."""
+        sought = {it.id: self.sought(it.id) for it in self.season.people}
+        best = Round(self.season, self.seats(), sought).seats
+        for cand, codes in sought.items():
+            if cand in best and (cand not in found.seats or codes.index(best[cand][0]) < codes.index(found.seats[cand][0])):
+                yield cand
 
     def reply_to_list(self, *_):
         pass
@@ -338,8 +351,8 @@ def honoured(people, protections):
 # ---- the verdict
 
 
-def verdict(given):
-    """What the audit of a dossier comes to: its line, and the status."""
+def verdict(given, is_best=False):
+    """What the audit of a dossier comes to: its line, and the status; with a second line on whether each round is the best one, where that is asked."""
     try:
         bundle, requests, published = parts_of(given)
         season = season_of(bundle)
@@ -348,9 +361,14 @@ def verdict(given):
         papers = papers_of(season, cuts, published)
     except Fault as fault:
         return f"fault: {fault}\n".encode(), 3
-    office = Audited(season, papers)
+    office = Audited(season, papers, is_best)
     for row in rows:
         office.reply(",".join(row))
         if office.broken:
             return f"audit broken round {office.cuts} {office.broken}\n".encode(), 10
-    return f"audit sound rounds {len(papers.rounds)}\n".encode(), 0
+    sound = f"audit sound rounds {len(papers.rounds)}\n".encode()
+    if not is_best:
+        return sound, 0
+    if office.worse:
+        return sound + b"not best round %d %d\n" % (office.worse[0], int(office.worse[1])), 10
+    return sound + b"best\n", 0

@@ -98,7 +98,7 @@ def nothing(draw, dossier):
 
 
 def seats_changed(draw, dossier):
-    """One seat of a round is given, taken, handed on, exchanged or told under another step; the lists are made anew."""
+    """One seat of a round is given, taken, handed on, exchanged or listed under another step; the lists are made anew."""
     at = draw.below(len(dossier.texts) or 1)
     if not dossier.texts:
         return None
@@ -119,7 +119,7 @@ def seats_changed(draw, dossier):
 
 
 def round_changed(draw, dossier):
-    """A round's text tells another seat of somebody, or none, and the lists stay."""
+    """A round's text gives somebody another seat, or none, and the lists stay."""
     if not dossier.texts:
         return None
     at = draw.below(len(dossier.texts))
@@ -222,7 +222,7 @@ def order_changed(draw, dossier):
 
 
 def final_changed(draw, dossier):
-    """A final row is missing, or tells another seat."""
+    """A final row is missing, or has another seat."""
     rows = dossier.last[1:-1]
     if not rows:
         return None
@@ -285,7 +285,7 @@ FAULTS = ("dossier NoSection", "bundle NotUtf8", "bundle BadFirstLine", "bundle 
 
 
 def drawn_dossiers(draw, in_order, seasons, count):
-    """From each of some seasons so many dossiers, each damaged in one place or in none, with what the plain auditor tells of them."""
+    """From each of some seasons so many dossiers, each damaged in one place or in none, with what the plain auditor says of them."""
     found = []
     for number in range(seasons):
         text = drawn_season(draw, in_order)
@@ -323,7 +323,7 @@ def fault_of_generated(program, count, seed, plainly):
     given = OF_BUNDLE(lambda words, it: called(program, words, it, "/"), bundle)
     told = b"audit sound rounds 6\n", 0
     if plainly and verdict(given) != told:
-        return f"the dossier of generate {count} {seed}: the plain auditor tells {verdict(given)[0]!r}"
+        return f"the dossier of generate {count} {seed}: the plain auditor says {verdict(given)[0]!r}"
     return fault_of_audit(program, f"the dossier of generate {count} {seed}", given, *told)
 
 

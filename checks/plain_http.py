@@ -43,7 +43,7 @@ def token_of(season, by):
 
 
 def asked(season, row):
-    """The method, path, token and body of a request that a row of a script tells."""
+    """The method, path, token and body of a request that a row of a script spells."""
     word, by, *fields = row.split(",")
     token = token_of(season, by)
     if word in MEMBERS:
@@ -63,7 +63,7 @@ def row_of(season, method, path, token, body):
 
 
 def message(method, path, token, body, fields=()):
-    """The bytes of a request; what asks is told by its token alone."""
+    """The bytes of a request. Its token alone says who asks."""
     lines = [f"{method} {path} HTTP/1.1", *fields]
     lines += [f"X-Office-Token: {token}"] if token else []
     lines += [f"Content-Length: {len(body)}"] if body or method == "POST" else []

@@ -33,7 +33,7 @@ def stands(person, left):
 
 @functools.lru_cache(maxsize=None)
 def chosen(people, seats, protections):
-    """Whom a step admits of its people, by their numbers in merit order: the one set within the seats that stands against every other."""
+    """Whom a step admits of its people, by their numbers in merit order: the one set within the seats that is as good as every other."""
     sets = [it for size in range(min(seats, len(people)) + 1) for it in itertools.combinations(range(len(people)), size)]
     honours = {it: greatest(tuple(people[at] for at in it), protections) for it in sets}
 
@@ -229,7 +229,7 @@ class Office:
     # ---- replies
 
     def reply(self, row):
-        """The reply to a request as a row of the script tells it."""
+        """The reply to a request as a row of the script spells it."""
         word, by, *fields = row.split(",")
         return getattr(self, f"reply_to_{word}")(by, *(int(it) if it.isdigit() else it for it in fields))
 
@@ -376,7 +376,7 @@ class Office:
         return None
 
     def rows(self):
-        """The rows of the tables of a store, as docs/FORMATS.md tells them."""
+        """The rows of the tables of a store, as docs/FORMATS.md has them."""
         number = {code: at for at, code in enumerate(self.season.programmes)}
         allots = [(at, cand, *seat) for at, it in enumerate(self.rounds, 1) for cand, seat in sorted(it.seats.items())]
         if self.cuts > self.season.rounds:

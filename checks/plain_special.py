@@ -1,6 +1,6 @@
 """The special round, plainly and outside of the program and its proofs: what final admissions left of a season, and one round more over it.
 
-The seats that are left are made by taking them away one by one, final row after final row, as the rule tells it: each row takes one of its own step, and then
+The seats that are left are made by taking them away one by one, final row after final row, as the rule says: each row takes one of its own step, and then
 each row of the de-reserved step takes one of OBC while one is left there, and else one of EWS. It serves for a handful of candidates, as the plain office does."""
 import copy
 import csv
@@ -14,7 +14,7 @@ LAST_ID = 999_999_999
 
 
 def seats_left(office):
-    """The seats of each step beside the final rows."""
+    """The seats of each step that the final rows leave."""
     left = dict(office.seats())
     finals = office.admitted()
     for _, code, step in finals:
@@ -27,7 +27,7 @@ def seats_left(office):
 
 
 def protections_left(office, left):
-    """The protections of each step beside the certificate of its final persons, as far as there are seats."""
+    """The protections of each step that the certificate of its final persons leaves, as far as there are seats."""
     season, found = office.season, {}
     for (code, step), old in season.protections.items():
         merit = season.merit(code)
@@ -120,7 +120,7 @@ def special_text(office, lists):
 
 
 def wrongs_of(office, lists):
-    """What is wrong with the special round by its promises: whoever has a final row has no seat of it, and no programme gives more seats than it has."""
+    """What is wrong with the special round by its promises: nobody with a final row has a seat of it, and no programme gives more seats than it has."""
     choices, fault = read_lists(office, lists)
     if fault:
         return []

@@ -84,7 +84,7 @@ class Draw:
 
 
 def is_readable(row):
-    """Whether the row can stand in a script: no turn is 0, no seats are 0 or above 4,000, and the seats left unfilled are no step of the matrix."""
+    """Whether the row can be in a script: no turn is 0, no seats are 0 or above 4,000, and the seats left unfilled are no step of the matrix."""
     word, _, *fields = row.split(",")
     return not (word == "answer" and fields[2] == "0") and not (word == "raise" and (fields[2] == "D" or not 1 <= int(fields[3]) <= MOST_SEATS))
 
@@ -200,7 +200,7 @@ def drawn_market(draw):
 
 def fair_ones(season):
     """All allocations in which each programme admits, of those who apply to it, exactly those who hold a seat of it. An allocation names the programme of each
-    candidate, None for none: the step of a seat is what the programme tells. A candidate applies down the own list to the programme held, or to its end."""
+    candidate, None for none: the programme's choice gives the step of a seat. A candidate applies down their list to the programme held, or to its end."""
     own = [season.choices.get(it.id, []) for it in season.people]
 
     @functools.lru_cache(maxsize=None)
@@ -246,7 +246,7 @@ def drawn_markets(count):
 
 
 def fault_of_output(program, label, words, given, told, ends=0):
-    """Why the program does not write what is told and end so, or None."""
+    """Why the program does not write this output and end so, or None."""
     wrote, status = called(program, words, given.encode(), "/")
     return None if (wrote, status) == (told.encode(), ends) else f"{label}: {words[0]} ended with status {status}: {first_difference(wrote, told.encode())}"
 
@@ -435,7 +435,7 @@ def trials(program, texts, drawn):
         yield functools.partial(fault_of_divided, program, f"units {number}", drawn_divided(draw, register))
     specials, both = drawn_specials(drawn.markets)
     if drawn == ALL:
-        yield lambda: None if both >= 100 else f"drawn special rounds: {both} have seats beside final rows of the de-reserved step"
+        yield lambda: None if both >= 100 else f"drawn special rounds: {both} have seats and final rows of the de-reserved step"
     for special in specials:
         yield functools.partial(fault_of_special, program, *special)
     for count, seed in ((2, 1), (40, 7)):
@@ -449,7 +449,7 @@ def trials(program, texts, drawn):
 
 def plainly(call, kept):
     """What a call without a fault comes to by the plain office: the list of a sheet, the replies to requests, the verdict on a dossier, or the special round
-    over what a call before it kept. None where it tells none of these."""
+    over what a call before it kept. None where the call is none of these."""
     given = b"".join(call.source)
     if call.words[:1] == ["units"]:
         try:
@@ -463,14 +463,14 @@ def plainly(call, kept):
     if call.status == 0 and call.words[:1] in (["run"], ["units"]) and begin:
         office = Office(Season(season))
         return "".join(office.reply(it) for it in script.split("\n") if it)
-    if call.words[:1] == ["audit"]:
-        return verdict(b"".join(call.source))[0].decode()
+    if call.words in (["audit"], ["audit", "best"]):
+        return verdict(b"".join(call.source), "best" in call.words)[0].decode()
     if call.words[:1] == ["special"] and kept and len(given) <= MOST_INPUT:
         return special_text(office_after(kept), given)[0]
     return None
 
 
-def told_otherwise(found):
+def otherwise(found):
     """The cases whose output, as it is written down, is not that of the plain office."""
     said = []
     for case in found:
@@ -480,5 +480,5 @@ def told_otherwise(found):
             if call.words[:1] == ["run"] and call.status == 0:
                 kept = b"".join(call.source).decode(errors="replace")
             if plain is not None and plain.encode() != wanted:
-                said.append(f"{case.label}: the plain office tells otherwise: {first_difference(wanted, plain.encode())}")
+                said.append(f"{case.label}: the plain office answers otherwise: {first_difference(wanted, plain.encode())}")
     return said

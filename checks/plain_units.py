@@ -9,7 +9,7 @@ MARK = b"\xef\xbb\xbf"
 
 
 class Fault(Exception):
-    """The first fault, as the line that tells it."""
+    """The first fault, as its line."""
 
 
 def without_mark(text):
@@ -81,7 +81,7 @@ def quoted_row(row):
     return b",".join(b'"' + it.replace(b"\n", b" ").replace(b'"', b'""') + b'"' for it in row) + b"\n"
 
 
-# ---- what stands before the bundle
+# ---- what comes before the bundle
 
 
 def line_fault(number):

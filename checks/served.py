@@ -8,6 +8,7 @@ import json
 import os
 import random
 import re
+import resource
 import shutil
 import signal
 import socket
@@ -25,10 +26,11 @@ from plain_office import Office, Season
 
 TOP = os.path.dirname(os.path.dirname(os.path.realpath(__file__)))
 LOOPBACK, LISTENS = "0100007F", "0A"
-# messages that a connection takes, and seconds that a silent one is waited for
-MOST_MESSAGES, PATIENCE = 100, 30
+# messages that a connection takes, and seconds that a silent one is waited for within a message, between messages, and for a whole message
+MOST_MESSAGES, PATIENCE, BETWEEN, WHOLE = 100, 30, 2, 60
 NO_PORT = (b"", b"cannot bind port\n", 1)
-PORTS = itertools.chain.from_iterable(itertools.repeat(random.sample(range(15_000, 30_000), 15_000)))
+# ports in the same order in each run of a checkout, and in another one in other checkouts, which may run at the same time
+PORTS = itertools.cycle(random.Random(TOP).sample(range(15_000, 30_000), 15_000))
 TABLES = ("answer", "lift", "allot", "phase")
 
 
@@ -65,9 +67,20 @@ class Server:
     """The program serving: so many connections of each of so many workers, from a bundle or from what a store keeps."""
 
     def __init__(self, program, room, label, conns, workers=1, start="new", store="memory", bundle=b""):
-        self.label, self.port, self.total = label, free_port(), conns * workers
-        words = [program, "serve", str(conns), str(workers), start, str(self.port), store]
-        self.child = subprocess.Popen(words, cwd=room, stdin=subprocess.PIPE, stdout=subprocess.PIPE, stderr=subprocess.PIPE)
+        self.label, self.total = label, conns * workers
+        # somebody else may have taken a port since it was looked up
+        for _ in range(3):
+            found = self.begun([program, "serve", str(conns), str(workers), start], store, room, bundle)
+            if found or self.child.poll() != NO_PORT[2]:
+                break
+        if found != {LOOPBACK}:
+            why = f"it listens at {sorted(found)}" if found else f"it does not listen, and ended with {self.stop()}"
+            raise Wrong(f"{label}: {why}")
+
+    def begun(self, words, store, room, bundle):
+        """Begins the program at a free port, and gives the addresses at which somebody listens there once it does, or has ended."""
+        self.port = free_port()
+        self.child = subprocess.Popen([*words, str(self.port), store], cwd=room, stdin=subprocess.PIPE, stdout=subprocess.PIPE, stderr=subprocess.PIPE)
         with contextlib.suppress(BrokenPipeError):
             self.child.stdin.write(bundle)
             self.child.stdin.close()
@@ -75,10 +88,7 @@ class Server:
         until = time.monotonic() + SECONDS
         while not listeners(self.port) and self.child.poll() is None and time.monotonic() < until:
             time.sleep(0.005)
-        found = listeners(self.port)
-        if found != {LOOPBACK}:
-            why = f"it listens at {sorted(found)}" if found else f"it does not listen, and ended with {self.stop()}"
-            raise Wrong(f"{label}: {why}")
+        return listeners(self.port) if self.child.poll() is None else set()
 
     def connected(self):
         link = socket.create_connection(("127.0.0.1", self.port), timeout=SECONDS)
@@ -138,7 +148,7 @@ def read_reply(link, held=b""):
     while b"\r\n\r\n" not in held:
         piece = link.recv(1 << 16)
         if not piece:
-            raise EOFError
+            raise EOFError(*[held] if held else [])
         held += piece
     head, _, held = held.partition(b"\r\n\r\n")
     lines = head.decode().split("\r\n")
@@ -146,7 +156,7 @@ def read_reply(link, held=b""):
     while len(held) < length:
         piece = link.recv(1 << 16)
         if not piece:
-            raise EOFError
+            raise EOFError(head)
         held += piece
     return int(lines[0].split()[1]), held[:length], "Connection: close" in lines, held[length:]
 
@@ -175,12 +185,12 @@ def same(label, came, wanted):
 
 
 def ends_well(server, office, label):
-    """The last lines tell how far the office is and how much it accepted, and standard error told once where it listened."""
+    """The last lines say how far the office is and how much it accepted. Standard error said once where it listened."""
     wrote, said, status = server.ended()
     entries = len(office.answers) + len(office.raises) + office.cuts
     told = f"state window {office.cuts} rounds {office.season.rounds} published {len(office.rounds)}\nentries {entries}\n"
     want((wrote, status) == (told, 0), label, f"it ended with status {status} and wrote {wrote!r:.100}, and not {told!r}")
-    want(said.count("\n") == 1 and f"127.0.0.1:{server.port}" in said, label, f"standard error tells {said!r:.100}, and not in one line where it listens")
+    want(said.count("\n") == 1 and f"127.0.0.1:{server.port}" in said, label, f"standard error is {said!r:.100}, and not one line that says where it listens")
 
 
 def kept_rows(store):
@@ -386,10 +396,17 @@ class Client(threading.Thread):
 
     def over(self, link, row, count):
         """So many requests over one connection, from this one on; the next one after them."""
-        held = b""
+        held, sent = b"", None
         for _ in range(count):
-            link.sendall(message(*asked(self.season, row)))
-            status, body, closes, held = read_reply(link, held)
+            before, sent = sent, time.monotonic()
+            try:
+                link.sendall(message(*asked(self.season, row)))
+                status, body, closes, held = read_reply(link, held)
+            except (EOFError, BrokenPipeError, ConnectionResetError) as why:
+                # a kept connection that is silent for too long is closed before the next message is read: that one comes again over a new connection
+                if before is None or time.monotonic() - before < BETWEEN or isinstance(why, EOFError) and why.args:
+                    raise
+                return row
             self.came.append((row, (status, body)))
             row = self.next_row(self)
             if not row or closes:
@@ -484,12 +501,12 @@ class History:
             for row in script:
                 before = count_of(office)
                 reply = office.reply(row)
-                want(count_of(office) == before + 1, "clients side by side", f"the kept row {row} is not newly accepted where it stands: {reply!r:.60}")
+                want(count_of(office) == before + 1, "clients side by side", f"the kept row {row} is not newly accepted at its place: {reply!r:.60}")
         self.last = office
         want(office.rows() == rows, "clients side by side", "the kept rows are not those of the history")
 
     def replies(self, row, cuts, own):
-        """The reply to a row at so many cuts, of one who was told of these accepted rows of the open window, and how many cuts there are after it."""
+        """The reply to a row at so many cuts, of one who knows of these accepted rows of the open window, and how many cuts there are after it."""
         word, by, *fields = row.split(",")
         if word == "cut" and by == "clerk" and int(fields[0]) == cuts and cuts + 1 < len(self.offices):
             return forked(self.offices[cuts + 1]).reply(row), cuts + 1
@@ -540,7 +557,7 @@ def side_by_side(room, program, text, seed, workers, count):
         history.holds(client.came)
     noted = sorted({row for it in everybody for row, (status, _) in it.came if status == 200 and row.split(",")[0] in ("answer", "raise")})
     stand = len(kept["answer"]) + len(kept["lift"])
-    want(len(noted) == stand, label, f"{len(noted)} answers and raises were told as accepted, and {stand} are kept")
+    want(len(noted) == stand, label, f"{len(noted)} answers and raises had a reply that accepts them, and {stand} are kept")
     want(kept["phase"] == [(1, season.rounds + 1)], label, "not all windows are cut")
 
 
@@ -608,6 +625,71 @@ def silent(room, program, bundle):
             same(label, rest_of(link), b"")
         wrote, _, status = server.ended()
         want(status == 0 and wrote.endswith("entries 0\n"), label, f"it ended with status {status} and wrote {wrote!r}")
+
+
+@trial
+def kept_silent(room, program, bundle):
+    """A connection that was answered and says no more is given up after some 2 seconds, and its worker serves the next one."""
+    label = "a silent kept connection"
+    with Server(program, room, label, 2, bundle=bundle) as server:
+        with server.connected() as link:
+            link.sendall(get())
+            read_reply(link)
+            begun = time.monotonic()
+            same(label, rest_of(link), b"")
+            waited = time.monotonic() - begun
+            want(BETWEEN - 1 <= waited <= BETWEEN + 6, label, f"it was waited for {waited:.1f} seconds")
+        same(label, server.talk([get()]), STATE)
+        want(server.ended()[2] == 0, label, "it did not end well")
+
+
+@trial
+def slow(room, program, bundle):
+    """A message takes a minute at most, however its bytes come: a client that sends one every 5 seconds loses its connection."""
+    label = "a slow message"
+    with Server(program, room, label, 2, bundle=bundle) as server:
+        begun = time.monotonic()
+        with server.connected() as link, contextlib.suppress(OSError):
+            for byte in get():
+                link.sendall(bytes([byte]))
+                link.settimeout(5)
+                with contextlib.suppress(TimeoutError):
+                    same(label, rest_of(link), b"")
+                    break
+        waited = time.monotonic() - begun
+        want(WHOLE - 5 <= waited <= WHOLE + 15, label, f"it was taken for {waited:.0f} seconds")
+        same(label, server.talk([get()]), STATE)
+
+
+@trial
+def refused_early(room, program, bundle):
+    """A message that is refused by its head, while its body still comes, has its reply whole."""
+    label = "a body that is refused while it comes"
+    body = b"x" * (1 << 20)
+    with Server(program, room, label, 1, bundle=bundle) as server, server.connected() as link:
+        with contextlib.suppress(BrokenPipeError, ConnectionResetError):
+            link.sendall(b"POST /v1/answer HTTP/1.1\r\nHost: x\r\nContent-Length: %d\r\n\r\n" % len(body) + body)
+        want(rest_of(link).startswith(b"HTTP/1.1 413 "), label, "its reply does not come whole")
+
+
+@trial
+def short_of_descriptors(room, program, bundle):
+    """Where the system has no descriptor for a connection, it is taken later, and one line on standard error says so."""
+    label = "no descriptor is left"
+    with Server(program, room, label, 2, bundle=bundle) as server:
+        most = resource.prlimit(server.child.pid, resource.RLIMIT_NOFILE)[1]
+        held = {int(it) for it in os.listdir(f"/proc/{server.child.pid}/fd")}
+        next_free = next(it for it in itertools.count() if it not in held)
+        resource.prlimit(server.child.pid, resource.RLIMIT_NOFILE, (next_free, most))
+        # the worker already waits for this one, and the system took a descriptor for it before
+        same(label, server.talk([get()]), STATE)
+        with server.connected() as link:
+            link.sendall(get("Connection: close"))
+            time.sleep(1)
+            resource.prlimit(server.child.pid, resource.RLIMIT_NOFILE, (most, most))
+            want(rest_of(link).startswith(b"HTTP/1.1 200 "), label, "the connection is not answered later")
+        _, said, status = server.ended()
+        want(status == 0 and said.count("cannot accept a connection") == 1, label, f"it ended with status {status}, and standard error has {said!r}")
 
 
 # ---- how it ends
@@ -678,7 +760,7 @@ def one_connection(room, program, bundle):
 
 
 def tour_of(text):
-    """The calls of `curl` in the part of the README that serves an office, each with the reply that stands below it."""
+    """The calls of `curl` in the part of the README that serves an office, each with the reply below it."""
     part = text.partition("\n## The office over HTTP\n")[2].partition("\n## ")[0]
     blocks = [it.strip() for it in re.findall(r"(?:^ {4}.*\n)+", part, re.M)]
     return [(one, other) for one, other in zip(blocks, blocks[1:]) if one.startswith("curl ")], part
@@ -726,5 +808,5 @@ def trials(program, bundle, worked, drawn, is_long):
     for number, script in enumerate(scripts[:: 10 if is_long else len(scripts)]):
         for at in (0, len(script.rows) // 2, len(script.rows) - 1) if is_long else (len(script.rows) // 2,):
             yield functools.partial(killed, program, script, at, 0.0005 * (number % 4))
-    for tried in (torn, gone, port_taken, no_season, one_connection, tour, *([silent] if is_long else [])):
+    for tried in (torn, gone, port_taken, no_season, one_connection, tour, kept_silent, refused_early, short_of_descriptors, *([silent, slow] if is_long else [])):
         yield functools.partial(tried, program, bundle)

@@ -1,0 +1,129 @@
+"""What the parts of checks/deploy share: the tally, a folder for each part, an office with nginx in front of it, and the season of five candidates."""
+import contextlib
+import functools
+import json
+import os
+import socket
+import tempfile
+import threading
+import time
+
+from cases import ROOMS
+from front import Front, Office, found, read_reply, request, text_of
+from plain_office import Season
+from served import TOP
+
+CLERK, SECOND, THIRD = "clerk0001", "tok00002", "tok00003"
+
+
+class Tally:
+    """What held, what did not, and what was not looked at."""
+
+    def __init__(self):
+        self.passed, self.failed, self.skipped = 0, 0, []
+
+    def holds(self, it, label, what=""):
+        if it:
+            self.passed += 1
+        else:
+            self.failed += 1
+            print(f"FAILED {label}{': ' if what else ''}{what}"[:600], flush=True)
+
+    def same(self, came, wanted, label):
+        self.holds(came == wanted, label, f"{came} and not {wanted}")
+
+    def status(self, reply, wanted, label):
+        self.holds(reply.status == wanted, label, f"{reply} and not {wanted}")
+
+    def skips(self, what, lacking):
+        self.skipped.append(what)
+        print(f"SKIPPED {what}: it needs {lacking}", flush=True)
+
+
+tally = Tally()
+PARTS = []
+
+
+def part(label, needs=(), rooms=ROOMS):
+    """A part of the check in a folder of its own; what it needs has to be installed. A program can be run from `rooms` None, wherever that is."""
+
+    def taken(tried):
+        @functools.wraps(tried)
+        def gives(program):
+            lacking = [it for it in needs if not (os.geteuid() == 0 if it == "root" else found(it) or os.path.exists(it))]
+            if lacking:
+                tally.skips(label, ", ".join(lacking))
+                return
+            with tempfile.TemporaryDirectory(prefix="deploy-", dir=rooms) as room:
+                os.chmod(room, 0o755)
+                try:
+                    tried(room, program)
+                except Exception as why:  # a part that breaks is a part that does not hold
+                    tally.holds(False, label, f"{type(why).__name__} {why}")
+
+        PARTS.append((label, gives))
+        return gives
+
+    return taken
+
+
+def bundle_of(name="five-candidates"):
+    with open(f"{TOP}/examples/{name}/bundle.txt", "rb") as it:
+        return it.read()
+
+
+def body(**members):
+    return json.dumps(members, separators=(",", ":")).encode()
+
+
+@contextlib.contextmanager
+def fronted(room, program, bundle=None, **how):
+    """A new office and nginx in front of it; afterwards no log of either has a token of the bundle."""
+    bundle = bundle or bundle_of()
+    os.makedirs(f"{room}/office")
+    with Office(program, f"{room}/office") as office, Front(room, f"127.0.0.1:{office.port}") as nginx:
+        office.start("new", bundle=bundle, **how)
+        yield nginx, office
+    no_tokens(nginx.logs() + text_of(f"{room}/office/office.log"), bundle, os.path.basename(room))
+
+
+def no_tokens(text, bundle, label):
+    seen = [it for it in tokens_of(bundle) if it in text]
+    tally.holds(not seen, f"no token in a log ({label})", f"{seen[:3]}")
+
+
+def tokens_of(bundle):
+    season = Season(bundle.decode().partition("[requests]")[0])
+    return [season.clerk, *(it.token for it in season.people)]
+
+
+def in_threads(calls):
+    """Runs these at once, and gives what each of them gives."""
+    given = [None] * len(calls)
+
+    def run(at):
+        try:
+            given[at] = calls[at]()
+        except (OSError, EOFError) as why:
+            given[at] = why
+
+    threads = [threading.Thread(target=run, args=(at,), daemon=True) for at in range(len(calls))]
+    for it in threads:
+        it.start()
+    for it in threads:
+        it.join(120)
+    return given
+
+
+def timed(call):
+    begun = time.monotonic()
+    return call(), time.monotonic() - begun
+
+
+CUT, ANSWER = body(window=0), body(cand=2, window=1, turn=1, choice="float")
+
+
+def directly(office, method, path, token, given):
+    with socket.create_connection(("127.0.0.1", office.port), timeout=30) as link:
+        link.sendall(request(method, path, token, given))
+        return read_reply(link)[0]

@@ -1,0 +1,155 @@
+#!/usr/bin/env python3
+"""The form of the documents: short lines, short sentences, plain words. checks/repository runs it.
+
+    checks/form.py [FOLDER]      the findings of the checkout at FOLDER, or of this one, with the names and links of checks/documents.py
+
+- No line of prose is longer than 160 characters. Headings, tables and code are no prose.
+- No sentence of README, RULES, CHECKING and TUTORIAL has more than 40 words, and on average a sentence of each has at most 18.
+- Some words are in no document outside of code: each has a plainer one.
+
+A span of code counts as one word, and so does a number. Cells of tables have to have short sentences too, and are left out of the averages."""
+import os
+import re
+import sys
+
+import documents
+from documents import SPAN, text_of
+
+WIDEST_LINE = 160
+MOST_WORDS = 40
+MOST_ON_AVERAGE = 18
+COUNTED = ("README.md", "docs/RULES.md", "docs/CHECKING.md", "docs/TUTORIAL.md")
+HARD_WORDS = re.compile(r"\b(told|whoever|the own|stands|beside|for want of)\b", re.I)
+ITEM = re.compile(r"( *)(?:[-*+]|\d{1,9}[.)]) +(?=\S)")
+SENTENCE_ENDS = re.compile(r"[.!?][\"')\]*_]*\s+(?=[\"'(\[*_]*[A-Z0-9])")
+
+
+def of_plain_words(path):
+    return path in ("README.md", "CONTRIBUTING.md", "cases/README.md") or path.startswith("docs/")
+
+
+# ---- lines by their kind
+
+
+def kinds(path):
+    """Each line of a document with its number and its kind: prose, item (which begins one of a list), heading, table, code or empty."""
+    fence, indent, last = None, 0, "empty"
+    for number, line in enumerate(text_of(path).splitlines(), 1):
+        text, mark = line.strip(), re.match(r" {0,3}(```+|~~~+)", line)
+        depth = len(line) - len(line.lstrip(" "))
+        item = ITEM.match(line)
+        if fence or mark:
+            kind = "code"
+            if not fence:
+                fence = mark[1]
+            elif text.startswith(fence) and text.strip(fence[0]) == "":
+                fence = None
+        elif not text:
+            kind = "empty"
+        elif depth >= indent + 4 and last in ("empty", "code"):
+            kind = "code"
+        elif re.match(r" {0,3}#{1,6} ", line):
+            kind, indent = "heading", 0
+        elif text.startswith("|"):
+            kind = "table"
+        elif text.startswith("<") and not text.startswith("<http"):
+            kind = "code"
+        elif item:
+            kind, indent = "item", len(item[0])
+        else:
+            kind = "prose"
+            if depth == 0 and last in ("empty", "heading"):
+                indent = 0
+        if kind != "empty" or last != "code":
+            last = kind
+        yield number, kind, line
+
+
+def without_code(line):
+    """The line with a word in place of each span of code, and without the targets of links."""
+    line = re.sub(r"(`+)(?!`).+?(?<!`)\1(?!`)", "CODE", line)
+    return re.sub(r"\]\([^)]*\)", "]", line)
+
+
+# ---- lines and words
+
+
+def long_lines(path):
+    return [f"{path}:{number}: a line of prose has {len(line)} characters, and {WIDEST_LINE} are the most"
+            for number, kind, line in kinds(path) if kind in ("prose", "item") and len(line) > WIDEST_LINE]
+
+
+def hard_words(path):
+    return [f"{path}:{number}: '{it[0]}' has a plainer word" for number, kind, line in kinds(path) if kind != "code" for it in HARD_WORDS.finditer(without_code(line))]
+
+
+# ---- sentences
+
+
+def pieces(path):
+    """The paragraphs, items and cells of tables of a document, each with the number of its first line, its text, and whether it is a cell."""
+    begun, text = 0, []
+    for number, kind, line in kinds(path):
+        if kind != "prose" and text:
+            yield begun, " ".join(text), False
+            text = []
+        if kind in ("prose", "item"):
+            begun = begun if text else number
+            text.append(re.sub(r"^(?:>\s*)*", "", (ITEM.sub("", line, count=1) if kind == "item" else line).strip()))
+        elif kind == "table" and not re.fullmatch(r"[\s|:-]+", line):
+            yield from ((number, cell, True) for cell in re.split(r"(?<!\\)\|", without_code(line).strip().strip("|")))
+    if text:
+        yield begun, " ".join(text), False
+
+
+def words_of(sentence):
+    return [it for it in sentence.split() if re.search(r"\w", it)]
+
+
+def sentences(path):
+    """The sentences of a document: the number of the line where the piece of text begins, the words, and whether it is of a cell."""
+    for number, text, is_cell in pieces(path):
+        for sentence in SENTENCE_ENDS.sub(lambda it: it[0].rstrip() + "\n", without_code(text)).split("\n"):
+            words = words_of(sentence)
+            if words:
+                yield number, words, is_cell
+
+
+def average(path):
+    """The words of a sentence of a document on average, without those of tables."""
+    found = [len(words) for _, words, is_cell in sentences(path) if not is_cell]
+    return sum(found) / max(len(found), 1)
+
+
+def long_sentences(path):
+    found = [f"{path}:{number}: a sentence has {len(words)} words, and {MOST_WORDS} are the most: {' '.join(words[:8])} .."
+             for number, words, _ in sentences(path) if len(words) > MOST_WORDS]
+    mean = average(path)
+    return found + ([f"{path}: a sentence has {mean:.1f} words on average, and {MOST_ON_AVERAGE} are the most"] if mean > MOST_ON_AVERAGE else [])
+
+
+def averages():
+    """A line with the average of each document that is counted."""
+    return "words of a sentence on average: " + ", ".join(f"{os.path.basename(it)} {average(it):.1f}" for it in COUNTED if os.path.exists(it))
+
+
+def faults():
+    found = [it for path in documents.markdown() for it in long_lines(path)]
+    found += [it for path in COUNTED if os.path.exists(path) for it in long_sentences(path)]
+    return found + [it for path in documents.markdown() if of_plain_words(path) for it in hard_words(path)]
+
+
+def main(words):
+    if len(words) > 1:
+        sys.exit(__doc__)
+    os.chdir(words[0] if words else os.path.dirname(os.path.dirname(os.path.realpath(__file__))))
+    found = [*faults(), *documents.faults()]
+    for it in found:
+        print(it)
+    print(f"checks/form.py: {averages()}")
+    print(f"checks/form.py: {len(found)} findings" if found else "checks/form.py: ok")
+    return 1 if found else 0
+
+
+if __name__ == "__main__":
+    sys.exit(main(sys.argv[1:]))

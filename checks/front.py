@@ -1,0 +1,258 @@
+"""An office behind nginx as deploy/ sets it up, in a folder of its own, and clients that speak TLS to it. checks/deploy holds the front against this."""
+import collections
+import json
+import os
+import shutil
+import socket
+import ssl
+import subprocess
+import threading
+import time
+
+from cases import SECONDS
+from served import TOP, Wrong, free_port, listeners
+
+DEPLOY = f"{TOP}/deploy"
+HOST = "office.example"
+# the clerk of the checks, and anybody else; each address has limits of its own
+CLERK_AT, OTHER_AT = "127.0.0.9", "127.0.0.5"
+SYSTEM = {**os.environ, "PATH": f"{os.environ.get('PATH', '')}:/usr/sbin:/sbin"}
+Reply = collections.namedtuple("Reply", "status fields body")
+
+
+def found(name):
+    """The path of a program of the distribution, or None."""
+    return shutil.which(name, path=SYSTEM["PATH"])
+
+
+def until(holds, what, seconds=SECONDS):
+    end = time.monotonic() + seconds
+    while not holds():
+        if time.monotonic() > end:
+            raise Wrong(f"{what} does not come within {seconds} seconds")
+        time.sleep(0.01)
+
+
+# ---- an office
+
+
+class Office:
+    """A program that serves at a port that stays the same when it is started again."""
+
+    def __init__(self, program, room, port=None):
+        self.program, self.room, self.port, self.child = program, room, port or free_port(), None
+
+    def start(self, start="kept", conns=100_000, workers=2, store="season.db", bundle=b"", wait=True, **how):
+        words = [self.program, "serve", str(conns), str(workers), start, str(self.port), store]
+        with open(f"{self.room}/office.log", "ab") as log:
+            self.child = subprocess.Popen(words, cwd=self.room, stdin=subprocess.PIPE, stdout=log, stderr=log, **how)
+        self.child.stdin.write(bundle)
+        self.child.stdin.close()
+        if wait:
+            until(lambda: listeners(self.port) or self.child.poll() is not None, "the port of the office")
+        return self
+
+    def kill(self):
+        if self.child and self.child.poll() is None:
+            self.child.kill()
+        return self.child.wait() if self.child else None
+
+    def __enter__(self):
+        return self
+
+    def __exit__(self, *_):
+        self.kill()
+
+
+class Recorder(threading.Thread):
+    """In place of an office: it keeps the bytes of each request, one a connection, and replies what it is given."""
+
+    def __init__(self, reply):
+        super().__init__(daemon=True)
+        self.reply, self.seen = reply, []
+        self.door = socket.create_server(("127.0.0.1", 0))
+        self.port = self.door.getsockname()[1]
+        self.start()
+
+    def run(self):
+        while True:
+            try:
+                link, _ = self.door.accept()
+            except OSError:
+                return
+            with link:
+                link.settimeout(5)
+                try:
+                    self.seen.append(request_bytes(link))
+                    link.sendall(self.reply)
+                except OSError:
+                    pass
+
+    def __enter__(self):
+        return self
+
+    def __exit__(self, *_):
+        self.door.shutdown(socket.SHUT_RDWR)
+        self.door.close()
+
+
+def request_bytes(link):
+    got = b""
+    while b"\r\n\r\n" not in got:
+        piece = link.recv(1 << 16)
+        if not piece:
+            return got
+        got += piece
+    head, _, body = got.partition(b"\r\n\r\n")
+    length = next((int(it.split(b":")[1]) for it in head.split(b"\r\n") if it.lower().startswith(b"content-length:")), 0)
+    while len(body) < length and (piece := link.recv(1 << 16)):
+        body += piece
+        got += piece
+    return got
+
+
+# ---- clients
+
+
+def read_reply(link, held=b"", empty=False):
+    """The next reply of a connection, and what came after it."""
+    while b"\r\n\r\n" not in held:
+        piece = link.recv(1 << 16)
+        if not piece:
+            raise EOFError(f"the connection ends after {held!r:.80}")
+        held += piece
+    head, _, held = held.partition(b"\r\n\r\n")
+    first, *lines = head.decode("latin-1").split("\r\n")
+    fields = {name.lower(): value.strip() for name, _, value in (it.partition(":") for it in lines)}
+    length = 0 if empty else int(fields.get("content-length", 0))
+    while len(held) < length:
+        piece = link.recv(1 << 16)
+        if not piece:
+            raise EOFError("the connection ends within a body")
+        held += piece
+    return Reply(int(first.split()[1]), fields, held[:length]), held[length:]
+
+
+def request(method, path, token=None, body=None, fields=(), host=HOST):
+    """The bytes of a request as a browser sends it."""
+    lines = [f"{method} {path} HTTP/1.1", f"Host: {host}", *fields]
+    lines += [f"X-Office-Token: {token}"] if token else []
+    lines += [f"Content-Length: {len(body)}"] if body is not None else []
+    return "\r\n".join([*lines, "", ""]).encode() + (body or b"")
+
+
+class Front:
+    """nginx over the files of deploy/, with a certificate for HOST and the tries of a check."""
+
+    def __init__(self, room, upstream, web=None, clerks=f"127.0.0.1,{CLERK_AT}"):
+        self.room, self.port, self.plain = room, free_port(), free_port()
+        # nginx's workers are another user where root starts it
+        os.chmod(room, 0o755)
+        for name in ("temp", "season", "logs", "conf"):
+            os.makedirs(f"{room}/{name}", exist_ok=True)
+        self.origin = f"https://{HOST}:{self.port}"
+        self.cert = certificate(room)
+        values = {
+            "HOST": HOST,
+            "ORIGIN": self.origin,
+            "TLS": f"127.0.0.1:{self.port}",
+            "PLAIN": f"127.0.0.1:{self.plain}",
+            "UPSTREAM": upstream,
+            "CERT": self.cert,
+            "KEY": f"{room}/key.pem",
+            "CLERKS": clerks,
+            "WEB": web or page(room),
+            "PAPERS": f"{room}/season",
+            "LOG": f"{room}/logs",
+        }
+        called([f"{DEPLOY}/fill", f"{room}/conf", *(f"{name}={value}" for name, value in values.items())])
+        with open(f"{DEPLOY}/alone.conf", encoding="utf-8") as it, open(f"{room}/nginx.conf", "w", encoding="utf-8") as to:
+            to.write(it.read().replace("@ROOM@", room))
+        self.context = ssl.create_default_context(cafile=self.cert)
+        self.child = None
+
+    def start(self):
+        with open(f"{self.room}/logs/nginx.txt", "ab") as log:
+            words = [found("nginx"), "-e", f"{self.room}/logs/early.log", "-c", f"{self.room}/nginx.conf"]
+            self.child = subprocess.Popen(words, stdout=log, stderr=log)
+        until(lambda: listeners(self.port) or self.child.poll() is not None, "the port of nginx")
+        if self.child.poll() is not None:
+            raise Wrong(f"nginx does not start: {self.logs()[-300:]}")
+        return self
+
+    def __enter__(self):
+        return self.start()
+
+    def __exit__(self, *_):
+        self.child.terminate()
+        self.child.wait()
+
+    def connected(self, source=OTHER_AT, name=HOST, plain=False):
+        """A connection from an address of this machine, with TLS for a name."""
+        link = socket.create_connection(("127.0.0.1", self.plain if plain else self.port), timeout=30, source_address=(source, 0))
+        link.setsockopt(socket.IPPROTO_TCP, socket.TCP_NODELAY, 1)
+        if plain:
+            return link
+        context = self.context
+        if name != HOST:
+            context = ssl.create_default_context()
+            context.check_hostname, context.verify_mode = False, ssl.CERT_NONE
+        try:
+            return context.wrap_socket(link, server_hostname=name)
+        except OSError:
+            link.close()
+            raise
+
+    def raw(self, given, source=OTHER_AT, name=HOST, plain=False):
+        """The reply to these bytes over a connection of its own."""
+        with self.connected(source, name, plain) as link:
+            link.sendall(given)
+            return read_reply(link, empty=given.startswith(b"HEAD"))[0]
+
+    def ask(self, method, path, token=None, body=None, fields=(), source=OTHER_AT):
+        return self.raw(request(method, path, token, body, fields, f"{HOST}:{self.port}"), source)
+
+    def logged(self):
+        """The lines of the log of requests."""
+        with open(f"{self.room}/logs/nachodune.log", encoding="utf-8") as it:
+            return [json.loads(line) for line in it]
+
+    def logs(self):
+        return "".join(text_of(f"{self.room}/logs/{name}") for name in sorted(os.listdir(f"{self.room}/logs"))) + text_of(f"{self.room}/error.log")
+
+
+def text_of(path):
+    if not os.path.isfile(path):
+        return ""
+    with open(path, encoding="utf-8", errors="replace") as it:
+        return it.read()
+
+
+def called(words, given=b"", **how):
+    """What a program writes where it ends with 0."""
+    ran = subprocess.run(words, input=given, stdout=subprocess.PIPE, stderr=subprocess.PIPE, timeout=SECONDS, env={**SYSTEM, **how})
+    if ran.returncode:
+        wrote = (ran.stderr + ran.stdout).decode(errors="replace")[-300:]
+        raise Wrong(f"{os.path.basename(words[0])} {' '.join(words[1:2])}: status {ran.returncode}: {wrote}")
+    return ran.stdout
+
+
+def certificate(room):
+    words = ["req", "-x509", "-newkey", "ec", "-pkeyopt", "ec_paramgen_curve:P-256", "-nodes", "-days", "2", "-subj", f"/CN={HOST}"]
+    called([found("openssl"), *words, "-addext", f"subjectAltName=DNS:{HOST}", "-keyout", f"{room}/key.pem", "-out", f"{room}/cert.pem"])
+    return f"{room}/cert.pem"
+
+
+PAGES = {**{f"{it}index.html": "<!doctype html>" for it in ("", "candidate/", "clerk/")}, "ask.js": "export {}"}
+
+
+def page(room):
+    """The page of web/ where this checkout has it, or else a few files in its place."""
+    if os.path.isfile(f"{TOP}/web/index.html"):
+        shutil.copytree(f"{TOP}/web", f"{room}/web", dirs_exist_ok=True)
+    else:
+        for name, text in PAGES.items():
+            os.makedirs(os.path.dirname(f"{room}/web/{name}"), exist_ok=True)
+            with open(f"{room}/web/{name}", "w", encoding="utf-8") as it:
+                it.write(text)
+    return f"{room}/web"
