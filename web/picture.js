@@ -1,0 +1,68 @@
+/** The seats of a list as boxes. It is a list that a screen reader reads in order: protected seats, seats by merit, empty seats. */
+import { details, el, verbatim } from "./dom.js";
+import { stepFault, TRAITS } from "./rule.js";
+import { kindOfSeat, OWN_WORDS, SEATS } from "./words.js";
+
+const MOST_BOXES = 120;
+const MOST_EMPTY = 12;
+
+/** Makes the boxes of a step. `own` is the number of the candidate who looks, or null. */
+function boxes(step, own) {
+  const rank = new Map(step.rows.map((row, at) => [row, at + 1]));
+  const taken = (row) =>
+    el(
+      "li",
+      { class: `${row.slot === "-" ? "" : "protected"} ${row.id === own ? "own" : ""}` },
+      el("strong", {}, row.id),
+      el("span", {}, row.slot === "-" ? SEATS.byMerit : SEATS.protectedFor(row.slot)),
+      el("span", {}, SEATS.rank(rank.get(row))),
+      row.id === own && el("span", { class: "you" }, SEATS.you),
+    );
+  const letters = TRAITS.flatMap((trait) => step.rows.filter((row) => row.slot === trait));
+  const empty = Array.from({ length: Math.min(step.seats - step.rows.length, MOST_EMPTY) }, () => el("li", { class: "empty" }, SEATS.empty));
+  return [...letters.map(taken), ...step.rows.filter((row) => row.slot === "-").map(taken), ...empty];
+}
+
+/** Shows some boxes, and the others at a button. */
+function grid(step, all) {
+  const shown = el("ol", { class: "seats", "aria-label": SEATS.list(step.name, step.seats) }, all.slice(0, MOST_BOXES));
+  if (all.length <= MOST_BOXES) return [shown];
+  const more = el("button", { type: "button" }, SEATS.more(all.length - MOST_BOXES));
+  more.addEventListener("click", () => {
+    shown.append(...all.slice(MOST_BOXES));
+    all[MOST_BOXES].tabIndex = -1;
+    all[MOST_BOXES].focus();
+    more.remove();
+  });
+  return [shown, more];
+}
+
+function stepPicture(step, protect, own) {
+  const all = protect && Object.values(protect).reduce((sum, one) => sum + one, 0);
+  const fault = stepFault(step, protect);
+  const hidden = step.seats - step.rows.length - MOST_EMPTY;
+  const unfilled = TRAITS.map((trait) => [trait, (protect?.[trait] ?? 0) - step.rows.filter((row) => row.slot === trait).length, protect?.[trait]]);
+  return el(
+    "section",
+    { class: "box" },
+    el("h4", {}, kindOfSeat(step.name)),
+    el("p", {}, `${SEATS.summary(step)} ${step.name === "D" ? "" : SEATS.protections(step.honoured, all)}`),
+    fault && el("p", { class: "say bad" }, SEATS.wrong(fault)),
+    grid(step, boxes(step, own)),
+    hidden > 0 && el("p", {}, SEATS.moreEmpty(hidden)),
+    unfilled.filter(([, left]) => left > 0).map((it) => el("p", {}, SEATS.unfilled(...it))),
+  );
+}
+
+/** Shows a list: a box for each step with seats, and the office's own text. `programme` has the protected seats, or is undefined. */
+export function listPicture(list, text, programme, own = null) {
+  const [some, none] = [list.steps.filter((it) => it.seats > 0), list.steps.filter((it) => it.seats === 0)];
+  return el(
+    "div",
+    {},
+    some.map((step) => stepPicture(step, programme ? (programme.steps[step.name]?.protect ?? {}) : null, own)),
+    some.length === 0 && el("p", {}, SEATS.nothing),
+    some.length > 0 && none.length > 0 && el("p", { class: "hint" }, SEATS.without(none.map((it) => [it.name, it.candidates]))),
+    details(OWN_WORDS, verbatim(text)),
+  );
+}
