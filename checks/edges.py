@@ -4,7 +4,6 @@ import contextlib
 import functools
 import os
 import resource
-import shutil
 import signal
 import sqlite3
 import subprocess
@@ -105,7 +104,8 @@ def not_a_store(room, program, bundle):
 def only_read(room, program, bundle):
     """A store that may only be read, and whose folder may only be read."""
     own = f"{room}/program"
-    shutil.copy(program, own)
+    # copied by another process: a program that this one has open for writing is busy, also in each child that another thread is just starting
+    subprocess.run(["cp", program, own], check=True)
     os.chmod(own, 0o755)
     ended([own, "run", "season.db"], room, input=bundle)
     os.chmod(f"{room}/season.db", 0o444)
@@ -116,17 +116,18 @@ def only_read(room, program, bundle):
 
 
 def is_locked(path):
-    """Whether some program has a lock on a file: the system lists it by the file's number."""
+    """Whether some program has a lock on a file: the system lists it by the file's number, where it lists locks at all."""
     number = os.stat(path).st_ino
-    with open("/proc/locks", encoding="ascii") as table:
+    with contextlib.suppress(OSError), open("/proc/locks", encoding="ascii") as table:
         return any(field.endswith(f":{number}") for line in table for field in line.split())
+    return False
 
 
 def has_open(office, path):
     """Whether a running program has opened a file."""
     folder = f"/proc/{office.pid}/fd"
     with contextlib.suppress(OSError):
-        return any(os.path.realpath(f"{folder}/{it}") == os.path.realpath(path) for it in os.listdir(folder))
+        return any(os.path.realpath(f"{folder}/{it}").endswith(f"/{os.path.basename(path)}") for it in os.listdir(folder))
     return False
 
 
