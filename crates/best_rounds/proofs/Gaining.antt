@@ -4,7 +4,7 @@ use Rattle.std.specs.Prelude.{slice_get}
 use Rattle.std.proofs.lemmas.Bool.{cases_eq}
 use Rattle.std.proofs.lemmas.List.{length-map}
 use Rattle.std.proofs.lemmas.Option.{same_Some, slice_get-get_or, slice_get_within}
-use Rattle.office_base.proofs.Lists.{all-get}
+use Rattle.office_base.proofs.Lists.{all-get, there_is}
 use Rattle.office_base.specs.declared.asks.Seat.{Seat}
 use Rattle.office_base.specs.declared.person.Person.{Person}
 use Rattle.office_base.specs.declared.person.ProgId.{ProgId}
@@ -13,7 +13,6 @@ use Rattle.allocations.specs.Fair.{IsBest}
 use Rattle.allocations.specs.Market.{Seeker, rank_of}
 use Rattle.choice_lists.specs.Choices.{list_of}
 use Rattle.histories.proofs.Entering.{list_there, lists_full, own_there}
-use Rattle.round_laws.proofs.People.{there_is}
 use Rattle.rounds.specs.Round.{IsRound}
 use Rattle.rounds.specs.Rule.{AreSeeks, rule_of, seekers_of}
 use Rattle.rounds.specs.declared.round.Round.{Round}
@@ -154,20 +153,20 @@ best_as facts state matrix seeks seats same programmes sought best =
     (subst (λ (q : List Seek). IsBest (rule_of facts.version (matrix_at facts state)) (length (matrix_at facts state).programmes) (seekers_of (matrix_at facts state) facts.people (lists_in_order facts) q) seats) sought
     (subst (λ (m : SeatTable). IsBest (rule_of facts.version m) (length m.programmes) (seekers_of m facts.people (lists_in_order facts) seeks) seats) same best))
 
-pub compared : (facts : SeasonFacts) (at : Setting) (papers : Papers) (auditor : Auditor) (n : ℕ) (seeks told : List Seek) (round : Round) (best seats : List (Option Seat)) (rows : List AllotRow)
-    → at.papers ≡ papers → IsUpTo facts at.state auditor → seeks ≡ next_seeks facts at.state → IsRound facts.version auditor.matrix facts.people (lists_in_order facts) n seeks round
+pub compared : (facts : SeasonFacts) (at : Setting) (papers : Papers) (auditor : Auditor) (matrix : SeatTable) (n : ℕ) (seeks told : List Seek) (round : Round) (best seats : List (Option Seat)) (rows : List AllotRow)
+    → at.papers ≡ papers → IsUpTo facts at.state auditor → matrix ≡ auditor.raised.matrix → seeks ≡ next_seeks facts at.state → IsRound facts.version matrix facts.people (lists_in_order facts) n seeks round
     → told ≡ round.seeks → best ≡ round.seats → rows ≡ rows_after papers auditor.window → seats ≡ seats_told rows facts.people → IsFairText facts at.papers at.state
-    → AreCompared facts at auditor.matrix told best seats
-compared facts at papers auditor n seeks told round best seats rows these upto sought made as_seeks as_best row given fair =
+    → AreCompared facts at matrix told best seats
+compared facts at papers auditor matrix n seeks told round best seats rows these upto raised sought made as_seeks as_best row given fair =
     let is_seeks : told ≡ next_seeks facts at.state = as_seeks ∙ (made.sought ∙ sought) in
     record {
       sound = upto.sound;
       order = upto.order;
-      matrix_is = upto.matrix;
+      matrix_is = raised ∙ upto.matrix;
       seeks_are = is_seeks;
       within = subst (λ (z : List Seek). AreSeeks (lists_in_order facts) z) (sym is_seeks) (seeks_fit facts at.state upto.sound upto.order);
       is_best = subst (λ (z : List (Option Seat)). AreBestAt facts at.state z) (sym as_best)
-          (best_as facts at.state auditor.matrix seeks round.seats upto.matrix upto.order.programmes sought made.best);
+          (best_as facts at.state matrix seeks round.seats (raised ∙ upto.matrix) upto.order.programmes sought made.best);
       seats_are = given ∙ ap (λ (r : List AllotRow). seats_told r facts.people) (row ∙ (ap (rows_after papers) upto.window ∙ ap (λ (p : Papers). rows_after p at.state.now) (sym these)));
       fair = fair;
     }

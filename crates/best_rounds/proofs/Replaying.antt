@@ -1,15 +1,16 @@
 -- Down a script in which no clause is broken.
-use Rattle.std.proofs.Common.{◌≡◌, ◌<◌, ◌≤◌, ◌+◌, ◌↔◌, inl, inr, ℕ, Bool, true, false, List, Option, Some, None, Result, Ok, Err, length, get_or, arith, ap, refl, subst, sym, ◌∙◌}
+use Rattle.std.proofs.Common.{◌≡◌, ◌<◌, ◌≤◌, ◌+◌, ◌↔◌, inl, inr, ℕ, Bool, true, List, Option, Some, None, Result, Ok, Err, length, get_or, arith, ap, refl, subst, sym, ◌∙◌}
 use Rattle.std.specs.Prelude.{IfOk, IsTrue, is_some, not, nat_lt, slice_get, ◌||◌, ◌==◌, if◌then◌else◌}
 use Rattle.std.proofs.lemmas.Bool.{cases_eq}
 use Rattle.std.proofs.lemmas.Bool.Decides.{nat_tests}
-use Rattle.std.proofs.lemmas.Option.{get_or_from_slice_get, slice_get_cases, slice_get_within}
+use Rattle.std.proofs.lemmas.Option.{get_or_from_slice_get, slice_get_within}
 use Rattle.office_base.specs.declared.asks.Ask.{Ask}
 use Rattle.office_base.specs.declared.asks.Ask.TheVariants.{Cut as AskCut}
 use Rattle.office_base.specs.declared.asks.By.{By}
 use Rattle.office_base.specs.declared.asks.Request.{Request}
 use Rattle.office_base.specs.declared.errors.OutOfMemory.{OutOfMemory}
 use Rattle.office_base.specs.declared.person.CandId.{CandId}
+use Rattle.office_base.proofs.Lists.{there_is}
 use Rattle.office_moves.specs.Decided.{decide_cut, decided, decided_by}
 use Rattle.office_moves.specs.Facts.{SeasonFacts}
 use Rattle.office_moves.specs.Judge.{is_clerk, refuse_if}
@@ -53,10 +54,6 @@ publishing facts state by ask is = from_accepts facts state by ask is (accepts f
 
 -- ---- the next request
 
--- the request at a place
-pub request_at : (script : List Request) (j : ℕ) → j < length script → (request : Request) × (slice_get script j ≡ Some request)
-request_at script j within = elim ((slice_get_cases script j).1) [ inl there ↦ (there.0, there.2) | inr past ↦ let end = past.0 in absurd (omega (arith, within, end)) ]
-
 -- what is known of the request at a place, whichever request it is
 abbrev pub IsTaken : SeasonFacts → List Request → Papers → ℕ → Auditor → Option Fault → Type 0
 IsTaken facts script papers j new fault =
@@ -66,7 +63,7 @@ IsTaken facts script papers j new fault =
 pub never_broken : (facts : SeasonFacts) (script : List Request) (papers : Papers) (j : ℕ) (new : Auditor) (fault : Option Fault) (found : Fault) → OneVerdict → AllHold facts script papers → j < length script
     → IsTaken facts script papers j new fault → fault ≡ Some found → ⊥
 never_broken facts script papers j new fault found one all less taken some =
-    let here = request_at script j less in
+    let here = there_is script j less in
     let breaks = subst (λ (f : Option Fault). ComesTo facts papers (before facts script papers j) (decided facts (before facts script papers j) here.0) new f) some (taken here.0 here.1) in
     let sound : IsVerdict facts script papers (Sound (length papers.rounds)) = (refl, all) in
     let broken : IsVerdict facts script papers (Broken ((before facts script papers j).now + 1) found.clause found.prog found.cand) =
@@ -77,13 +74,9 @@ never_broken facts script papers j new fault found one all less taken some =
 pub goes_on : (facts : SeasonFacts) (script : List Request) (papers : Papers) (j : ℕ) (new : Auditor) (fault : Option Fault) → j < length script → IsTaken facts script papers j new fault → fault ≡ None
     → IsUpTo facts (before facts script papers (j + 1)) new
 goes_on facts script papers j new fault less taken none =
-    let here = request_at script j less in
+    let here = there_is script j less in
     let passes = subst (λ (f : Option Fault). ComesTo facts papers (before facts script papers j) (decided facts (before facts script papers j) here.0) new f) none (taken here.0 here.1) in
     subst (λ (s : State). IsUpTo facts s new) (sym (before_next facts script papers j here.0 here.1)) passes.next
-
-pub none_there : (fault : Option Fault) → is_some fault ≡ false → fault ≡ None
-none_there None e = refl
-none_there (Some fault) e = absurd (cc)
 
 pub found_there : (fault : Option Fault) → is_some fault ≡ true → (found : Fault) × (fault ≡ Some found)
 found_there None e = absurd (cc)
@@ -135,7 +128,7 @@ pub here_not : (facts : SeasonFacts) (script : List Request) (papers : Papers) (
     → ((request : Request) → slice_get script j ≡ Some request → RequestComesTo facts (record { papers = papers; state = before facts script papers j }) request gain) → gain ≡ Some cand
     → round ≡ auditor.window + 1 → IsFirstNotBest facts script papers round cand
 here_not facts script papers j round auditor gain cand less gone comes some number =
-    let here = request_at script j less in
+    let here = there_is script j less in
     let found = subst (λ (o : Option CandId). RequestComesTo facts (record { papers = papers; state = before facts script papers j }) here.0 o) some (comes here.0 here.1) in
     first_not_best facts script papers j round auditor cand gone (here.0, here.1, found.0) number found.1
 
@@ -165,13 +158,13 @@ all_publish facts state script read at got test same is test_is yes' request the
 pub early_there : (facts : SeasonFacts) (state : State) (script : List Request) (at : ℕ) → at < length script → ((request : Request) → slice_get script at ≡ Some request → decided facts state request ≡ Publish)
     → state.now < facts.rounds
 early_there facts state script at within publishes =
-    let here = request_at script at within in
+    let here = there_is script at within in
     (publishing facts state here.0.by here.0.ask (publishes here.0 here.1)).early
 
 pub fair_there : (facts : SeasonFacts) (cut : Setting) (script : List Request) (at : ℕ) → at < length script → ((request : Request) → slice_get script at ≡ Some request → decided facts cut.state request ≡ Publish)
     → ((request : Request) → slice_get script at ≡ Some request → decided facts cut.state request ≡ Publish → IsFairText facts cut.papers cut.state) → IsFairText facts cut.papers cut.state
 fair_there facts cut script at within publishes fair =
-    let here = request_at script at within in
+    let here = there_is script at within in
     fair here.0 here.1 (publishes here.0 here.1)
 
 pub as_request : (facts : SeasonFacts) (cut : Setting) (script : List Request) (at : ℕ) (result : Result (Option CandId) OutOfMemory)

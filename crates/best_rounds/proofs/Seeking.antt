@@ -1,20 +1,16 @@
 -- What everybody seeks at a cut is read off how the candidates stand.
-use Rattle.std.proofs.Common.{◌≡◌, ◌<◌, ◌≤◌, ℕ, true, List, [], Option, Some, None, length, get_or, arith, ap, refl, subst, sym, ◌∙◌}
-use Rattle.std.specs.Prelude.{IsSome, option_map}
+use Rattle.std.proofs.Common.{◌≡◌, ◌<◌, ◌≤◌, ℕ, true, List, [], length, get_or, arith, ap, subst, sym, ◌∙◌}
+use Rattle.std.specs.Prelude.{IsSome}
 use Rattle.std.proofs.lemmas.List.{length-map}
 use Rattle.std.proofs.lemmas.Option.{slice_get_within}
-use Rattle.office_base.specs.declared.asks.Seat.{Seat}
 use Rattle.office_base.specs.declared.person.Category.TheVariants.{Gen}
 use Rattle.office_base.specs.declared.person.Person.{Person}
 use Rattle.office_base.specs.declared.person.ProgId.{ProgId}
-use Rattle.allocations.specs.Market.{place_of}
+use Rattle.office_base.proofs.Lists.{there_is}
 use Rattle.choice_lists.specs.Choices.{list_of}
 use Rattle.histories.proofs.Entering.{list_there, lists_full}
-use Rattle.histories.proofs.Fits.{map_at}
-use Rattle.round_laws.proofs.People.{there_is}
-use Rattle.round_options.specs.Options.{holds, seek_after}
-use Rattle.round_options.specs.declared.standing.Standing.{Standing}
-use Rattle.round_options.specs.declared.standing.Standing.TheVariants.{Waiting, Offered, Freeze, Float, Slide, Withdrawn, NoShow}
+use Rattle.histories.proofs.Fits.{map_at, within, some_one}
+use Rattle.round_options.specs.Options.{holds}
 use Rattle.rounds.specs.Rule.{AreSeeks}
 use Rattle.seeks.specs.Seek.{IsWithinList}
 use Rattle.seeks.specs.declared.seek.Seek.{Seek}
@@ -30,13 +26,13 @@ use Rattle.cut_checks.specs.declared.stand.Stand.{Stand}
 abbrev pub nobody_there : Person
 nobody_there = record { id = record { 0 = 0 }; category = Gen; traits = record { 0 = 0 }; places = [] }
 
--- ---- how a candidate stands
+-- ---- the standing of a candidate
 
 pub stand_is : (facts : SeasonFacts) (state : State) (all : List Stand) (k : ℕ) (d : Stand) (e : Person) → all ≡ stands_along facts state → k < length facts.people
     → get_or all k d ≡ stand_of facts state (get_or facts.people k e).id.0
 stand_is facts state all k d e are less = read_at (λ (p : Person). stand_of facts state p.id.0) facts.people all k d e are less
 
--- what is sought by the list and by how a candidate stands
+-- what is sought, by the list and by the standing of a candidate
 pub seek_is : (facts : SeasonFacts) (state : State) (all : List Stand) (k : ℕ) (d : Stand) (e : Person) (list : List ProgId) (seek : Seek) → all ≡ stands_along facts state
     → k < length facts.people → list ≡ list_of facts.lists (get_or facts.people k e).id.0 → seek ≡ seek_by list (get_or all k d)
     → seek ≡ next_seek facts state (get_or facts.people k e).id.0
@@ -45,22 +41,6 @@ seek_is facts state all k d e list seek are less own is =
     ∙ ap (λ (s : Stand). seek_by (list_of facts.lists (get_or facts.people k e).id.0) s) (stand_is facts state all k d e are less))
 
 -- ---- what is sought is in the choice lists
-
-within : (list : List ProgId) (standing : Standing) (seat : Option Seat) → ((held : Seat) → seat ≡ Some held → place_of list held.prog.0 < length list)
-    → IsWithinList list (seek_after standing (option_map (λ (held : Seat). place_of list held.prog.0) seat))
-within list Waiting seat h = tt
-within list Offered seat h = tt
-within list Freeze None h = tt
-within list Freeze (Some seat) h = h seat refl
-within list Float None h = tt
-within list Float (Some seat) h = h seat refl
-within list Slide None h = tt
-within list Slide (Some seat) h = h seat refl
-within list Withdrawn seat h = tt
-within list NoShow seat h = tt
-
-some_one : (a b : Seek) → Some a ≡ Some b → a ≡ b
-some_one a b e = cc
 
 pub seeks_fit : (facts : SeasonFacts) (state : State) → IsSound facts → IsInOrder facts state → AreSeeks (lists_in_order facts) (next_seeks facts state)
 seeks_fit facts state sound order = record {

@@ -36,14 +36,16 @@ fn gain_of_cut(
     let seats = seats_told(alloc, &season.register, rows)?;
     let seeks = seeks_at(alloc, season, &auditor.stands)?;
     let number = auditor.window + 1;
-    let round = plain_round(alloc, season, &auditor.matrix, number, seeks)?;
+    let matrix = auditor.raised.matrix();
+    let round = plain_round(alloc, season, matrix, number, seeks)?;
     let (seeks, best) = (round.seeks.as_slice(), round.seats.as_slice());
-    first_gain(alloc, season, &auditor.matrix, seeks, best, &seats)
+    first_gain(alloc, season, matrix, seeks, best, &seats)
 }
 
 /// Returns whether a request publishes a round: it is a cut of this open window by the clerk, before the last window of so many rounds.
 fn publishes(rounds: u16, window: u16, request: &Request) -> bool
-    ensures { (facts : SeasonFacts) (state : State) → rounds ≡ facts.rounds → window ≡ state.now → IsTrue result ↔ (decided facts state request.now ≡ Publish) }
+    ensures { (facts : SeasonFacts) (state : State) → rounds ≡ facts.rounds → window ≡ state.now
+        → IsTrue result ↔ (decided facts state request.now ≡ Publish) }
 {
     match request.ask {
         Ask::Cut { window: cut } => request.by == By::Clerk && cut == window && window < rounds,
@@ -63,9 +65,11 @@ pub(crate) fn gain_at(
     requires within { at < length dossier.now.script }
     requires papers { cut.papers ≡ papers_in dossier.now }
     requires upto { IsUpTo (facts_of dossier.now.season) cut.state auditor.now }
-    requires fair { (request : AnyRequest) → slice_get dossier.now.script at ≡ Some request → decided (facts_of dossier.now.season) cut.state request ≡ Publish
+    requires fair { (request : AnyRequest) → slice_get dossier.now.script at ≡ Some request
+        → decided (facts_of dossier.now.season) cut.state request ≡ Publish
         → IsFairText (facts_of dossier.now.season) cut.papers cut.state }
-    ensures { IfOk result (λ gain. (request : AnyRequest) → slice_get dossier.now.script at ≡ Some request → RequestComesTo (facts_of dossier.now.season) cut request gain) }
+    ensures { IfOk result (λ gain. (request : AnyRequest) → slice_get dossier.now.script at
+        ≡ Some request → RequestComesTo (facts_of dossier.now.season) cut request gain) }
 {
     let request = &dossier.script.as_slice()[at];
     if !publishes(dossier.season.rounds, auditor.window, request) {

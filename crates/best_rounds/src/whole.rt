@@ -21,9 +21,12 @@ fn take_next(
     at: usize,
 ) -> Result<(), OutOfMemory>
     requires within { at < length dossier.now.script }
-    requires upto { IsUpTo (facts_of dossier.now.season) (before (facts_of dossier.now.season) dossier.now.script (papers_in dossier.now) at) auditor.old }
-    requires sound { AllHold (facts_of dossier.now.season) dossier.now.script (papers_in dossier.now) }
-    ensures { OnOk result (IsUpTo (facts_of dossier.now.season) (before (facts_of dossier.now.season) dossier.now.script (papers_in dossier.now) (at + 1)) auditor.new) }
+    requires upto { IsUpTo (facts_of dossier.now.season) (before (facts_of dossier.now.season)
+        dossier.now.script (papers_in dossier.now) at) auditor.old }
+    requires sound { AllHold (facts_of dossier.now.season)
+        dossier.now.script (papers_in dossier.now) }
+    ensures { OnOk result (IsUpTo (facts_of dossier.now.season) (before (facts_of
+        dossier.now.season) dossier.now.script (papers_in dossier.now) (at + 1)) auditor.new) }
 {
     audit_rules::laws::one_verdict();
     if auditor.take(alloc, dossier, at)?.is_some() {
@@ -36,9 +39,12 @@ fn take_next(
 /// sought at its cut. Otherwise it names the first round that is not, and the first candidate of the register whom the best round gives a better
 /// place. It makes each round again with the engine of the office. It fails only when memory runs out.
 pub fn best_rounds(alloc: Global, dossier: &Dossier) -> Result<BestVerdict, OutOfMemory>
-    requires sound { AllHold (facts_of dossier.now.season) dossier.now.script (papers_in dossier.now) }
-    requires fair { AreFairRounds (facts_of dossier.now.season) dossier.now.script (papers_in dossier.now) }
-    ensures { IfOk result (IsBestVerdict (facts_of dossier.now.season) dossier.now.script (papers_in dossier.now)) }
+    requires sound { AllHold (facts_of dossier.now.season)
+        dossier.now.script (papers_in dossier.now) }
+    requires fair { AreFairRounds (facts_of dossier.now.season)
+        dossier.now.script (papers_in dossier.now) }
+    ensures { IfOk result
+        (IsBestVerdict (facts_of dossier.now.season) dossier.now.script (papers_in dossier.now)) }
 {
     let mut auditor = Auditor::begin(alloc, &dossier.season)?;
     for at in 0..dossier.script.len() {

@@ -14,13 +14,10 @@ AreRising people = Pairwise (λ (a b : Person). a.id.0 < b.id.0) people
 map_at : {X : Type 0} (f : Person → X) (people : List Person) (at : ℕ) (person : Person) → slice_get people at ≡ Some person → slice_get (map f people) at ≡ Some (f person)
 map_at f people at person there = slice_get-map f people at ∙ ap (λ (o : Option Person). option_map f o) there
 
--- what stands at a place
+-- what is at a place
 pub read_at : {X : Type 0} (f : Person → X) (people : List Person) (xs : List X) (at : ℕ) (d : X) (e : Person) → xs ≡ map f people → at < length people → get_or xs at d ≡ f (get_or people at e)
 read_at f people xs at d e same less =
     get_or_from_slice_get xs at (f (get_or people at e)) d (ap (λ z. slice_get z at) same ∙ map_at f people at (get_or people at e) (slice_get-get_or people at e less))
-
-pub get_at : {X : Type 0} (f : Person → X) (people : List Person) (xs : List X) (at : ℕ) (e : Person) → xs ≡ map f people → at < length people → slice_get xs at ≡ Some (f (get_or people at e))
-get_at f people xs at e same less = ap (λ z. slice_get z at) same ∙ map_at f people at (get_or people at e) (slice_get-get_or people at e less)
 
 -- one more of them
 pub map_more : {X : Type 0} (f : Person → X) (people : List Person) (done new : List X) (at : ℕ) (e : Person) (x : X) → at < length people → done ≡ map f (take at people) → x ≡ f (get_or people at e)
@@ -41,7 +38,7 @@ pub same_map : {X : Type 0} (f g : Person → X) (people : List Person) → ((i 
 same_map f g [] same = refl
 same_map {X} f g (p ∷ people) same = ap (λ (z : X). z ∷ map f people) (sym (same 0 p refl)) ∙ ap (λ (l : List X). g p ∷ l) (same_map f g people (λ i. same (suc i)))
 
--- With what is told of one person changed, the list is changed at this person's place.
+-- If the value of one person changes, the list changes at this person's place.
 pub set_along : {X : Type 0} (f g : Person → X) (people : List Person) (at : ℕ) (person : Person) → AreRising people → slice_get people at ≡ Some person
     → ((p : Person) → (p.id.0 ≡ person.id.0 → ⊥) → g p ≡ f p) → slice_set (map f people) at (g person) ≡ map g people
 set_along f g [] at person rising there same = absurd (cc)

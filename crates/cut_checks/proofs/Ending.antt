@@ -1,7 +1,7 @@
 -- Whether rows are the final ones.
-use Rattle.std.proofs.Common.{◌≡◌, ◌<◌, ◌≤◌, ◌+◌, ℕ, zero, suc, List, [], ◌∷◌, ◌++◌, Option, Some, None, length, take, drop, get_or, arith, refl, sym, ap, ◌∙◌, subst, append-nil, append_assoc}
+use Rattle.std.proofs.Common.{◌≡◌, ◌<◌, ◌≤◌, ◌+◌, ℕ, List, [], ◌∷◌, ◌++◌, Option, Some, None, length, take, drop, get_or, arith, refl, sym, ap, ◌∙◌, subst, append-nil, append_assoc}
 use Rattle.std.specs.Prelude.{slice_get}
-use Rattle.std.proofs.lemmas.List.{take-append-drop, take_all, take_more}
+use Rattle.std.proofs.lemmas.List.{take-append-drop, take_more, length-take-le}
 use Rattle.std.proofs.lemmas.Option.{get_or_from_slice_get, slice_get_within}
 use Rattle.office_base.specs.declared.asks.Seat.{Seat}
 use Rattle.office_base.specs.declared.person.CandId.{CandId}
@@ -31,9 +31,6 @@ pub record Ends (number : ℕ) (seat : ℕ → Option Seat) (people : List Perso
   pub same : take next rows ≡ rows_along number seat (take k people)
   pub within : next ≤ length rows
 
-pub ends_none : (number : ℕ) (seat : ℕ → Option Seat) (people : List Person) (rows : List AllotRow) → Ends number seat people rows 0 0
-ends_none number seat people rows = record { same = refl; within = omega arith }
-
 next_people : (number : ℕ) (seat : ℕ → Option Seat) (people : List Person) (k : ℕ) (d : Person) → k < length people
     → rows_along number seat (take (k + 1) people) ≡ rows_along number seat (take k people) ++ one_row number (get_or people k d).id (seat (get_or people k d).id.0)
 next_people number seat people k d less = ap (rows_along number seat) (take_more people k d less) ∙ rows_append number seat (take k people) (get_or people k d ∷ [])
@@ -62,11 +59,6 @@ after_all : {X : Type 0} (xs : List X) (y : X) (ys : List X) → slice_get (xs +
 after_all [] y ys = refl
 after_all (x ∷ xs) y ys = after_all xs y ys
 
-length_take_at : {X : Type 0} (k : ℕ) (xs : List X) → k ≤ length xs → length (take k xs) ≡ k
-length_take_at zero xs few = refl
-length_take_at (suc k) [] few = absurd (omega (arith, few))
-length_take_at (suc k) (x ∷ xs) few = ap suc (length_take_at k xs (omega (arith, few)))
-
 -- the row that has to be the next one
 must_be : (number : ℕ) (seat : ℕ → Option Seat) (people : List Person) (rows : List AllotRow) (k next : ℕ) (d : Person) (held : Seat) → Ends number seat people rows k next → k < length people
     → seat (get_or people k d).id.0 ≡ Some held → rows ≡ rows_along number seat people
@@ -78,19 +70,8 @@ must_be number seat people rows k next d held h less some all =
     let whole : rows_along number seat people ≡ (front ++ row ∷ []) ++ back =
     ap (rows_along number seat) (sym (take-append-drop (k + 1) people)) ∙ (rows_append number seat (take (k + 1) people) (drop (k + 1) people)
     ∙ ap (λ (z : List AllotRow). z ++ back) (next_people number seat people k d less ∙ ap (λ (o : Option Seat). front ++ one_row number (get_or people k d).id o) some)) in
-    let size : length front ≡ next = ap length (sym h.same) ∙ length_take_at next rows h.within in
+    let size : length front ≡ next = ap length (sym h.same) ∙ length-take-le next rows h.within in
     ap (λ (z : List AllotRow). slice_get z next) (all ∙ (whole ∙ append_assoc front (row ∷ []) back)) ∙ (ap (slice_get (front ++ row ∷ back)) (sym size) ∙ after_all front row back)
-
--- all rows were walked, or some are left
-pub ends_whole : (number : ℕ) (seat : ℕ → Option Seat) (people : List Person) (rows : List AllotRow) (k next : ℕ) → Ends number seat people rows k next → length people ≤ k → next ≡ length rows
-    → rows ≡ rows_along number seat people
-ends_whole number seat people rows k next h end all =
-    sym (take_all next rows (omega (arith, all))) ∙ (h.same ∙ ap (rows_along number seat) (take_all k people end))
-
-pub ends_all : (number : ℕ) (seat : ℕ → Option Seat) (people : List Person) (rows : List AllotRow) (k next : ℕ) → Ends number seat people rows k next → length people ≤ k → rows ≡ rows_along number seat people
-    → next ≡ length rows
-ends_all number seat people rows k next h end all =
-    sym (length_take_at next rows h.within) ∙ ap length (h.same ∙ (ap (rows_along number seat) (take_all k people end) ∙ sym all))
 
 -- the rows go on with the row of each seat
 pub goes_on : (number : ℕ) (seat : ℕ → Option Seat) (people : List Person) (rows : List AllotRow) (k next : ℕ) (d : Person) (held : Option Seat) → Ends number seat people rows k next → k < length people

@@ -3,18 +3,19 @@ use Rattle.std.proofs.Common.{◌≡◌, ◌<◌, ◌≤◌, ◌+◌, ◌⊎◌,
 use Rattle.std.specs.Prelude.{replicate, slice_get}
 use Rattle.std.proofs.lemmas.Bool.{cases_eq, eq-eqb, eqb-true}
 use Rattle.std.proofs.lemmas.Bool.Decides.{nat_tests}
-use Rattle.std.proofs.lemmas.List.{length-set, take_all, take_more}
+use Rattle.std.proofs.lemmas.List.{length-set, take_all, take_more, length-take-le}
 use Rattle.std.proofs.lemmas.Option.{get_or_from_slice_get, same_Some, slice_get_within}
 use Rattle.office_base.specs.declared.asks.Seat.{Seat}
 use Rattle.office_base.specs.declared.person.Person.{Person}
 use Rattle.office_base.specs.declared.person.ProgId.{ProgId}
+use Rattle.office_base.proofs.Lists.{get_set_here, get_set_other}
 use Rattle.allocations.proofs.Places.{place_read}
 use Rattle.allocations.specs.Market.{Seeker, applies, is_of, place_of, rank_of, those}
 use Rattle.cut_checks.specs.Groups.{AreGroups, picked, places_from, with_one}
 
 -- ---- one candidate
 
--- the programme stands among the first of the list, so many
+-- the programme is among the first `i` of the list
 abbrev early : List ProgId → ℕ → ℕ → Bool
 early list p i = nat_lt (place_of list p) i
 
@@ -26,16 +27,6 @@ pub record Applying (old new : List (List ℕ)) (sought : List ProgId) (seat : O
   pub full : length new ≡ length old
   pub each : (p : ℕ) (group : List ℕ) → slice_get old p ≡ Some group → slice_get new p ≡ Some (group ++ here_if (early sought p i) at)
   pub later : i ≤ rank_of sought seat
-
-pub applying_none : (groups : List (List ℕ)) (sought : List ProgId) (seat : Option Seat) (at : ℕ) → Applying groups groups sought seat at 0
-applying_none groups sought seat at = record {
-  full = refl;
-  each = λ p group there. there ∙ ap Some (sym (append-nil group) ∙ ap (λ (b : Bool). group ++ here_if b at) (sym (not_early p)));
-  later = omega arith;
-}
-  where
-    not_early : (p : ℕ) → early sought p 0 ≡ false
-    not_early p = grind (arith, nat_tests)
 
 same_early : (list : List ProgId) (p i : ℕ) → (place_of list p ≡ i → ⊥) → early list p i ≡ early list p (i + 1)
 same_early list p i other = grind (arith, nat_tests)
@@ -59,25 +50,13 @@ pub record IsPut (old new : List (List ℕ)) (p at : ℕ) : Type 0 where
   pub here : (group : List ℕ) → slice_get old p ≡ Some group → slice_get new p ≡ Some (group ++ at ∷ [])
   pub elsewhere : (q : ℕ) → (q ≡ p → ⊥) → slice_get new q ≡ slice_get old q
 
-set_here : {X : Type 0} (xs : List X) (at : ℕ) (x : X) → at < length xs → slice_get (slice_set xs at x) at ≡ Some x
-set_here [] at x less = absurd (omega (arith, less))
-set_here (y ∷ xs) zero x less = refl
-set_here (y ∷ xs) (suc at) x less = set_here xs at x (omega (arith, less))
-
-set_there : {X : Type 0} (xs : List X) (at k : ℕ) (x : X) → (k ≡ at → ⊥) → slice_get (slice_set xs at x) k ≡ slice_get xs k
-set_there [] at k x other = refl
-set_there (y ∷ xs) zero zero x other = absurd (other refl)
-set_there (y ∷ xs) zero (suc k) x other = refl
-set_there (y ∷ xs) (suc at) zero x other = refl
-set_there (y ∷ xs) (suc at) (suc k) x other = set_there xs at k x (λ e. other (ap suc e))
-
 pub put_is : (old : List (List ℕ)) (i p at : ℕ) (value d : List ℕ) → i ≡ p → p < length old → value ≡ get_or old i d ++ at ∷ [] → IsPut old (slice_set old i value) p at
 put_is old i p at value d same less made = record {
   full = length-set old i value;
   here = λ group there.
       let mine : get_or old i d ≡ group = get_or_from_slice_get old i group d (ap (slice_get old) same ∙ there) in
-      ap (slice_get (slice_set old i value)) (sym same) ∙ (set_here old i value (omega (arith, same, less)) ∙ ap Some (made ∙ ap (λ (z : List ℕ). z ++ at ∷ []) mine));
-  elsewhere = λ q other. set_there old i q value (λ e. other (e ∙ same));
+      ap (slice_get (slice_set old i value)) (sym same) ∙ (get_set_here old i value (omega (arith, same, less)) ∙ ap Some (made ∙ ap (λ (z : List ℕ). z ++ at ∷ []) mine));
+  elsewhere = λ q other. get_set_other old i q value (λ e. other (e ∙ same));
 }
 
 put_more : (first old new : List (List ℕ)) (sought : List ProgId) (seat : Option Seat) (at i : ℕ) (prog : ProgId) → Applying first old sought seat at i → slice_get sought i ≡ Some prog
@@ -99,15 +78,11 @@ put_more first old new sought seat at i prog a there place put p group known = e
 applies_seat : (list : List ProgId) (seat : Option Seat) (p i : ℕ) → i < length list → rank_of list seat ≡ i → applies p list seat ≡ early list p (i + 1)
 applies_seat list seat p i less rank = grind (arith, nat_tests)
 
--- the whole list
-applies_whole : (list : List ProgId) (seat : Option Seat) (p : ℕ) → length list ≤ rank_of list seat → applies p list seat ≡ early list p (length list)
-applies_whole list seat p late = grind (arith, nat_tests)
-
 seat_rank : (list : List ProgId) (seat : Option Seat) (p : ℕ) → is_of p seat ≡ true → rank_of list seat ≡ place_of list p
 seat_rank list None p e = absurd (cc)
 seat_rank list (Some seat) p e = ap (place_of list) (eqb-true seat.prog.0 p e)
 
--- a seat of another programme stands later, or nowhere
+-- a seat of another programme is later in the list, or not in it
 later_rank : (list : List ProgId) (seat : Option Seat) (i : ℕ) (prog : ProgId) → slice_get list i ≡ Some prog → i ≤ rank_of list seat → is_of prog.0 seat ≡ false → i + 1 ≤ rank_of list seat
 later_rank list None i prog there late e = let less = slice_get_within list i prog there in omega (arith, less)
 later_rank list (Some seat) i prog there late e =
@@ -136,13 +111,6 @@ applied_seat first old new sought seat at i prog a there place full here elsewhe
     put_more first old new sought seat at i prog a there place (record { full = full; here = here; elsewhere = elsewhere }) p group known
     ∙ ap (λ (b : Bool). Some (group ++ here_if b at)) (sym (applies_seat sought seat p i (slice_get_within sought i prog there) rank))
 
-pub applied_whole : (first new : List (List ℕ)) (sought : List ProgId) (seat : Option Seat) (at i : ℕ) → Applying first new sought seat at i → i ≡ length sought
-    → (p : ℕ) (group : List ℕ) → slice_get first p ≡ Some group → slice_get new p ≡ Some (group ++ here_if (applies p sought seat) at)
-applied_whole first new sought seat at i a end p group known =
-    a.each p group known
-    ∙ (ap (λ (n : ℕ). Some (group ++ here_if (early sought p n) at)) end
-    ∙ ap (λ (b : Bool). Some (group ++ here_if b at)) (sym (applies_whole sought seat p (let late = a.later in omega (arith, late, end)))))
-
 -- ---- all candidates
 
 places_append : (p at : ℕ) (ss : List Seeker) (xs : List (Option Seat)) (s : Seeker) (x : Option Seat) → length xs ≡ length ss
@@ -165,15 +133,6 @@ pub record Grouping (count k : ℕ) (seekers : List Seeker) (seats : List (Optio
   pub full : length groups ≡ count
   pub each : (p : ℕ) → p < count → slice_get groups p ≡ Some (places_from p 0 (take k seekers) (take k seats))
 
-empty_at : (n p : ℕ) → p < n → slice_get (replicate n []) p ≡ Some (places_from p 0 [] [])
-empty_at zero p less = absurd (omega (arith, less))
-empty_at (suc n) zero less = refl
-empty_at (suc n) (suc p) less = empty_at n p (omega (arith, less))
-
-length_replicate : {X : Type 0} (n : ℕ) (x : X) → length (replicate n x) ≡ n
-length_replicate zero x = refl
-length_replicate (suc n) x = ap suc (length_replicate n x)
-
 replicate_more : {X : Type 0} (x : X) (n : ℕ) → replicate (n + 1) x ≡ replicate n x ++ x ∷ []
 replicate_more {X} x n = ap (λ (k : ℕ). replicate k x) (add-one n) ∙ at_end n
   where
@@ -184,17 +143,6 @@ replicate_more {X} x n = ap (λ (k : ℕ). replicate k x) (add-one n) ∙ at_end
 -- one more of the same
 pub one_more : {X : Type 0} (x : X) (n : ℕ) (old new : List X) → old ≡ replicate n x → new ≡ old ++ x ∷ [] → new ≡ replicate (n + 1) x
 one_more {X} x n old new so made = made ∙ (ap (λ (z : List X). z ++ x ∷ []) so ∙ sym (replicate_more x n))
-
-pub grouping_none : (count : ℕ) (seekers : List Seeker) (seats : List (Option Seat)) (groups : List (List ℕ)) → groups ≡ replicate count [] → Grouping count 0 seekers seats groups
-grouping_none count seekers seats groups e = record {
-  full = ap length e ∙ length_replicate count [];
-  each = λ p less. ap (λ (z : List (List ℕ)). slice_get z p) e ∙ empty_at count p less;
-}
-
-length_take_at : {X : Type 0} (k : ℕ) (xs : List X) → k ≤ length xs → length (take k xs) ≡ k
-length_take_at zero xs few = refl
-length_take_at (suc k) [] few = absurd (omega (arith, few))
-length_take_at (suc k) (x ∷ xs) few = ap suc (length_take_at k xs (omega (arith, few)))
 
 pub grouping_next : (count k : ℕ) (seekers : List Seeker) (seats : List (Option Seat)) (old new : List (List ℕ)) (s : Seeker) (seat : Option Seat) → length seats ≡ length seekers
     → Grouping count k seekers seats old → slice_get seekers k ≡ Some s → slice_get seats k ≡ Some seat → length new ≡ length old
@@ -207,8 +155,8 @@ grouping_next count k seekers seats old new s seat long g there has full each = 
       take_more seekers k s inside ∙ ap (λ (z : Seeker). take k seekers ++ z ∷ []) (get_or_from_slice_get seekers k s s there) in
       let second : take (k + 1) seats ≡ take k seats ++ seat ∷ [] =
       take_more seats k seat (slice_get_within seats k seat has) ∙ ap (λ (z : Option Seat). take k seats ++ z ∷ []) (get_or_from_slice_get seats k seat seat has) in
-      let a = length_take_at k seekers (omega (arith, inside)) in
-      let b = length_take_at k seats (omega (arith, inside, long)) in
+      let a = length-take-le k seekers (omega (arith, inside)) in
+      let b = length-take-le k seats (omega (arith, inside, long)) in
       let more = places_append p 0 (take k seekers) (take k seats) s seat (b ∙ sym a) in
       let number : 0 + length (take k seekers) ≡ k = omega (arith, a) in
       each p (places_from p 0 (take k seekers) (take k seats)) (g.each p less)
@@ -229,7 +177,7 @@ grouping_whole count k seekers seats groups long end g = record {
 
 -- ---- the people of a group
 
--- who seeks stands at the place of the person
+-- each seeker is at the place of the person
 abbrev pub Stand : List Person → ℕ → List Seeker → Type 0
 Stand people at seekers = (i : ℕ) (s : Seeker) → slice_get seekers i ≡ Some s → slice_get people (at + i) ≡ Some s.person
 

@@ -7,5 +7,4 @@ mod Missing
 pub mod Noting
 mod Seeking
 pub mod Stood
-mod Sums
 pub mod Telling

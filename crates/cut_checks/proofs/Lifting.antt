@@ -1,7 +1,7 @@
 -- A raise is taken exactly where the tests say so; and which windows are open.
 use Rattle.std.proofs.Common.{◌≡◌, ◌<◌, ◌≤◌, ◌+◌, ℕ, Bool, true, false, not, Option, Some, None, arith, refl, sym, ap, ◌∙◌, subst, nat_lt, ◌==◌, if◌then◌else◌}
 use Rattle.std.specs.Prelude.{◌&&◌, ◌||◌, ◌-◌, nat_le}
-use Rattle.std.proofs.lemmas.Bool.{and_from, and_parts, eq-eqb, eqb-true, ltb-true}
+use Rattle.std.proofs.lemmas.Bool.{and_from, and_parts, eq-eqb, eqb-true, ltb-true, not-true, le-ltb}
 use Rattle.std.proofs.lemmas.Bool.Decides.{nat_tests}
 use Rattle.office_base.specs.Limits.{most_matrix_seats, most_step_seats}
 use Rattle.office_base.specs.declared.asks.By.{By}
@@ -16,7 +16,7 @@ use Rattle.office_moves.specs.declared.moves.Act.{Act}
 use Rattle.office_moves.specs.declared.refusal.Refusal.{Refusal}
 use Rattle.office_moves.specs.declared.refusal.Refusal.TheVariants.{Ahead, Denied, Falling, LastWindow, Late, SeatLimit, StepFixed}
 use Rattle.office_moves.proofs.Chains.{raise_new}
-use Rattle.audit_rules.proofs.Ordering.{is_open}
+use Rattle.histories.proofs.Accepted.{is_open}
 use Rattle.cut_checks.specs.Raises.{lifts, may_have}
 
 -- ---- windows
@@ -27,14 +27,11 @@ open_when false true beyond r s a b c = absurd (cc)
 open_when false false true r s a b c = absurd (cc)
 open_when false false false r s a b c = refl
 
-not_below : (m n : ℕ) → n ≤ m → nat_lt m n ≡ false
-not_below m n less = grind (arith, nat_tests)
-
 -- the open window, up to the one after the last round
 pub opened : (now rounds window : ℕ) → window ≡ now → now ≤ rounds → not_open now rounds window ≡ None
 opened now rounds window same few =
-    open_when (nat_lt window now) (nat_lt now window) (nat_lt rounds window) (Late now) (Ahead now) (not_below window now (omega (arith, same))) (not_below now window (omega (arith, same)))
-    (not_below rounds window (omega (arith, same, few)))
+    open_when (nat_lt window now) (nat_lt now window) (nat_lt rounds window) (Late now) (Ahead now) (le-ltb window now (omega (arith, same))) (le-ltb now window (omega (arith, same)))
+    (le-ltb rounds window (omega (arith, same, few)))
 
 -- ---- the seats of a raise
 
@@ -88,15 +85,11 @@ lift_chain true true opened last row rest a b c d e = absurd (cc)
 lift_chain true false (Some r) last row rest a b c d e = absurd (cc)
 lift_chain true false None true row rest a b c d e = absurd (cc)
 
-not_is : (b : Bool) → not b ≡ true → b ≡ false
-not_is true e = absurd (cc)
-not_is false e = refl
-
 is_not : (b : Bool) → b ≡ false → not b ≡ true
 is_not true e = absurd (cc)
 is_not false e = refl
 
-not_last : (m n : ℕ) → m < n → (m == n) ≡ false
+pub not_last : (m n : ℕ) → m < n → (m == n) ≡ false
 not_last m n less = grind (arith, nat_tests)
 
 less_than : (m n : ℕ) → m ≤ n → (m == n) ≡ false → nat_lt m n ≡ true
@@ -110,7 +103,7 @@ is_lifted looks by row e =
     let time = and_parts (row.window == looks.window) (nat_lt looks.window looks.rounds) rest.0 in
     let same = eqb-true row.window looks.window time.0 in
     let less = ltb-true looks.window looks.rounds time.1 in
-    lift_chain (is_clerk by) looks.again (not_open looks.window looks.rounds row.window) (row.window == looks.rounds) row (judge_new_seats looks row) clerk.0 (not_is looks.again fresh.0)
+    lift_chain (is_clerk by) looks.again (not_open looks.window looks.rounds row.window) (row.window == looks.rounds) row (judge_new_seats looks row) clerk.0 (not-true looks.again fresh.0)
     (opened looks.window looks.rounds row.window same (omega (arith, less))) (not_last row.window looks.rounds (omega (arith, same, less))) (seats_pass looks row rest.1)
 
 pub not_lifted : (now : ℕ) (looks : RaiseLooks) (by : By) (row : RaiseRow) → lifts looks by row ≡ false → newly now (judge_raise looks by row) ≡ None

@@ -1,8 +1,8 @@
 -- The entries of lists, and what their marks and misses say of the round's text.
-use Rattle.std.proofs.Common.{◌≡◌, ◌<◌, ◌≤◌, ◌+◌, ◌⊎◌, inl, inr, ℕ, zero, suc, Bool, true, false, List, [], ◌∷◌, ◌++◌, Option, Some, None, length, take, append-nil, append_assoc, arith, refl, sym, ap, ◌∙◌, subst, ◌==◌}
+use Rattle.std.proofs.Common.{◌≡◌, ◌<◌, ◌+◌, ◌⊎◌, inl, inr, ℕ, zero, suc, Bool, true, false, List, [], ◌∷◌, ◌++◌, Option, Some, None, length, take, append-nil, append_assoc, arith, refl, sym, ap, ◌∙◌, subst, ◌==◌}
 use Rattle.std.specs.Prelude.{IsTrue, option_map, slice_get}
 use Rattle.std.proofs.lemmas.Bool.{cases_Bool, eqb-false, eqb-true}
-use Rattle.std.proofs.lemmas.List.{length-map, take_more}
+use Rattle.std.proofs.lemmas.List.{length-map, take_more, length-take-le}
 use Rattle.std.proofs.lemmas.Option.{get_or_from_slice_get, same_Some, slice_get-map, slice_get_within}
 use Rattle.office_base.proofs.StepNumbers.{one_number}
 use Rattle.office_base.specs.Lists.{IsAmong}
@@ -11,11 +11,12 @@ use Rattle.office_base.specs.declared.asks.Seat.{Seat}
 use Rattle.office_base.specs.declared.person.Person.{Person}
 use Rattle.office_base.specs.declared.step.StepKind.{StepKind}
 use Rattle.office_base.specs.declared.step.StepKind.TheVariants.{Open, Ews, Obc, Sc, St, Dereserved}
+use Rattle.office_base.proofs.Lists.{there_is, among_left, among_right}
 use Rattle.allocations.specs.Market.{seat_at}
 use Rattle.list_audit.specs.Clauses.{list_of}
 use Rattle.programme_lists.specs.declared.programme.Programme.{Programme}
 use Rattle.rank_lists.specs.Register.{row_of}
-use Rattle.round_laws.proofs.People.{row_at, there_is}
+use Rattle.round_laws.proofs.People.{row_at}
 use Rattle.office_moves.specs.Facts.{IsSound, SeasonFacts}
 use Rattle.publish.specs.declared.lists.ListRead.{ListRead}
 use Rattle.audit_rules.specs.Cut.{Agree, Differ, is_named, lists_at, seat_given}
@@ -50,25 +51,17 @@ either : {X : Type 0} (x : X) (xs ys : List X) → IsAmong x (xs ++ ys) → IsAm
 either x [] ys h = inr h
 either x (y ∷ xs) ys h = elim h [ inl e ↦ inl (inl e) | inr later ↦ elim (either x xs ys later) [ inl a ↦ inl (inr a) | inr b ↦ inr b ] ]
 
-at_left : {X : Type 0} (x : X) (xs ys : List X) → IsAmong x xs → IsAmong x (xs ++ ys)
-at_left x [] ys h = absurd h
-at_left x (y ∷ xs) ys h = elim h [ inl e ↦ inl e | inr later ↦ inr (at_left x xs ys later) ]
-
-at_right : {X : Type 0} (x : X) (xs ys : List X) → IsAmong x ys → IsAmong x (xs ++ ys)
-at_right x [] ys h = h
-at_right x (y ∷ xs) ys h = inr (at_right x xs ys h)
-
 into_programme : (p : ℕ) (programme : Programme) (kind : StepKind) (entry : Entry) → IsAmong entry (of_kind p programme kind) → IsAmong entry (of_programme p programme)
-into_programme p programme Open entry h = at_left entry _ _ h
-into_programme p programme Ews entry h = at_right entry (of_kind p programme Open) _ (at_left entry _ _ h)
-into_programme p programme Obc entry h = at_right entry (of_kind p programme Open) _ (at_right entry (of_kind p programme Ews) _ (at_left entry _ _ h))
+into_programme p programme Open entry h = among_left entry _ _ h
+into_programme p programme Ews entry h = among_right entry (of_kind p programme Open) _ (among_left entry _ _ h)
+into_programme p programme Obc entry h = among_right entry (of_kind p programme Open) _ (among_right entry (of_kind p programme Ews) _ (among_left entry _ _ h))
 into_programme p programme Sc entry h =
-    at_right entry (of_kind p programme Open) _ (at_right entry (of_kind p programme Ews) _ (at_right entry (of_kind p programme Obc) _ (at_left entry _ _ h)))
+    among_right entry (of_kind p programme Open) _ (among_right entry (of_kind p programme Ews) _ (among_right entry (of_kind p programme Obc) _ (among_left entry _ _ h)))
 into_programme p programme St entry h =
-    at_right entry (of_kind p programme Open) _ (at_right entry (of_kind p programme Ews) _ (at_right entry (of_kind p programme Obc) _ (at_right entry (of_kind p programme Sc) _ (at_left entry _ _ h))))
+    among_right entry (of_kind p programme Open) _ (among_right entry (of_kind p programme Ews) _ (among_right entry (of_kind p programme Obc) _ (among_right entry (of_kind p programme Sc) _ (among_left entry _ _ h))))
 into_programme p programme Dereserved entry h =
-    at_right entry (of_kind p programme Open) _ (at_right entry (of_kind p programme Ews) _ (at_right entry (of_kind p programme Obc) _
-    (at_right entry (of_kind p programme Sc) _ (at_right entry (of_kind p programme St) _ h))))
+    among_right entry (of_kind p programme Open) _ (among_right entry (of_kind p programme Ews) _ (among_right entry (of_kind p programme Obc) _
+    (among_right entry (of_kind p programme Sc) _ (among_right entry (of_kind p programme St) _ h))))
 
 from_programme : (p : ℕ) (programme : Programme) (entry : Entry) → IsAmong entry (of_programme p programme) → (kind : StepKind) × IsAmong entry (of_kind p programme kind)
 from_programme p programme entry h = elim (either entry (of_kind p programme Open) _ h) [
@@ -91,10 +84,10 @@ into_all q p [] programme entry there h = absurd (cc)
 into_all q zero (first ∷ programmes) programme entry there h =
     let same : programme ≡ first = sym (same_Some first programme there) in
     let number : q + 0 ≡ q = omega arith in
-    at_left entry (of_programme q first) _ (subst (λ (x : Programme). IsAmong entry (of_programme q x)) same (subst (λ (n : ℕ). IsAmong entry (of_programme n programme)) number h))
+    among_left entry (of_programme q first) _ (subst (λ (x : Programme). IsAmong entry (of_programme q x)) same (subst (λ (n : ℕ). IsAmong entry (of_programme n programme)) number h))
 into_all q (suc p) (first ∷ programmes) programme entry there h =
     let number : q + suc p ≡ suc q + p = omega arith in
-    at_right entry (of_programme q first) _ (into_all (suc q) p programmes programme entry there (subst (λ (n : ℕ). IsAmong entry (of_programme n programme)) number h))
+    among_right entry (of_programme q first) _ (into_all (suc q) p programmes programme entry there (subst (λ (n : ℕ). IsAmong entry (of_programme n programme)) number h))
 
 from_all : (q : ℕ) (programmes : List Programme) (entry : Entry) → IsAmong entry (entries_from q programmes)
     → (p : ℕ) × (programme : Programme) × (slice_get programmes p ≡ Some programme) × IsAmong entry (of_programme (q + p) programme)
@@ -113,11 +106,6 @@ entries_append p (first ∷ some) programme =
     ap (λ (z : List Entry). of_programme p first ++ z) (entries_append (suc p) some programme ∙ ap (λ (n : ℕ). entries_from (suc p) some ++ of_programme n programme) number)
     ∙ sym (append_assoc (of_programme p first) (entries_from (suc p) some) (of_programme (p + suc (length some)) programme))
 
-length_take_at : {X : Type 0} (k : ℕ) (xs : List X) → k ≤ length xs → length (take k xs) ≡ k
-length_take_at zero xs few = refl
-length_take_at (suc k) [] few = absurd (omega (arith, few))
-length_take_at (suc k) (x ∷ xs) few = ap suc (length_take_at k xs (omega (arith, few)))
-
 -- with those of one programme more
 pub entries_more : (lists : List ListRead) (p : ℕ) (read : ListRead) (old new : List Entry) → slice_get lists p ≡ Some read → old ≡ entries_from 0 (take p (told_by lists)) → new ≡ old ++ of_programme p read.programme
     → new ≡ entries_from 0 (take (p + 1) (told_by lists))
@@ -126,7 +114,7 @@ entries_more lists p read old new there so made =
     let less = slice_get_within (told_by lists) p read.programme told in
     let more : take (p + 1) (told_by lists) ≡ take p (told_by lists) ++ read.programme ∷ [] =
     take_more (told_by lists) p read.programme less ∙ ap (λ (z : Programme). take p (told_by lists) ++ z ∷ []) (get_or_from_slice_get (told_by lists) p read.programme read.programme told) in
-    let size : 0 + length (take p (told_by lists)) ≡ p = (let e = length_take_at p (told_by lists) (omega (arith, less)) in omega (arith, e)) in
+    let size : 0 + length (take p (told_by lists)) ≡ p = (let e = length-take-le p (told_by lists) (omega (arith, less)) in omega (arith, e)) in
     made ∙ (ap (λ (z : List Entry). z ++ of_programme p read.programme) so
     ∙ (ap (λ (n : ℕ). entries_from 0 (take p (told_by lists)) ++ of_programme n read.programme) (sym size)
     ∙ (sym (entries_append 0 (take p (told_by lists)) read.programme) ∙ ap (entries_from 0) (sym more))))
@@ -215,7 +203,7 @@ walk_is facts at matrix all seats lists marks first c are hold marked least = re
   least = least;
 }
 
--- nobody who is no miss is told differently
+-- on a candidate who is no miss, the lists and the round's text agree
 agree : (facts : SeasonFacts) (at : Setting) (seats : List (Option Seat)) (lists : List ListRead) (marks : List Bool) (first : Option Miss) (p k : ℕ) (programme : Programme) (person : Person)
     → Walked facts at seats lists marks first → slice_get (told_by lists) p ≡ Some programme → slice_get facts.people k ≡ Some person
     → (IsMiss facts.people seats (all_of lists) marks (length lists) (length seats) p k → ⊥) → Agree at.papers at.state p programme person
@@ -266,7 +254,7 @@ agree facts at seats lists marks first p k programme person w there who none kin
       ]),
 )
 
--- whoever is a miss is told differently
+-- on a candidate who is a miss, the lists and the round's text differ
 record IsDifferent (facts : SeasonFacts) (at : Setting) (p k : ℕ) : Type 0 where
   programme : Programme
   there : lists_at facts at.papers at.state p ≡ Some programme

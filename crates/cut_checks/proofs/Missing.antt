@@ -1,22 +1,19 @@
 -- Where a round's text and the lists differ: marks, misses, and the first of them.
-use Rattle.std.proofs.Common.{◌≡◌, ◌<◌, ◌+◌, ◌⊎◌, inl, inr, ℕ, zero, suc, Bool, true, false, List, [], ◌∷◌, ◌++◌, Option, Some, None, length, slice_set, arith, refl, sym, ap, ◌∙◌, subst}
-use Rattle.std.specs.Prelude.{replicate, slice_get}
+use Rattle.std.proofs.Common.{◌≡◌, ◌<◌, ◌+◌, ◌⊎◌, inl, inr, ℕ, Bool, true, false, List, [], ◌∷◌, ◌++◌, Option, Some, None, length, slice_set, arith, refl, sym, ap, ◌∙◌, subst}
+use Rattle.std.specs.Prelude.{slice_get}
 use Rattle.std.proofs.lemmas.Bool.{cases_eq, cases_lt, cases_order}
 use Rattle.std.proofs.lemmas.List.{length-set}
 use Rattle.std.proofs.lemmas.Option.{same_Some}
 use Rattle.office_base.specs.Lists.{IsAmong}
 use Rattle.office_base.specs.declared.asks.Seat.{Seat}
 use Rattle.office_base.specs.declared.person.Person.{Person}
+use Rattle.office_base.proofs.Lists.{get_set_here, get_set_other, among_left}
 use Rattle.rank_lists.specs.Register.{row_of}
 use Rattle.cut_checks.specs.Entries.{AreMarking, ComesBefore, IsEarlier, IsFirstMiss, IsMiss, IsMissed, IsWrong}
 use Rattle.cut_checks.specs.declared.entries.Entry.{Entry}
 use Rattle.cut_checks.specs.declared.unlisted.Miss.{Miss}
 
 -- ---- lists
-
-among_left : {X : Type 0} (x : X) (xs ys : List X) → IsAmong x xs → IsAmong x (xs ++ ys)
-among_left x [] ys h = absurd h
-among_left x (y ∷ xs) ys h = elim h [ inl e ↦ inl e | inr later ↦ inr (among_left x xs ys later) ]
 
 among_last : {X : Type 0} (xs : List X) (x : X) → IsAmong x (xs ++ x ∷ [])
 among_last [] x = inl refl
@@ -28,18 +25,6 @@ of_more x (z ∷ xs) y h = elim h [
   | inl e ↦ inl (inl e)
   | inr later ↦ elim (of_more x xs y later) [ inl there ↦ inl (inr there) | inr here ↦ inr here ]
 ]
-
-set_here : {X : Type 0} (xs : List X) (at : ℕ) (x : X) → at < length xs → slice_get (slice_set xs at x) at ≡ Some x
-set_here [] at x less = absurd (omega (arith, less))
-set_here (y ∷ xs) zero x less = refl
-set_here (y ∷ xs) (suc at) x less = set_here xs at x (omega (arith, less))
-
-set_there : {X : Type 0} (xs : List X) (at k : ℕ) (x : X) → (k ≡ at → ⊥) → slice_get (slice_set xs at x) k ≡ slice_get xs k
-set_there [] at k x other = refl
-set_there (y ∷ xs) zero zero x other = absurd (other refl)
-set_there (y ∷ xs) zero (suc k) x other = refl
-set_there (y ∷ xs) (suc at) zero x other = refl
-set_there (y ∷ xs) (suc at) (suc k) x other = set_there xs at k x (λ e. other (ap suc e))
 
 -- ---- the first miss
 
@@ -103,26 +88,7 @@ first_same P Q (Some miss) into from h = (into miss.prog.0 miss.at h.0, λ q k h
 
 -- ---- marks
 
-no_marks : (n k : ℕ) → slice_get (replicate n false) k ≡ Some true → ⊥
-no_marks zero k e = cc
-no_marks (suc n) zero e = cc
-no_marks (suc n) (suc k) e = no_marks n k e
-
-length_replicate : {X : Type 0} (n : ℕ) (x : X) → length (replicate n x) ≡ n
-length_replicate zero x = refl
-length_replicate (suc n) x = ap suc (length_replicate n x)
-
-pub marking_none : (people : List Person) (seats : List (Option Seat)) (marks : List Bool) → marks ≡ replicate (length people) false → AreMarking people seats [] marks None
-marking_none people seats marks e = record {
-  marked = record {
-    full = ap length e ∙ length_replicate (length people) false;
-    right = λ at is. absurd (no_marks (length people) at (subst (λ (z : List Bool). slice_get z at ≡ Some true) e is));
-    marked = λ at h. absurd h.1;
-  };
-  wrong = λ p at h. h.1;
-}
-
--- an entry more that names one for the own seat
+-- an entry more that names a candidate for their own seat
 pub marking_right : (people : List Person) (seats : List (Option Seat)) (entries : List Entry) (marks : List Bool) (first : Option Miss) (entry : Entry) (at : ℕ) → AreMarking people seats entries marks first
     → row_of entry.cand.0 people ≡ Some at → at < length people → slice_get seats at ≡ Some (Some entry.seat) → AreMarking people seats (entries ++ entry ∷ []) (slice_set marks at true) first
 marking_right people seats entries marks first entry at m place less has = record {
@@ -130,12 +96,12 @@ marking_right people seats entries marks first entry at m place less has = recor
     full = length-set marks at true ∙ m.marked.full;
     right = λ k is. elim (cases_eq k at) [
       | inl same ↦ (entry, among_last entries entry, place ∙ ap Some (sym same), ap (slice_get seats) same ∙ has)
-      | inr other ↦ let old = m.marked.right k (sym (set_there marks at k true other) ∙ is) in (old.0, among_left old.0 entries (entry ∷ []) old.1, old.2, old.3)
+      | inr other ↦ let old = m.marked.right k (sym (get_set_other marks at k true other) ∙ is) in (old.0, among_left old.0 entries (entry ∷ []) old.1, old.2, old.3)
     ];
     marked = λ k h. elim (cases_eq k at) [
-      | inl same ↦ ap (slice_get (slice_set marks at true)) same ∙ set_here marks at true (let full = m.marked.full in omega (arith, full, less))
+      | inl same ↦ ap (slice_get (slice_set marks at true)) same ∙ get_set_here marks at true (let full = m.marked.full in omega (arith, full, less))
       | inr other ↦ elim (of_more h.0 entries entry h.1) [
-        | inl there ↦ set_there marks at k true other ∙ m.marked.marked k (h.0, there, h.2, h.3)
+        | inl there ↦ get_set_other marks at k true other ∙ m.marked.marked k (h.0, there, h.2, h.3)
         | inr here ↦ absurd (other (sym (same_Some at k (sym place ∙ (ap (λ (e : Entry). row_of e.cand.0 people) (sym here) ∙ h.2)))))
       ]
     ];
@@ -193,7 +159,7 @@ marking_unknown people seats entries marks first entry m none = record {
       ]) m.wrong;
 }
 
--- ---- whoever no entry names
+-- ---- a candidate whom no entry names
 
 -- nobody of the first
 pub missed_none : (people : List Person) (seats : List (Option Seat)) (entries : List Entry) (marks : List Bool) (count : ℕ) (first : Option Miss) → IsFirstMiss (IsWrong people seats entries) first

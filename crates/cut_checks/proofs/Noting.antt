@@ -1,7 +1,7 @@
 -- An answer is noted exactly where the tests say so.
 use Rattle.std.proofs.Common.{◌≡◌, ◌<◌, ◌+◌, ℕ, Bool, true, false, not, List, [], ◌∷◌, Option, Some, None, arith, refl, sym, subst, nat_lt, ◌==◌, if◌then◌else◌}
 use Rattle.std.specs.Prelude.{◌&&◌, ◌||◌, nat_le}
-use Rattle.std.proofs.lemmas.Bool.{and_from, and_parts, eqb-true}
+use Rattle.std.proofs.lemmas.Bool.{and_from, and_parts, eqb-true, and_right, and_left}
 use Rattle.std.proofs.lemmas.Bool.Decides.{nat_tests}
 use Rattle.office_base.specs.Limits.{most_turns}
 use Rattle.office_base.specs.declared.asks.By.{By}
@@ -21,6 +21,7 @@ use Rattle.office_moves.specs.declared.refusal.Refusal.TheVariants.{Denied, Gap,
 use Rattle.office_moves.proofs.Chains.{answer_new}
 use Rattle.cut_checks.specs.Stands.{may_answer, notes, stand_of}
 use Rattle.cut_checks.specs.declared.stand.Stand.{Stand}
+use Rattle.cut_checks.proofs.Lifting.{not_last}
 
 -- ---- the next answer
 
@@ -62,7 +63,7 @@ may_back false false false follows few how first second third row e = absurd (cc
 late_turn : (n : ℕ) → nat_lt most_turns n ≡ not (nat_le n most_turns)
 late_turn n = grind (arith, nat_tests)
 
--- the looks of a candidate who stands so
+-- the looks of a candidate with this `Stand`
 next_is : (facts : SeasonFacts) (state : State) (row : AnswerRow) → may_answer (stand_of facts state row.cand.0) row ≡ true
     → judge_next_answer (answer_looks facts (view_of state row.cand.0) row) row ≡ Note row
 next_is facts state row e =
@@ -92,17 +93,6 @@ turn_below first rest turn less = by (nat_lt first rest) refl less
     by true e less = (grind (arith, nat_tests), less)
     by false e less = (less, grind (arith, nat_tests))
 
-not_same : (m n : ℕ) → m < n → (m == n) ≡ false
-not_same m n less = grind (arith, nat_tests)
-
-and_false : (a b : Bool) → b ≡ false → (a && b) ≡ false
-and_false true b e = e
-and_false false b e = refl
-
-and_first : (a b : Bool) → a ≡ false → (a && b) ≡ false
-and_first true b e = absurd (cc)
-and_first false b e = refl
-
 none_accepted : (window turn : ℕ) (rows : List AnswerRow) → last_turn (in_window window rows) < turn → accepted window turn rows ≡ None
 none_accepted window turn [] less = refl
 none_accepted window turn (row ∷ rows) less = by (row.window == window) refl (λ later. none_accepted window turn rows later) less
@@ -111,8 +101,8 @@ none_accepted window turn (row ∷ rows) less = by (row.window == window) refl (
         → last_turn (if b then row ∷ in_window window rows else in_window window rows) < turn → accepted window turn (row ∷ rows) ≡ None
     by true e rest less =
         let parts = turn_below row.turn (last_turn (in_window window rows)) turn less in
-        accepted_if (row.window == window && row.turn == turn) row.choice (accepted window turn rows) (and_false (row.window == window) (row.turn == turn) (not_same row.turn turn parts.0)) (rest parts.1)
-    by false e rest less = accepted_if (row.window == window && row.turn == turn) row.choice (accepted window turn rows) (and_first (row.window == window) (row.turn == turn) e) (rest less)
+        accepted_if (row.window == window && row.turn == turn) row.choice (accepted window turn rows) (and_right (row.window == window) (row.turn == turn) (not_last row.turn turn parts.0)) (rest parts.1)
+    by false e rest less = accepted_if (row.window == window && row.turn == turn) row.choice (accepted window turn rows) (and_left (row.window == window) (row.turn == turn) e) (rest less)
 
 -- ---- every test
 

@@ -1,10 +1,10 @@
 -- What is known of each candidate at a cut.
-use Rattle.std.proofs.Common.{◌≡◌, ◌<◌, ◌≤◌, ◌+◌, ◌↔◌, inl, inr, ℕ, zero, suc, Bool, true, false, List, [], ◌∷◌, ◌++◌, Option, Some, None, length, drop, take, get_or, ◌*◌, arith, refl, sym, ap, ◌∙◌, subst, ◌==◌, if◌then◌else◌}
+use Rattle.std.proofs.Common.{◌≡◌, ◌<◌, ◌≤◌, ◌+◌, ◌↔◌, inl, inr, ℕ, suc, Bool, true, false, List, [], ◌∷◌, ◌++◌, Option, Some, None, length, drop, get_or, ◌*◌, arith, refl, sym, ap, ◌∙◌, subst, ◌==◌, if◌then◌else◌}
 use Rattle.std.specs.Prelude.{IsSome, is_some, option_map, slice_get}
 use Rattle.std.proofs.lemmas.Bool.{cases_eq}
 use Rattle.std.proofs.lemmas.List.{length-map, length-take}
 use Rattle.std.proofs.lemmas.Option.{same_Some, slice_get-get_or, slice_get-map, slice_get_within}
-use Rattle.office_base.proofs.Lists.{all-get}
+use Rattle.office_base.proofs.Lists.{all-get, there_is}
 use Rattle.office_base.specs.declared.asks.Seat.{Seat}
 use Rattle.office_base.specs.declared.person.CandId.{CandId}
 use Rattle.office_base.specs.declared.person.Category.TheVariants.{Gen}
@@ -16,7 +16,6 @@ use Rattle.choice_lists.specs.Choices.{list_of}
 use Rattle.list_audit.specs.Clauses.{IsListFault}
 use Rattle.list_audit.specs.declared.clause.Clause.{Clause}
 use Rattle.list_audit.specs.declared.clause.Clause.TheVariants.{NotSought, Fell, Unlisted, WrongNumbers, NotCandidate, WrongSize, BadCertificate, Overtaken, FinalDiffers}
-use Rattle.round_laws.proofs.People.{there_is}
 use Rattle.round_options.specs.Options.{holds}
 use Rattle.rounds.proofs.Entrants.{leaves_own, place_at}
 use Rattle.rounds.specs.Rule.{IsOwnList, ProgrammesChooseWell}
@@ -79,7 +78,7 @@ full_stands facts at matrix all seats c = ap length c.stands_are ∙ length-map 
 pub full_seats : (facts : SeasonFacts) (at : Setting) (matrix : SeatTable) (all : List Stand) (seats : List (Option Seat)) → IsAtCut facts at matrix all seats → length seats ≡ length facts.people
 full_seats facts at matrix all seats c = ap length c.seats_are ∙ length-map facts.people (λ (p : Person). seat_told (rows_after at.papers at.state.now) p.id.0)
 
--- whoever keeps a seat has one
+-- a candidate who keeps a seat has one
 pub is_seated : (facts : SeasonFacts) (at : Setting) (matrix : SeatTable) (all : List Stand) (seats : List (Option Seat)) (k : ℕ) (d : Stand) → IsAtCut facts at matrix all seats → k < length facts.people
     → holds (get_or all k d).standing ≡ true → IsSome (get_or all k d).seat
 is_seated facts at matrix all seats k d c less keeps =
@@ -88,7 +87,7 @@ is_seated facts at matrix all seats k d c less keeps =
     subst (λ (s : Stand). IsSome s.seat) (sym same)
     (c.order.seated (get_or facts.people k person.0).id.0 (let early = c.early in omega (arith, early)) (subst (λ (s : Stand). holds s.standing ≡ true) same keeps))
 
--- and the seat is one of the own list
+-- and the seat is of a programme on their own list
 pub is_own : (facts : SeasonFacts) (at : Setting) (matrix : SeatTable) (all : List Stand) (seats : List (Option Seat)) (k : ℕ) (d : Stand) (e : Person) (list : List ProgId) (held : Seat) → IsAtCut facts at matrix all seats
     → k < length facts.people → list ≡ list_of facts.lists (get_or facts.people k e).id.0 → (get_or all k d).seat ≡ Some held → place_of list held.prog.0 < length list
 is_own facts at matrix all seats k d e list held c less own has =
@@ -107,7 +106,7 @@ is_below facts at matrix all seats k e list c less own j prog there =
     all-get (λ (q : ProgId). q.0 < length matrix.programmes) (list_of facts.lists (get_or facts.people k e).id.0) j prog (own_list facts at matrix all seats k e c less).below
     (subst (λ (l : List ProgId). slice_get l j ≡ Some prog) own there)
 
--- what is sought, told by what stands at the place
+-- what is sought, by what is at the place
 pub sought_is : (facts : SeasonFacts) (at : Setting) (matrix : SeatTable) (all : List Stand) (seats : List (Option Seat)) (k : ℕ) (d : Stand) (e : Person) (list : List ProgId) → IsAtCut facts at matrix all seats
     → k < length facts.people → list ≡ list_of facts.lists (get_or facts.people k e).id.0
     → seek_leaves matrix (seek_by list (get_or all k d)) list ≡ sought_by facts at.state (get_or facts.people k e).id.0
@@ -340,16 +339,6 @@ group_is facts at matrix all seats count p groups group c g there =
 pub left_is : (matrix : SeatTable) (list out mid new : List ProgId) (seek other : Seek) → out ≡ new → new ≡ mid ++ seek_leaves matrix seek list → mid ≡ [] → seek ≡ other → out ≡ seek_leaves matrix other list
 left_is matrix list out mid new seek other is made none same =
     is ∙ (made ∙ (ap (λ (z : List ProgId). z ++ seek_leaves matrix seek list) none ∙ ap (λ (s : Seek). seek_leaves matrix s list) same))
-
--- a vector whose slice was written whole has what was written
-pub whole_again : {X : Type 0} (new items : List X) (len : ℕ) → length new ≡ length items → len ≡ length items → take len (new ++ drop (length new) items) ≡ new
-whole_again new items len full same = take_front new (drop (length new) items) len (omega (arith, full, same))
-  where
-    take_front : {X : Type 0} (xs ys : List X) (n : ℕ) → n ≡ length xs → take n (xs ++ ys) ≡ xs
-    take_front [] ys zero e = refl
-    take_front [] ys (suc n) e = absurd (omega (arith, e))
-    take_front (x ∷ xs) ys zero e = absurd (omega (arith, e))
-    take_front (x ∷ xs) ys (suc n) e = ap (λ z. x ∷ z) (take_front xs ys n (omega (arith, e)))
 
 -- what the check of a list found is what the list comes to
 pub comes_to : (facts : SeasonFacts) (at : Setting) (matrix : SeatTable) (all : List Stand) (seats : List (Option Seat)) (p : ℕ) (people : List Person) (programme : Programme) (fault other : Option (Clause × Option CandId))

@@ -8,19 +8,13 @@ use Rattle.round_options.specs.declared.standing.Standing.{Standing}
 use Rattle.office_moves.specs.Facts.{SeasonFacts}
 use Rattle.office_moves.specs.State.{State, answered as stands_so, greater, in_window, last_turn, left_by, rows_of, seat_of, view_of, with_round, with_row}
 use Rattle.histories.proofs.Rows.{answered_last, window_more, window_same}
+use Rattle.histories.proofs.Turns.{greater_next}
 use Rattle.audit_rules.specs.InOrder.{IsInOrder}
 use Rattle.audit_rules.proofs.Ordering.{cut_left, cut_stands, last_is, row_left}
 use Rattle.cut_checks.specs.Stands.{answered, cut, stand_of}
 use Rattle.cut_checks.specs.declared.stand.Stand.{Stand}
 
 -- ---- the last turn
-
-greater_next : (k n : ℕ) → k ≤ n → greater k n ≡ n
-greater_next k n less = by (nat_lt k n) refl
-  where
-    by : (b : Bool) → nat_lt k n ≡ b → (if b then n else k) ≡ n
-    by true e = refl
-    by false e = grind (arith, nat_tests)
 
 greater_first : (k n : ℕ) → n ≤ k → greater k n ≡ k
 greater_first k n less = by (nat_lt k n) refl

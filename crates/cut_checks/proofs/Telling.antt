@@ -1,36 +1,27 @@
 -- The seats that rows give, with a row more.
-use Rattle.std.proofs.Common.{◌≡◌, ◌<◌, ◌+◌, ◌⊎◌, inl, inr, ℕ, zero, suc, Bool, true, false, List, [], ◌∷◌, ◌++◌, Option, Some, None, length, get_or, slice_set, arith, refl, sym, ap, ◌∙◌, ◌==◌, if◌then◌else◌}
-use Rattle.std.specs.Prelude.{is_some, option_map, replicate, slice_get}
+use Rattle.std.proofs.Common.{◌≡◌, ◌<◌, inl, inr, ℕ, zero, suc, Bool, true, false, List, [], ◌∷◌, ◌++◌, Option, Some, None, length, get_or, slice_set, arith, refl, sym, ap, ◌∙◌, ◌==◌, if◌then◌else◌}
+use Rattle.std.specs.Prelude.{option_map, replicate, slice_get}
 use Rattle.std.proofs.lemmas.Bool.{cases_Bool, cond-false, cond-true, eq-eqb, eqb-true}
 use Rattle.std.proofs.lemmas.Option.{get_or_from_slice_get, slice_get-map}
 use Rattle.office_base.specs.declared.asks.Seat.{Seat}
 use Rattle.office_base.specs.declared.person.Person.{Person}
 use Rattle.keeper_mem.specs.declared.rows.AllotRow.{AllotRow}
-use Rattle.rank_lists.specs.Register.{find_person, row_of}
+use Rattle.rank_lists.specs.Register.{row_of}
+use Rattle.rank_lists.proofs.Known.{row_cases, none_when}
+pub use Rattle.rank_lists.proofs.Known.{known}
 use Rattle.audit_rules.specs.Papers.{seat_told, seats_told}
 use Rattle.cut_checks.specs.Stands.{or_seat}
 use Rattle.cut_checks.proofs.Along.{AreRising, same_map, set_along}
 
 -- ---- the place of an id
 
-row_cases : (b : Bool) (rest : Option ℕ) (at : ℕ) → (if b then Some 0 else option_map (λ n. n + 1) rest) ≡ Some at
-    → ((b ≡ true) × (at ≡ 0)) ⊎ ((n : ℕ) × (b ≡ false) × (rest ≡ Some n) × (at ≡ suc n))
-row_cases true rest at e = inl (refl, cc)
-row_cases false None at e = absurd (cc)
-row_cases false (Some n) at e = inr (n, refl, refl, let same : n + 1 ≡ at = cc in omega (arith, same))
-
--- the person of the id stands there
+-- the person of the id is there
 pub stands : (id : ℕ) (people : List Person) (at : ℕ) → row_of id people ≡ Some at → (person : Person) × (slice_get people at ≡ Some person) × (person.id.0 ≡ id)
 stands id [] at e = absurd (cc)
 stands id (p ∷ people) at e = elim (row_cases (id == p.id.0) (row_of id people) at e) [
   | inl h ↦ (p, rw h.1 refl, sym (eqb-true id p.id.0 h.0))
   | inr h ↦ let rest = stands id people h.0 h.2 in (rest.0, rw h.3 rest.1, rest.2)
 ]
-
-none_when : (b : Bool) (rest : Option ℕ) → (if b then Some 0 else option_map (λ n. n + 1) rest) ≡ None → (b ≡ false) × (rest ≡ None)
-none_when true rest e = absurd (cc)
-none_when false None e = (refl, refl)
-none_when false (Some n) e = absurd (cc)
 
 -- or nobody has it
 pub nobody : (id : ℕ) (people : List Person) → row_of id people ≡ None → (i : ℕ) (person : Person) → slice_get people i ≡ Some person → (person.id.0 ≡ id → ⊥)
@@ -96,14 +87,3 @@ none_along zero [] e = refl
 none_along zero (p ∷ people) e = absurd (omega (arith, e))
 none_along (suc n) [] e = absurd (omega (arith, e))
 none_along (suc n) (p ∷ people) e = ap (λ (z : List (Option Seat)). None ∷ z) (none_along n people (omega (arith, e)))
-
-known_when : (b : Bool) (p : Person) (rest : Option ℕ) (found : Option Person) (at : ℕ) → (if b then Some 0 else option_map (λ n. n + 1) rest) ≡ Some at
-    → ((n : ℕ) → rest ≡ Some n → is_some found ≡ true) → is_some (if b then Some p else found) ≡ true
-known_when true p rest found at e later = refl
-known_when false p None found at e later = absurd (cc)
-known_when false p (Some n) found at e later = later n refl
-
--- whoever has a place is known
-pub known : (id : ℕ) (people : List Person) (at : ℕ) → row_of id people ≡ Some at → is_some (find_person id people) ≡ true
-known id [] at e = absurd (cc)
-known id (p ∷ people) at e = known_when (id == p.id.0) p (row_of id people) (find_person id people) at e (λ n rest. known id people n rest)

@@ -22,7 +22,7 @@ pub record AreLists (facts : SeasonFacts) (at : Setting) (lists : List ListRead)
   pub same : told_by lists ≡ lists_after at.papers (length facts.matrix.programmes) at.state.now
   pub once : (p : ℕ) (read : ListRead) (kind : StepKind) → slice_get lists p ≡ Some read → AreDistinct (list_of read.programme kind).admitted
 
--- everybody sought the own seat, and whoever kept one has one
+-- the programme of everybody's seat is sought, and each candidate who keeps a seat has one
 pub record HoldOn (facts : SeasonFacts) (at : Setting) : Type 0 where
   pub sought : OfEach (IsSought facts at.papers at.state) facts.people
   pub stayed : OfEach (HasStayed facts at.papers at.state) facts.people
@@ -36,7 +36,7 @@ abbrev pub UnlistedComesTo : SeasonFacts → Setting → Option (ProgId × CandI
 UnlistedComesTo facts at None = AllListed facts at
 UnlistedComesTo facts at (Some found) = Differ facts at.papers at.state found.0 found.1
 
--- what the lists come to, beside a round's text with which they agree
+-- the result of the lists, if they agree with the round's text: all are sound, or this clause is broken first
 abbrev pub ListsComeTo : SeasonFacts → Setting → Option Fault → Type 0
 ListsComeTo facts at None = (p : ℕ) → IsSoundList facts at.papers at.state p
 ListsComeTo facts at (Some fault) = CutBreaks facts at.papers at.state fault.clause fault.prog fault.cand

@@ -1,5 +1,5 @@
 -- The entries of all programmes' lists, and where they and a round's text differ.
-use Rattle.std.specs.Prelude.{◌≡◌, ◌<◌, ◌⊎◌, ℕ, suc, Bool, true, false, List, [], ◌∷◌, ◌++◌, Option, Some, None, length, map, slice_get}
+use Rattle.std.specs.Prelude.{◌≡◌, ◌<◌, ◌+◌, ◌⊎◌, ℕ, suc, Bool, true, false, List, [], ◌∷◌, ◌++◌, Option, Some, None, length, map, slice_get}
 use Rattle.office_base.specs.Lists.{IsAmong}
 use Rattle.office_base.specs.declared.asks.Seat.{Seat}
 use Rattle.office_base.specs.declared.person.Person.{Person}
@@ -66,6 +66,13 @@ IsEarlier (Some old) p at (Some miss) = ((miss ≡ old) × (ComesBefore p at old
 -- all misses: the wrong entries, and those of the first people, so many, whom no entry names
 abbrev pub IsMiss : List Person → List (Option Seat) → List Entry → List Bool → ℕ → ℕ → ℕ → ℕ → Type 0
 IsMiss people seats entries marks count first p at = IsWrong people seats entries p at ⊎ IsMissed seats marks count first p at
+
+-- Whatever people, seats, entries and marks there are: if this is the seat of the candidate at a place, and whether there is a mark,
+-- then from the first miss before that place follows the first one up to it.
+abbrev pub TakesPlace : Option Seat → Bool → ℕ → ℕ → Option Miss → Option Miss → Type 0
+TakesPlace seat marked count at first next =
+    (people : List Person) (seats : List (Option Seat)) (entries : List Entry) (marks : List Bool) → slice_get seats at ≡ Some seat → slice_get marks at ≡ Some marked
+    → IsFirstMiss (IsMiss people seats entries marks count at) first → IsFirstMiss (IsMiss people seats entries marks count (at + 1)) next
 
 -- The marks and the first wrong entry are those of these entries.
 pub record AreMarking (people : List Person) (seats : List (Option Seat)) (entries : List Entry) (marks : List Bool) (first : Option Miss) : Type 0 where

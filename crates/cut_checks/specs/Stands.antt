@@ -1,4 +1,4 @@
--- How each candidate stands in the open window of a replay.
+-- The standing of each candidate in the open window of a replay.
 use Rattle.std.specs.Prelude.{ℕ, Bool, not, ◌&&◌, ◌||◌, ◌==◌, ◌+◌, nat_le, List, Option, Some, None, is_some, map, option_map}
 use Rattle.office_base.specs.Limits.{most_turns}
 use Rattle.office_base.specs.declared.asks.By.{By}
@@ -13,7 +13,7 @@ use Rattle.office_moves.specs.Judge.{is_candidate, is_gone, is_withdraw}
 use Rattle.office_moves.specs.State.{State, in_window, last_seat, last_turn, left_by, rows_of, standing_at, view_of}
 use Rattle.cut_checks.specs.declared.stand.Stand.{Stand}
 
--- how the candidate of this id stands in a state
+-- what a replay keeps of the candidate of this id in a state
 abbrev pub stand_of : SeasonFacts → State → ℕ → Stand
 stand_of facts state id = record {
   left = left_by facts (view_of state id) id state.now;
@@ -40,7 +40,7 @@ seek_by list stand = seek_after stand.standing (option_map (λ seat. place_of li
 
 -- ---- an answer of the open window
 
--- whoever stands so may answer so
+-- a candidate with this `Stand` may give this answer
 abbrev pub may_answer : Stand → AnswerRow → Bool
 may_answer stand row = not (is_gone stand.standing) && ((is_some stand.seat || is_withdraw row.choice)
     && (may_follow stand.left row.choice && (nat_le row.turn most_turns || is_withdraw row.choice)))

@@ -34,9 +34,11 @@ fn fault_of_list(
     programme: &Programme,
 ) -> Result<Option<ListFault>, OutOfMemory>
     requires known { prog.0 < length matrix.now.programmes }
-    requires applicants { AreApplicants (list_in matrix.now prog.0) (picked season.now.register.people group.now) }
+    requires applicants { AreApplicants (list_in matrix.now prog.0)
+        (picked season.now.register.people group.now) }
     requires once { (kind : AnyStep) → AreDistinct (list_of programme.now kind).admitted }
-    ensures { IfOk result (λ fault. IsListFault season.now.version (seats_in matrix.now prog.0) (picked season.now.register.people group.now) programme.now fault) }
+    ensures { IfOk result (λ fault. IsListFault season.now.version (seats_in matrix.now prog.0)
+        (picked season.now.register.people group.now) programme.now fault) }
 {
     let people = pick(alloc, season.register.people(), group)?;
     list_fault(alloc, matrix, season.version, prog, &people, programme)
@@ -57,7 +59,8 @@ fn unsound_in(
     requires lists { AreLists (facts_of season.now) at lists.now }
     requires hold { HoldOn (facts_of season.now) at }
     requires listed { AllListed (facts_of season.now) at }
-    requires groups { AreGroups (length (facts_of season.now).matrix.programmes) (seekers_at (facts_of season.now) at.state) seats.now groups.now }
+    requires groups { AreGroups (length (facts_of season.now).matrix.programmes)
+        (seekers_at (facts_of season.now) at.state) seats.now groups.now }
     ensures { IfOk result (ListsComeTo (facts_of season.now) at) }
 {
     let _ = stands;
@@ -123,7 +126,8 @@ fn list_faults(
     first_unsound(alloc, season, matrix, stands, seats, lists)
 }
 
-/// The first clause that a cut breaks, by the seats that the round's text gives and the lists of the programmes. It fails for want of memory alone.
+/// Returns the first clause that a cut breaks, by the seats that the round's text gives and the lists of the programmes.
+/// Fails only when memory runs out.
 pub fn cut_fault(
     alloc: Global,
     season: &Season,

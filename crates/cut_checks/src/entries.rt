@@ -41,7 +41,8 @@ fn push_kind(
     programme: &Programme,
     step: StepKind,
 ) -> Result<(), OutOfMemory>
-    ensures { OnOk result (entries.new.items ≡ entries.old.items ++ of_kind prog.0 programme.now step) }
+    ensures { OnOk result
+        (entries.new.items ≡ entries.old.items ++ of_kind prog.0 programme.now step) }
 {
     let list = &programme.steps[usize::from(step_number(step))];
     push_step(entries, prog, step, list.admitted.as_slice())
@@ -53,7 +54,9 @@ fn push_rest(
     prog: ProgId,
     programme: &Programme,
 ) -> Result<(), OutOfMemory>
-    ensures { OnOk result (entries.new.items ≡ entries.old.items ++ (of_kind prog.0 programme.now StepKind.Sc ++ (of_kind prog.0 programme.now StepKind.St ++ of_kind prog.0 programme.now StepKind.Dereserved))) }
+    ensures { OnOk result (entries.new.items
+        ≡ entries.old.items ++ (of_kind prog.0 programme.now StepKind.Sc ++ (of_kind prog.0
+        programme.now StepKind.St ++ of_kind prog.0 programme.now StepKind.Dereserved))) }
 {
     push_kind(entries, prog, programme, StepKind::Sc)?;
     push_kind(entries, prog, programme, StepKind::St)?;
@@ -66,7 +69,8 @@ fn push_programme(
     prog: ProgId,
     programme: &Programme,
 ) -> Result<(), OutOfMemory>
-    ensures { OnOk result (entries.new.items ≡ entries.old.items ++ of_programme prog.0 programme.now) }
+    ensures { OnOk result
+        (entries.new.items ≡ entries.old.items ++ of_programme prog.0 programme.now) }
 {
     push_kind(entries, prog, programme, StepKind::Open)?;
     push_kind(entries, prog, programme, StepKind::Ews)?;

@@ -1,4 +1,4 @@
-// Whether the final admissions told are those of the last round.
+// Whether the final admissions in the papers are those of the last round.
 ghost use Rattle.std.specs.Prelude.{◌≡◌, ◌↔◌, ◌≤◌, ◌+◌, IsTrue, None, length, if◌then◌else◌};
 ghost use Rattle.office_moves.specs.Moves.{final_rows};
 ghost use Rattle.office_moves.specs.Season.{facts_of};
@@ -14,7 +14,8 @@ use season_file::Season;
 
 /// Whether the row is this one.
 fn is_row(row: AllotRow, round: u16, cand: CandId, seat: Seat) -> bool
-    ensures { IsTrue result ↔ (row ≡ record { round = round; cand = cand; prog = seat.prog; step = seat.step }) }
+    ensures { IsTrue result
+        ↔ (row ≡ record { round = round; cand = cand; prog = seat.prog; step = seat.step }) }
 {
     row == AllotRow {
         round,
@@ -56,8 +57,8 @@ fn rows_of(seat: Option<Seat>) -> usize
     }
 }
 
-/// Whether the rows are those of whoever keeps a seat after the last window, in the order of the register. Their round is one more than the rounds of
-/// the season. It takes no memory.
+/// Returns whether the rows are those of the candidates who keep a seat after the last window, in the order of the register.
+/// Their round is one more than the rounds of the season. Allocates nothing.
 pub fn are_final(season: &Season, stands: &[Stand], rows: &[AllotRow]) -> bool
     ghost state: { State }
     requires { stands.now ≡ stands_along (facts_of season.now) state }

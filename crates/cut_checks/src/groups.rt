@@ -37,9 +37,12 @@ fn apply(
     at: u32,
 ) -> Result<(), OutOfMemory>
     requires below { AreBelow (length groups.old) sought.now }
-    requires distinct { (k : ℕ) (prog : AnyProg) → slice_get sought.now k ≡ Some prog → place_of sought.now prog.0 ≡ k }
+    requires distinct { (k : ℕ) (prog : AnyProg) → slice_get sought.now k ≡ Some prog
+        → place_of sought.now prog.0 ≡ k }
     ensures full { OnOk result (length groups.new ≡ length groups.old) }
-    ensures each { OnOk result ((p : ℕ) (group : List ℕ) → slice_get groups.old p ≡ Some group → slice_get groups.new p ≡ Some (group ++ (if applies p sought.now seat then at ∷ [] else []))) }
+    ensures each { OnOk result ((p : ℕ) (group : List ℕ) → slice_get groups.old p ≡ Some group
+        → slice_get groups.new p
+        ≡ Some (group ++ (if applies p sought.now seat then at ∷ [] else []))) }
 {
     for prog in sought {
         groups[usize::from(prog.0)].push(at)?;
@@ -62,7 +65,8 @@ fn no_groups(alloc: Global, count: usize) -> Result<Vec<Places>, OutOfMemory>
     Ok(groups)
 }
 
-/// For each programme the places of those who apply to it, by the seats told. It is linear in the choice lists.
+/// Returns for each programme the places of those who apply to it, by the seats that the round's text gives.
+/// It is linear in the choice lists.
 pub fn applicants(
     alloc: Global,
     season: &Season,
@@ -72,7 +76,8 @@ pub fn applicants(
 ) -> Result<Vec<Places>, OutOfMemory>
     ghost at: { Setting }
     requires { IsAtCut (facts_of season.now) at matrix.now stands.now seats.now }
-    ensures { IfOk result (λ groups. AreGroups (length (facts_of season.now).matrix.programmes) (seekers_at (facts_of season.now) at.state) seats.now groups.items) }
+    ensures { IfOk result (λ groups. AreGroups (length (facts_of season.now).matrix.programmes)
+        (seekers_at (facts_of season.now) at.state) seats.now groups.items) }
 {
     let mut groups = no_groups(alloc, usize::from(matrix.count()))?;
     let mut sought = Vec::new(alloc);

@@ -22,7 +22,8 @@ pub fn stands_after(
 ) -> Result<Vec<Stand>, OutOfMemory>
     ghost at: { Setting }
     requires { IsAtCut (facts_of season.now) at matrix.now stands.now seats.now }
-    ensures { IfOk result (λ next. next.items ≡ stands_along (facts_of season.now) (with_round at.state (round_of (facts_of season.now) at.papers at.state))) }
+    ensures { IfOk result (λ next. next.items ≡ stands_along (facts_of season.now)
+        (with_round at.state (round_of (facts_of season.now) at.papers at.state))) }
 {
     let _ = matrix;
     let mut next = Vec::with_capacity(alloc, stands.len())?;

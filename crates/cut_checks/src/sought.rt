@@ -1,4 +1,4 @@
-// What each candidate seeks, and whether the seat told is of it.
+// What each candidate seeks, and whether their seat in the round's text is of it.
 ghost use Rattle.std.specs.Prelude.{◌≡◌, ◌<◌, ◌≤◌, ◌↔◌, IfNone, IfSome, IsSome, IsTrue, Some, false, is_some, length, option_map, true};
 ghost use Rattle.allocations.specs.Fair.{IsOwn};
 ghost use Rattle.allocations.specs.Market.{place_of};
@@ -17,7 +17,7 @@ use season_file::Season;
 use seat_matrix::Matrix;
 use seeks::{Seek, is_sought};
 
-/// How far down a list a programme stands, from 0; the length of the list where it does not.
+/// Returns the place of a programme on a list, counted from 0, or the length of the list if the programme is not on it.
 fn place_of(list: &[ProgId], prog: ProgId) -> usize
     ensures place { result ≡ place_of list.now prog.0 }
     ensures within { result ≤ length list.now }
@@ -54,10 +54,14 @@ pub(crate) fn seek_of(list: &[ProgId], stand: &Stand) -> Seek
 fn unsought(matrix: &Matrix, list: &[ProgId], stand: &Stand, seat: Option<Seat>) -> Option<ProgId>
     requires short { length list.now ≤ 1000 }
     requires seated { holds stand.now.standing ≡ true → IsSome stand.now.seat }
-    requires own { (held : AnySeat) → stand.now.seat ≡ Some held → place_of list.now held.prog.0 < length list.now }
+    requires own { (held : AnySeat) → stand.now.seat ≡ Some held
+        → place_of list.now held.prog.0 < length list.now }
     requires below { AreBelow (length matrix.now.programmes) list.now }
-    ensures some { IfSome result (λ prog. (IsOwn (seek_leaves matrix.now (seek_by list.now stand.now) list.now) seat → ⊥) × (option_map (λ given. given.prog) seat ≡ Some prog)) }
-    ensures none { IfNone result (IsOwn (seek_leaves matrix.now (seek_by list.now stand.now) list.now) seat) }
+    ensures some { IfSome result (λ prog.
+        (IsOwn (seek_leaves matrix.now (seek_by list.now stand.now) list.now) seat → ⊥)
+        × (option_map (λ given. given.prog) seat ≡ Some prog)) }
+    ensures none { IfNone result
+        (IsOwn (seek_leaves matrix.now (seek_by list.now stand.now) list.now) seat) }
 {
     let seat = seat?;
     if is_sought(matrix, seek_of(list, stand), list, seat.prog) {
@@ -76,8 +80,10 @@ pub fn first_unsought(
 ) -> Option<(ProgId, CandId)>
     ghost at: { Setting }
     requires { IsAtCut (facts_of season.now) at matrix.now stands.now seats.now }
-    ensures some { IfSome result (λ found. IsUnsought (facts_of season.now) at.papers at.state found.0 found.1) }
-    ensures none { IfNone result (OfEach (IsSought (facts_of season.now) at.papers at.state) (facts_of season.now).people) }
+    ensures some { IfSome result (λ found.
+        IsUnsought (facts_of season.now) at.papers at.state found.0 found.1) }
+    ensures none { IfNone result
+        (OfEach (IsSought (facts_of season.now) at.papers at.state) (facts_of season.now).people) }
 {
     for (k, person) in season.register.people().iter().enumerate() {
         let list = season.choices.list_near(k, person.id);
@@ -95,7 +101,7 @@ fn has_fallen(stand: &Stand, seat: Option<Seat>) -> bool
     stand.standing.holds() && seat.is_none()
 }
 
-/// The first candidate who stands at freeze, float or slide, and has no seat.
+/// Returns the first candidate whose standing is freeze, float or slide and who has no seat.
 pub fn first_fallen(
     season: &Season,
     matrix: &Matrix,
@@ -104,8 +110,10 @@ pub fn first_fallen(
 ) -> Option<CandId>
     ghost at: { Setting }
     requires { IsAtCut (facts_of season.now) at matrix.now stands.now seats.now }
-    ensures some { IfSome result (λ cand. IsFirstWithout (HasStayed (facts_of season.now) at.papers at.state) (facts_of season.now).people cand) }
-    ensures none { IfNone result (OfEach (HasStayed (facts_of season.now) at.papers at.state) (facts_of season.now).people) }
+    ensures some { IfSome result (λ cand. IsFirstWithout (HasStayed (facts_of season.now)
+        at.papers at.state) (facts_of season.now).people cand) }
+    ensures none { IfNone result
+        (OfEach (HasStayed (facts_of season.now) at.papers at.state) (facts_of season.now).people) }
 {
     let _ = matrix;
     for (k, person) in season.register.people().iter().enumerate() {

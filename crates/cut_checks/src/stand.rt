@@ -1,4 +1,4 @@
-// How a candidate stands in the open window of a replay.
+// The standing of a candidate in the open window of a replay.
 ghost use Rattle.std.specs.Prelude.{◌≡◌, ◌↔◌, ◌+◌, IsTrue, None};
 ghost use Rattle.office_moves.specs.Judge.{is_candidate, is_gone};
 ghost use Rattle.cut_checks.specs.Stands.{answered, cut, may_answer, notes};
@@ -8,8 +8,8 @@ use office_base::limits::MOST_TURNS;
 use office_base::{By, CandId, Choice, Seat};
 use round_options::{Standing, after_cut, allowed, standing_of};
 
-/// How a candidate stands: as the last cut left, with the last turn of the open window, 0 where there is none, the standing now, and the seat of the
-/// last round.
+/// What a replay keeps of a candidate: the standing that the last cut left, the last turn of the open window (0 if there is
+/// none), the standing now, and the seat of the last round.
 #[derive(Clone, Copy, Debug)]
 pub struct Stand {
     pub left: Standing,
@@ -39,7 +39,7 @@ fn is_next(last: u16, turn: u16) -> bool
     turn > 0 && turn - 1 == last
 }
 
-/// Whether whoever stands so may answer so.
+/// Returns whether a candidate with this `Stand` may give this answer.
 fn may_answer(stand: &Stand, row: AnswerRow) -> bool
     ensures { result ≡ may_answer stand.now row }
 {
@@ -53,7 +53,12 @@ fn may_answer(stand: &Stand, row: AnswerRow) -> bool
 impl Stand {
     /// Without a seat, and waiting for one.
     pub fn first() -> Stand
-        ensures { result ≡ record { left = Standing.Waiting; last = 0; standing = Standing.Waiting; seat = None } }
+        ensures { result ≡ record {
+          left = Standing.Waiting;
+          last = 0;
+          standing = Standing.Waiting;
+          seat = None;
+        } }
     {
         Stand {
             left: Standing::Waiting,
@@ -70,7 +75,7 @@ impl Stand {
         is_own(by, row.cand) && is_next(self.last, row.turn) && may_answer(self, row)
     }
 
-    /// How the candidate stands after an answer that is noted.
+    /// Returns the `Stand` of the candidate after an answer that is noted.
     pub fn answered(&self, row: AnswerRow) -> Stand
         ensures { result ≡ answered self.now row }
     {
@@ -82,7 +87,7 @@ impl Stand {
         }
     }
 
-    /// How the candidate stands after a cut that gives this seat.
+    /// Returns the `Stand` of the candidate after a cut that gives this seat.
     pub fn cut(&self, seat: Option<Seat>) -> Stand
         ensures { result ≡ cut self.now seat }
     {

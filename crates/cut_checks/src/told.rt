@@ -38,7 +38,8 @@ fn or_seat(seat: Option<Seat>, row: &AllotRow) -> Option<Seat>
 fn put_row(register: &Register, seats: &mut [Option<Seat>], row: &AllotRow)
     requires { length seats.old ≡ length register.now.people }
     ensures full { length seats.new ≡ length register.now.people }
-    ensures told { (rows : List AnyRow) → seats.old ≡ seats_told rows register.now.people → seats.new ≡ seats_told (rows ++ row.now ∷ []) register.now.people }
+    ensures told { (rows : List AnyRow) → seats.old ≡ seats_told rows register.now.people
+        → seats.new ≡ seats_told (rows ++ row.now ∷ []) register.now.people }
 {
     let _ = register.people();
     let Some(at) = register.position(row.cand) else {
@@ -58,8 +59,8 @@ fn put_rows(register: &Register, seats: &mut [Option<Seat>], rows: &[AllotRow])
     }
 }
 
-/// The seats that rows give, along the register: to each candidate that of the candidate's first row. Rows of others give none. It fails for want of memory
-/// alone.
+/// Returns the seats that rows give, along the register. Each candidate gets the seat of their first row.
+/// Rows of others give none. Fails only when memory runs out.
 pub fn seats_told(
     alloc: Global,
     register: &Register,

@@ -1,11 +1,10 @@
 // Where a round's text and the lists of its programmes differ.
-ghost use Rattle.std.specs.Prelude.{◌≡◌, ◌<◌, ◌≤◌, ◌⊎◌, ◌↔◌, ◌^◌, ◌∷◌, ◌++◌, ◌+◌, [], Bool, IfOk, IsTrue, List, Some, false, length, replicate, slice_get, Option};
-ghost use Rattle.office_base.specs.declared.asks.Seat.{Seat as AnySeat};
+ghost use Rattle.std.specs.Prelude.{◌≡◌, ◌<◌, ◌↔◌, ◌∷◌, ◌++◌, ◌+◌, [], Bool, IfOk, IsTrue, List, Some, false, length, replicate, Option};
 ghost use Rattle.office_base.specs.declared.person.Person.{Person};
 ghost use Rattle.office_moves.specs.Season.{facts_of};
 ghost use Rattle.cut_checks.specs.AtCut.{IsAtCut, Setting};
 ghost use Rattle.cut_checks.specs.Comes.{AreLists, HoldOn, UnlistedComesTo};
-ghost use Rattle.cut_checks.specs.Entries.{AreMarked, AreMarking, IsEarlier, IsFirstMiss, IsMiss, IsWrong};
+ghost use Rattle.cut_checks.specs.Entries.{AreMarked, AreMarking, IsEarlier, IsFirstMiss, IsMiss, IsWrong, TakesPlace};
 ghost use Rattle.cut_checks.specs.declared.entries.Entry.{Entry as AnyEntry};
 
 use crate::entries::{Entry, entries};
@@ -50,7 +49,8 @@ fn is_seat(seat: Option<Seat>, other: Seat) -> bool
     }
 }
 
-/// Marks whoever an entry names for the own seat; else the first whom one names for another may be this one.
+/// Marks the candidate of an entry if the entry names their own seat. Otherwise this candidate may be the first miss.
+/// Returns the first miss.
 fn mark_one(
     register: &Register,
     seats: &[Option<Seat>],
@@ -61,7 +61,9 @@ fn mark_one(
     requires seats { length seats.now ≡ length register.now.people }
     requires marks { length marks.old ≡ length register.now.people }
     ensures full { length marks.new ≡ length register.now.people }
-    ensures marking { (entries : List AnyEntry) → AreMarking register.now.people seats.now entries marks.old first → AreMarking register.now.people seats.now (entries ++ entry ∷ []) marks.new result }
+    ensures marking { (entries : List AnyEntry)
+        → AreMarking register.now.people seats.now entries marks.old first
+        → AreMarking register.now.people seats.now (entries ++ entry ∷ []) marks.new result }
 {
     let Some(at) = register.position(entry.cand) else {
         return first;
@@ -74,7 +76,8 @@ fn mark_one(
     first
 }
 
-/// Marks whoever an entry names for the own seat, and gives the first whom one names for another.
+/// Marks each candidate whom an entry names for their own seat.
+/// Returns the first candidate whom an entry names for another seat.
 fn mark(
     register: &Register,
     seats: &[Option<Seat>],
@@ -100,8 +103,7 @@ fn next_missed(
     count: usize,
     at: usize,
 ) -> Option<Miss>
-    ensures { (people : List Person) (seats : List (Option AnySeat)) (entries : List AnyEntry) (marks : List Bool) → slice_get seats at ≡ Some seat → slice_get marks at ≡ Some marked
-        → IsFirstMiss (IsMiss people seats entries marks count at) first → IsFirstMiss (IsMiss people seats entries marks count (at + 1)) result }
+    ensures { TakesPlace seat marked count at first result }
 {
     let Some(seat) = seat else {
         return first;
@@ -123,7 +125,8 @@ fn first_missed(
     wrong: Option<Miss>,
 ) -> Option<Miss>
     requires { length marks.now ≡ length seats.now }
-    ensures { (people : List Person) (entries : List AnyEntry) → IsFirstMiss (IsWrong people seats.now entries) wrong
+    ensures { (people : List Person) (entries : List AnyEntry)
+        → IsFirstMiss (IsWrong people seats.now entries) wrong
         → IsFirstMiss (IsMiss people seats.now entries marks.now count (length seats.now)) result }
 {
     let mut first = wrong;
@@ -143,7 +146,9 @@ fn walk(
 ) -> Option<Miss>
     requires seats { length seats.now ≡ length register.now.people }
     requires marks { marks.old ≡ replicate (length register.now.people) false }
-    ensures { (made : List Bool) × AreMarked register.now.people seats.now entries.now made × IsFirstMiss (IsMiss register.now.people seats.now entries.now made count (length seats.now)) result }
+    ensures { (made : List Bool) × AreMarked register.now.people seats.now entries.now made
+        × IsFirstMiss (IsMiss register.now.people
+        seats.now entries.now made count (length seats.now)) result }
 {
     let wrong = mark(register, seats, entries, marks);
     first_missed(seats, marks, count, wrong)

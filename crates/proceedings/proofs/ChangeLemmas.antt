@@ -1,6 +1,7 @@
 -- What each change makes of the proceedings.
 use Rattle.std.proofs.Common.{◌≡◌, ◌<◌, ◌≤◌, ◌+◌, ◌-◌, ◌⊎◌, inl, inr, ℕ, zero, suc, Bool, true, false, List, [], ◌∷◌, ◌++◌, Option, Some, None, length, map, arith, refl, sym, ap, ◌∙◌, subst, nat_lt, ◌||◌, if◌then◌else◌, replicate}
 use Rattle.std.specs.Prelude.{slice_get}
+use Rattle.std.specs.List.{list_any}
 use Rattle.std.proofs.lemmas.Bool.Decides.{nat_tests}
 use Rattle.std.proofs.lemmas.List.{length-map}
 use Rattle.office_base.specs.declared.asks.By.TheVariants.{Candidate, Clerk}
@@ -21,7 +22,7 @@ use Rattle.office_moves.specs.Facts.{SeasonFacts}
 use Rattle.office_moves.specs.State.{State, in_window, opening, rows_of, view_of, with_finals, with_raise, with_round, with_row}
 use Rattle.office_moves.specs.Raised.{matrix_at, raised_to}
 use Rattle.office_moves.specs.Judge.{is_gone, not_open}
-use Rattle.office_moves.specs.Decided.{answer_looks, decided}
+use Rattle.office_moves.specs.Decided.{answer_looks, decided, same_raise}
 use Rattle.office_moves.specs.Moves.{Does, raised_reply}
 use Rattle.office_moves.specs.History.{IsHistory, asked, newly}
 use Rattle.office_moves.specs.Promise.{standing_then}
@@ -55,7 +56,7 @@ in_season now rounds window e = by (nat_lt window now) (nat_lt now window) (nat_
     by false false true k e = absurd (cc)
     by false false false k e = grind (arith, nat_tests)
 
--- an accepted answer is of the open window, of a candidate of the register who stands at this position and is not out
+-- an accepted answer is of the open window, of a candidate of the register who is at this position and is not out
 pub record IsNoted (facts : SeasonFacts) (state : State) (row : AnswerRow) (at : ℕ) : Type 0 where
   pub window : row.window ≡ state.now
   pub few : state.now ≤ facts.rounds
@@ -174,7 +175,7 @@ finished_left facts state left table rows new count is so turns order made =
 pub cut_still : (facts : SeasonFacts) (state : State) (left : List Standing) (n : ℕ) → HasNone state state.now → left ≡ left_along facts state → n ≡ still_in left → n ≡ still_of facts state
 cut_still facts state left n none is made = made ∙ (ap still_in is ∙ sym (still_left facts state none))
 
--- no more than before
+-- at most as many as before
 pub cut_fewer : (facts : SeasonFacts) (state : State) (left new : List Standing) (table : List (List Choice)) (given : List (Option Seat)) (old n : ℕ) → left ≡ left_along facts state
     → table ≡ table_along facts state state.now → old ≡ still_of facts state → new ≡ after_cuts (standings left table) given → n ≡ still_in new → n ≤ old
 cut_fewer facts state left new table given old n so turns is made count =
@@ -199,12 +200,24 @@ lifted_below facts state row is =
     from (Publishes window round asks same cuts less next made) = absurd (cc)
     from (Finishes window asks same cuts last made) = absurd (cc)
 
+-- an accepted raise is none of those before it
+pub lifted_fresh : (facts : SeasonFacts) (state : State) (row : RaiseRow) → decided facts state (asked facts (Raise row)) ≡ Lift row → list_any (same_raise row) state.raises ≡ false
+lifted_fresh facts state row is =
+    from (changes facts state (asked facts (Raise row)).by (asked facts (Raise row)).ask (Raise row) (raised_reply row) (with_raise state row) (ap (newly state.now) is)
+    (subst (λ (d : Decision). Does facts state d (raised_reply row) (with_raise state row)) (sym is) (refl, refl)))
+  where
+    from : Change facts state (asked facts (Raise row)).by (asked facts (Raise row)).ask (Raise row) (with_raise state row) → list_any (same_raise row) state.raises ≡ false
+    from (Answered other asks same accepts made) = absurd (cc)
+    from (Raised other code asks found known same accepts made) = subst (λ (r : RaiseRow). list_any (same_raise r) state.raises ≡ false) (let e : other ≡ row = cc in e) accepts.fresh
+    from (Publishes window round asks same cuts less next made) = absurd (cc)
+    from (Finishes window asks same cuts last made) = absurd (cc)
+
 pub lifted_matrix : (facts : SeasonFacts) (state : State) (row : RaiseRow) (matrix new : SeatTable) → matrix ≡ matrix_at facts state
     → new ≡ matrix_with matrix row.prog.0 row.step (raised_to (seating_in matrix row.prog.0 row.step) row.seats) → new ≡ matrix_at facts (with_raise state row)
 lifted_matrix facts state row matrix new is made =
     made ∙ (ap (λ (m : SeatTable). matrix_with m row.prog.0 row.step (raised_to (seating_in m row.prog.0 row.step) row.seats)) is ∙ sym (raised_append facts.matrix state.raises (row ∷ [])))
 
--- a raise changes nothing of how they stand
+-- a raise changes no standing
 pub left_raised : (facts : SeasonFacts) (state : State) (row : RaiseRow) → left_along facts state ≡ left_along facts (with_raise state row)
 left_raised facts state row = refl
 

@@ -30,7 +30,7 @@ none_along state window (p ∷ people) none =
 pub no_table : (facts : SeasonFacts) (state : State) (window : ℕ) → HasNone state window → no_turns (length facts.people) ≡ table_along facts state window
 no_table facts state window none = none_along state window facts.people none
 
--- without answers everybody stands as the cut left them
+-- without answers everybody has the standing that the cut left
 still_made : (facts : SeasonFacts) (state : State) (people : List Person) → HasNone state state.now
     → still_among facts state people ≡ still_in (map (λ (p : Person). left_by facts (view_of state p.id.0) p.id.0 state.now) people)
 still_made facts state [] none = refl

@@ -1,7 +1,7 @@
 -- What a decision knows of the state.
 use Rattle.std.proofs.Common.{◌≡◌, ◌<◌, ◌≤◌, ◌+◌, ◌-◌, ℕ, zero, suc, Bool, true, false, List, [], Option, Some, None, length, map, arith, refl, sym, ◌==◌, nat_lt, nat_le, if◌then◌else◌}
 use Rattle.std.specs.Prelude.{◌||◌, ◌&&◌, not, option_map, position, bytes_eq}
-use Rattle.std.proofs.lemmas.Bool.{lt-ltb}
+use Rattle.std.proofs.lemmas.Bool.{lt-ltb, or_parts}
 use Rattle.std.proofs.lemmas.List.Quantifiers.{position-Some}
 use Rattle.std.proofs.lemmas.List.{length-map}
 use Rattle.office_base.specs.declared.asks.Ask.{Ask}
@@ -30,7 +30,7 @@ use Rattle.round_options.specs.Options.{may_follow}
 abbrev pub number_of : ℕ → ProgId
 number_of k = record { 0 = k }
 
--- what is told is there to be told
+-- what a decision gives in a reply is there to be given
 abbrev pub Fits : SeasonFacts → State → Decision → Type 0
 Fits facts state (Refuse refusal) = Unit {0}
 Fits facts state (NotedAgain row) = Unit {0}
@@ -130,10 +130,6 @@ not_zero (suc n) e = omega arith
 not_below : (m n : ℕ) → nat_lt m n ≡ false → n ≤ m
 not_below m n e = grind (arith, lt-ltb)
 
-or_false : (a b : Bool) → (a || b) ≡ false → (a ≡ false) × (b ≡ false)
-or_false true b e = absurd (cc)
-or_false false b e = (refl, e)
-
 -- a programme that was found is one of the matrix
 pub found_within : (facts : SeasonFacts) (code : List ℕ) (n : Option ℕ) (prog : ProgId) → position (bytes_eq code) (map (λ held. held.0) facts.matrix.programmes) ≡ n
     → option_map (λ (k : ℕ). number_of k) n ≡ Some prog → prog.0 < length facts.matrix.programmes
@@ -154,7 +150,7 @@ list_fits : (facts : SeasonFacts) (state : State) (round : ℕ) (code : List ℕ
 list_fits facts state round code None e = tt
 list_fits facts state round code (Some prog) e =
     chain_list facts state (round == 0 || nat_lt (length state.rounds) round) round prog (NoSuchRound (length state.rounds)) (found_within facts code _ prog refl e)
-    (λ same. let both = or_false (round == 0) (nat_lt (length state.rounds) round) same in (not_zero round both.0, not_below (length state.rounds) round both.1))
+    (λ same. let both = or_parts (round == 0) (nat_lt (length state.rounds) round) same in (not_zero round both.0, not_below (length state.rounds) round both.1))
 
 raises_fit : (facts : SeasonFacts) (state : State) (by : By) (window : ℕ) (o : Option ProgId) (step : StepKind) (seats : ℕ)
     → Fits facts state (with_programme o (λ prog. decide_raise_of facts state by (record { window = window; prog = prog; step = step; seats = seats })))

@@ -1,29 +1,19 @@
 -- What was looked up at a candidate's position is what an answer of the candidate is judged by.
-use Rattle.std.proofs.Common.{◌≡◌, ◌+◌, ℕ, Bool, true, false, List, [], ◌∷◌, Option, Some, None, refl, ap, ◌∙◌, ◌==◌, if◌then◌else◌}
+use Rattle.std.proofs.Common.{◌≡◌, ℕ, Bool, true, List, [], Option, Some, refl, ap, ◌∙◌}
 use Rattle.std.specs.Prelude.{is_some, option_map, slice_get}
 use Rattle.office_base.specs.declared.asks.Choice.{Choice}
 use Rattle.office_base.specs.declared.asks.Seat.{Seat}
 use Rattle.office_base.specs.declared.person.Person.{Person}
 use Rattle.keeper_mem.specs.declared.rows.AnswerRow.{AnswerRow}
 use Rattle.rank_lists.specs.Register.{find_person, row_of}
+use Rattle.rank_lists.proofs.Known.{known}
 use Rattle.round_options.specs.declared.standing.Standing.{Standing}
 use Rattle.office_moves.specs.Facts.{SeasonFacts}
 use Rattle.office_moves.specs.State.{State, accepted, in_window, last_seat, last_turn, left_by, rows_of, standing_at, view_of}
 use Rattle.office_moves.specs.Decided.{answer_looks}
 use Rattle.proceedings.proofs.Positions.{stands, told}
 
-known_when : (b : Bool) (p : Person) (rest : Option ℕ) (found : Option Person) (at : ℕ) → (if b then Some 0 else option_map (λ n. n + 1) rest) ≡ Some at
-    → ((n : ℕ) → rest ≡ Some n → is_some found ≡ true) → is_some (if b then Some p else found) ≡ true
-known_when true p rest found at e later = refl
-known_when false p None found at e later = absurd (cc)
-known_when false p (Some n) found at e later = later n refl
-
--- whoever has a position is known
-pub known : (id : ℕ) (people : List Person) (at : ℕ) → row_of id people ≡ Some at → is_some (find_person id people) ≡ true
-known id [] at e = absurd (cc)
-known id (p ∷ people) at e = known_when (id == p.id.0) p (row_of id people) (find_person id people) at e (λ n rest. known id people n rest)
-
--- what is told at the position, of the candidate of this id
+-- what f gives at the position is that of the candidate of this id
 pub told_of : {X : Type 0} (f : ℕ → X) (id : ℕ) (people : List Person) (at : ℕ) (x : X) → row_of id people ≡ Some at → option_map (λ (person : Person). f person.id.0) (slice_get people at) ≡ Some x → x ≡ f id
 told_of f id people at x place e =
     let s = stands id people at place in

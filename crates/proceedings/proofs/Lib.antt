@@ -10,5 +10,4 @@ pub mod Positions
 pub mod Published
 pub mod Replies
 pub mod Seated
-pub mod Sums
 pub mod Taken

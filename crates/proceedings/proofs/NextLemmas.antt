@@ -1,5 +1,5 @@
 -- What the arrays have to be for what comes next.
-use Rattle.std.proofs.Common.{◌≡◌, ◌+◌, ◌-◌, ℕ, zero, suc, true, List, [], ◌∷◌, Option, Some, None, length, map, arith, refl, sym, ap, ◌∙◌, subst}
+use Rattle.std.proofs.Common.{◌≡◌, ◌+◌, ◌-◌, ℕ, zero, suc, true, List, [], ◌∷◌, Option, Some, None, length, map, arith, sym, ap, ◌∙◌, subst}
 use Rattle.std.specs.Prelude.{slice_get, IsSome}
 use Rattle.std.proofs.lemmas.List.{length-map, length-replicate}
 use Rattle.std.proofs.lemmas.Option.{same_Some}
@@ -7,11 +7,9 @@ use Rattle.office_base.specs.declared.asks.Choice.{Choice}
 use Rattle.office_base.specs.declared.asks.Seat.{Seat}
 use Rattle.office_base.specs.declared.person.Person.{Person}
 use Rattle.office_base.specs.declared.person.ProgId.{ProgId}
-use Rattle.choice_lists.specs.Choices.{Lists}
-use Rattle.seat_matrix.specs.Matrix.{SeatTable}
-use Rattle.seeks.specs.declared.seek.Seek.{Seek}
-use Rattle.rounds.specs.Rule.{seekers_of}
 use Rattle.rounds.specs.declared.round.Round.{Round}
+use Rattle.rounds.proofs.Entrants.{length_seekers}
+use Rattle.round_laws.proofs.Season.{aligned_length}
 use Rattle.round_options.specs.Options.{holds}
 use Rattle.round_options.specs.declared.standing.Standing.{Standing}
 use Rattle.office_moves.specs.Facts.{IsSound, SeasonFacts, lists_in_order}
@@ -49,7 +47,7 @@ made_seated stands seat (p ∷ people) each zero s has a b h =
     subst (λ (o : Option Seat). IsSome o) (same_Some (seat p) has b) (each p (ap holds (same_Some (stands p) s a) ∙ h))
 made_seated stands seat (p ∷ people) each (suc at) s has a b h = made_seated stands seat people each at s has a b h
 
--- whoever keeps a seat has one
+-- a candidate who keeps a seat has one
 pub all_seated : (facts : SeasonFacts) (state : State) (left : List Standing) (table : List (List Choice)) (last : Option Round) → AreRising facts.people → left ≡ left_along facts state
     → table ≡ table_along facts state state.now → last ≡ round_at state.rounds (length state.rounds) → length (seats_of (length facts.people) last) ≡ length facts.people
     → ((id : ℕ) → holds (standing_then facts state state.now id) ≡ true → IsSome (last_seat facts state.rounds id))
@@ -66,20 +64,11 @@ all_seated facts state left table last rising so turns latest full seated = reco
 
 -- ---- a round that may follow has an entry for each of the people
 
-seekers_full : (table : SeatTable) (people : List Person) (lists : List (List ProgId)) (seeks : List Seek) → length lists ≡ length people → length seeks ≡ length lists → length (seekers_of table people lists seeks) ≡ length people
-seekers_full table [] lists seeks e f = refl
-seekers_full table (p ∷ people) [] seeks e f = absurd (omega arith)
-seekers_full table (p ∷ people) (list ∷ lists) [] e f = absurd (omega arith)
-seekers_full table (p ∷ people) (list ∷ lists) (seek ∷ seeks) e f = ap suc (seekers_full table people lists seeks (omega arith) (omega arith))
-
-aligned_length : (lists : Lists) (people : List Person) → map (λ (held : ℕ × List ProgId). held.0) lists ≡ map (λ (p : Person). p.id.0) people → length lists ≡ length people
-aligned_length lists people e = sym (length-map lists (λ (held : ℕ × List ProgId). held.0)) ∙ (ap (λ (z : List ℕ). length z) e ∙ length-map people (λ (p : Person). p.id.0))
-
 pub next_full : (facts : SeasonFacts) (state : State) (round : Round) → IsSound facts → IsNextRound facts state round → length round.seats ≡ length facts.people
 next_full facts state round sound next =
     let lists : length (lists_in_order facts) ≡ length facts.people = length-map facts.lists (λ (held : ℕ × List ProgId). held.1) ∙ aligned_length facts.lists facts.people sound.aligned in
     let seeks : length (next_seeks facts state) ≡ length facts.people = length-map facts.people _ in
-    next.best.fair.allocation.full ∙ seekers_full (matrix_at facts state) facts.people (lists_in_order facts) (next_seeks facts state) lists (seeks ∙ sym lists)
+    next.best.fair.allocation.full ∙ length_seekers (matrix_at facts state) facts.people (lists_in_order facts) (next_seeks facts state) lists (seeks ∙ sym lists)
 
 -- ---- over the arrays
 

@@ -5,7 +5,7 @@ use Rattle.std.specs.List.{AllByRecursion}
 use Rattle.std.proofs.lemmas.Bool.Decides.{eqb_tells}
 use Rattle.std.proofs.lemmas.List.{map-append}
 use Rattle.std.proofs.lemmas.Option.{same_Some}
-use Rattle.office_base.proofs.Lists.{all-get}
+use Rattle.office_base.proofs.Lists.{all-get, get_set_other}
 use Rattle.office_base.specs.Lists.{Pairwise}
 use Rattle.office_base.specs.declared.asks.Choice.{Choice}
 use Rattle.office_base.specs.declared.asks.Choice.TheVariants.{Freeze as ToFreeze, Float as ToFloat, Slide as ToSlide, Withdraw as ToWithdraw}
@@ -191,13 +191,6 @@ get_set_same : {X : Type 0} (xs : List X) (i : ℕ) (x y : X) → slice_get (sli
 get_set_same [] i x y e = absurd (cc)
 get_set_same (z ∷ xs) zero x y e = sym (same_Some x y e)
 get_set_same (z ∷ xs) (suc i) x y e = get_set_same xs i x y e
-
-get_set_other : {X : Type 0} (xs : List X) (i j : ℕ) (x : X) → j ≢ i → slice_get (slice_set xs i x) j ≡ slice_get xs j
-get_set_other [] i j x other = refl
-get_set_other (y ∷ ys) zero zero x other = absurd (other refl)
-get_set_other (y ∷ ys) zero (suc j) x other = refl
-get_set_other (y ∷ ys) (suc i) zero x other = refl
-get_set_other (y ∷ ys) (suc i) (suc j) x other = get_set_other ys i j x (λ e. other (ap suc e))
 
 get_along : {X : Type 0} (f : ℕ → X) (people : List Person) (at : ℕ) (person : Person) → slice_get people at ≡ Some person → slice_get (map (λ (p : Person). f p.id.0) people) at ≡ Some (f person.id.0)
 get_along f [] at person here = absurd (cc)

@@ -1,23 +1,18 @@
--- What stands at the position of a person.
-use Rattle.std.proofs.Common.{◌≡◌, ◌<◌, ◌+◌, ◌⊎◌, inl, inr, ℕ, zero, suc, Bool, true, false, List, [], ◌∷◌, Option, Some, None, length, map, arith, refl, sym, ap, ◌∙◌, ◌==◌, if◌then◌else◌}
+-- What is at the position of a person.
+use Rattle.std.proofs.Common.{◌≡◌, ◌<◌, inl, inr, ℕ, zero, suc, Bool, true, false, List, [], ◌∷◌, Option, Some, None, length, map, arith, refl, sym, ap, ◌∙◌, ◌==◌, if◌then◌else◌}
 use Rattle.std.specs.Prelude.{slice_get, option_map}
 use Rattle.std.proofs.lemmas.Bool.{cases_Bool, eq-eqb, eqb-true}
 use Rattle.std.proofs.lemmas.Option.{slice_get-map}
 use Rattle.office_base.specs.Person.{at_person}
 use Rattle.office_base.specs.declared.person.Person.{Person}
 use Rattle.rank_lists.specs.Register.{row_of}
+use Rattle.rank_lists.proofs.Known.{row_cases}
 
--- the person of this id stands at this position
+-- the person of this id is at this position
 pub record Stands (id : ℕ) (people : List Person) (at : ℕ) : Type 0 where
   pub person : Person
   pub there : slice_get people at ≡ Some person
   pub mine : person.id.0 ≡ id
-
-pub row_cases : (b : Bool) (rest : Option ℕ) (at : ℕ) → (if b then Some 0 else option_map (λ n. n + 1) rest) ≡ Some at
-    → ((b ≡ true) × (at ≡ 0)) ⊎ ((n : ℕ) × (b ≡ false) × (rest ≡ Some n) × (at ≡ suc n))
-row_cases true rest at e = inl (refl, cc)
-row_cases false None at e = absurd (cc)
-row_cases false (Some n) at e = inr (n, refl, refl, let same : n + 1 ≡ at = cc in omega (arith, same))
 
 pub stands : (id : ℕ) (people : List Person) (at : ℕ) → row_of id people ≡ Some at → Stands id people at
 stands id [] at e = absurd (cc)
@@ -56,7 +51,7 @@ told f people at person x e there =
     let same : Some (f person) ≡ Some x = ap (option_map f) (sym there) ∙ e in
     cc
 
--- a look-up at the position of a person, in what lies along the people, and the same told otherwise
+-- a look-up at the position of a person, in what lies along the people, and the same by another function
 pub through : {X Y Z : Type 0} (f : Y → X) (g : X → Z) (h : Y → Z) (ys : List Y) (xs : List X) (at : ℕ) (z : Z) → xs ≡ map f ys → ((y : Y) → h y ≡ g (f y)) → option_map g (slice_get xs at) ≡ Some z
     → option_map h (slice_get ys at) ≡ Some z
 through {X} f g h ys xs at z e same told = via f g h (slice_get ys at) z same (ap (option_map g) (sym (slice_get-map f ys at) ∙ ap (λ (list : List X). slice_get list at) (sym e)) ∙ told)
@@ -71,7 +66,7 @@ everywhere h [] at z less same = absurd (omega (arith, less))
 everywhere h (y ∷ ys) zero z less same = ap Some (same y)
 everywhere h (y ∷ ys) (suc at) z less same = everywhere h ys at z (omega (arith, less)) same
 
--- what follows for whoever stands at a position from what is told of the same position
+-- what follows for the person at a position from what is known at the same position
 pub follow : {X Y Z : Type 0} (f : Y → X) (h : Y → Z) (o : Option Y) (x : X) (z : Z) → option_map f o ≡ Some x → ((y : Y) → f y ≡ x → h y ≡ z) → option_map h o ≡ Some z
 follow f h None x z first next = absurd (cc)
 follow f h (Some y) x z first next = ap Some (next y (let same : Some (f y) ≡ Some x = first in cc))
@@ -81,7 +76,7 @@ pub both_follow : {W X Y Z : Type 0} (f : Y → X) (g : Y → W) (h : Y → Z) (
 both_follow f g h None x w z first other next = absurd (cc)
 both_follow f g h (Some y) x w z first other next = ap Some (next y (let same : Some (f y) ≡ Some x = first in cc) (let same : Some (g y) ≡ Some w = other in cc))
 
--- what is so of whoever stands at a position is so there
+-- what holds of the person at a position holds there
 pub there_at : {Y Z : Type 0} (h : Y → Z) (ys : List Y) (at : ℕ) (z : Z) → at < length ys → ((y : Y) → slice_get ys at ≡ Some y → h y ≡ z) → option_map h (slice_get ys at) ≡ Some z
 there_at h [] at z less same = absurd (omega (arith, less))
 there_at h (y ∷ ys) zero z less same = ap Some (same y refl)

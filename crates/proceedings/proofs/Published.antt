@@ -13,6 +13,7 @@ use Rattle.office_base.specs.declared.step.StepKind.TheVariants.{Open, Ews, Obc,
 use Rattle.seat_matrix.specs.Matrix.{seats_in}
 use Rattle.seat_matrix.specs.declared.seats.ProgrammeSeats.{ProgrammeSeats}
 use Rattle.office_base.specs.Merit.{in_merit}
+use Rattle.office_base.proofs.Lists.{there_is}
 use Rattle.programme_lists.specs.Chosen.{ShowsFrom}
 use Rattle.programme_lists.specs.Listing.{ShowsStep}
 use Rattle.programme_lists.specs.declared.programme.Programme.{Programme}
@@ -26,14 +27,13 @@ use Rattle.office_moves.specs.Facts.{IsSound, SeasonFacts, lists_in_order}
 use Rattle.office_moves.specs.State.{State, round_at}
 use Rattle.office_moves.specs.Raised.{matrix_of_round}
 use Rattle.office_moves.specs.Moves.{row_before, rows_along}
-use Rattle.round_laws.proofs.People.{there_is}
 use Rattle.histories.proofs.Entering.{list_there, lists_full}
 use Rattle.histories.proofs.Fits.{seeks_fit}
 use Rattle.histories.specs.Course.{IsCourse, seeks_then}
 use Rattle.histories.specs.Orderly.{IsOrderly}
 use Rattle.proceedings.proofs.Positions.{stands}
 
--- a published round stands at the place before its number
+-- a published round is at the place before its number
 pub published : (rounds : List Round) (n : ℕ) (round : Round) → round_at rounds n ≡ Some round → (before : ℕ) × (n ≡ suc before) × (slice_get rounds before ≡ Some round)
 published rounds zero round e = absurd (cc)
 published rounds (suc before) round e = (before, refl, e)
@@ -60,7 +60,7 @@ rows_most number seat (person ∷ people) = row_most number person.id (seat pers
 
 -- ---- the choice lists along the people
 
--- at the position of a candidate stands the own list
+-- the candidate's own list is at their position
 pub list_at_position : (facts : SeasonFacts) (id at : ℕ) → IsSound facts → row_of id facts.people ≡ Some at → slice_get (lists_in_order facts) at ≡ Some (list_of facts.lists id)
 list_at_position facts id at sound row =
     let s = stands id facts.people at row in
@@ -73,7 +73,7 @@ list_at_position facts id at sound row =
 
 -- ---- seeks
 
--- everybody sought within the own list
+-- everybody sought within their own list
 pub seeks_of : (facts : SeasonFacts) (state : State) (n : ℕ) (round : Round) → IsSound facts → IsOrderly facts state → round_at state.rounds n ≡ Some round → AreSeeks (lists_in_order facts) round.seeks
 seeks_of facts state n round sound orderly e =
     let p = published state.rounds n round e in

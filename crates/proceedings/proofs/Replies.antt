@@ -6,8 +6,10 @@ use Rattle.office_base.specs.declared.asks.Seat.{Seat}
 use Rattle.office_base.specs.declared.person.CandId.{CandId}
 use Rattle.office_base.specs.declared.person.Person.{Person}
 use Rattle.office_base.specs.declared.person.ProgId.{ProgId}
+use Rattle.office_base.proofs.Lists.{there_is}
 use Rattle.programme_lists.specs.declared.programme.Programme.{Programme}
 use Rattle.rank_lists.specs.Register.{find_person, row_of}
+use Rattle.rank_lists.proofs.Known.{row_cases}
 use Rattle.reasons.specs.declared.reason.Reason.{Reason}
 use Rattle.reasons.specs.declared.reason.WhyAnswer.{WhyAnswer}
 use Rattle.reasons.specs.declared.reason.WhyAnswer.TheVariants.{Reason as Because}
@@ -20,8 +22,6 @@ use Rattle.office_moves.specs.State.{State, last_seat, round_at, seat_of, standi
 use Rattle.office_moves.specs.Moves.{seat_reply, told_seat}
 use Rattle.office_moves.specs.Why.{reason_in, why_answer, why_beside}
 use Rattle.office_moves.specs.declared.moves.Reply.TheVariants.{SeatIs}
-use Rattle.proceedings.proofs.Positions.{row_cases}
-use Rattle.round_laws.proofs.People.{there_is}
 
 pub few_fit : (n m k : ℕ) → n ≡ m → m ≤ k → k ≤ 250000 → Fits w32 n
 few_fit n m k e less few = omega arith

@@ -1,7 +1,7 @@
 -- The turns of a candidate in a window, as rows and as choices.
-use Rattle.std.proofs.Common.{◌≡◌, ◌≢◌, ◌≤◌, ◌+◌, ◌-◌, inl, inr, ℕ, zero, suc, Bool, true, false, List, [], ◌∷◌, Option, Some, None, length, map, arith, refl, sym, ap, ◌∙◌, ◌==◌, nat_lt, if◌then◌else◌, subst}
+use Rattle.std.proofs.Common.{◌≡◌, ◌≤◌, ◌+◌, ◌-◌, inl, inr, ℕ, zero, suc, Bool, true, false, List, [], ◌∷◌, Option, Some, None, length, map, arith, refl, sym, ap, ◌∙◌, ◌==◌, nat_lt, if◌then◌else◌, subst}
 use Rattle.std.specs.Prelude.{slice_get, ◌&&◌}
-use Rattle.std.proofs.lemmas.Bool.{cases_Bool, eq-eqb, eqb-true, lt-ltb, ltb-true}
+use Rattle.std.proofs.lemmas.Bool.{cases_Bool, eq-eqb, lt-ltb, ne_eqb}
 use Rattle.std.proofs.lemmas.List.{length-map}
 use Rattle.std.proofs.lemmas.Option.{slice_get-get_or}
 use Rattle.office_base.specs.declared.asks.Choice.{Choice}
@@ -11,20 +11,18 @@ use Rattle.round_options.specs.declared.standing.Standing.{Standing}
 use Rattle.office_moves.specs.State.{accepted, answered, greater, in_window, last_turn}
 use Rattle.office_turns.specs.Turns.{choice_at, last_choice}
 use Rattle.histories.specs.Orderly.{AreTurnsAfter}
+use Rattle.histories.proofs.Turns.{turns_count}
 use Rattle.proceedings.proofs.Lasts.{last_of_rest}
 
 -- the choices of rows
 abbrev pub choices : List AnswerRow → List Choice
 choices rows = map (λ row. row.choice) rows
 
-eq_other : (m n : ℕ) → m ≢ n → (m == n) ≡ false
-eq_other m n e = elim (cases_Bool (m == n)) [ inl same ↦ absurd (e (eqb-true m n same)) | inr other ↦ other ]
-
 -- ---- what was accepted at a turn
 
 none_when : (b : Bool) (turn k : ℕ) (row : AnswerRow) (inside : List AnswerRow) (rest : Option Choice) → AreTurnsAfter k (if b then row ∷ inside else inside)
     → ((j : ℕ) → turn ≤ j → AreTurnsAfter j inside → rest ≡ None) → turn ≤ k → (if b && row.turn == turn then Some row.choice else rest) ≡ None
-none_when true turn k row inside rest turns later below = rw (eq_other row.turn turn (λ e. absurd (omega (arith, turns.0)))) (later (k + 1) (omega arith) turns.1)
+none_when true turn k row inside rest turns later below = rw (ne_eqb row.turn turn (λ e. absurd (omega (arith, turns.0)))) (later (k + 1) (omega arith) turns.1)
 none_when false turn k row inside rest turns later below = later k below turns
 
 none_before : (window turn k : ℕ) (rows : List AnswerRow) → AreTurnsAfter k (in_window window rows) → turn ≤ k → accepted window turn rows ≡ None
@@ -36,7 +34,7 @@ here_when : (b : Bool) (n k turn : ℕ) (row : AnswerRow) (inside : List AnswerR
     → ((m j : ℕ) → AreTurnsAfter j inside → turn ≡ j + m + 1 → rest ≡ slice_get (choices inside) m)
     → (if b && row.turn == turn then Some row.choice else rest) ≡ slice_get (choices (if b then row ∷ inside else inside)) n
 here_when true zero k turn row inside rest turns e later = rw (eq-eqb row.turn turn (omega (arith, turns.0))) refl
-here_when true (suc n) k turn row inside rest turns e later = rw (eq_other row.turn turn (λ same. absurd (omega (arith, turns.0)))) (later n (k + 1) turns.1 (omega arith))
+here_when true (suc n) k turn row inside rest turns e later = rw (ne_eqb row.turn turn (λ same. absurd (omega (arith, turns.0)))) (later n (k + 1) turns.1 (omega arith))
 here_when false n k turn row inside rest turns e later = later n k turns e
 
 accepted_after : (window n k turn : ℕ) (rows : List AnswerRow) → AreTurnsAfter k (in_window window rows) → turn ≡ k + n + 1 → accepted window turn rows ≡ slice_get (choices (in_window window rows)) n
@@ -57,21 +55,12 @@ greater_up m n e = elim (cases_Bool (nat_lt m n)) [ inl less ↦ rw less refl | 
     not_below : (m n : ℕ) → nat_lt m n ≡ false → n ≤ m
     not_below m n e = grind (arith, lt-ltb)
 
-last_after : (k : ℕ) (rows : List AnswerRow) → AreTurnsAfter k rows → greater k (last_turn rows) ≡ k + length rows
-last_after k [] turns = none k
-  where
-    none : (k : ℕ) → greater k 0 ≡ k + 0
-    none k = elim (cases_Bool (nat_lt k 0)) [ inl less ↦ absurd (omega (arith, ltb-true k 0 less)) | inr other ↦ rw other (omega arith) ]
-last_after k (row ∷ rows) turns =
-    let rest : greater row.turn (last_turn rows) ≡ k + 1 + length rows = ap (λ n. greater n (last_turn rows)) turns.0 ∙ last_after (k + 1) rows turns.1 in
-    rw rest (greater_up k (k + 1 + length rows) (omega arith) ∙ omega arith)
-
 pub last_turn_is : (rows : List AnswerRow) → AreTurnsAfter 0 rows → last_turn rows ≡ length (choices rows)
-last_turn_is rows turns = sym (greater_up 0 (last_turn rows) (omega arith)) ∙ (last_after 0 rows turns ∙ omega (arith, length-map rows (λ (row : AnswerRow). row.choice)))
+last_turn_is rows turns = sym (greater_up 0 (last_turn rows) (omega arith)) ∙ (turns_count 0 rows turns ∙ omega (arith, length-map rows (λ (row : AnswerRow). row.choice)))
 
 -- ---- the standing after them
 
--- how a candidate stands after the last of some choices, or as before where there is none
+-- the standing of a candidate after the last of some choices, or unchanged if there is none
 abbrev pub after_last : Standing → Option Choice → Standing
 after_last left None = left
 after_last left (Some choice) = standing_of choice

@@ -11,7 +11,7 @@ use Rattle.proceedings.specs.Proceeding.{Proceeding, answers_of, left_along, sti
 use Rattle.proceedings.specs.declared.book.Proceedings.TheInside.{Inside}
 
 abbrev pub state_of : Inside → State
-state_of a = record { now = a.window; rounds = a.rounds.items; finals = a.finals; answers = answers_of a.entries.items; raises = a.raises.items }
+state_of a = record { now = a.window; rounds = a.rounds.items; finals = a.finals; answers = answers_of a.entries.items; raises = a.raised.raises }
 
 abbrev pub proceeding_of : Inside → Proceeding
 proceeding_of a = record {
@@ -20,7 +20,7 @@ proceeding_of a = record {
   state = state_of a;
   still = a.still_in;
   room = vec_capacity a.entries - vec_len a.entries;
-  raise_room = vec_capacity a.raises - vec_len a.raises;
+  raise_room = a.raised.room;
 }
 
 pub record IsKept (a : Inside) : Type 0 where
@@ -28,7 +28,7 @@ pub record IsKept (a : Inside) : Type 0 where
   pub history : IsHistory (facts_of a.season) a.entries.items (state_of a)
   pub orderly : IsOrderly (facts_of a.season) (state_of a)
   -- each array is its definition, by position of the people
-  pub raised : a.matrix ≡ matrix_at (facts_of a.season) (state_of a)
+  pub raised : a.raised.matrix ≡ matrix_at (facts_of a.season) (state_of a)
   pub left : a.left.items ≡ left_along (facts_of a.season) (state_of a)
   pub turns : (window : ℕ) (table : List (List Choice)) → slice_get a.turns.items window ≡ Some table → table ≡ table_along (facts_of a.season) (state_of a) window
   pub still : a.still_in ≡ still_of (facts_of a.season) (state_of a)

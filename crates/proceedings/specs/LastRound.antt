@@ -5,7 +5,7 @@ use Rattle.rounds.specs.declared.round.Round.{Round}
 use Rattle.office_moves.specs.Facts.{SeasonFacts, lists_in_order}
 use Rattle.office_moves.specs.State.{State, round_at}
 
--- The last published round. Each sought within the own list, and it has the lists of each programme.
+-- The last published round. It has a seek of each person, within their own list, and the lists of each programme.
 pub record IsLastRound (facts : SeasonFacts) (state : State) (round : Round) : Type 0 where
   pub there : round_at state.rounds (length state.rounds) ≡ Some round
   pub full : length round.seeks ≡ length facts.people

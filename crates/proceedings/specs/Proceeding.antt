@@ -51,7 +51,7 @@ choices_in state window id = map (λ row. row.choice) (in_window window (rows_of
 abbrev pub table_along : SeasonFacts → State → ℕ → List (List Choice)
 table_along facts state window = map (λ person. choices_in state window person.id.0) facts.people
 
--- one more, unless the candidate who stands so is out
+-- one more, unless a candidate with this standing is out
 abbrev pub in_after : ℕ → Standing → ℕ
 in_after count standing = if is_gone standing then count else count + 1
 

@@ -1,4 +1,4 @@
--- What is told at once.
+-- Which decisions the office answers at once.
 use Rattle.std.specs.Prelude.{Bool, true, false}
 use Rattle.office_moves.specs.declared.decide.Decision.{Decision}
 use Rattle.office_moves.specs.declared.decide.Decision.TheVariants.{Refuse, NotedAgain, RaisedAgain, CutAgain, Note, Lift, Publish, Finish, TellSeat, TellWhy, TellList, TellState}

@@ -16,6 +16,7 @@ use keeper_mem::{AllotRows, AnswerRow, RaiseRow};
 use office_base::{Choice, OutOfMemory};
 use office_moves::{Act, Decision, Entry, says_what_is_sound};
 use office_turns::TurnTable;
+use raised_seats::RaisedSeats;
 use round_options::Standing;
 use rounds::Round;
 use season_file::Season;
@@ -23,7 +24,7 @@ use seat_matrix::Matrix;
 use std::alloc::Global;
 use window_ends::leave_all;
 
-/// How many are still in after a choice of one of them.
+/// Returns how many are still in after a choice of one of them.
 fn still_after(still: u32, choice: Choice) -> u32
     requires { 1 ≤ still }
     ensures { StillAfter choice still result }
@@ -34,7 +35,7 @@ fn still_after(still: u32, choice: Choice) -> u32
     }
 }
 
-/// The matrix before any raise, and how each of so many people stands before any cut.
+/// Returns the matrix before any raise, and the standing of each of `count` people before any cut.
 fn opening_arrays(
     alloc: Global,
     season: &Season,
@@ -48,7 +49,7 @@ fn opening_arrays(
     Ok((matrix, left))
 }
 
-/// The table of the first window, with room for one after each round.
+/// Returns the table of the first window, with room for one after each round.
 fn opening_turns(alloc: Global, rounds: u16, count: usize) -> Result<Vec<TurnTable>, OutOfMemory>
     ensures first { IfOk result (λ turns. turns.items ≡ no_turns count ∷ []) }
     ensures one { IfOk result (λ turns. vec_len turns ≡ 1) }
@@ -59,7 +60,7 @@ fn opening_turns(alloc: Global, rounds: u16, count: usize) -> Result<Vec<TurnTab
     Ok(turns)
 }
 
-/// No rounds and no entries, with room for so many of each.
+/// Returns no rounds and no entries, with room for this many of each.
 fn opening_lists(
     alloc: Global,
     rounds: u16,
@@ -80,7 +81,7 @@ fn opening_lists(
 impl Proceedings {
     ghost use Rattle.proceedings.specs.Proceeding.{last_of};
 
-    /// The proceedings of a season before everything. There is room for an entry of each candidate, and for all rounds.
+    /// Begins the proceedings of a season, before its first request. There is room for an entry of each candidate, and for all rounds.
     pub fn begin(alloc: Global, season: Season) -> Result<Proceedings, OutOfMemory>
         ensures season { IfOk result (λ book. book.season ≡ facts_of season) }
         ensures entries { IfOk result (λ book. book.entries ≡ []) }
@@ -95,19 +96,18 @@ impl Proceedings {
         let (rounds, entries) = opening_lists(alloc, season.rounds, count)?;
         Ok(Proceedings {
             season,
-            matrix,
+            raised: RaisedSeats::new(alloc, matrix),
             rounds,
             finals: None,
             left,
             turns,
             entries,
-            raises: Vec::new(alloc),
             window: 0,
             still_in: count as u32,
         })
     }
 
-    /// Takes room for `n` entries more, and for a raise. After want of memory all is as before, and there is no less room.
+    /// Takes room for `n` entries more, and for a raise. When memory runs out, all is unchanged, and there is no less room.
     pub fn reserve(&mut self, n: u32) -> Result<(), OutOfMemory>
         ensures season { self.new.season ≡ self.old.season }
         ensures entries { self.new.entries ≡ self.old.entries }
@@ -119,17 +119,19 @@ impl Proceedings {
         ensures raise_room { OnOk result (1 ≤ self.new.raise_room) }
     {
         self.entries.reserve(n as usize)?;
-        self.raises.reserve(1)?;
+        self.raised.reserve()?;
         Ok(())
     }
 
     /// Takes an answer, as entry of this number. It takes no memory.
     pub fn note(&mut self, number: u64, row: AnswerRow)
-        requires decided { decided self.old.season self.old.state (asked self.old.season (Act.Answer row)) ≡ Decision.Note row }
+        requires decided { decided self.old.season self.old.state
+            (asked self.old.season (Act.Answer row)) ≡ Decision.Note row }
         requires number { last_of self.old.entries < number }
         requires space { (self.old.still < self.old.room) ⊎ (row.choice ≡ Choice.Withdraw) }
         ensures state { self.new.state ≡ with_row self.old.state row }
-        ensures entries { self.new.entries ≡ self.old.entries ++ record { number = number; act = Act.Answer row } ∷ [] }
+        ensures entries { self.new.entries
+            ≡ self.old.entries ++ record { number = number; act = Act.Answer row } ∷ [] }
         ensures season { self.new.season ≡ self.old.season }
         ensures room { self.old.room ≤ self.new.room + 1 }
         ensures still { StillAfter row.choice self.old.still self.new.still }
@@ -146,16 +148,18 @@ impl Proceedings {
         put_last(&mut self.entries, Entry { number, act });
     }
 
-    /// Takes the cut of the open window, which publishes this round, as entry of this number, and opens the next window with this table. It takes no
-    /// memory.
+    /// Takes the cut of the open window, which publishes this round, as entry of this number. Opens the next window with this table.
+    /// It takes no memory.
     pub fn publish(&mut self, number: u64, round: Round, table: TurnTable)
-        requires decided { decided self.old.season self.old.state (asked self.old.season (Act.Cut self.old.state.now)) ≡ Decision.Publish }
+        requires decided { decided self.old.season self.old.state
+            (asked self.old.season (Act.Cut self.old.state.now)) ≡ Decision.Publish }
         requires next { IsNextRound self.old.season self.old.state round }
         requires table { table ≡ no_turns (length self.old.season.people) }
         requires number { last_of self.old.entries < number }
         requires space { self.old.still < self.old.room }
         ensures state { self.new.state ≡ with_round self.old.state round }
-        ensures entries { self.new.entries ≡ self.old.entries ++ record { number = number; act = Act.Cut self.old.state.now } ∷ [] }
+        ensures entries { self.new.entries ≡ self.old.entries
+            ++ record { number = number; act = Act.Cut self.old.state.now } ∷ [] }
         ensures season { self.new.season ≡ self.old.season }
         ensures still { self.new.still ≤ self.old.still }
         ensures room { self.old.room ≤ self.new.room + 1 }
@@ -179,12 +183,14 @@ impl Proceedings {
 
     /// Takes the last cut, with these final rows, as entry of this number. It takes no memory.
     pub fn finish(&mut self, number: u64, rows: AllotRows)
-        requires decided { decided self.old.season self.old.state (asked self.old.season (Act.Cut self.old.state.now)) ≡ Decision.Finish }
+        requires decided { decided self.old.season self.old.state
+            (asked self.old.season (Act.Cut self.old.state.now)) ≡ Decision.Finish }
         requires rows { rows ≡ final_rows self.old.season self.old.state }
         requires number { last_of self.old.entries < number }
         requires space { self.old.still < self.old.room }
         ensures state { self.new.state ≡ with_finals self.old.state rows }
-        ensures entries { self.new.entries ≡ self.old.entries ++ record { number = number; act = Act.Cut self.old.state.now } ∷ [] }
+        ensures entries { self.new.entries ≡ self.old.entries
+            ++ record { number = number; act = Act.Cut self.old.state.now } ∷ [] }
         ensures season { self.new.season ≡ self.old.season }
         ensures still { self.new.still ≤ self.old.still }
         ensures room { self.old.room ≤ self.new.room + 1 }
@@ -206,20 +212,21 @@ impl Proceedings {
 
     /// Takes a raise, as entry of this number. It takes no memory.
     pub fn lift(&mut self, number: u64, row: RaiseRow)
-        requires decided { decided self.old.season self.old.state (asked self.old.season (Act.Raise row)) ≡ Decision.Lift row }
+        requires decided { decided self.old.season self.old.state
+            (asked self.old.season (Act.Raise row)) ≡ Decision.Lift row }
         requires number { last_of self.old.entries < number }
         requires space { self.old.still < self.old.room }
         requires raise_space { 1 ≤ self.old.raise_room }
         ensures state { self.new.state ≡ with_raise self.old.state row }
-        ensures entries { self.new.entries ≡ self.old.entries ++ record { number = number; act = Act.Raise row } ∷ [] }
+        ensures entries { self.new.entries
+            ≡ self.old.entries ++ record { number = number; act = Act.Raise row } ∷ [] }
         ensures season { self.new.season ≡ self.old.season }
         ensures still { self.new.still ≡ self.old.still }
         ensures room { self.old.room ≤ self.new.room + 1 }
     {
         histories::laws::history_grows();
         histories::laws::orderly();
-        self.matrix.raise(row.prog, row.step, row.seats);
-        put_last(&mut self.raises, row);
+        self.raised.raise(row);
         let act = Act::Raise(row);
         put_last(&mut self.entries, Entry { number, act });
     }

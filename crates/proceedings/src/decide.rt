@@ -1,14 +1,12 @@
-// What each request comes to, by what is looked up.
+// What the office decides about each request, by what it looks up.
 ghost use Rattle.std.specs.Prelude.{◌≡◌, ◌<◌, ◌≤◌, Some, IfSome, length};
-ghost use Rattle.std.specs.List.{list_any};
 ghost use Rattle.rank_lists.specs.Register.{row_of};
 ghost use Rattle.seeks.specs.Seek.{is_listed};
 ghost use Rattle.office_moves.specs.Facts.{find_programme};
 ghost use Rattle.office_moves.specs.State.{view_of};
-ghost use Rattle.office_moves.specs.Decided.{answer_looks, decide_answer, decide_list, decide_raise, decide_raise_of, decide_seat, decide_why, decided, is_chosen_by, is_known, raise_looks, same_raise};
+ghost use Rattle.office_moves.specs.Decided.{answer_looks, decide_answer, decide_list, decide_raise, decide_raise_of, decide_seat, decide_why, decided, is_chosen_by, is_known, raise_looks};
 
 use crate::book::Proceedings;
-use crate::seats::total_seats;
 use keeper_mem::{AnswerRow, RaiseRow};
 use office_base::{Ask, By, CandId, Code, ProgId, Request};
 use office_moves::{
@@ -17,7 +15,7 @@ use office_moves::{
 };
 
 impl Proceedings {
-    /// What a request comes to. It takes no memory, and nothing changes.
+    /// Decides about a request. It takes no memory, and nothing changes.
     pub fn decide(&self, request: &Request) -> Decision
         ensures { result ≡ decided self.now.season self.now.state request.now }
     {
@@ -62,14 +60,14 @@ impl Proceedings {
         }
     }
 
-    /// Whether the candidate is in the register.
+    /// Returns whether the candidate is in the register.
     fn is_known(&self, cand: CandId) -> bool
         ensures { result ≡ is_known self.now.season cand }
     {
         self.season.register.position(cand).is_some()
     }
 
-    /// The programme of a code. None exactly where none has it.
+    /// Returns the programme of a code. None if and only if no programme has it.
     pub(crate) fn find(&self, code: Code) -> Option<ProgId>
         ensures found { result ≡ find_programme self.now.season code }
         ensures within { IfSome result (λ prog. prog.0 < length self.now.season.matrix.programmes) }
@@ -77,9 +75,10 @@ impl Proceedings {
         self.season.matrix.find(code)
     }
 
-    /// What an answer comes to.
+    /// Decides about an answer.
     fn decide_answer(&self, by: By, row: AnswerRow) -> Decision
-        ensures { result ≡ decide_answer self.now.season (view_of self.now.state row.cand.0) by row }
+        ensures { result
+            ≡ decide_answer self.now.season (view_of self.now.state row.cand.0) by row }
     {
         match self.season.register.position(row.cand) {
             Some(at) => judge_answer(&self.answer_looks(at as usize, row), by, row),
@@ -87,7 +86,7 @@ impl Proceedings {
         }
     }
 
-    /// What an answer of the candidate at this position is judged by.
+    /// Returns what an answer of the candidate at this position is judged by.
     fn answer_looks(&self, at: usize, row: AnswerRow) -> AnswerLooks
         requires within { at < length self.now.season.people }
         requires place { row_of row.cand.0 self.now.season.people ≡ Some at }
@@ -105,7 +104,7 @@ impl Proceedings {
         }
     }
 
-    /// What comes of asking why.
+    /// Decides about the question why.
     fn decide_why(&self, by: By, cand: CandId, code: Code) -> Decision
         ensures { result ≡ decide_why self.now.season (view_of self.now.state cand.0) by cand code }
     {
@@ -121,7 +120,7 @@ impl Proceedings {
         )
     }
 
-    /// Whether the programme is on the candidate's choice list.
+    /// Returns whether the programme is on the candidate's choice list.
     fn is_chosen_by(&self, cand: CandId, prog: Option<ProgId>) -> bool
         ensures { result ≡ is_chosen_by self.now.season cand prog }
     {
@@ -131,7 +130,7 @@ impl Proceedings {
         }
     }
 
-    /// What a raise of a programme of the matrix comes to.
+    /// Decides about a raise of a programme of the matrix.
     fn decide_raise_of(&self, by: By, row: RaiseRow) -> Decision
         requires { row.prog.0 < length self.now.season.matrix.programmes }
         ensures { result ≡ decide_raise_of self.now.season self.now.state by row }
@@ -139,31 +138,18 @@ impl Proceedings {
         judge_raise(&self.raise_looks(row), by, row)
     }
 
-    /// What a raise of a programme of the matrix is judged by.
+    /// Returns what a raise of a programme of the matrix is judged by.
     fn raise_looks(&self, row: RaiseRow) -> RaiseLooks
         requires { row.prog.0 < length self.now.season.matrix.programmes }
         ensures looks { result ≡ raise_looks self.now.season self.now.state row }
         ensures few { result.seats ≤ result.total }
         ensures all { result.total ≤ 40000000 }
     {
-        RaiseLooks {
-            again: self.was_raised(row),
-            window: self.window,
-            rounds: self.season.rounds,
-            seats: self.matrix.seats(row.prog, row.step),
-            total: total_seats(&self.matrix),
-        }
-    }
-
-    /// Whether this very raise was accepted.
-    fn was_raised(&self, row: RaiseRow) -> bool
-        ensures { result ≡ list_any (same_raise row) self.now.state.raises }
-    {
-        is_among(&self.raises, row)
+        self.raised.looks(self.window, self.season.rounds, row)
     }
 }
 
-/// Whether the programme is one of these.
+/// Returns whether the programme is one of these.
 fn is_listed(list: &[ProgId], prog: ProgId) -> bool
     ensures { result ≡ is_listed prog.0 list.now }
 {
@@ -173,23 +159,4 @@ fn is_listed(list: &[ProgId], prog: ProgId) -> bool
         }
     }
     false
-}
-
-/// Whether the raise is one of these.
-fn is_among(raises: &[RaiseRow], row: RaiseRow) -> bool
-    ensures { result ≡ list_any (same_raise row) raises.now }
-{
-    for other in raises {
-        if is_same(row, *other) {
-            return true;
-        }
-    }
-    false
-}
-
-/// Whether the two raises are one.
-fn is_same(row: RaiseRow, other: RaiseRow) -> bool
-    ensures { result ≡ same_raise row other }
-{
-    row == other
 }

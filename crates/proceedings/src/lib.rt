@@ -1,7 +1,7 @@
 // The proceedings of a season: what was accepted, and what is computed from it.
 //
-// The office puts a keeper beside it. `specs/` says that its value is the state after its history; its arrays are by the place of a candidate
-// in the register. It must never know of keepers, nor how a round is made.
+// The office combines it with a keeper. `specs/` says that its value is the state after its history.
+// Its arrays are by the place of a candidate in the register. It must never know of keepers, nor how a round is made.
 #![tactic(auto)]
 
 pub mod book;
@@ -10,7 +10,6 @@ mod decide;
 mod looks;
 mod next;
 mod room;
-mod seats;
 mod tell;
 mod why;
 

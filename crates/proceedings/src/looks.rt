@@ -13,9 +13,12 @@ use round_options::{Standing, standing_of};
 impl Proceedings {
     /// The turns of each candidate in a window. None only where nothing was answered in it, since it is not open yet, or is no window of the season.
     fn table(&self, window: u16) -> Option<&TurnTable>
-        ensures some { IfSome result (λ table. table.now ≡ table_along self.now.season self.now.state window) }
-        ensures none { IfNone result ((id : ℕ) → in_window window (rows_of id self.now.state.answers) ≡ []) }
-        ensures turns { (id : ℕ) → AreTurnsAfter 0 (in_window window (rows_of id self.now.state.answers)) }
+        ensures some { IfSome result (λ table.
+            table.now ≡ table_along self.now.season self.now.state window) }
+        ensures none { IfNone result ((id : ℕ)
+            → in_window window (rows_of id self.now.state.answers) ≡ []) }
+        ensures turns { (id : ℕ)
+            → AreTurnsAfter 0 (in_window window (rows_of id self.now.state.answers)) }
     {
         self.turns.get(usize::from(window))
     }
@@ -23,7 +26,8 @@ impl Proceedings {
     /// The choice of the candidate at this position that was accepted at a window and turn.
     pub(crate) fn kept(&self, at: usize, window: u16, turn: u16) -> Option<Choice>
         requires { at < length self.now.season.people }
-        ensures { option_map (λ person. accepted window turn (rows_of person.id.0 self.now.state.answers)) (slice_get self.now.season.people at) ≡ Some result }
+        ensures { option_map (λ person. accepted window turn (rows_of person.id.0
+            self.now.state.answers)) (slice_get self.now.season.people at) ≡ Some result }
     {
         match self.table(window) {
             Some(table) => table.choice(at, turn),
@@ -34,7 +38,8 @@ impl Proceedings {
     /// The last accepted turn of the candidate at this position in the open window, 0 where there is none.
     pub(crate) fn last_turn(&self, at: usize) -> u16
         requires { at < length self.now.season.people }
-        ensures { option_map (λ person. last_turn (in_window self.now.state.now (rows_of person.id.0 self.now.state.answers))) (slice_get self.now.season.people at) ≡ Some result }
+        ensures { option_map (λ person. last_turn (in_window self.now.state.now (rows_of person.id.0
+            self.now.state.answers))) (slice_get self.now.season.people at) ≡ Some result }
     {
         match self.table(self.window) {
             Some(table) => table.taken(at),
@@ -45,7 +50,8 @@ impl Proceedings {
     /// How the last cut left the candidate at this position.
     pub(crate) fn left(&self, at: usize) -> Standing
         requires { at < length self.now.season.people }
-        ensures { option_map (λ person. left_by self.now.season (view_of self.now.state person.id.0) person.id.0 self.now.state.now) (slice_get self.now.season.people at) ≡ Some result }
+        ensures { option_map (λ person. left_by self.now.season (view_of self.now.state person.id.0)
+            person.id.0 self.now.state.now) (slice_get self.now.season.people at) ≡ Some result }
     {
         self.left[at]
     }
@@ -53,7 +59,8 @@ impl Proceedings {
     /// The last choice of the candidate at this position in the open window.
     fn last_choice(&self, at: usize) -> Option<Choice>
         requires { at < length self.now.season.people }
-        ensures { option_map (λ person. last_choice (choices_in self.now.state self.now.state.now person.id.0)) (slice_get self.now.season.people at) ≡ Some result }
+        ensures { option_map (λ person. last_choice (choices_in self.now.state self.now.state.now
+            person.id.0)) (slice_get self.now.season.people at) ≡ Some result }
     {
         match self.table(self.window) {
             Some(table) => table.last(at),
@@ -61,10 +68,12 @@ impl Proceedings {
         }
     }
 
-    /// How the candidate at this position stands now.
+    /// Returns the standing now of the candidate at this position.
     pub(crate) fn standing(&self, at: usize) -> Standing
         requires { at < length self.now.season.people }
-        ensures { option_map (λ person. standing_at self.now.season (view_of self.now.state person.id.0) person.id.0 self.now.state.now) (slice_get self.now.season.people at) ≡ Some result }
+        ensures { option_map (λ person. standing_at self.now.season
+            (view_of self.now.state person.id.0) person.id.0 self.now.state.now)
+            (slice_get self.now.season.people at) ≡ Some result }
     {
         match self.last_choice(at) {
             Some(choice) => standing_of(choice),
@@ -75,7 +84,8 @@ impl Proceedings {
     /// The seat of the candidate at this position in the last published round.
     pub(crate) fn last_seat(&self, at: usize) -> Option<Seat>
         requires { at < length self.now.season.people }
-        ensures { option_map (λ person. last_seat self.now.season self.now.state.rounds person.id.0) (slice_get self.now.season.people at) ≡ Some result }
+        ensures { option_map (λ person. last_seat self.now.season self.now.state.rounds person.id.0)
+            (slice_get self.now.season.people at) ≡ Some result }
     {
         match self.rounds.last() {
             Some(round) => round.seats.as_slice()[at],

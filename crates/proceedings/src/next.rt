@@ -40,7 +40,8 @@ impl Proceedings {
     /// What everybody seeks in the next round, along the register.
     pub fn seeks(&self, alloc: Global) -> Result<Seeks, OutOfMemory>
         ensures seeks { IfOk result (λ seeks. seeks ≡ next_seeks self.now.season self.now.state) }
-        ensures fit { AreSeeks (lists_in_order self.now.season) (next_seeks self.now.season self.now.state) }
+        ensures fit { AreSeeks (lists_in_order self.now.season)
+            (next_seeks self.now.season self.now.state) }
     {
         match self.turns.get(usize::from(self.window)) {
             Some(table) => self.seeks_by(alloc, table),

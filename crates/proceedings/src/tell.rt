@@ -49,8 +49,10 @@ impl Proceedings {
         round: u16,
         prog: ProgId,
     ) -> Result<Reply, OutOfMemory>
-        requires { decided self.now.season self.now.state request.now ≡ Decision.TellList round prog }
-        ensures { IfOk result (λ reply. Does self.now.season self.now.state (Decision.TellList round prog) reply self.now.state) }
+        requires { decided self.now.season self.now.state request.now
+            ≡ Decision.TellList round prog }
+        ensures { IfOk result (λ reply. Does self.now.season self.now.state
+            (Decision.TellList round prog) reply self.now.state) }
     {
         let programme = self.shown(round, prog).copy(alloc)?;
         Ok(Reply::ListIs {
@@ -65,7 +67,8 @@ impl Proceedings {
         requires some { 0 < number }
         requires published { number ≤ length self.now.state.rounds }
         requires programme { prog.0 < length self.now.season.matrix.programmes }
-        ensures lists { programme_in (round_at self.now.state.rounds number) prog.0 ≡ Some result.now }
+        ensures lists { programme_in (round_at self.now.state.rounds number) prog.0
+            ≡ Some result.now }
         ensures steps { length result.now.steps ≡ 6 }
     {
         let _ = &self.season;
@@ -114,7 +117,7 @@ impl Proceedings {
         }
     }
 
-    /// How a candidate stands, with the seat of the last published round.
+    /// Returns the standing of a candidate, with the seat of the last published round.
     fn seat_reply(&self, cand: CandId) -> Reply
         requires { is_known self.now.season cand ≡ true }
         ensures { result ≡ seat_reply self.now.season (view_of self.now.state cand.0) cand }
@@ -158,7 +161,7 @@ impl Proceedings {
     }
 }
 
-/// The seat is told to whoever is offered it or keeps it.
+/// Returns the seat that a reply gives: the candidate's seat if they are offered it or keep it, otherwise none.
 fn told_seat(standing: Standing, seat: Option<Seat>) -> Option<Seat>
     ensures { result ≡ told_seat standing seat }
 {

@@ -23,7 +23,8 @@ impl Proceedings {
         requires place { row_of cand.0 self.now.season.people ≡ Some at }
         requires programme { prog.0 < length self.now.season.matrix.programmes }
         requires published { 0 < length self.now.state.rounds }
-        ensures { result ≡ why_answer self.now.season (round_at self.now.state.rounds (length self.now.state.rounds)) cand prog }
+        ensures { result ≡ why_answer self.now.season
+            (round_at self.now.state.rounds (length self.now.state.rounds)) cand prog }
     {
         self.why_beside(self.last_round(), at, cand, prog, self.last_seat(at))
     }
@@ -68,9 +69,10 @@ impl Proceedings {
         }
     }
 
-    /// Whether the first programme stands before the second on the candidate's choice list.
+    /// Returns whether the first programme is before the second on the candidate's choice list.
     fn is_before(&self, cand: CandId, first: ProgId, second: ProgId) -> bool
-        ensures { result ≡ nat_lt (place_of (list_of self.now.season.lists cand.0) first.0) (place_of (list_of self.now.season.lists cand.0) second.0) }
+        ensures { result ≡ nat_lt (place_of (list_of self.now.season.lists cand.0) first.0)
+            (place_of (list_of self.now.season.lists cand.0) second.0) }
     {
         let list = self.choices(cand);
         place_of(list, first) < place_of(list, second)
@@ -79,12 +81,13 @@ impl Proceedings {
     /// The choice list of a candidate. Each programme on it is one of the matrix.
     fn choices(&self, cand: CandId) -> &[ProgId]
         ensures list { result.now ≡ list_of self.now.season.lists cand.0 }
-        ensures below { AreBelow (length self.now.season.matrix.programmes) (list_of self.now.season.lists cand.0) }
+        ensures below { AreBelow (length self.now.season.matrix.programmes)
+            (list_of self.now.season.lists cand.0) }
     {
         self.season.choices.list(cand)
     }
 
-    /// For whoever does not hold the programme: that it was not sought, or the reason.
+    /// Returns the answer for a candidate who does not hold the programme: that it was not sought, or the reason.
     fn why_refused(&self, round: &Round, at: usize, cand: CandId, prog: ProgId) -> WhyAnswer
         requires last { IsLastRound self.now.season self.now.state round.now }
         requires within { at < length self.now.season.people }
@@ -104,7 +107,8 @@ impl Proceedings {
         requires last { IsLastRound self.now.season self.now.state round.now }
         requires within { at < length self.now.season.people }
         requires place { row_of cand.0 self.now.season.people ≡ Some at }
-        ensures { result ≡ is_sought_by self.now.season cand prog (at_person cand.0 self.now.season.people round.now.seeks) }
+        ensures { result ≡ is_sought_by self.now.season cand prog
+            (at_person cand.0 self.now.season.people round.now.seeks) }
     {
         let seek = self.seek(round, at, cand);
         is_sought(&self.season.matrix, seek, self.choices(cand), prog)
@@ -128,7 +132,8 @@ impl Proceedings {
         requires within { at < length self.now.season.people }
         requires place { row_of cand.0 self.now.season.people ≡ Some at }
         requires programme { prog.0 < length self.now.season.matrix.programmes }
-        ensures { reason_in self.now.season prog (slice_get round.now.programmes prog.0) (find_person cand.0 self.now.season.people) ≡ WhyAnswer.Reason result }
+        ensures { reason_in self.now.season prog (slice_get round.now.programmes prog.0)
+            (find_person cand.0 self.now.season.people) ≡ WhyAnswer.Reason result }
     {
         let programme = &round.programmes.as_slice()[usize::from(prog.0)];
         let season = self.season();

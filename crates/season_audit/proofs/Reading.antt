@@ -1,37 +1,19 @@
 -- The texts that a cut takes.
-use Rattle.std.proofs.Common.{◌≡◌, ◌≢◌, ◌+◌, inl, inr, ℕ, zero, suc, List, [], ◌∷◌, Option, Some, None, length, map, take, drop, get_or, arith, refl, sym, ap, ◌∙◌}
-use Rattle.std.specs.Prelude.{◌-◌, min, option_map, slice_get}
+use Rattle.std.proofs.Common.{◌≡◌, ◌≢◌, ◌+◌, inl, inr, ℕ, zero, suc, List, [], ◌∷◌, Some, length, map, take, drop, get_or, arith, refl, sym, ap, ◌∙◌}
+use Rattle.std.specs.Prelude.{◌-◌, min, slice_get}
 use Rattle.std.specs.List.{AllByRecursion}
-use Rattle.std.specs.Option.{unwrap_or}
 use Rattle.std.proofs.lemmas.Bool.{cases_lt}
 use Rattle.std.proofs.lemmas.List.{drop_all, length-drop, take_all}
-use Rattle.std.proofs.lemmas.Option.{slice_get-map}
 use Rattle.office_base.proofs.Lists.{all-get}
 use Rattle.office_base.specs.Lists.{Pairwise}
 use Rattle.office_base.specs.StepNumbers.{step_number}
 use Rattle.office_base.specs.declared.person.Person.{Person}
-use Rattle.keeper_mem.specs.declared.rows.AllotRow.{AllotRow}
 use Rattle.list_audit.specs.Clauses.{no_list}
 use Rattle.programme_lists.specs.declared.programme.Programme.{Programme}
 use Rattle.programme_lists.specs.declared.programme.StepList.{StepList}
 use Rattle.publish.specs.declared.lists.ListRead.{ListRead}
-use Rattle.publish.specs.declared.reads.RoundRead.{RoundRead}
 use Rattle.dossier_file.specs.Kept.{NamesOnce}
 use Rattle.season_audit.specs.Audit.{NameOnce}
-
--- ---- rows
-
-pub rows_some : (rounds : List RoundRead) (now : ℕ) (read : RoundRead) → slice_get rounds now ≡ Some read → read.rows ≡ unwrap_or (slice_get (map (λ (r : RoundRead). r.rows) rounds) now) []
-rows_some rounds now read there =
-    let e : slice_get (map (λ (r : RoundRead). r.rows) rounds) now ≡ Some read.rows =
-    slice_get-map (λ (r : RoundRead). r.rows) rounds now ∙ ap (λ (o : Option RoundRead). option_map (λ (r : RoundRead). r.rows) o) there in
-    ap (λ (o : Option (List AllotRow)). unwrap_or o []) (sym e)
-
-pub rows_none : (rounds : List RoundRead) (now : ℕ) → slice_get rounds now ≡ None → [] ≡ unwrap_or (slice_get (map (λ (r : RoundRead). r.rows) rounds) now) []
-rows_none rounds now none =
-    let e : slice_get (map (λ (r : RoundRead). r.rows) rounds) now ≡ None =
-    slice_get-map (λ (r : RoundRead). r.rows) rounds now ∙ ap (λ (o : Option RoundRead). option_map (λ (r : RoundRead). r.rows) o) none in
-    ap (λ (o : Option (List AllotRow)). unwrap_or o []) (sym e)
 
 -- ---- lists
 

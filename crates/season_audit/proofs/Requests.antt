@@ -1,4 +1,4 @@
--- What requests may do, and what stands at a cut.
+-- What requests may do, and what holds at a cut.
 use Rattle.std.proofs.Common.{◌≡◌, ◌<◌, ◌⊎◌, inl, inr, true, List, Option, Some, None, length, ℕ, arith, sym, ap, ◌∙◌, subst}
 use Rattle.std.specs.Prelude.{IfOk, Result, is_some, slice_get}
 use Rattle.std.proofs.lemmas.Result.{IfOk-weaker}
@@ -25,7 +25,7 @@ use Rattle.publish.specs.declared.lists.ListRead.{ListRead}
 use Rattle.season_audit.specs.Audit.{ComesTo, IsUpTo, NameOnce, Passes}
 use Rattle.season_audit.specs.declared.auditor.Auditor.{Auditor}
 
--- ---- what an ask comes to
+-- ---- the outcome of an ask
 
 by_ask : (facts : SeasonFacts) (request : Request) (ask : Ask) → request.ask ≡ ask → (state : State) → decided facts state request ≡ decided_by facts state request.by ask
 by_ask facts request ask is state = ap (decided_by facts state request.by) is
@@ -54,7 +54,7 @@ question_quiet facts request (inr (inl e)) state = why_quiet facts request e.0 e
 question_quiet facts request (inr (inr (inl e))) state = list_quiet facts request e.0 e.1 e.2 state
 question_quiet facts request (inr (inr (inr e))) state = state_quiet facts request e state
 
--- ---- what comes of it
+-- ---- the outcome of a request
 
 -- what a decision passes, another passes that is the same
 pub passes_as : (facts : SeasonFacts) (papers : Papers) (state : State) (one other : Decision) (auditor : Auditor) → one ≡ other → Passes facts papers state other auditor → Passes facts papers state one auditor
@@ -79,18 +79,18 @@ ok_there facts papers state script at other auditor result same comes =
 -- ---- raises
 
 -- a programme of the season is one of the replay's matrix
-pub of_matrix : (facts : SeasonFacts) (state : State) (auditor : Auditor) (prog : ℕ) → IsUpTo facts state auditor → prog < length facts.matrix.programmes → prog < length auditor.matrix.programmes
+pub of_matrix : (facts : SeasonFacts) (state : State) (auditor : Auditor) (prog : ℕ) → IsUpTo facts state auditor → prog < length facts.matrix.programmes → prog < length auditor.raised.matrix.programmes
 of_matrix facts state auditor prog upto below = subst (λ z. prog < length z) (sym (ap (λ (m : SeatTable). m.programmes) upto.matrix ∙ upto.order.programmes)) below
 
 -- ---- at a cut
 
-pub at_cut : (facts : SeasonFacts) (at : Setting) (papers : Papers) (auditor : Auditor) (stands : List Stand) (rows : List AllotRow) (seats : List (Option Seat)) → at.papers ≡ papers → IsUpTo facts at.state auditor
-    → at.state.now < facts.rounds → stands ≡ auditor.stands.items → rows ≡ rows_after papers auditor.window → seats ≡ seats_told rows facts.people → IsAtCut facts at auditor.matrix stands seats
-at_cut facts at papers auditor stands rows seats these upto early same told given = record {
+pub at_cut : (facts : SeasonFacts) (at : Setting) (papers : Papers) (auditor : Auditor) (matrix : SeatTable) (stands : List Stand) (rows : List AllotRow) (seats : List (Option Seat)) → at.papers ≡ papers → IsUpTo facts at.state auditor
+    → at.state.now < facts.rounds → matrix ≡ auditor.raised.matrix → stands ≡ auditor.stands.items → rows ≡ rows_after papers auditor.window → seats ≡ seats_told rows facts.people → IsAtCut facts at matrix stands seats
+at_cut facts at papers auditor matrix stands rows seats these upto early raised same told given = record {
   sound = upto.sound;
   order = upto.order;
   early = early;
-  matrix_is = upto.matrix;
+  matrix_is = raised ∙ upto.matrix;
   stands_are = same ∙ upto.stands (omega (arith, early));
   seats_are = given ∙ ap (λ (r : List AllotRow). seats_told r facts.people) (told ∙ (ap (rows_after papers) upto.window ∙ ap (λ (p : Papers). rows_after p at.state.now) (sym these)));
 }

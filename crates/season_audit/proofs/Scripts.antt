@@ -1,10 +1,10 @@
--- Down a script from its begin, and what the texts of a dossier are beside it.
-use Rattle.std.proofs.Common.{◌≡◌, ◌<◌, ◌≤◌, ◌+◌, ◌^◌, inl, inr, ℕ, List, Option, Some, None, length, arith, subst}
-use Rattle.std.specs.Prelude.{min, slice_get}
+-- Down a script from its start, and how the texts of a dossier relate to it.
+use Rattle.std.proofs.Common.{◌≡◌, ◌<◌, ◌≤◌, ◌+◌, inl, inr, ℕ, List, Option, Some, None, length, arith, subst}
+use Rattle.std.specs.Prelude.{slice_get}
 use Rattle.std.proofs.lemmas.Option.{slice_get_cases}
 use Rattle.office_base.specs.declared.asks.Request.{Request}
 use Rattle.office_moves.specs.Decided.{decided}
-use Rattle.office_moves.specs.Facts.{IsSound, SeasonFacts}
+use Rattle.office_moves.specs.Facts.{SeasonFacts}
 use Rattle.audit_rules.specs.Papers.{Papers}
 use Rattle.audit_rules.specs.Replay.{before}
 use Rattle.audit_rules.specs.Verdict.{IsFirstBroken}
@@ -46,7 +46,3 @@ stood_breaks facts script papers j number old new fault found within stood next 
     let here = request_at script j within in
     stood_broken facts script papers j number old here.0 found stood here.1 next
     (subst (λ (f : Option Fault). ComesTo facts papers (before facts script papers j) (decided facts (before facts script papers j) here.0) new f) some (taken here.0 here.1))
-
--- the rounds with a text are few
-pub few_rounds : (facts : SeasonFacts) (rounds cuts : ℕ) → IsSound facts → rounds ≡ min facts.rounds cuts → rounds < 2 ^ 16
-few_rounds facts rounds cuts sound is = let ten = sound.rounds.1 in omega (arith, is, ten)

@@ -23,22 +23,24 @@ use Rattle.office_moves.specs.Decided.{answer_looks, decide_answer, decide_cut, 
 use Rattle.office_moves.specs.Facts.{IsSound, SeasonFacts}
 use Rattle.office_moves.specs.History.{newly}
 use Rattle.office_moves.specs.Judge.{is_clerk, refuse_if}
-use Rattle.office_moves.specs.Raised.{matrix_at, total_seats}
+use Rattle.office_moves.specs.Raised.{matrix_at}
 use Rattle.office_moves.specs.State.{State, opening, view_of, with_raise, with_round, with_row}
 use Rattle.office_moves.specs.declared.decide.Decision.{Decision}
 use Rattle.office_moves.specs.declared.decide.Decision.TheVariants.{Refuse, NotedAgain, RaisedAgain, CutAgain, Note, Lift, Publish, Finish, TellSeat, TellWhy, TellList, TellState}
+use Rattle.office_moves.specs.declared.decide.RaiseLooks.{RaiseLooks}
 use Rattle.office_moves.specs.declared.moves.Act.{Act}
 use Rattle.office_moves.specs.declared.moves.Act.TheVariants.{Raise as ARaise}
 use Rattle.office_moves.specs.declared.refusal.Refusal.TheVariants.{Ahead, Denied}
 use Rattle.office_moves.proofs.Chains.{answer_new, cut_new, raise_new}
 use Rattle.office_moves.proofs.Rising.{IsLift, raised_append}
-use Rattle.audit_rules.specs.Cut.{BreaksAt, CutHolds, EndHolds, HoldsAt}
+use Rattle.raised_seats.specs.Raised.{Raised, looks_at}
+use Rattle.audit_rules.specs.Cut.{BreaksAt, CutHolds, HoldsAt}
 use Rattle.audit_rules.specs.Fair.{AreWhole, cuts_of}
 use Rattle.audit_rules.specs.InOrder.{IsInOrder}
 use Rattle.audit_rules.specs.Papers.{Papers}
-use Rattle.audit_rules.specs.Replay.{before, finals_of, round_of, taken}
+use Rattle.audit_rules.specs.Replay.{before, round_of, taken}
 use Rattle.audit_rules.specs.Verdict.{HoldsThere, IsFirstBroken}
-use Rattle.audit_rules.proofs.Ordering.{before_next, finished, in_order_at_first, in_order_next, is_open, nothing_new, published, was_lift, with_lift}
+use Rattle.audit_rules.proofs.Ordering.{before_next, in_order_at_first, in_order_next, is_open, nothing_new, published, was_lift, with_lift}
 use Rattle.cut_checks.specs.Raises.{lifts}
 use Rattle.cut_checks.specs.Stands.{answered, notes, stand_of, stands_along}
 use Rattle.cut_checks.specs.declared.stand.Stand.{Stand}
@@ -61,7 +63,7 @@ first_along : (facts : SeasonFacts) (people : List Person)
 first_along facts [] = refl
 first_along facts (p ∷ people) = ap (λ (z : List Stand). record { left = Waiting; last = 0; standing = Waiting; seat = None } ∷ z) (first_along facts people)
 
-pub begun : (facts : SeasonFacts) (auditor : Auditor) → IsSound facts → auditor.window ≡ 0 → auditor.raises.items ≡ [] → auditor.matrix ≡ facts.matrix
+pub begun : (facts : SeasonFacts) (auditor : Auditor) → IsSound facts → auditor.window ≡ 0 → auditor.raised.raises ≡ [] → auditor.raised.matrix ≡ facts.matrix
     → auditor.stands.items ≡ replicate (length facts.people) (record { left = Waiting; last = 0; standing = Waiting; seat = None }) → IsUpTo facts opening auditor
 begun facts auditor sound window raises matrix all = record {
   sound = sound;
@@ -116,7 +118,7 @@ not_now facts state by row other = go (newly state.now (answer_by facts state by
 pub of_nobody : (facts : SeasonFacts) (state : State) (by : By) (row : AnswerRow) → find_person row.cand.0 facts.people ≡ None → newly state.now (answer_by facts state by row) ≡ None
 of_nobody facts state by row none = unknown_not_noted facts state by row (ap is_some none)
 
--- whoever stands at the place
+-- the candidate at the place
 pub stand_at : (facts : SeasonFacts) (state : State) (all : List Stand) (id at : ℕ) (d : Stand) → all ≡ stands_along facts state → row_of id facts.people ≡ Some at → at < length facts.people
     → get_or all at d ≡ stand_of facts state id
 stand_at facts state all id at d same place less =
@@ -126,9 +128,6 @@ stand_at facts state all id at d same place less =
     let here : slice_get all at ≡ Some (stand_of facts state who.0.id.0) =
     ap (λ (z : List Stand). slice_get z at) same ∙ (slice_get-map (λ (p : Person). stand_of facts state p.id.0) facts.people at ∙ ap (λ (o : Option Person). option_map (λ (p : Person). stand_of facts state p.id.0) o) who.1) in
     same_Some (get_or all at d) (stand_of facts state who.0.id.0) (sym there ∙ here) ∙ ap (stand_of facts state) who.2
-
-pub within_all : (facts : SeasonFacts) (state : State) (all : List Stand) → all ≡ stands_along facts state → length all ≡ length facts.people
-within_all facts state all same = ap length same ∙ length-map facts.people (λ (p : Person). stand_of facts state p.id.0)
 
 -- an answer that is noted
 pub noted : (facts : SeasonFacts) (state : State) (by : By) (row : AnswerRow) (all : List Stand) (at : ℕ) (d : Stand) → AreRising facts.people → all ≡ stands_along facts state
@@ -160,9 +159,9 @@ not_known facts state by row all same none = inr (of_nobody facts state by row n
 
 -- so it passes
 pub answer_passes : OneStepChanges → (facts : SeasonFacts) (papers : Papers) (state : State) (by : By) (row : AnswerRow) (old new : Auditor) → IsUpTo facts state old
-    → StandAfter facts state row (answer_by facts state by row) new.stands.items → new.window ≡ old.window → new.raises ≡ old.raises → new.matrix ≡ old.matrix
+    → StandAfter facts state row (answer_by facts state by row) new.stands.items → new.window ≡ old.window → new.raised ≡ old.raised
     → Passes facts papers state (answer_by facts state by row) new
-answer_passes law facts papers state by row old new upto (inl (decides, made)) window raises matrix =
+answer_passes law facts papers state by row old new upto (inl (decides, made)) window raised =
     let order = in_order_next law facts papers state (record { by = by; ask = Answer row.cand row.window row.turn row.choice }) upto.sound upto.order (subst (λ (z : Decision). HoldsAt facts papers state z) (sym decides) tt) in
     record {
       holds = subst (λ (z : Decision). HoldsAt facts papers state z) (sym decides) tt;
@@ -171,19 +170,19 @@ answer_passes law facts papers state by row old new upto (inl (decides, made)) w
         order = subst (λ (z : Decision). IsInOrder facts (taken facts papers state z)) decides order;
         few = upto.few;
         window = window ∙ upto.window;
-        raises = ap (λ v. v.items) raises ∙ upto.raises;
-        matrix = matrix ∙ upto.matrix;
+        raises = ap (λ (r : Raised). r.raises) raised ∙ upto.raises;
+        matrix = ap (λ (r : Raised). r.matrix) raised ∙ upto.matrix;
         stands = λ early. made;
       });
     }
-answer_passes law facts papers state by row old new upto (inr (none, made)) window raises matrix =
+answer_passes law facts papers state by row old new upto (inr (none, made)) window raised =
     quiet facts papers state (answer_by facts state by row) new none (record {
       sound = upto.sound;
       order = upto.order;
       few = upto.few;
       window = window ∙ upto.window;
-      raises = ap (λ v. v.items) raises ∙ upto.raises;
-      matrix = matrix ∙ upto.matrix;
+      raises = ap (λ (r : Raised). r.raises) raised ∙ upto.raises;
+      matrix = ap (λ (r : Raised). r.matrix) raised ∙ upto.matrix;
       stands = λ early. made;
     })
 
@@ -193,23 +192,32 @@ abbrev pub raise_by : SeasonFacts → State → By → RaiseRow → Decision
 raise_by facts state by row = decide_raise_of facts state by row
 
 -- the looks of a raise
-pub looks_are : (facts : SeasonFacts) (state : State) (row : RaiseRow) (old : Auditor) (again : Bool) (window rounds seats total : ℕ) → IsUpTo facts state old
-    → again ≡ list_any (same_raise row) old.raises.items → window ≡ old.window → rounds ≡ facts.rounds → seats ≡ (seating_in old.matrix row.prog.0 row.step).seats → total ≡ total_seats old.matrix
-    → record { again = again; window = window; rounds = rounds; seats = seats; total = total } ≡ raise_looks facts state row
-looks_are facts state row old again window rounds seats total upto a w r s t =
-    rw (a ∙ ap (list_any (same_raise row)) upto.raises, w ∙ upto.window, r, s ∙ ap (λ (m : SeatTable). (seating_in m row.prog.0 row.step).seats) upto.matrix, t ∙ ap total_seats upto.matrix) refl
+pub looks_are : (facts : SeasonFacts) (state : State) (row : RaiseRow) (old : Auditor) (rounds : ℕ) (looks : RaiseLooks) → IsUpTo facts state old → rounds ≡ facts.rounds
+    → looks ≡ looks_at old.raised old.window rounds row → looks ≡ raise_looks facts state row
+looks_are facts state row old rounds looks upto r made =
+    made ∙ (ap (λ (n : ℕ). looks_at old.raised n rounds row) upto.window ∙ (ap (λ (n : ℕ). looks_at old.raised state.now n row) r
+    ∙ (ap (λ (m : SeatTable). looks_at (record { matrix = m; raises = old.raised.raises; room = old.raised.room }) state.now facts.rounds row) upto.matrix
+    ∙ ap (λ (rows : List RaiseRow). looks_at (record { matrix = matrix_at facts state; raises = rows; room = old.raised.room }) state.now facts.rounds row) upto.raises)))
 
 -- a raise that is taken lifts the matrix
 pub lift_is : (facts : SeasonFacts) (state : State) (by : By) (row : RaiseRow) (old : Auditor) → IsUpTo facts state old → row.prog.0 < length facts.matrix.programmes
-    → lifts (raise_looks facts state row) by row ≡ true → IsLift old.matrix row
+    → lifts (raise_looks facts state row) by row ≡ true → IsLift old.raised.matrix row
 lift_is facts state by row old upto below passes =
     let decides : raise_by facts state by row ≡ Lift row = is_lifted (raise_looks facts state row) by row passes in
     let n = raise_new state.now (raise_looks facts state row) by row (ARaise row) (ap (newly state.now) decides) in
     subst (λ (m : SeatTable). IsLift m row) (sym upto.matrix) (was_lift facts state row (subst (λ z. row.prog.0 < length z) (sym upto.order.programmes) below) n.next)
 
+-- and is none of those that were accepted
+pub lift_fresh : (facts : SeasonFacts) (state : State) (by : By) (row : RaiseRow) (old : Auditor) → IsUpTo facts state old → lifts (raise_looks facts state row) by row ≡ true
+    → list_any (same_raise row) old.raised.raises ≡ false
+lift_fresh facts state by row old upto passes =
+    let decides : raise_by facts state by row ≡ Lift row = is_lifted (raise_looks facts state row) by row passes in
+    let n = raise_new state.now (raise_looks facts state row) by row (ARaise row) (ap (newly state.now) decides) in
+    ap (list_any (same_raise row)) upto.raises ∙ n.fresh
+
 pub lifted : OneStepChanges → (facts : SeasonFacts) (papers : Papers) (state : State) (by : By) (row : RaiseRow) (old new : Auditor) → IsUpTo facts state old → row.prog.0 < length facts.matrix.programmes
-    → lifts (raise_looks facts state row) by row ≡ true → new.window ≡ old.window → new.raises.items ≡ old.raises.items ++ row ∷ []
-    → new.matrix ≡ matrix_with old.matrix row.prog.0 row.step (record { seats = row.seats; protections = (seating_in old.matrix row.prog.0 row.step).protections }) → new.stands ≡ old.stands
+    → lifts (raise_looks facts state row) by row ≡ true → new.window ≡ old.window → new.raised.raises ≡ old.raised.raises ++ row ∷ []
+    → new.raised.matrix ≡ matrix_with old.raised.matrix row.prog.0 row.step (record { seats = row.seats; protections = (seating_in old.raised.matrix row.prog.0 row.step).protections }) → new.stands ≡ old.stands
     → Passes facts papers state (raise_by facts state by row) new
 lifted law facts papers state by row old new upto below passes window raises matrix same =
     let decides : raise_by facts state by row ≡ Lift row = is_lifted (raise_looks facts state row) by row passes in
@@ -286,39 +294,23 @@ cut_early facts state by window clerk same less =
 
 -- a round that breaks no clause
 pub is_published : (facts : SeasonFacts) (papers : Papers) (state : State) (old new : Auditor) → IsUpTo facts state old → state.now < facts.rounds → CutHolds facts papers state → new.window ≡ old.window + 1
-    → new.raises ≡ old.raises → new.matrix ≡ old.matrix → new.stands.items ≡ stands_along facts (with_round state (round_of facts papers state)) → Passes facts papers state Publish new
-is_published facts papers state old new upto early holds' window raises matrix made = record {
+    → new.raised ≡ old.raised → new.stands.items ≡ stands_along facts (with_round state (round_of facts papers state)) → Passes facts papers state Publish new
+is_published facts papers state old new upto early holds' window raised made = record {
   holds = holds';
   next = record {
     sound = upto.sound;
     order = published facts papers state upto.sound upto.order early holds';
     few = omega (arith, early);
     window = window ∙ ap (λ (n : ℕ). n + 1) upto.window;
-    raises = ap (λ v. v.items) raises ∙ upto.raises;
-    matrix = matrix ∙ upto.matrix;
+    raises = ap (λ (r : Raised). r.raises) raised ∙ upto.raises;
+    matrix = ap (λ (r : Raised). r.matrix) raised ∙ upto.matrix;
     stands = λ few. made;
-  };
-}
-
--- the last cut
-pub is_finished : (facts : SeasonFacts) (papers : Papers) (state : State) (old new : Auditor) → IsUpTo facts state old → state.now ≡ facts.rounds → EndHolds facts papers state → new.window ≡ old.window + 1
-    → new.raises ≡ old.raises → new.matrix ≡ old.matrix → Passes facts papers state Finish new
-is_finished facts papers state old new upto last holds' window raises matrix = record {
-  holds = holds';
-  next = record {
-    sound = upto.sound;
-    order = finished facts state (finals_of papers) upto.order last;
-    few = omega (arith, last);
-    window = window ∙ ap (λ (n : ℕ). n + 1) upto.window;
-    raises = ap (λ v. v.items) raises ∙ upto.raises;
-    matrix = matrix ∙ upto.matrix;
-    stands = λ few. absurd (omega (arith, few, last));
   };
 }
 
 -- ---- a script
 
--- the requests before a place break no clause, and the replay stands there
+-- the requests before a place break no clause, and the replay has reached the state there
 pub record Stood (facts : SeasonFacts) (script : List Request) (papers : Papers) (j : ℕ) (auditor : Auditor) : Type 0 where
   pub upto : IsUpTo facts (before facts script papers j) auditor
   pub earlier : (i : ℕ) (request : Request) → i < j → slice_get script i ≡ Some request → HoldsThere facts script papers i request

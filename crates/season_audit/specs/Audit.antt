@@ -35,26 +35,26 @@ papers_in dossier = record {
 abbrev pub NameOnce : List ListRead → Type 0
 NameOnce lists = (p : ℕ) (read : ListRead) (kind : StepKind) → slice_get lists p ≡ Some read → AreDistinct (list_of read.programme kind).admitted
 
--- The replay stands at a state.
+-- The replay has reached this state.
 pub record IsUpTo (facts : SeasonFacts) (state : State) (auditor : Auditor) : Type 0 where
   pub sound : IsSound facts
   pub order : IsInOrder facts state
   pub few : state.now ≤ facts.rounds + 1
   pub window : auditor.window ≡ state.now
-  pub raises : auditor.raises.items ≡ state.raises
-  pub matrix : auditor.matrix ≡ matrix_at facts state
+  pub raises : auditor.raised.raises ≡ state.raises
+  pub matrix : auditor.raised.matrix ≡ matrix_at facts state
   pub stands : state.now ≤ facts.rounds → auditor.stands.items ≡ stands_along facts state
 
--- The answer is noted, and the candidates stand as after it; or nothing is newly accepted, and they stand as before.
+-- The answer is noted, and the standings are those after it. Or nothing is newly accepted, and the standings are unchanged.
 abbrev pub StandAfter : SeasonFacts → State → AnswerRow → Decision → List Stand → Type 0
 StandAfter facts state row decision stands = ((decision ≡ Note row) × (stands ≡ stands_along facts (with_row state row))) ⊎ ((newly state.now decision ≡ None) × (stands ≡ stands_along facts state))
 
--- The decision breaks no clause, and the replay stands at the state that it makes.
+-- The decision breaks no clause, and the replay has reached the state that it makes.
 pub record Passes (facts : SeasonFacts) (papers : Papers) (state : State) (decision : Decision) (auditor : Auditor) : Type 0 where
   pub holds : HoldsAt facts papers state decision
   pub next : IsUpTo facts (taken facts papers state decision) auditor
 
--- what a decision comes to: it passes, or breaks this clause first
+-- the outcome of a decision: it passes, or breaks this clause first
 abbrev pub ComesTo : SeasonFacts → Papers → State → Decision → Auditor → Option Fault → Type 0
 ComesTo facts papers state decision auditor None = Passes facts papers state decision auditor
 ComesTo facts papers state decision auditor (Some fault) = BreaksAt facts papers state decision fault.clause fault.prog fault.cand
@@ -63,7 +63,7 @@ ComesTo facts papers state decision auditor (Some fault) = BreaksAt facts papers
 abbrev pub AllHold : SeasonFacts → List Request → Papers → Type 0
 AllHold facts script papers = (j : ℕ) (request : Request) → slice_get script j ≡ Some request → HoldsThere facts script papers j request
 
--- what a script comes to: no clause is broken, or this one first, at the cut that publishes the round of this number
+-- the outcome of a script: no clause is broken, or this one first, at the cut that publishes the round of this number
 abbrev pub ScriptComesTo : SeasonFacts → List Request → Papers → Option (ℕ × Fault) → Type 0
 ScriptComesTo facts script papers None = AllHold facts script papers
 ScriptComesTo facts script papers (Some found) = IsFirstBroken facts script papers found.0 found.1.clause found.1.prog found.1.cand

@@ -15,32 +15,31 @@ ghost use Rattle.audit_rules.specs.Cut.{EndHolds};
 ghost use Rattle.cut_checks.specs.Stands.{stands_along};
 
 use crate::texts::{lists_after, rows_after};
-use cut_checks::{
-    Fault, Stand, are_final, cut_fault, is_among, lifts, seats_told, stands_after, total_seats,
-};
+use cut_checks::{Fault, Stand, are_final, cut_fault, lifts, seats_told, stands_after};
 use dossier_file::Dossier;
 use keeper_mem::{AnswerRow, RaiseRow};
 use list_audit::Clause;
 use office_base::{Ask, By, Code, OutOfMemory, ProgId, Request};
-use office_moves::{RaiseLooks, says_what_is_sound};
+use office_moves::says_what_is_sound;
+use raised_seats::RaisedSeats;
 use season_file::Season;
-use seat_matrix::Matrix;
 use std::alloc::Global;
 
-/// Whether the clerk asks.
+/// Returns whether the clerk asks.
 fn is_clerk(by: By) -> bool
     ensures { result ≡ is_clerk by }
 {
     by == By::Clerk
 }
 
-/// Lets the candidate of an answer of the open window stand as it says, where it is noted.
+/// Notes an answer of the open window, if the rules accept it. Then the answer gives the candidate's standing.
 fn note(season: &Season, stands: &mut [Stand], by: By, row: AnswerRow)
     ghost state: { State }
     requires stands { stands.old ≡ stands_along (facts_of season.now) state }
     requires now { row.window ≡ state.now }
     requires within { row.window ≤ (facts_of season.now).rounds }
-    ensures { StandAfter (facts_of season.now) state row (decide_answer (facts_of season.now) (view_of state row.cand.0) by row) stands.new }
+    ensures { StandAfter (facts_of season.now) state row
+        (decide_answer (facts_of season.now) (view_of state row.cand.0) by row) stands.new }
 {
     let _ = season.register.people();
     let Some(at) = season.register.position(row.cand) else {
@@ -53,7 +52,7 @@ fn note(season: &Season, stands: &mut [Stand], by: By, row: AnswerRow)
     stands[at] = stands[at].answered(row);
 }
 
-/// Whether the final admissions are those of the last round.
+/// Returns whether the final admissions are those of the last round.
 fn is_right(dossier: &Dossier, stands: &[Stand]) -> bool
     ghost state: { State }
     requires { stands.now ≡ stands_along (facts_of dossier.now.season) state }
@@ -65,7 +64,8 @@ fn is_right(dossier: &Dossier, stands: &[Stand]) -> bool
     }
 }
 
-/// What a request may do: give an answer, cut a window, or raise seats of a programme of the matrix; nothing, where it only asks or names no programme of it.
+/// What a request may do: give an answer, cut a window, or raise seats of a programme of the matrix. A question does nothing,
+/// and so does a raise of a programme that the matrix does not have.
 #[derive(Clone, Copy)]
 enum Deed {
     Answer(AnswerRow),
@@ -74,15 +74,16 @@ enum Deed {
     Nothing,
 }
 
-/// The programme of a code. None exactly where none has it.
+/// Returns the programme of a code. None if and only if no programme has it.
 fn find(season: &Season, code: Code) -> Option<ProgId>
     ensures found { result ≡ find_programme (facts_of season.now) code }
-    ensures within { IfSome result (λ prog. prog.0 < length (facts_of season.now).matrix.programmes) }
+    ensures within { IfSome result (λ prog.
+        prog.0 < length (facts_of season.now).matrix.programmes) }
 {
     season.matrix.find(code)
 }
 
-/// What this request may do.
+/// Returns what this request may do.
 fn deed_of(season: &Season, request: &Request) -> Deed
     ensures known { IsOfMatrix (facts_of season.now) result }
     ensures does { Does (facts_of season.now) request.now request.now.by result }
@@ -118,27 +119,27 @@ fn deed_of(season: &Season, request: &Request) -> Deed
     }
 }
 
-/// What the request at this place of the script may do, and who asks.
+/// Returns who asks at this place of the script, and what the request may do.
 fn deed_at(dossier: &Dossier, at: usize) -> (By, Deed)
     requires { at < length dossier.now.script }
     ensures known { IsOfMatrix (facts_of dossier.now.season) result.1 }
-    ensures does { (request : AnyRequest) → slice_get dossier.now.script at ≡ Some request → Does (facts_of dossier.now.season) request result.0 result.1 }
+    ensures does { (request : AnyRequest) → slice_get dossier.now.script at ≡ Some request
+        → Does (facts_of dossier.now.season) request result.0 result.1 }
 {
     let request = &dossier.script.as_slice()[at];
     (request.by, deed_of(&dossier.season, request))
 }
 
-/// A replay: the matrix with what was raised, how each candidate stands, the raises, and the open window.
+/// A replay: the matrix with what was raised, the standing of each candidate, and the open window.
 #[derive(Drop)]
 pub struct Auditor {
-    pub matrix: Matrix,
+    pub raised: RaisedSeats,
     pub stands: Vec<Stand>,
-    pub raises: Vec<RaiseRow>,
     pub window: u16,
 }
 
 impl Auditor {
-    /// The replay of a season before everything.
+    /// Begins the replay of a season, before its first request.
     pub fn begin(alloc: Global, season: &Season) -> Result<Auditor, OutOfMemory>
         ensures { IfOk result (λ auditor. IsUpTo (facts_of season.now) opening auditor) }
     {
@@ -146,18 +147,18 @@ impl Auditor {
         let matrix = season.matrix.copy(alloc)?;
         let stands = vec![in alloc; Stand::first(); season.register.people().len()]?;
         Ok(Auditor {
-            matrix,
+            raised: RaisedSeats::new(alloc, matrix),
             stands,
-            raises: Vec::new(alloc),
             window: 0,
         })
     }
 
-    /// Takes an answer, where it is noted.
+    /// Takes an answer, if it is noted.
     fn answer(&mut self, season: &Season, by: By, row: AnswerRow)
         ghost state: { State }
         requires { IsUpTo (facts_of season.now) state self.old }
-        ensures { (papers : Papers) → Passes (facts_of season.now) papers state (decide_answer (facts_of season.now) (view_of state row.cand.0) by row) self.new }
+        ensures { (papers : Papers) → Passes (facts_of season.now) papers state
+            (decide_answer (facts_of season.now) (view_of state row.cand.0) by row) self.new }
     {
         seat_matrix::laws::one_step_changes();
         if row.window != self.window {
@@ -169,57 +170,55 @@ impl Auditor {
         note(season, self.stands.as_mut_slice(), by, row);
     }
 
-    /// Takes a raise of a programme of the matrix, where it is accepted.
+    /// Takes a raise of a programme of the matrix, if it is accepted. It walks neither the matrix nor the raises before it.
     fn raise(&mut self, season: &Season, by: By, row: RaiseRow) -> Result<(), OutOfMemory>
         ghost state: { State }
         requires upto { IsUpTo (facts_of season.now) state self.old }
         requires known { row.prog.0 < length (facts_of season.now).matrix.programmes }
-        ensures { OnOk result ((papers : Papers) → Passes (facts_of season.now) papers state (decide_raise_of (facts_of season.now) state by row) self.new) }
+        ensures { OnOk result ((papers : Papers) → Passes (facts_of season.now) papers
+            state (decide_raise_of (facts_of season.now) state by row) self.new) }
     {
         seat_matrix::laws::one_step_changes();
-        let looks = RaiseLooks {
-            again: is_among(&self.raises, row),
-            window: self.window,
-            rounds: season.rounds,
-            seats: self.matrix.seats(row.prog, row.step),
-            total: total_seats(&self.matrix),
-        };
+        let looks = self.raised.looks(self.window, season.rounds, row);
         if !lifts(&looks, by, row) {
             return Ok(());
         }
-        self.raises.push(row)?;
-        self.matrix.raise(row.prog, row.step, row.seats);
+        self.raised.reserve()?;
+        self.raised.raise(row);
         Ok(())
     }
 
-    /// Takes the cut that publishes a round, where its texts break no clause.
+    /// Takes the cut that publishes a round, if its texts break no clause.
     fn publish(&mut self, alloc: Global, dossier: &Dossier) -> Result<Option<Fault>, OutOfMemory>
         ghost at: { Setting }
         requires papers { at.papers ≡ papers_in dossier.now }
         requires upto { IsUpTo (facts_of dossier.now.season) at.state self.old }
         requires early { at.state.now < (facts_of dossier.now.season).rounds }
-        ensures { IfOk result (ComesTo (facts_of dossier.now.season) at.papers at.state Publish self.new) }
+        ensures { IfOk result
+            (ComesTo (facts_of dossier.now.season) at.papers at.state Publish self.new) }
     {
         let season = &dossier.season;
         let rows = rows_after(dossier, self.window);
         let lists = lists_after(dossier, season.matrix.count(), self.window);
         let seats = seats_told(alloc, &season.register, rows)?;
-        let fault = cut_fault(alloc, season, &self.matrix, &self.stands, &seats, lists)?;
+        let matrix = self.raised.matrix();
+        let fault = cut_fault(alloc, season, matrix, &self.stands, &seats, lists)?;
         if fault.is_some() {
             return Ok(fault);
         }
-        let stands = stands_after(alloc, season, &self.matrix, &self.stands, &seats)?;
+        let stands = stands_after(alloc, season, matrix, &self.stands, &seats)?;
         self.stands = stands;
         self.window += 1;
         Ok(None)
     }
 
-    /// Takes the last cut, where the final admissions are right.
+    /// Takes the last cut, if the final admissions are right.
     fn finish(&mut self, dossier: &Dossier) -> Option<Fault>
         ghost state: { State }
         requires upto { IsUpTo (facts_of dossier.now.season) state self.old }
         requires last { state.now ≡ (facts_of dossier.now.season).rounds }
-        ensures { ComesTo (facts_of dossier.now.season) (papers_in dossier.now) state Finish self.new result }
+        ensures { ComesTo (facts_of dossier.now.season)
+            (papers_in dossier.now) state Finish self.new result }
     {
         if !is_right(dossier, &self.stands) {
             return Some(Fault {
@@ -232,7 +231,7 @@ impl Auditor {
         None
     }
 
-    /// Takes a cut, where it is accepted and breaks no clause.
+    /// Takes a cut, if it is accepted and breaks no clause.
     fn cut(
         &mut self,
         alloc: Global,
@@ -242,7 +241,8 @@ impl Auditor {
     ) -> Result<Option<Fault>, OutOfMemory>
         ghost state: { State }
         requires { IsUpTo (facts_of dossier.now.season) state self.old }
-        ensures { IfOk result (ComesTo (facts_of dossier.now.season) (papers_in dossier.now) state (decide_cut (facts_of dossier.now.season) state by window) self.new) }
+        ensures { IfOk result (ComesTo (facts_of dossier.now.season) (papers_in dossier.now)
+            state (decide_cut (facts_of dossier.now.season) state by window) self.new) }
     {
         let rounds = dossier.season.rounds;
         if !is_clerk(by) {
@@ -260,8 +260,8 @@ impl Auditor {
         self.publish(alloc, dossier)
     }
 
-    /// Takes the request at this place of the script: an answer that is noted, a raise that is accepted, a cut that breaks no clause. The first clause that a
-    /// cut breaks is given; after it the replay goes no further. It fails for want of memory alone.
+    /// Takes the request at this place of the script: an answer that is noted, a raise that is accepted, a cut that breaks no clause.
+    /// Returns the first clause that a cut breaks, after which the replay goes no further. It fails only when memory runs out.
     pub fn take(
         &mut self,
         alloc: Global,
@@ -271,8 +271,9 @@ impl Auditor {
         ghost state: { State }
         requires within { at < length dossier.now.script }
         requires upto { IsUpTo (facts_of dossier.now.season) state self.old }
-        ensures { IfOk result (λ fault. (request : AnyRequest) → slice_get dossier.now.script at ≡ Some request
-            → ComesTo (facts_of dossier.now.season) (papers_in dossier.now) state (decided (facts_of dossier.now.season) state request) self.new fault) }
+        ensures { IfOk result (λ fault. (request : AnyRequest) → slice_get dossier.now.script at
+            ≡ Some request → ComesTo (facts_of dossier.now.season) (papers_in dossier.now)
+            state (decided (facts_of dossier.now.season) state request) self.new fault) }
     {
         let (by, deed) = deed_at(dossier, at);
         match deed {

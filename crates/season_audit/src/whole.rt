@@ -16,9 +16,10 @@ use office_base::OutOfMemory;
 use office_moves::says_what_is_sound;
 use std::alloc::Global;
 
-/// The first clause that a cut breaks, with the number of the round that the cut publishes.
+/// Returns the first clause that a cut breaks, with the number of the round that the cut publishes.
 fn first_broken(alloc: Global, dossier: &Dossier) -> Result<Option<(u16, Fault)>, OutOfMemory>
-    ensures { IfOk result (ScriptComesTo (facts_of dossier.now.season) dossier.now.script (papers_in dossier.now)) }
+    ensures { IfOk result
+        (ScriptComesTo (facts_of dossier.now.season) dossier.now.script (papers_in dossier.now)) }
 {
     let mut auditor = Auditor::begin(alloc, &dossier.season)?;
     for at in 0..dossier.script.len() {
@@ -30,9 +31,11 @@ fn first_broken(alloc: Global, dossier: &Dossier) -> Result<Option<(u16, Fault)>
     Ok(None)
 }
 
-/// The verdict by the first clause that is broken, of papers with texts of so many rounds.
+/// Returns the verdict by the first clause that is broken, of papers with texts of this many rounds.
 fn verdict_of(rounds: u16, broken: Option<(u16, Fault)>) -> Verdict
-    ensures { (facts : SeasonFacts) (script : List Request) (papers : Papers) → rounds ≡ length papers.rounds → ScriptComesTo facts script papers broken → IsVerdict facts script papers result }
+    ensures { (facts : SeasonFacts) (script : List Request) (papers : Papers)
+        → rounds ≡ length papers.rounds → ScriptComesTo facts script papers broken
+        → IsVerdict facts script papers result }
 {
     let Some((round, fault)) = broken else {
         return Verdict::Sound { rounds };
@@ -45,13 +48,18 @@ fn verdict_of(rounds: u16, broken: Option<(u16, Fault)>) -> Verdict
     }
 }
 
-/// The verdict on a dossier: sound exactly where its papers break no clause, else the first clause that is broken. Rounds are taken in rising order; in each the
-/// candidates' seats, then the lists against the round's text, then each list, and after the last window the final admissions. Where it is sound, every round
-/// is fair and nobody falls. It fails for want of memory alone, is linear in the dossier but for a sort of each programme's applicants by merit, and calls
-/// nothing of the office that made the papers.
+/// Returns the verdict on a dossier: sound if and only if its papers break no clause, otherwise the first clause that is broken.
+/// Rounds are taken in rising order. In each the candidates' seats come first, then the lists against the round's text, and
+/// then each list. After the last window the final admissions follow. If the verdict is sound, every round is fair and nobody
+/// falls. It fails only when memory runs out.
+///
+/// Its cost is linear in the dossier, but for a sort of each programme's applicants by merit. In particular a raise walks neither
+/// the matrix nor the raises before it. It calls nothing of the office that made the papers.
 pub fn audit(alloc: Global, dossier: &Dossier) -> Result<Verdict, OutOfMemory>
-    ensures verdict { IfOk result (IsVerdict (facts_of dossier.now.season) dossier.now.script (papers_in dossier.now)) }
-    ensures fair { IfOk result (λ verdict. (rounds : ℕ) → verdict ≡ Verdict.Sound rounds → AreFairRounds (facts_of dossier.now.season) dossier.now.script (papers_in dossier.now)) }
+    ensures verdict { IfOk result
+        (IsVerdict (facts_of dossier.now.season) dossier.now.script (papers_in dossier.now)) }
+    ensures fair { IfOk result (λ verdict. (rounds : ℕ) → verdict ≡ Verdict.Sound rounds
+        → AreFairRounds (facts_of dossier.now.season) dossier.now.script (papers_in dossier.now)) }
 {
     says_what_is_sound(&dossier.season);
     audit_rules::laws::sound_is_fair();

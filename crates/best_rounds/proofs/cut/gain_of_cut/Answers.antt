@@ -16,8 +16,8 @@ plain_round-requires-clause-sought g c =
 
 pub first_gain-requires : goal.first_gain-requires
 first_gain-requires g c =
-    compared (facts_of c.args.dossier.now.season) g.cut (papers_in c.args.dossier.now) c.args.auditor.now _ c.in_ok-seeks.seeks _ c.in_ok-round.round _ _ c.rows_after-rows.result.now c.requires.0 c.requires.1.0
-    c.in_ok-seeks.ensures c.in_ok-round.ensures.round c.as_slice-seeks.ensures c.as_slice-best.ensures c.rows_after-rows.ensures (c.deref-2.ensures.value ∙ c.in_ok-seats.ensures) c.requires.1.1.1
+    compared (facts_of c.args.dossier.now.season) g.cut (papers_in c.args.dossier.now) c.args.auditor.now c.matrix-matrix.result.now _ c.in_ok-seeks.seeks _ c.in_ok-round.round _ _ c.rows_after-rows.result.now c.requires.0 c.requires.1.0
+    c.matrix-matrix.ensures c.in_ok-seeks.ensures c.in_ok-round.ensures.round c.as_slice-seeks.ensures c.as_slice-best.ensures c.rows_after-rows.ensures (c.deref-2.ensures.value ∙ c.in_ok-seats.ensures) c.requires.1.1.1
 
 pub seeks_at-requires : goal.seeks_at-requires
 seeks_at-requires g c =

@@ -1,7 +1,8 @@
 use Rattle.std.proofs.Common.{sym, ◌∙◌}
+use Rattle.office_base.proofs.Options.{none_from}
 use Rattle.office_moves.specs.Season.{facts_of}
 use Rattle.season_audit.specs.Audit.{papers_in}
-use Rattle.best_rounds.proofs.Replaying.{found_there, goes_on, never_broken, none_there}
+use Rattle.best_rounds.proofs.Replaying.{found_there, goes_on, never_broken}
 use Rattle.best_rounds.proofs.whole.take_next.Goals as goal
 
 pub unreachable-requires : goal.unreachable-requires
@@ -13,4 +14,4 @@ unreachable-requires c =
 pub returns : goal.returns
 returns c =
     goes_on (facts_of c.args.dossier.now.season) c.args.dossier.now.script (papers_in c.args.dossier.now) c.args.at c.take.new.self c.in_ok-take.field-0 c.requires.within c.in_ok-take.ensures
-    (none_there c.in_ok-take.field-0 (sym c.is_some.ensures ∙ c.if-is_some.false))
+    (none_from c.in_ok-take.field-0 (sym c.is_some.ensures ∙ c.if-is_some.false))

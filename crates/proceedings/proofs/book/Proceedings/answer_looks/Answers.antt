@@ -1,6 +1,7 @@
 use Rattle.std.proofs.Common.{ℕ, ap}
+use Rattle.rank_lists.proofs.Known.{known}
 use Rattle.office_moves.specs.State.{accepted, in_window, last_seat, last_turn, left_by, rows_of, standing_at, view_of}
-use Rattle.proceedings.proofs.Judged.{answer_looks_are, known, told_of}
+use Rattle.proceedings.proofs.Judged.{answer_looks_are, told_of}
 use Rattle.proceedings.proofs.book.Proceedings.answer_looks.Goals as goal
 
 pub returns : goal.returns

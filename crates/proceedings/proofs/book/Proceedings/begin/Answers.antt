@@ -18,17 +18,17 @@ invariant_of-result c =
     let people : length c.people-count.result.now ≡ length facts.people = ap (λ xs. length xs) c.people-count.ensures.same in
     let rounds = c.in_ok-rounds.ensures.rounds in
     let entries = c.in_ok-rounds.ensures.entries in
-    let raises = c.new.ensures.items in
+    let raises = c.new.ensures.raises in
     let first = c.in_ok-turns.ensures.first ∙ ap (λ n. no_turns n ∷ []) people in
-    let new : State = record { now = 0; rounds = c.in_ok-rounds.rounds.items; finals = None; answers = answers_of c.in_ok-rounds.entries.items; raises = c.new.result.items } in
-    let same : new ≡ opening = opening_state c.in_ok-rounds.rounds.items c.in_ok-rounds.entries.items c.new.result.items rounds entries raises in
+    let new : State = record { now = 0; rounds = c.in_ok-rounds.rounds.items; finals = None; answers = answers_of c.in_ok-rounds.entries.items; raises = c.new.result.raises } in
+    let same : new ≡ opening = opening_state c.in_ok-rounds.rounds.items c.in_ok-rounds.entries.items c.new.result.raises rounds entries raises in
     let history = opening_history facts c.in_ok-rounds.entries.items new entries same in
     let T : State → Type 0 = λ s. AreTables facts s c.in_ok-turns.turns.items in
     record {
       sound = c.says_what_is_sound.ensures;
       history = history;
       orderly = c.orderly.ensures facts c.in_ok-rounds.entries.items new c.says_what_is_sound.ensures history.reached;
-      raised = c.in_ok-matrix.ensures.matrix ∙ ap (λ (rs : List RaiseRow). raised facts.matrix rs) (sym raises);
+      raised = c.new.ensures.matrix ∙ c.in_ok-matrix.ensures.matrix ∙ ap (λ (rs : List RaiseRow). raised facts.matrix rs) (sym raises);
       left = opening_left facts c.in_ok-matrix.left.items (c.in_ok-matrix.ensures.left ∙ ap (λ n. replicate n Waiting) people) ∙ ap (left_along facts) (sym same);
       turns = subst T (sym same) (opening_tables facts c.in_ok-turns.turns.items (no_turns (length facts.people)) first refl);
       still = people ∙ (opening_still facts ∙ ap (still_of facts) (sym same));

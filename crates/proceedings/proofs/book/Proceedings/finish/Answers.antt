@@ -54,8 +54,8 @@ invariant_of-self c =
     let turns : c.index.result.now ≡ table_along facts state state.now = inv.turns c.from.result c.index.result.now there ∙ ap (table_along facts state) c.from.ensures in
     let so : c.as_mut_slice.result.now ≡ left_along facts state = c.as_mut_slice.ensures.value ∙ inv.left in
     let answers : answers_of entries ≡ answers_of a.entries.items = cut_answers a.entries.items entries c.args.number a.window c.put_last.ensures.items in
-    let new : State = record { now = a.window + 1; rounds = a.rounds.items; finals = Some rows; answers = answers_of entries; raises = a.raises.items } in
-    let same : new ≡ with_finals state rows = finished_state a.window a.rounds.items a.finals (answers_of a.entries.items) (answers_of entries) a.raises.items rows answers in
+    let new : State = record { now = a.window + 1; rounds = a.rounds.items; finals = Some rows; answers = answers_of entries; raises = a.raised.raises } in
+    let same : new ≡ with_finals state rows = finished_state a.window a.rounds.items a.finals (answers_of a.entries.items) (answers_of entries) a.raised.raises rows answers in
     let H : State → Type 0 = λ s. IsHistory facts entries s in
     let G : List Entry → Type 0 = λ es. IsHistory facts es (with_finals state rows) in
     let history : IsHistory facts entries new =
@@ -83,7 +83,7 @@ pub returns-clause-state : goal.returns-clause-state
 returns-clause-state c =
     let a = c.self.inside in
     let answers = cut_answers a.entries.items c.put_last.new.items.items c.args.number a.window c.put_last.ensures.items in
-    finished_state a.window a.rounds.items a.finals (answers_of a.entries.items) (answers_of c.put_last.new.items.items) a.raises.items c.args.rows answers
+    finished_state a.window a.rounds.items a.finals (answers_of a.entries.items) (answers_of c.put_last.new.items.items) a.raised.raises c.args.rows answers
     ∙ ap (λ (p : Proceeding). with_finals p.state c.args.rows) c.self.view_is
 
 pub returns-clause-still : goal.returns-clause-still

@@ -13,7 +13,7 @@ use Rattle.office_moves.specs.declared.moves.Act.TheVariants.{Raise}
 use Rattle.office_moves.specs.declared.moves.Entry.{Entry}
 use Rattle.proceedings.specs.Kept.{state_of}
 use Rattle.proceedings.specs.Proceeding.{Proceeding, answers_of, last_of, left_along, still_of}
-use Rattle.proceedings.proofs.ChangeLemmas.{left_raised, lifted_below, lifted_matrix, none_moved, raise_answers, raised_state, still_raised}
+use Rattle.proceedings.proofs.ChangeLemmas.{left_raised, lifted_below, lifted_fresh, lifted_matrix, none_moved, raise_answers, raised_state, still_raised}
 use Rattle.proceedings.proofs.HistoryLemmas.{raised_on}
 use Rattle.proceedings.proofs.book.Proceedings.lift.Goals as goal
 
@@ -24,8 +24,14 @@ raise-requires-clause-programme c =
     let inv = c.self.invariant in
     let P : Proceeding → Type 0 = λ p. decided p.season p.state (asked p.season (Raise c.args.row)) ≡ Lift c.args.row in
     let below = lifted_below facts (state_of a) c.args.row (subst P (sym c.self.view_is) c.requires.decided) in
-    let same : length a.matrix.programmes ≡ length facts.matrix.programmes = ap (λ (m : SeatTable). length m.programmes) inv.raised ∙ ap (λ xs. length xs) inv.orderly.programmes in
+    let same : length a.raised.matrix.programmes ≡ length facts.matrix.programmes = ap (λ (m : SeatTable). length m.programmes) inv.raised ∙ ap (λ xs. length xs) inv.orderly.programmes in
     omega (arith, below, same)
+
+pub raise-requires-clause-fresh : goal.raise-requires-clause-fresh
+raise-requires-clause-fresh c =
+    let a = c.self.inside in
+    let P : Proceeding → Type 0 = λ p. decided p.season p.state (asked p.season (Raise c.args.row)) ≡ Lift c.args.row in
+    lifted_fresh (facts_of a.season) (state_of a) c.args.row (subst P (sym c.self.view_is) c.requires.decided)
 
 pub invariant_of-self : goal.invariant_of-self
 invariant_of-self c =
@@ -34,32 +40,32 @@ invariant_of-self c =
     let state = state_of a in
     let inv = c.self.invariant in
     let row = c.args.row in
-    let entries : List Entry = c.put_last-2.new.items.items in
-    let raises : List RaiseRow = c.put_last.new.items.items in
+    let entries : List Entry = c.put_last.new.items.items in
+    let raises : List RaiseRow = c.raise.new.self.raises in
     let P : Proceeding → Type 0 = λ p. decided p.season p.state (asked p.season (Raise row)) ≡ Lift row in
     let is = subst P (sym c.self.view_is) c.requires.decided in
     let Q : Proceeding → Type 0 = λ p. last_of p.entries < c.args.number in
     let above = subst Q (sym c.self.view_is) c.requires.number in
     let R : Proceeding → Type 0 = λ p. p.still < p.room in
     let space = subst R (sym c.self.view_is) c.requires.space in
-    let answers : answers_of entries ≡ answers_of a.entries.items = raise_answers a.entries.items entries c.args.number row c.put_last-2.ensures.items in
+    let answers : answers_of entries ≡ answers_of a.entries.items = raise_answers a.entries.items entries c.args.number row c.put_last.ensures.items in
     let new : State = record { now = a.window; rounds = a.rounds.items; finals = a.finals; answers = answers_of entries; raises = raises } in
-    let same : new ≡ with_raise state row = raised_state a.window a.rounds.items a.finals (answers_of a.entries.items) (answers_of entries) a.raises.items raises row answers c.put_last.ensures.items in
+    let same : new ≡ with_raise state row = raised_state a.window a.rounds.items a.finals (answers_of a.entries.items) (answers_of entries) a.raised.raises raises row answers c.raise.ensures.raises in
     let H : State → Type 0 = λ s. IsHistory facts entries s in
     let G : List Entry → Type 0 = λ es. IsHistory facts es (with_raise state row) in
     let history : IsHistory facts entries new =
-    subst H (sym same) (subst G (sym c.put_last-2.ensures.items) (raised_on facts a.entries.items state row c.args.number (c.history_grows.ensures facts) inv.history above is)) in
+    subst H (sym same) (subst G (sym c.put_last.ensures.items) (raised_on facts a.entries.items state row c.args.number (c.history_grows.ensures facts) inv.history above is)) in
     record {
       sound = inv.sound;
       history = history;
       orderly = c.orderly.ensures facts entries new inv.sound history.reached;
-      raised = lifted_matrix facts state row a.matrix c.raise.new.self inv.raised c.raise.ensures.whole ∙ ap (matrix_at facts) (sym same);
+      raised = lifted_matrix facts state row a.raised.matrix c.raise.new.self.matrix inv.raised c.raise.ensures.matrix ∙ ap (matrix_at facts) (sym same);
       left = inv.left ∙ (left_raised facts state row ∙ ap (left_along facts) (sym same));
       turns = λ window t here. inv.turns window t here ∙ ap (λ (rows : List AnswerRow). map (λ (p : Person). map (λ (r : AnswerRow). r.choice) (in_window window (rows_of p.id.0 rows))) facts.people) (sym answers);
       still = inv.still ∙ (still_raised facts state row ∙ ap (still_of facts) (sym same));
       tables = inv.tables;
       later = λ window id late. none_moved state new window id answers (inv.later window id late);
-      withdrawals = omega (arith, space, c.put_last-2.ensures.len, c.put_last-2.ensures.capacity);
+      withdrawals = omega (arith, space, c.put_last.ensures.len, c.put_last.ensures.capacity);
       rounds_room = inv.rounds_room;
       tables_room = inv.tables_room;
     }
@@ -67,6 +73,6 @@ invariant_of-self c =
 pub returns-clause-state : goal.returns-clause-state
 returns-clause-state c =
     let a = c.self.inside in
-    let answers = raise_answers a.entries.items c.put_last-2.new.items.items c.args.number c.args.row c.put_last-2.ensures.items in
-    raised_state a.window a.rounds.items a.finals (answers_of a.entries.items) (answers_of c.put_last-2.new.items.items) a.raises.items c.put_last.new.items.items c.args.row answers c.put_last.ensures.items
+    let answers = raise_answers a.entries.items c.put_last.new.items.items c.args.number c.args.row c.put_last.ensures.items in
+    raised_state a.window a.rounds.items a.finals (answers_of a.entries.items) (answers_of c.put_last.new.items.items) a.raised.raises c.raise.new.self.raises c.args.row answers c.raise.ensures.raises
     ∙ ap (λ (p : Proceeding). with_raise p.state c.args.row) c.self.view_is

@@ -85,5 +85,5 @@ invariant_of-self c =
 pub returns-clause-state : goal.returns-clause-state
 returns-clause-state c =
     let a = c.self.inside in
-    noted_state a.window a.rounds.items a.finals a.raises.items a.entries.items c.put_last.new.items.items c.args.number c.args.row c.put_last.ensures.items
+    noted_state a.window a.rounds.items a.finals a.raised.raises a.entries.items c.put_last.new.items.items c.args.number c.args.row c.put_last.ensures.items
     ∙ ap (λ (p : Proceeding). with_row p.state c.args.row) c.self.view_is

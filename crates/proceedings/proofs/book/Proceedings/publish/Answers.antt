@@ -66,8 +66,8 @@ invariant_of-self c =
     let turns : c.index.result.now ≡ table_along facts state state.now = inv.turns c.from.result c.index.result.now there ∙ ap (table_along facts state) c.from.ensures in
     let so : c.as_mut_slice.result.now ≡ left_along facts state = c.as_mut_slice.ensures.value ∙ inv.left in
     let answers : answers_of entries ≡ answers_of a.entries.items = cut_answers a.entries.items entries c.args.number a.window c.put_last-3.ensures.items in
-    let new : State = record { now = a.window + 1; rounds = c.put_last.new.items.items; finals = a.finals; answers = answers_of entries; raises = a.raises.items } in
-    let same : new ≡ with_round state round = published_state a.window a.rounds.items c.put_last.new.items.items a.finals (answers_of a.entries.items) (answers_of entries) a.raises.items round c.put_last.ensures.items answers in
+    let new : State = record { now = a.window + 1; rounds = c.put_last.new.items.items; finals = a.finals; answers = answers_of entries; raises = a.raised.raises } in
+    let same : new ≡ with_round state round = published_state a.window a.rounds.items c.put_last.new.items.items a.finals (answers_of a.entries.items) (answers_of entries) a.raised.raises round c.put_last.ensures.items answers in
     let H : State → Type 0 = λ s. IsHistory facts entries s in
     let G : List Entry → Type 0 = λ es. IsHistory facts es (with_round state round) in
     let history : IsHistory facts entries new =
@@ -97,7 +97,7 @@ pub returns-clause-state : goal.returns-clause-state
 returns-clause-state c =
     let a = c.self.inside in
     let answers = cut_answers a.entries.items c.put_last-3.new.items.items c.args.number a.window c.put_last-3.ensures.items in
-    published_state a.window a.rounds.items c.put_last.new.items.items a.finals (answers_of a.entries.items) (answers_of c.put_last-3.new.items.items) a.raises.items c.args.round c.put_last.ensures.items answers
+    published_state a.window a.rounds.items c.put_last.new.items.items a.finals (answers_of a.entries.items) (answers_of c.put_last-3.new.items.items) a.raised.raises c.args.round c.put_last.ensures.items answers
     ∙ ap (λ (p : Proceeding). with_round p.state c.args.round) c.self.view_is
 
 pub returns-clause-still : goal.returns-clause-still

@@ -25,13 +25,12 @@ returns g c papers =
     let facts = facts_of c.args.season.now in
     let new : Auditor =
     record {
-      matrix = c.args.self.now.matrix;
+      raised = c.args.self.now.raised;
       stands = with_items c.args.self.now.stands c.note.new.stands;
-      raises = c.args.self.now.raises;
       window = c.args.self.now.window;
     } in
     let long : length c.note.new.stands ≡ c.args.self.now.stands.len =
     c.note.auto.stands ∙ (ap (λ (z : List Stand). length z) c.as_mut_slice.ensures.value ∙ sym c.args.self.now.stands.ok.0) in
     let made : new.stands.items ≡ c.note.new.stands = with_items_is c.args.self.now.stands c.note.new.stands long in
     answer_passes c.one_step_changes.ensures facts papers g.state c.args.by c.args.row c.args.self.now new c.requires
-    (subst (λ (z : List Stand). StandAfter facts g.state c.args.row (answer_by facts g.state c.args.by c.args.row) z) (sym made) c.note.ensures) refl refl refl
+    (subst (λ (z : List Stand). StandAfter facts g.state c.args.row (answer_by facts g.state c.args.by c.args.row) z) (sym made) c.note.ensures) refl refl

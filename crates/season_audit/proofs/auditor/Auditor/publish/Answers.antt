@@ -11,7 +11,7 @@ pub cut_fault-requires : goal.cut_fault-requires
 cut_fault-requires g c =
     let facts = facts_of c.args.dossier.now.season in
     let papers = papers_in c.args.dossier.now in (
-      at_cut facts g.at papers c.args.self.now _ _ _ c.requires.0 c.requires.1.0 c.requires.1.1 c.deref.ensures.value c.rows_after-rows.ensures (c.deref-2.ensures.value ∙ c.in_ok-seats.ensures),
+      at_cut facts g.at papers c.args.self.now _ _ _ _ c.requires.0 c.requires.1.0 c.requires.1.1 c.matrix-matrix.ensures c.deref.ensures.value c.rows_after-rows.ensures (c.deref-2.ensures.value ∙ c.in_ok-seats.ensures),
       are_lists facts g.at papers c.args.self.now _ _ c.requires.0 c.requires.1.0 c.count.ensures.count c.lists_after-lists.ensures.lists c.lists_after-lists.ensures.once,
     )
 
@@ -20,12 +20,12 @@ returns-then-is_some g c = fault_comes (facts_of c.args.dossier.now.season) g.at
 
 pub stands_after-requires : goal.stands_after-requires
 stands_after-requires g c =
-    at_cut (facts_of c.args.dossier.now.season) g.at (papers_in c.args.dossier.now) c.args.self.now _ _ _ c.requires.0 c.requires.1.0 c.requires.1.1 c.deref-3.ensures.value c.rows_after-rows.ensures
+    at_cut (facts_of c.args.dossier.now.season) g.at (papers_in c.args.dossier.now) c.args.self.now _ _ _ _ c.requires.0 c.requires.1.0 c.requires.1.1 c.matrix-matrix.ensures c.deref-3.ensures.value c.rows_after-rows.ensures
     (c.deref-4.ensures.value ∙ c.in_ok-seats.ensures)
 
 pub returns : goal.returns
 returns g c =
     let facts = facts_of c.args.dossier.now.season in
     let none : c.in_ok-fault.fault ≡ None = is_none_here c.in_ok-fault.fault (sym c.is_some.ensures ∙ c.if-is_some.false) in
-    is_published facts g.at.papers g.at.state c.args.self.now _ c.requires.1.0 c.requires.1.1 (subst (λ (f : Option Fault). CutComesTo facts g.at f) none c.in_ok-fault.ensures) refl refl refl
+    is_published facts g.at.papers g.at.state c.args.self.now _ c.requires.1.0 c.requires.1.1 (subst (λ (f : Option Fault). CutComesTo facts g.at f) none c.in_ok-fault.ensures) refl refl
     c.in_ok-stands.ensures

@@ -7,11 +7,9 @@ ghost use Rattle.office_moves.specs.Raised.{seats_in_all, total_seats};
 use office_base::ProgId;
 use seat_matrix::Matrix;
 
-/// The seats of all steps of all programmes. It takes no memory.
+/// Returns the seats of all steps of all programmes. It takes no memory.
 pub(crate) fn total_seats(matrix: &Matrix) -> u32
-    ensures total { result ≡ total_seats matrix.now }
-    ensures most { result ≤ 40000000 }
-    ensures step { (prog : ℕ) (step : StepKind) → (seating_in matrix.now prog step).seats ≤ result }
+    ensures { result ≡ total_seats matrix.now }
 {
     let mut total = 0;
     for number in 0..matrix.count() {
@@ -20,7 +18,7 @@ pub(crate) fn total_seats(matrix: &Matrix) -> u32
     total
 }
 
-/// The seats of all steps of a programme.
+/// Returns the seats of all steps of a programme.
 fn seats_of_all_steps(matrix: &Matrix, prog: ProgId) -> u32
     requires { prog.0 < length matrix.now.programmes }
     ensures total { result ≡ seats_in_all (steps_in matrix.now prog.0) }

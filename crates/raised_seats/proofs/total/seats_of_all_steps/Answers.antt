@@ -1,6 +1,6 @@
 use Rattle.std.proofs.Common.{arith}
 use Rattle.office_base.specs.declared.step.StepKind.TheVariants.{Open, Ews, Obc, Sc, St}
-use Rattle.cut_checks.proofs.raises.seats_of_all_steps.Goals as goal
+use Rattle.raised_seats.proofs.total.seats_of_all_steps.Goals as goal
 
 pub returns-clause-most : goal.returns-clause-most
 returns-clause-most c =
