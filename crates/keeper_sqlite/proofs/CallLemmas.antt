@@ -1,7 +1,7 @@
 -- Calls that follow one another in a transaction.
-use Rattle.std.proofs.Common.{◌≡◌, ◌+◌, ◌<◌, ◌≤◌, ◌^◌, ◌∙◌, ap, append-nil, append_assoc, ℕ, zero, suc, slice_get, take, drop, get_or, length, false, List, [], ◌∷◌, ◌++◌, Option, Some, None, Result, Ok, Err, IsTrue, IfOk, OnOk, Bool, is_some, sym, subst, refl, inl, inr, arith}
+use Rattle.std.proofs.Common.{◌≡◌, ◌+◌, ◌<◌, ◌≤◌, ◌^◌, ◌∙◌, ap, append-nil, append_assoc, ℕ, zero, suc, slice_get, take, drop, get_or, length, false, List, [], ◌∷◌, ◌++◌, Option, Some, None, Result, Ok, Err, IsTrue, IfOk, OnOk, sym, subst, refl, inl, inr, arith}
 use Rattle.std.proofs.lemmas.Bool.{cases_Bool}
-use Rattle.std.proofs.lemmas.List.{drop_more, take_more, take_all}
+use Rattle.std.proofs.lemmas.List.{drop_more, take_more}
 use Rattle.std.specs.List.{AllByRecursion, AllZip, concat}
 use Rattle.stored_tables.specs.Fits.{AllotFits}
 use Rattle.std.specs.Result.{result_ok}
@@ -17,7 +17,7 @@ use Rattle.keeper_mem.specs.declared.rows.Kept.{Kept}
 use Rattle.keeper_sqlite.specs.declared.rising.Key.{Key}
 use Rattle.keeper_sqlite.specs.Columns.{IsKeyRow, TellsKey, IsPhaseRow, IsPartRow, IsAnswerRow, IsRaiseRow, IsAllotRow, TellsPhase}
 use Rattle.keeper_sqlite.specs.Commits.{CommitsNothing}
-use Rattle.keeper_sqlite.specs.Kept.{Call, DidAll, TellsRecords, TellsText, TellsTables, TellsKept, text_query, answers_query, raises_query, allots_query, TellsPhaseOf, TellsSeason, MakesCut, ToldPhase, AreAbove, PutsText, seat_calls, allot_calls, allot_values, phase_query, part_text, part_values, part_calls, text_calls, season_calls, unanswered_calls, any_row_queries, opening_text, opening_values}
+use Rattle.keeper_sqlite.specs.Kept.{Call, DidAll, TellsRecords, TellsText, TellsTables, TellsKept, text_query, answers_query, raises_query, allots_query, TellsPhaseOf, MakesCut, ToldPhase, AreAbove, PutsText, seat_calls, allot_calls, allot_values, phase_query, part_text, part_values, part_calls, text_calls, season_calls, unanswered_calls, any_row_queries, opening_text, opening_values}
 use Rattle.keeper_sqlite.specs.Kept.Call.{Runs, Places, Asks, Readies}
 use Rattle.keeper_sqlite.specs.declared.halt.Halt.{Halt}
 
@@ -70,18 +70,12 @@ both_done g one two old mid new first (Ok none) is nothing before after clean =
 abbrev pub Leaves : {S : Type 0} → Ghosts S → List Call → List Call → Held S → Held S → Type 0
 Leaves {S} g all left old mid = HasCleanDisk (state g mid) → (last : Held S) → DidAll g left mid last → DidAll g all old last
 
-pub leaves_all : {S : Type 0} (g : Ghosts S) (all : List Call) (old : Held S) → Leaves g all all old old
-leaves_all g all old clean last done = done
-
 -- one of them is made
 pub leaves_fewer : {S : Type 0} (g : Ghosts S) (all left : List Call) (call : Call) (old mid next : Held S) → CommitsNothing (state g mid) (state g next)
     → Leaves g all (call ∷ left) old mid → (HasCleanDisk (state g next) → DidAll g (call ∷ []) mid next) → Leaves g all left old next
 leaves_fewer g all left call old mid next nothing leaves made clean last done =
     let was : HasCleanDisk (state g mid) = omega (arith, nothing.survives.clean) in
     leaves was last (did_then g (call ∷ []) left mid next last (made clean) done)
-
-pub leaves_none : {S : Type 0} (g : Ghosts S) (all : List Call) (old mid : Held S) → Leaves g all [] old mid → HasCleanDisk (state g mid) → DidAll g all old mid
-leaves_none g all old mid leaves clean = leaves clean mid refl
 
 -- one more seat is put
 pub seat_put : {S : Type 0} (g : Ghosts S) (text : List ℕ) (rows : List AllotRow) (i : ℕ) (d : AllotRow) (old mid next : Held S) → i < length rows → CommitsNothing (state g mid) (state g next)
@@ -98,9 +92,6 @@ fit_more rows i d within all one = subst (AllByRecursion AllotFits) (sym (take_m
     push : (some : List AllotRow) → AllByRecursion AllotFits some → AllByRecursion AllotFits (some ++ get_or rows i d ∷ [])
     push [] h = (one, tt)
     push (row ∷ some) h = (h.0, push some h.1)
-
-pub fit_all : (rows : List AllotRow) (i : ℕ) → length rows ≤ i → AllByRecursion AllotFits (take i rows) → AllByRecursion AllotFits rows
-fit_all rows i done all = subst (AllByRecursion AllotFits) (take_all i rows done) all
 
 -- the test of the phase, the test of the rows and the puts
 pub cut_made : {S : Type 0} (g : Ghosts S) (rows : List AllotRow) (count : ℕ) (old one two new : Held S) (made : Result ℕ Halt) (above ended : Result (Unit {0}) Halt)
@@ -146,11 +137,6 @@ row_amiss rows row is none (Some made) tells =
     let same : tells.0 ≡ row = (let f = e in cc) in
     none made (subst (λ (r : Row). IsPhaseRow r made) same tells.2)
 
--- a season is kept if the phase shows one
-pub season_told : {S : Type 0} (g : Ghosts S) (old new : Held S) (cuts : Option ℕ) (found : Bool) → found ≡ is_some cuts
-    → (HasCleanDisk (state g new) → TellsPhaseOf g cuts old new) → HasCleanDisk (state g new) → TellsSeason g found old new
-season_told g old new cuts found is told clean = record { cuts = cuts; is = is; told = told clean }
-
 pub none_told : {S : Type 0} (g : Ghosts S) (text : List ℕ) (rows seen : List Row) (old new : Held S) (ended : Result (Unit {0}) Halt) → seen ≡ rows
     → (HasCleanDisk (state g new) → DidAll g (Asks text rows ∷ []) old new) → OnOk ended (seen ≡ []) → HasCleanDisk (state g new) → OnOk ended (DidAll g (Asks text [] ∷ []) old new)
 none_told g text rows seen old new (Err halt) is asked empty clean = tt
@@ -179,9 +165,6 @@ ready_then {S} g text got calls old mid new (Ok none) nothing ready made clean =
 abbrev pub LeavesText : {S : Type 0} → Ghosts S → List ℕ → List ℕ → ℕ → List ℕ → Held S → Held S → Type 0
 LeavesText {S} g insert text number rest old mid =
     HasCleanDisk (state g mid) → (last : Held S) → PutsText g (part_calls insert number) rest mid last → PutsText g (part_calls insert 0) text old last
-
-pub leaves_text : {S : Type 0} (g : Ghosts S) (insert text : List ℕ) (old : Held S) → LeavesText g insert text 0 text old old
-leaves_text g insert text old clean last put = put
 
 -- one more part is put
 pub part_put : {S : Type 0} (g : Ghosts S) (insert text rest part after : List ℕ) (number next : ℕ) (old mid new : Held S) → rest ≡ part ++ after → length part ≤ 65536 → next ≡ number + 1

@@ -15,12 +15,6 @@ use Rattle.keeper_sqlite.specs.Stored.{Stored}
 use Rattle.keeper_sqlite.specs.declared.halt.Halt.{Halt}
 use Rattle.keeper_sqlite.specs.declared.transactions.Change.{Change}
 
-pub nothing_same : (s : State) → CommitsNothing s s
-nothing_same s = record {
-  survives = record { clean = omega arith; shield = λ h. h; counts = omega arith; limit = refl; closes = λ clean h. inl h; crash = λ clean db h. inl h };
-  was_open = λ clean is_so. is_so;
-}
-
 pub nothing_then : (a b c : State) → CommitsNothing a b → CommitsNothing b c → CommitsNothing a c
 nothing_then a b c one two = record {
   survives = survives_then a b c _ _ _ (λ _ db none. none) (λ _ db none. none) one.survives two.survives;

@@ -1,12 +1,11 @@
 -- What was found and loaded is what is visible of the store.
-use Rattle.std.proofs.Common.{◌≡◌, inl, inr, ℕ, Bool, true, false, ◌&&◌, cond, is_some, IsTrue, List, [], ◌∷◌, Option, Some, None, Result, Ok, Err, IfOk, MatchOption, refl, sym, ap, subst, ◌∙◌, true≢false}
+use Rattle.std.proofs.Common.{◌≡◌, inl, inr, ℕ, Bool, true, false, ◌&&◌, cond, is_some, IsTrue, List, [], Option, Some, None, Result, Ok, Err, IfOk, MatchOption, refl, sym, ap, subst, ◌∙◌, true≢false}
 use Rattle.std.specs.List.{concat}
 use Rattle.std.proofs.lemmas.Bool.{cases_Bool}
 use Rattle.sqlite.specs.Store.{Ghosts}
-use Rattle.sqlite.specs.Order.{Row}
 use Rattle.sqlite.specs.Tree.{Trees}
 use Rattle.sqlite.specs.Effect.{Database}
-use Rattle.sqlite.specs.State.{HasCleanDisk, Shown}
+use Rattle.sqlite.specs.State.{HasCleanDisk}
 use Rattle.sqlite.specs.Held.{Held, state}
 use Rattle.keeper_mem.specs.Tables.{Tables, Untold, NoSeason, Records, IsFound, IsLoaded, IsTold}
 use Rattle.keeper_mem.specs.declared.keeper.KeepFault.{KeepFault}
@@ -21,10 +20,10 @@ use Rattle.stored_tables.specs.Told.{told, told_if, tables_in, tables_with, reco
 use Rattle.stored_tables.proofs.StandLemmas.{one_list, one_answer, one_raise, one_allot, one_part, then_some, map_some}
 use Rattle.stored_tables.proofs.ShowLemmas.{shows_phase, shows_parts, shows_answers, shows_raises, shows_allots, phase_same, text_same, answers_same, raises_same}
 use Rattle.keeper_sqlite.specs.Columns.{IsAnswerRow, IsRaiseRow, IsAllotRow, IsPartRow}
-use Rattle.keeper_sqlite.specs.Kept.{Looks, TellsSeason, TellsPhaseOf, TellsKept, TellsTables, DidAll, phase_query}
-use Rattle.keeper_sqlite.specs.Kept.Call.{Asks}
+use Rattle.keeper_sqlite.specs.Kept.{Looks, TellsSeason, TellsPhaseOf, TellsKept, TellsTables, phase_query}
 use Rattle.sqlite_trees.proofs.Doubt.{no_doubt}
 use Rattle.keeper_sqlite.proofs.KeeperLemmas.{told_has}
+use Rattle.keeper_sqlite.proofs.ToldLemmas.{shown_of}
 
 -- ---- whether a season is there
 
@@ -62,12 +61,9 @@ rising_is all some h = elim (cases_Bool (are_rising all)) [
 ]
 
 module _ {S : Type 0} (g : Ghosts S) where
-  shown_of : (text : List ℕ) (rows : List Row) (old new : Held S) → DidAll g (Asks text rows ∷ []) old new → Shown text [] (state g old) (state g new) rows
-  shown_of text rows old new did = subst (λ (h : Held S). Shown text [] (state g old) (state g h) rows) did.2 did.1
-
   phase_is : (strict : Bool) (found : Option ℕ) (old new : Held S) → (state g old).now.schema ≡ stored strict → TellsPhaseOf g found old new → (cuts_of ((state g old).now.trees 5) ≡ Some found) × ((state g new).now ≡ (state g old).now)
   phase_is strict found old new has it =
-      let asked = shown_of phase_query it.rows old new it.asked in
+      let asked = shown_of g phase_query it.rows old new it.asked in
       (shows_phase strict (state g old) (state g new) it.rows has asked found it.tells, phase_same strict (state g old) (state g new) it.rows has asked)
 
   -- the loaded records are those of the visible tables
@@ -76,16 +72,16 @@ module _ {S : Type 0} (g : Ghosts S) where
   tables_loaded strict kept n db old new cuts same has t =
       let on = λ (d : Database). d.schema in
       let has0 : old.schema ≡ stored strict = ap on same ∙ has in
-      let asked1 = shown_of _ _ old t.one t.season.told.asked in
+      let asked1 = shown_of g _ _ old t.one t.season.told.asked in
       let same1 : (state g t.one).now ≡ db = text_same strict (state g old) (state g t.one) _ has0 asked1 ∙ same in
       let has1 : t.one.schema ≡ stored strict = ap on same1 ∙ has in
-      let asked2 = shown_of _ _ t.one t.two t.answers.asked in
+      let asked2 = shown_of g _ _ t.one t.two t.answers.asked in
       let same2 : (state g t.two).now ≡ db = answers_same strict (state g t.one) (state g t.two) _ has1 asked2 ∙ same1 in
       let has2 : t.two.schema ≡ stored strict = ap on same2 ∙ has in
-      let asked3 = shown_of _ _ t.two t.three t.raises.asked in
+      let asked3 = shown_of g _ _ t.two t.three t.raises.asked in
       let same3 : (state g t.three).now ≡ db = raises_same strict (state g t.two) (state g t.three) _ has2 asked3 ∙ same2 in
       let has3 : t.three.schema ≡ stored strict = ap on same3 ∙ has in
-      let asked4 = shown_of _ _ t.three new t.allots.asked in
+      let asked4 = shown_of g _ _ t.three new t.allots.asked in
       loaded_with n (text_in db.trees) (answers_in db.trees) (raises_in db.trees) (allots_in db.trees) kept cuts
       (λ text is.
       let p = map_some (rows_from part_of 0 (db.trees 0)) concat text is in

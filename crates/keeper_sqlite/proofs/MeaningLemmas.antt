@@ -19,7 +19,7 @@ use Rattle.stored_tables.specs.Rising.{are_rising as rise}
 use Rattle.stored_tables.specs.Rows.{answers_in, raises_in, allots_in, text_in, cuts_of, rows_from, part_of, allot_of, rising_alone}
 use Rattle.stored_tables.specs.Puts.{PutsAnswer, PutsRaise, PutsAllot, PutsPart, PutsCuts, OpensPhase}
 use Rattle.stored_tables.specs.Told.{told}
-use Rattle.stored_tables.proofs.StandLemmas.{one_list, one_answer, one_raise, one_allot, one_part, then_some, map_some}
+use Rattle.stored_tables.proofs.StandLemmas.{one_list, one_answer, one_raise, one_allot, one_part, then_some, map_some, same_number}
 use Rattle.stored_tables.proofs.OrderLemmas.{last_of}
 use Rattle.stored_tables.proofs.SeatLemmas.{seats_rise}
 use Rattle.stored_tables.proofs.TableLemmas.{puts_answer, puts_raise, puts_allot, puts_part}
@@ -37,6 +37,7 @@ use Rattle.keeper_sqlite.specs.Kept.{Ran, DidAll, TellsRecords, TellsText, Tells
 use Rattle.keeper_sqlite.specs.Kept.Call.{Runs, Places, Asks}
 use Rattle.keeper_sqlite.proofs.LookLemmas.{rising_is}
 use Rattle.keeper_sqlite.proofs.KeeperLemmas.{told_has}
+use Rattle.keeper_sqlite.proofs.ToldLemmas.{shown_of}
 
 module _ {S : Type 0} (g : Ghosts S) where
   pub ran_once : (text : List ℕ) (values : Row) (old new : Held S) → DidAll g (Runs text values ∷ []) old new → Ran g text values old new
@@ -91,25 +92,22 @@ module _ {S : Type 0} (g : Ghosts S) where
 
   -- ---- what is visible
 
-  asked_of : (text : List ℕ) (rows : List Row) (old new : Held S) → DidAll g (Asks text rows ∷ []) old new → Shown text [] (state g old) (state g new) rows
-  asked_of text rows old new did = subst (λ (h : Held S). Shown text [] (state g old) (state g h) rows) did.2 did.1
-
   pub none_stand : (text : List ℕ) (t : ℕ) (old new : Held S) (r : Result (Unit {0}) Halt) → (Shown text [] (state g old) (state g new) [] → (state g old).now.trees t ≡ [])
       → (HasCleanDisk (state g new) → OnOk r (DidAll g (Asks text [] ∷ []) old new)) → HasCleanDisk (state g new) → OnOk r ((state g old).now.trees t ≡ [])
   none_stand text t old new (Err halt) shows asked clean = tt
-  none_stand text t old new (Ok none) shows asked clean = shows (asked_of text [] old new (asked clean))
+  none_stand text t old new (Ok none) shows asked clean = shows (shown_of g text [] old new (asked clean))
 
   pub answers_stand : (strict : Bool) (old new : Held S) (r : Result (List AnswerRow) Halt) → old.schema ≡ stored strict → (HasCleanDisk (state g new) → IfOk r (λ records. TellsRecords g IsAnswerRow answers_query records old new))
       → HasCleanDisk (state g new) → IfOk r (λ records. (all : List AnswerRow) → answers_in (state g old).now.trees ≡ Some all → all ≡ records)
   answers_stand strict old new (Err halt) has told clean = tt
   answers_stand strict old new (Ok records) has told clean = λ all is.
-      let t = told clean in one_list IsAnswerRow one_answer t.rows all records (shows_answers strict (state g old) (state g new) t.rows has (asked_of answers_query t.rows old new t.asked) all is) t.stand
+      let t = told clean in one_list IsAnswerRow one_answer t.rows all records (shows_answers strict (state g old) (state g new) t.rows has (shown_of g answers_query t.rows old new t.asked) all is) t.stand
 
   pub raises_stand : (strict : Bool) (old new : Held S) (r : Result (List RaiseRow) Halt) → old.schema ≡ stored strict → (HasCleanDisk (state g new) → IfOk r (λ records. TellsRecords g IsRaiseRow raises_query records old new))
       → HasCleanDisk (state g new) → IfOk r (λ records. (all : List RaiseRow) → raises_in (state g old).now.trees ≡ Some all → all ≡ records)
   raises_stand strict old new (Err halt) has told clean = tt
   raises_stand strict old new (Ok records) has told clean = λ all is.
-      let t = told clean in one_list IsRaiseRow one_raise t.rows all records (shows_raises strict (state g old) (state g new) t.rows has (asked_of raises_query t.rows old new t.asked) all is) t.stand
+      let t = told clean in one_list IsRaiseRow one_raise t.rows all records (shows_raises strict (state g old) (state g new) t.rows has (shown_of g raises_query t.rows old new t.asked) all is) t.stand
 
   pub allots_stand : (strict : Bool) (old new : Held S) (r : Result (List AllotRow) Halt) → old.schema ≡ stored strict → (HasCleanDisk (state g new) → IfOk r (λ records. TellsRecords g IsAllotRow allots_query records old new))
       → HasCleanDisk (state g new) → IfOk r (λ records. (all : List AllotRow) → allots_in (state g old).now.trees ≡ Some all → all ≡ records)
@@ -118,7 +116,7 @@ module _ {S : Type 0} (g : Ghosts S) where
       let t = told clean in
       let p = then_some (rows_from allot_of 1 ((state g old).now.trees 3)) rising_alone all is in
       let up = rising_is p.0 all p.2 in
-      sym up.1 ∙ one_list IsAllotRow one_allot t.rows p.0 records (shows_allots strict (state g old) (state g new) t.rows has (asked_of allots_query t.rows old new t.asked) p.0 p.1 up.0) t.stand
+      sym up.1 ∙ one_list IsAllotRow one_allot t.rows p.0 records (shows_allots strict (state g old) (state g new) t.rows has (shown_of g allots_query t.rows old new t.asked) p.0 p.1 up.0) t.stand
 
   pub text_stands : (strict : Bool) (old new : Held S) (r : Result (List ℕ) Halt) → old.schema ≡ stored strict → (HasCleanDisk (state g new) → IfOk r (λ text. TellsText g text old new))
       → HasCleanDisk (state g new) → IfOk r (λ text. (all : List ℕ) → text_in (state g old).now.trees ≡ Some all → all ≡ text)
@@ -126,17 +124,14 @@ module _ {S : Type 0} (g : Ghosts S) where
   text_stands strict old new (Ok text) has told clean = λ all is.
       let t = told clean in
       let p = map_some (rows_from part_of 0 ((state g old).now.trees 0)) concat all is in
-      sym p.2 ∙ (ap concat (one_list IsPartRow one_part t.told.rows p.0 t.parts (shows_parts strict (state g old) (state g new) t.told.rows has (asked_of text_query t.told.rows old new t.told.asked) p.0 p.1) t.told.stand) ∙ t.joined)
+      sym p.2 ∙ (ap concat (one_list IsPartRow one_part t.told.rows p.0 t.parts (shows_parts strict (state g old) (state g new) t.told.rows has (shown_of g text_query t.told.rows old new t.told.asked) p.0 p.1) t.told.stand) ∙ t.joined)
 
   pub cuts_stand : (strict : Bool) (old new : Held S) (r : Result (Option ℕ) Halt) → old.schema ≡ stored strict → (HasCleanDisk (state g new) → IfOk r (λ found. TellsPhaseOf g found old new))
       → HasCleanDisk (state g new) → IfOk r (λ found. cuts_of ((state g old).now.trees 5) ≡ Some found)
   cuts_stand strict old new (Err halt) has told clean = tt
-  cuts_stand strict old new (Ok found) has told clean = let t = told clean in shows_phase strict (state g old) (state g new) t.rows has (asked_of phase_query t.rows old new t.asked) found t.tells
+  cuts_stand strict old new (Ok found) has told clean = let t = told clean in shows_phase strict (state g old) (state g new) t.rows has (shown_of g phase_query t.rows old new t.asked) found t.tells
 
   -- ---- the last key
-
-  same_number : {m n : ℕ} → Int (pos m) ≡ Int (pos n) → m ≡ n
-  same_number e = cc
 
   no_key : (rows : List Row) (last : Option Key) → rows ≡ [] → TellsKey rows last → last ≡ None
   no_key rows None is tells = refl
@@ -166,7 +161,7 @@ module _ {S : Type 0} (g : Ghosts S) where
       let t = told clean in
       let p = then_some (rows_from allot_of 1 ((state g old).now.trees 3)) rising_alone all is in
       let up = rising_is p.0 all p.2 in
-      key_is t.0 all last (subst (IsLastKey t.0) up.1 (shows_key strict (state g old) (state g new) t.0 has (asked_of key_query t.0 old new t.2) p.0 p.1 up.0)) t.1
+      key_is t.0 all last (subst (IsLastKey t.0) up.1 (shows_key strict (state g old) (state g new) t.0 has (shown_of g key_query t.0 old new t.2) p.0 p.1 up.0)) t.1
 
   -- ---- a cut that is kept
 

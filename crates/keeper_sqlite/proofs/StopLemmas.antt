@@ -112,9 +112,6 @@ module _ {S : Type 0} (g : Ghosts S) where
   abbrev pub LeavesStop : List Call → List Call → Held S → Held S → Type 0
   LeavesStop all left old mid = HasCleanDisk (state g mid) → (halt : Halt) (last : Held S) → StopsIn g left halt mid last → StopsIn g all halt old last
 
-  pub stop_all : (all : List Call) (old : Held S) → LeavesStop all all old old
-  stop_all all old clean halt last s = s
-
   pub stop_fewer : (all left : List Call) (call : Call) (old mid next : Held S) → CommitsNothing (state g mid) (state g next) → LeavesStop all (call ∷ left) old mid → (HasCleanDisk (state g next) → DidAll g (call ∷ []) mid next)
       → LeavesStop all left old next
   stop_fewer all left call old mid next nothing leaves made clean halt last s =
@@ -142,9 +139,6 @@ module _ {S : Type 0} (g : Ghosts S) where
   abbrev pub LeavesStopText : List ℕ → List ℕ → ℕ → List ℕ → Held S → Held S → Type 0
   LeavesStopText insert text number rest old mid =
       HasCleanDisk (state g mid) → (halt : Halt) (last : Held S) → StopsText g (part_calls insert number) number rest halt mid last → StopsText g (part_calls insert 0) 0 text halt old last
-
-  pub stop_text : (insert text : List ℕ) (old : Held S) → LeavesStopText insert text 0 text old old
-  stop_text insert text old clean halt last s = s
 
   joined_more : (rest part after : List ℕ) (parts : List (List ℕ)) (left : List ℕ) → rest ≡ part ++ after → concat parts ++ left ≡ after → concat (part ∷ parts) ++ left ≡ rest
   joined_more rest part after parts left cut joined = append_assoc part (concat parts) left ∙ (ap (λ (l : List ℕ). part ++ l) joined ∙ sym cut)

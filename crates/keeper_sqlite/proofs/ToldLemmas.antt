@@ -29,6 +29,7 @@ use Rattle.stored_tables.proofs.OrderLemmas.{more_rise, rising_exactly}
 use Rattle.stored_tables.proofs.SchemaLemmas.{Keeps, answer_text_keeps, raise_text_keeps, allot_text_keeps, part_text_keeps, opening_text_keeps, cuts_text_keeps, shown_keeps}
 use Rattle.stored_tables.proofs.ShowLemmas.{IsLastKey, shows_phase, shows_key, shows_no_part, shows_no_answer, shows_no_raise, shows_no_allot, phase_stands, phase_same, key_same, none_same}
 use Rattle.stored_tables.proofs.TellLemmas.{answer_told, raise_told, cut_told, none_told, season_told}
+use Rattle.stored_tables.proofs.StandLemmas.{same_number}
 use Rattle.keeper_sqlite.specs.Columns.{TellsKey}
 use Rattle.keeper_sqlite.specs.Rising.{are_rising, key_of}
 use Rattle.keeper_sqlite.specs.declared.rising.Key.{Key}
@@ -167,9 +168,6 @@ module _ {S : Type 0} (g : Ghosts S) where
   rise_none [] h = refl
   rise_none (row ∷ rows) h = sym (rise_key (key_of row) rows) ∙ h
 
-  same_number : {m n : ℕ} → Int (pos m) ≡ Int (pos n) → m ≡ n
-  same_number e = cc
-
   no_key : (told : List Row) (last : Option Key) → told ≡ [] → TellsKey told last → last ≡ None
   no_key told None is tells = refl
   no_key told (Some key) is tells = absurd (let e = sym tells.1 ∙ ap (λ l. slice_get l 0) is in cc)
@@ -192,17 +190,17 @@ module _ {S : Type 0} (g : Ghosts S) where
   allots_made None p rows is above = ap (option_and_then rising_alone) is
   allots_made (Some all) p rows is above = ap (option_and_then rising_alone) is ∙ rising_exactly all rows (above all refl)
 
-  -- what was asked returned nothing else
-  asked_of : (text : List ℕ) (rows : List Row) (old new : Held S) → DidAll g (Asks text rows ∷ []) old new → Shown text [] (state g old) (state g new) rows
-  asked_of text rows old new did = subst (λ (h : Held S). Shown text [] (state g old) (state g h) rows) did.2 did.1
+  -- what was asked returned these rows
+  pub shown_of : (text : List ℕ) (rows : List Row) (old new : Held S) → DidAll g (Asks text rows ∷ []) old new → Shown text [] (state g old) (state g new) rows
+  shown_of text rows old new did = subst (λ (h : Held S). Shown text [] (state g old) (state g h) rows) did.2 did.1
 
   pub cut_made_told : (strict : Bool) (rows : List AllotRow) (old last : Held S) → (state g old).now.schema ≡ stored strict → MakesCut g rows old last → tables_in (state g last).now.trees ≡ with_cut rows (tables_in (state g old).now.trees)
   cut_made_told strict rows old last has m =
-      let phase = asked_of _ _ old m.asked m.phase.asked in
+      let phase = shown_of _ _ old m.asked m.phase.asked in
       let cuts : cuts_of ((state g old).now.trees 5) ≡ Some (Some m.made) = shows_phase strict (state g old) (state g m.asked) _ has phase (Some m.made) (m.phase.row, refl, m.phase.is) in
       let one : (state g m.asked).now ≡ (state g old).now = phase_same strict (state g old) (state g m.asked) _ has phase in
       let has_one : m.asked.schema ≡ stored strict = ap (λ (d : Database). d.schema) one ∙ has in
-      let key = asked_of _ _ m.asked m.tested m.above.asked in
+      let key = shown_of _ _ m.asked m.tested m.above.asked in
       let two : (state g m.tested).now ≡ (state g old).now = key_same strict (state g m.asked) (state g m.tested) _ has_one key ∙ one in
       let ready : (state g m.put.0).now ≡ (state g old).now = m.put.1.same.0.now_is ∙ two in
       let trees : (state g m.put.0).now.trees ≡ (state g old).now.trees = ap (λ (d : Database). d.trees) ready in

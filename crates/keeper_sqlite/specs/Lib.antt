@@ -1,6 +1,7 @@
 pub mod Columns
 pub mod Commits
 pub mod Halts
+pub mod Inside
 pub mod Kept
 pub mod Numbers
 pub mod Rising

@@ -1,14 +1,12 @@
 // The table of published seats.
 ghost use Rattle.std.specs.Prelude.{◌≡◌, Option, List, [], ◌∷◌, codes, IfOk, IfErr, OnOk, Bool, Some, None};
 ghost use Rattle.sqlite.specs.Order.{Row as Values};
-ghost use Rattle.sqlite.specs.State.{HasCleanDisk};
+ghost use Rattle.keeper_sqlite.specs.Inside.{IsClean, StaysInside, content};
 ghost use Rattle.keeper_sqlite.specs.Halts.{WantsMemory};
 ghost use Rattle.keeper_sqlite.specs.Columns.{IsAllotRow, IsKeyRow, TellsKey};
 ghost use Rattle.keeper_sqlite.specs.declared.rising.Key.{Key};
-ghost use Rattle.sqlite.specs.Held.{state};
 ghost use Rattle.std.specs.List.{AllByRecursion};
 ghost use Rattle.stored_tables.specs.Fits.{AllotFits};
-ghost use Rattle.keeper_sqlite.specs.Commits.{CommitsNothing};
 ghost use Rattle.keeper_sqlite.specs.Kept.{DidAll, TellsRecords, allots_query, allot_table, allot_text, allot_values, allot_calls, key_query};
 ghost use Rattle.stored_tables.specs.Layout.{stored};
 ghost use Rattle.stored_tables.specs.Puts.{PutsAllot};
@@ -30,11 +28,14 @@ use std::alloc::Global;
 
 /// Makes the table if it is missing.
 pub(crate) fn create<S: Alter>(tx: &mut Transaction<'_, S>) -> Result<(), Halt>
-    ensures same_reference { tx.new.conn.ghost_name ≡ tx.old.conn.ghost_name }
-    ensures inside { CommitsNothing (state S.Store tx.old.conn.now) (state S.Store tx.new.conn.now) }
-    ensures ran { HasCleanDisk (state S.Store tx.new.conn.now) → OnOk result (DidAll S.Store (Runs allot_table [] ∷ []) tx.old.conn.now tx.new.conn.now) }
-    ensures lost { HasCleanDisk (state S.Store tx.new.conn.now) → IfErr result (λ halt. StopsIn S.Store (Runs allot_table [] ∷ []) halt tx.old.conn.now tx.new.conn.now) }
-    ensures stands { (strict : Bool) → HasCleanDisk (state S.Store tx.new.conn.now) → tx.old.conn.now.schema ≡ stored strict → OnOk result ((state S.Store tx.new.conn.now).now ≡ (state S.Store tx.old.conn.now).now) }
+    ensures inside { StaysInside S.Store tx.old.conn tx.new.conn }
+    ensures ran { IsClean S.Store tx.new.conn.now
+        → OnOk result (DidAll S.Store (Runs allot_table [] ∷ []) tx.old.conn.now tx.new.conn.now) }
+    ensures lost { IsClean S.Store tx.new.conn.now → IfErr result (λ halt.
+        StopsIn S.Store (Runs allot_table [] ∷ []) halt tx.old.conn.now tx.new.conn.now) }
+    ensures stands { (strict : Bool) → IsClean S.Store tx.new.conn.now
+        → tx.old.conn.now.schema ≡ stored strict
+        → OnOk result (content S.Store tx.new.conn.now ≡ content S.Store tx.old.conn.now) }
 {
     run(
         tx,
@@ -45,11 +46,13 @@ pub(crate) fn create<S: Alter>(tx: &mut Transaction<'_, S>) -> Result<(), Halt>
 
 /// Tests that no row is there.
 pub(crate) fn expect_empty<S: Alter>(tx: &mut Transaction<'_, S>) -> Result<(), Halt>
-    ensures same_reference { tx.new.conn.ghost_name ≡ tx.old.conn.ghost_name }
-    ensures inside { CommitsNothing (state S.Store tx.old.conn.now) (state S.Store tx.new.conn.now) }
-    ensures told { HasCleanDisk (state S.Store tx.new.conn.now) → OnOk result (DidAll S.Store (Asks (codes "SELECT rnd FROM allot LIMIT 1") [] ∷ []) tx.old.conn.now tx.new.conn.now) }
-    ensures lost { HasCleanDisk (state S.Store tx.new.conn.now) → IfErr result (λ halt. StopsIn S.Store (Asks (codes "SELECT rnd FROM allot LIMIT 1") [] ∷ []) halt tx.old.conn.now tx.new.conn.now) }
-    ensures none { (strict : Bool) → HasCleanDisk (state S.Store tx.new.conn.now) → tx.old.conn.now.schema ≡ stored strict → OnOk result ((state S.Store tx.old.conn.now).now.trees 3 ≡ []) }
+    ensures inside { StaysInside S.Store tx.old.conn tx.new.conn }
+    ensures told { IsClean S.Store tx.new.conn.now → OnOk result (DidAll S.Store
+        (Asks (codes "SELECT rnd FROM allot LIMIT 1") [] ∷ []) tx.old.conn.now tx.new.conn.now) }
+    ensures lost { IsClean S.Store tx.new.conn.now → IfErr result (λ halt. StopsIn S.Store (Asks
+        (codes "SELECT rnd FROM allot LIMIT 1") [] ∷ []) halt tx.old.conn.now tx.new.conn.now) }
+    ensures none { (strict : Bool) → IsClean S.Store tx.new.conn.now → tx.old.conn.now.schema
+        ≡ stored strict → OnOk result ((content S.Store tx.old.conn.now).trees 3 ≡ []) }
 {
     expect_none(tx, "SELECT rnd FROM allot LIMIT 1")
 }
@@ -59,11 +62,12 @@ pub(crate) fn insert_all<S: Alter>(
     tx: &mut Transaction<'_, S>,
     rows: &[AllotRow],
 ) -> Result<(), Halt>
-    ensures same_reference { tx.new.conn.ghost_name ≡ tx.old.conn.ghost_name }
-    ensures inside { CommitsNothing (state S.Store tx.old.conn.now) (state S.Store tx.new.conn.now) }
-    ensures ran { HasCleanDisk (state S.Store tx.new.conn.now) → OnOk result (DidAll S.Store (Readies allot_text ∷ allot_calls allot_text rows.now) tx.old.conn.now tx.new.conn.now) }
+    ensures inside { StaysInside S.Store tx.old.conn tx.new.conn }
+    ensures ran { IsClean S.Store tx.new.conn.now → OnOk result (DidAll S.Store
+        (Readies allot_text ∷ allot_calls allot_text rows.now) tx.old.conn.now tx.new.conn.now) }
     ensures fit { OnOk result (AllByRecursion AllotFits rows.now) }
-    ensures lost { HasCleanDisk (state S.Store tx.new.conn.now) → IfErr result (λ halt. StopsIn S.Store (Readies allot_text ∷ allot_calls allot_text rows.now) halt tx.old.conn.now tx.new.conn.now) }
+    ensures lost { IsClean S.Store tx.new.conn.now → IfErr result (λ halt. StopsIn S.Store (Readies
+        allot_text ∷ allot_calls allot_text rows.now) halt tx.old.conn.now tx.new.conn.now) }
 {
     let insert = make_ready(
         tx,
@@ -77,11 +81,12 @@ fn insert_each<S: Alter>(
     insert: &Statement,
     rows: &[AllotRow],
 ) -> Result<(), Halt>
-    ensures same_reference { tx.new.conn.ghost_name ≡ tx.old.conn.ghost_name }
-    ensures inside { CommitsNothing (state S.Store tx.old.conn.now) (state S.Store tx.new.conn.now) }
-    ensures ran { HasCleanDisk (state S.Store tx.new.conn.now) → OnOk result (DidAll S.Store (allot_calls insert.now.text rows.now) tx.old.conn.now tx.new.conn.now) }
+    ensures inside { StaysInside S.Store tx.old.conn tx.new.conn }
+    ensures ran { IsClean S.Store tx.new.conn.now → OnOk result
+        (DidAll S.Store (allot_calls insert.now.text rows.now) tx.old.conn.now tx.new.conn.now) }
     ensures fit { OnOk result (AllByRecursion AllotFits rows.now) }
-    ensures lost { HasCleanDisk (state S.Store tx.new.conn.now) → IfErr result (λ halt. StopsIn S.Store (allot_calls insert.now.text rows.now) halt tx.old.conn.now tx.new.conn.now) }
+    ensures lost { IsClean S.Store tx.new.conn.now → IfErr result (λ halt. StopsIn S.Store
+        (allot_calls insert.now.text rows.now) halt tx.old.conn.now tx.new.conn.now) }
 {
     for row in rows {
         insert_one(tx, insert, *row)?;
@@ -94,12 +99,15 @@ fn insert_one<S: Alter>(
     insert: &Statement,
     row: AllotRow,
 ) -> Result<(), Halt>
-    ensures same_reference { tx.new.conn.ghost_name ≡ tx.old.conn.ghost_name }
-    ensures inside { CommitsNothing (state S.Store tx.old.conn.now) (state S.Store tx.new.conn.now) }
-    ensures ran { HasCleanDisk (state S.Store tx.new.conn.now) → OnOk result (DidAll S.Store (Runs insert.now.text (allot_values row) ∷ []) tx.old.conn.now tx.new.conn.now) }
+    ensures inside { StaysInside S.Store tx.old.conn tx.new.conn }
+    ensures ran { IsClean S.Store tx.new.conn.now → OnOk result (DidAll S.Store
+        (Runs insert.now.text (allot_values row) ∷ []) tx.old.conn.now tx.new.conn.now) }
     ensures fits { AllotFits row }
-    ensures lost { HasCleanDisk (state S.Store tx.new.conn.now) → IfErr result (λ halt. StopsIn S.Store (Runs insert.now.text (allot_values row) ∷ []) halt tx.old.conn.now tx.new.conn.now) }
-    ensures put { (strict : Bool) → HasCleanDisk (state S.Store tx.new.conn.now) → tx.old.conn.now.schema ≡ stored strict → insert.now.text ≡ allot_text → OnOk result (PutsAllot row (state S.Store tx.old.conn.now).now (state S.Store tx.new.conn.now).now) }
+    ensures lost { IsClean S.Store tx.new.conn.now → IfErr result (λ halt. StopsIn S.Store
+        (Runs insert.now.text (allot_values row) ∷ []) halt tx.old.conn.now tx.new.conn.now) }
+    ensures put { (strict : Bool) → IsClean S.Store tx.new.conn.now
+        → tx.old.conn.now.schema ≡ stored strict → insert.now.text ≡ allot_text → OnOk result
+        (PutsAllot row (content S.Store tx.old.conn.now) (content S.Store tx.new.conn.now)) }
 {
     run_ready(
         tx,
@@ -115,12 +123,15 @@ fn insert_one<S: Alter>(
 
 /// Returns the last key by round and candidate, if the table has a row.
 pub(crate) fn last_key<S: Alter>(tx: &mut Transaction<'_, S>) -> Result<Option<Key>, Halt>
-    ensures same_reference { tx.new.conn.ghost_name ≡ tx.old.conn.ghost_name }
-    ensures inside { CommitsNothing (state S.Store tx.old.conn.now) (state S.Store tx.new.conn.now) }
-    ensures told { HasCleanDisk (state S.Store tx.new.conn.now)
-        → IfOk result (λ last. (rows : List Values) × TellsKey rows last × DidAll S.Store (Asks key_query rows ∷ []) tx.old.conn.now tx.new.conn.now) }
-    ensures lost { HasCleanDisk (state S.Store tx.new.conn.now) → IfErr result (λ halt. LosesKey S.Store halt tx.old.conn.now tx.new.conn.now) }
-    ensures stands { (strict : Bool) → HasCleanDisk (state S.Store tx.new.conn.now) → tx.old.conn.now.schema ≡ stored strict → IfOk result (λ last. (all : List AllotRow) → allots_in (state S.Store tx.old.conn.now).now.trees ≡ Some all → last ≡ key_after None all) }
+    ensures inside { StaysInside S.Store tx.old.conn tx.new.conn }
+    ensures told { IsClean S.Store tx.new.conn.now
+        → IfOk result (λ last. (rows : List Values) × TellsKey rows last
+        × DidAll S.Store (Asks key_query rows ∷ []) tx.old.conn.now tx.new.conn.now) }
+    ensures lost { IsClean S.Store tx.new.conn.now
+        → IfErr result (λ halt. LosesKey S.Store halt tx.old.conn.now tx.new.conn.now) }
+    ensures stands { (strict : Bool) → IsClean S.Store tx.new.conn.now → tx.old.conn.now.schema
+        ≡ stored strict → IfOk result (λ last. (all : List AllotRow) → allots_in
+        (content S.Store tx.old.conn.now).trees ≡ Some all → last ≡ key_after None all) }
 {
     first_key(&ask(
         tx,
@@ -130,7 +141,8 @@ pub(crate) fn last_key<S: Alter>(tx: &mut Transaction<'_, S>) -> Result<Option<K
 
 fn first_key(rows: &[Row]) -> Result<Option<Key>, Halt>
     ensures ok { IfOk result (TellsKey rows.now) }
-    ensures err { IfErr result (λ halt. ¬ WantsMemory halt → (found : Option Key) → ¬ TellsKey rows.now found) }
+    ensures err { IfErr result (λ halt. ¬ WantsMemory halt
+        → (found : Option Key) → ¬ TellsKey rows.now found) }
 {
     match rows.first() {
         None => Ok(None),
@@ -153,11 +165,14 @@ pub(crate) fn read_all<S: Alter>(
     tx: &mut Transaction<'_, S>,
     alloc: Global,
 ) -> Result<AllotRows, Halt>
-    ensures same_reference { tx.new.conn.ghost_name ≡ tx.old.conn.ghost_name }
-    ensures inside { CommitsNothing (state S.Store tx.old.conn.now) (state S.Store tx.new.conn.now) }
-    ensures told { HasCleanDisk (state S.Store tx.new.conn.now) → IfOk result (λ records. TellsRecords S.Store IsAllotRow allots_query records tx.old.conn.now tx.new.conn.now) }
-    ensures lost { HasCleanDisk (state S.Store tx.new.conn.now) → IfErr result (λ halt. LosesRecords S.Store IsAllotRow allots_query halt tx.old.conn.now tx.new.conn.now) }
-    ensures stands { (strict : Bool) → HasCleanDisk (state S.Store tx.new.conn.now) → tx.old.conn.now.schema ≡ stored strict → IfOk result (λ records. (all : List AllotRow) → allots_in (state S.Store tx.old.conn.now).now.trees ≡ Some all → all ≡ records) }
+    ensures inside { StaysInside S.Store tx.old.conn tx.new.conn }
+    ensures told { IsClean S.Store tx.new.conn.now → IfOk result (λ records.
+        TellsRecords S.Store IsAllotRow allots_query records tx.old.conn.now tx.new.conn.now) }
+    ensures lost { IsClean S.Store tx.new.conn.now → IfErr result (λ halt.
+        LosesRecords S.Store IsAllotRow allots_query halt tx.old.conn.now tx.new.conn.now) }
+    ensures stands { (strict : Bool) → IsClean S.Store tx.new.conn.now
+        → tx.old.conn.now.schema ≡ stored strict → IfOk result (λ records. (all : List AllotRow)
+        → allots_in (content S.Store tx.old.conn.now).trees ≡ Some all → all ≡ records) }
 {
     let rows = ask(
         tx,

@@ -1,11 +1,9 @@
 // Calls on the database inside a transaction, as contracts name them.
 ghost use Rattle.std.specs.Prelude.{◌≡◌, ◌≢◌, [], ◌∷◌, IfOk, IfErr, OnOk};
 ghost use Rattle.sqlite.specs.declared.error.Error.{Error};
+ghost use Rattle.keeper_sqlite.specs.Inside.{IsClean, StaysInside};
 ghost use Rattle.keeper_sqlite.specs.declared.halt.Halt.TheVariants.{Refused, Unfit};
 ghost use Rattle.sqlite.specs.Values.{bound};
-ghost use Rattle.sqlite.specs.State.{HasCleanDisk};
-ghost use Rattle.sqlite.specs.Held.{state};
-ghost use Rattle.keeper_sqlite.specs.Commits.{CommitsNothing};
 ghost use Rattle.keeper_sqlite.specs.Kept.{DidAll};
 ghost use Rattle.keeper_sqlite.specs.Stops.{StopsIn, IsRefusal, RefusesToTell};
 ghost use Rattle.keeper_sqlite.specs.Kept.Call.{Runs, Places, Asks, Readies};
@@ -20,11 +18,12 @@ pub(crate) fn run<S: Alter>(
     text: &str,
     values: &[ValueRef<'_>],
 ) -> Result<(), Halt>
-    ensures same_reference { tx.new.conn.ghost_name ≡ tx.old.conn.ghost_name }
-    ensures inside { CommitsNothing (state S.Store tx.old.conn.now) (state S.Store tx.new.conn.now) }
-    ensures ran { HasCleanDisk (state S.Store tx.new.conn.now) → OnOk result (DidAll S.Store (Runs text.now (bound values.now) ∷ []) tx.old.conn.now tx.new.conn.now) }
+    ensures inside { StaysInside S.Store tx.old.conn tx.new.conn }
+    ensures ran { IsClean S.Store tx.new.conn.now → OnOk result
+        (DidAll S.Store (Runs text.now (bound values.now) ∷ []) tx.old.conn.now tx.new.conn.now) }
     ensures halts { IfErr result (λ halt. (error : Error) × (halt ≡ Refused error)) }
-    ensures lost { HasCleanDisk (state S.Store tx.new.conn.now) → IfErr result (λ halt. StopsIn S.Store (Runs text.now (bound values.now) ∷ []) halt tx.old.conn.now tx.new.conn.now) }
+    ensures lost { IsClean S.Store tx.new.conn.now → IfErr result (λ halt. StopsIn S.Store
+        (Runs text.now (bound values.now) ∷ []) halt tx.old.conn.now tx.new.conn.now) }
 {
     tx.execute(text, values)?;
     Ok(())
@@ -36,10 +35,11 @@ pub(crate) fn place<S: Alter>(
     text: &str,
     values: &[ValueRef<'_>],
 ) -> Result<(), Halt>
-    ensures same_reference { tx.new.conn.ghost_name ≡ tx.old.conn.ghost_name }
-    ensures inside { CommitsNothing (state S.Store tx.old.conn.now) (state S.Store tx.new.conn.now) }
-    ensures ran { HasCleanDisk (state S.Store tx.new.conn.now) → OnOk result (DidAll S.Store (Places text.now (bound values.now) ∷ []) tx.old.conn.now tx.new.conn.now) }
-    ensures lost { HasCleanDisk (state S.Store tx.new.conn.now) → IfErr result (λ halt. StopsIn S.Store (Places text.now (bound values.now) ∷ []) halt tx.old.conn.now tx.new.conn.now) }
+    ensures inside { StaysInside S.Store tx.old.conn tx.new.conn }
+    ensures ran { IsClean S.Store tx.new.conn.now → OnOk result
+        (DidAll S.Store (Places text.now (bound values.now) ∷ []) tx.old.conn.now tx.new.conn.now) }
+    ensures lost { IsClean S.Store tx.new.conn.now → IfErr result (λ halt. StopsIn S.Store
+        (Places text.now (bound values.now) ∷ []) halt tx.old.conn.now tx.new.conn.now) }
 {
     if tx.execute(text, values)? == 1 {
         Ok(())
@@ -50,21 +50,23 @@ pub(crate) fn place<S: Alter>(
 
 /// Asks a query that takes no values.
 pub(crate) fn ask<S: Alter>(tx: &mut Transaction<'_, S>, text: &str) -> Result<Vec<Row>, Halt>
-    ensures same_reference { tx.new.conn.ghost_name ≡ tx.old.conn.ghost_name }
-    ensures inside { CommitsNothing (state S.Store tx.old.conn.now) (state S.Store tx.new.conn.now) }
-    ensures told { HasCleanDisk (state S.Store tx.new.conn.now) → IfOk result (λ rows. DidAll S.Store (Asks text.now rows.items ∷ []) tx.old.conn.now tx.new.conn.now) }
+    ensures inside { StaysInside S.Store tx.old.conn tx.new.conn }
+    ensures told { IsClean S.Store tx.new.conn.now → IfOk result (λ rows.
+        DidAll S.Store (Asks text.now rows.items ∷ []) tx.old.conn.now tx.new.conn.now) }
     ensures halts { IfErr result (λ halt. (error : Error) × (halt ≡ Refused error)) }
-    ensures refused { HasCleanDisk (state S.Store tx.new.conn.now) → IfErr result (IsRefusal (λ error. RefusesToTell S.Store text.now error tx.old.conn.now tx.new.conn.now)) }
+    ensures refused { IsClean S.Store tx.new.conn.now → IfErr result (IsRefusal (λ error.
+        RefusesToTell S.Store text.now error tx.old.conn.now tx.new.conn.now)) }
 {
     Ok(tx.query_all(text, &[])?)
 }
 
 /// Tests that a query returns no row.
 pub(crate) fn expect_none<S: Alter>(tx: &mut Transaction<'_, S>, text: &str) -> Result<(), Halt>
-    ensures same_reference { tx.new.conn.ghost_name ≡ tx.old.conn.ghost_name }
-    ensures inside { CommitsNothing (state S.Store tx.old.conn.now) (state S.Store tx.new.conn.now) }
-    ensures told { HasCleanDisk (state S.Store tx.new.conn.now) → OnOk result (DidAll S.Store (Asks text.now [] ∷ []) tx.old.conn.now tx.new.conn.now) }
-    ensures lost { HasCleanDisk (state S.Store tx.new.conn.now) → IfErr result (λ halt. StopsIn S.Store (Asks text.now [] ∷ []) halt tx.old.conn.now tx.new.conn.now) }
+    ensures inside { StaysInside S.Store tx.old.conn tx.new.conn }
+    ensures told { IsClean S.Store tx.new.conn.now
+        → OnOk result (DidAll S.Store (Asks text.now [] ∷ []) tx.old.conn.now tx.new.conn.now) }
+    ensures lost { IsClean S.Store tx.new.conn.now → IfErr result (λ halt.
+        StopsIn S.Store (Asks text.now [] ∷ []) halt tx.old.conn.now tx.new.conn.now) }
 {
     expect_empty(&ask(tx, text)?)
 }
@@ -85,11 +87,12 @@ pub(crate) fn make_ready<S: Alter>(
     tx: &mut Transaction<'_, S>,
     text: &str,
 ) -> Result<Statement, Halt>
-    ensures same_reference { tx.new.conn.ghost_name ≡ tx.old.conn.ghost_name }
-    ensures inside { CommitsNothing (state S.Store tx.old.conn.now) (state S.Store tx.new.conn.now) }
-    ensures made { HasCleanDisk (state S.Store tx.new.conn.now) → IfOk result (λ statement. (statement.text ≡ text.now) × DidAll S.Store (Readies text.now ∷ []) tx.old.conn.now tx.new.conn.now) }
+    ensures inside { StaysInside S.Store tx.old.conn tx.new.conn }
+    ensures made { IsClean S.Store tx.new.conn.now → IfOk result (λ statement. (statement.text
+        ≡ text.now) × DidAll S.Store (Readies text.now ∷ []) tx.old.conn.now tx.new.conn.now) }
     ensures halts { IfErr result (λ halt. (error : Error) × (halt ≡ Refused error)) }
-    ensures lost { HasCleanDisk (state S.Store tx.new.conn.now) → IfErr result (λ halt. StopsIn S.Store (Readies text.now ∷ []) halt tx.old.conn.now tx.new.conn.now) }
+    ensures lost { IsClean S.Store tx.new.conn.now → IfErr result (λ halt.
+        StopsIn S.Store (Readies text.now ∷ []) halt tx.old.conn.now tx.new.conn.now) }
 {
     Ok(tx.prepare(text)?)
 }
@@ -100,11 +103,12 @@ pub(crate) fn run_ready<S: Alter>(
     statement: &Statement,
     values: &[ValueRef<'_>],
 ) -> Result<(), Halt>
-    ensures same_reference { tx.new.conn.ghost_name ≡ tx.old.conn.ghost_name }
-    ensures inside { CommitsNothing (state S.Store tx.old.conn.now) (state S.Store tx.new.conn.now) }
-    ensures ran { HasCleanDisk (state S.Store tx.new.conn.now) → OnOk result (DidAll S.Store (Runs statement.now.text (bound values.now) ∷ []) tx.old.conn.now tx.new.conn.now) }
+    ensures inside { StaysInside S.Store tx.old.conn tx.new.conn }
+    ensures ran { IsClean S.Store tx.new.conn.now → OnOk result (DidAll S.Store
+        (Runs statement.now.text (bound values.now) ∷ []) tx.old.conn.now tx.new.conn.now) }
     ensures halts { IfErr result (λ halt. (error : Error) × (halt ≡ Refused error)) }
-    ensures lost { HasCleanDisk (state S.Store tx.new.conn.now) → IfErr result (λ halt. StopsIn S.Store (Runs statement.now.text (bound values.now) ∷ []) halt tx.old.conn.now tx.new.conn.now) }
+    ensures lost { IsClean S.Store tx.new.conn.now → IfErr result (λ halt. StopsIn S.Store
+        (Runs statement.now.text (bound values.now) ∷ []) halt tx.old.conn.now tx.new.conn.now) }
 {
     tx.execute_prepared(statement, values)?;
     Ok(())

@@ -40,14 +40,16 @@ pub(crate) fn expect_number(row: &Row) -> Result<(), Halt>
 
 pub(crate) fn choice_at(row: &Row, at: usize) -> Result<Choice, Halt>
     ensures ok { IfOk result (IsChoiceAt row.now at) }
-    ensures err { IfErr result (λ halt. ¬ WantsMemory halt → (choice : Choice) → ¬ IsChoiceAt row.now at choice) }
+    ensures err { IfErr result (λ halt. ¬ WantsMemory halt
+        → (choice : Choice) → ¬ IsChoiceAt row.now at choice) }
 {
     choice_of_number(number_at(row, at)?).ok_or(Halt::Unfit)
 }
 
 pub(crate) fn step_at(row: &Row, at: usize) -> Result<StepKind, Halt>
     ensures ok { IfOk result (IsStepAt row.now at) }
-    ensures err { IfErr result (λ halt. ¬ WantsMemory halt → (step : StepKind) → ¬ IsStepAt row.now at step) }
+    ensures err { IfErr result (λ halt. ¬ WantsMemory halt
+        → (step : StepKind) → ¬ IsStepAt row.now at step) }
 {
     let number = u8::try_from(number_at(row, at)?).map_err(|_| Halt::Unfit)?;
     step_of_number(number).ok_or(Halt::Unfit)

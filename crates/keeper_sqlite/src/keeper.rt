@@ -1,9 +1,10 @@
 // The keeper over a connection.
 ghost use Rattle.std.specs.Prelude.{◌≡◌, ◌≤◌, ◌⊎◌, [], ◌∷◌, ◌++◌, Bool, true, false, IsErrOf, IsErrAnd, IsTrue, IfOk, IfErr, OnOk, OnErr, MatchOption};
 ghost use Rattle.office_base.specs.Memory.{FailsByOne, counted};
-ghost use Rattle.sqlite.specs.State.{HasCleanDisk, Survives};
+ghost use Rattle.sqlite.specs.State.{Survives};
 ghost use Rattle.sqlite.specs.Tree.{Trees};
 ghost use Rattle.sqlite.specs.Held.{state};
+ghost use Rattle.keeper_sqlite.specs.Inside.{CrashLeaves, IsClean, content, shown, tables_without_raises};
 ghost use Rattle.keeper_sqlite.specs.Commits.{CommitsNothing, CommitsOnce};
 ghost use Rattle.keeper_sqlite.specs.Kept.{Keeps, MadeBy, Looks, TellsSeason, TellsKept, Makes, MakesCut, PutsText, Ran, DidAll, season_calls, plain_calls, table_texts, answer_text, answer_values, raise_text, raise_values};
 ghost use Rattle.keeper_sqlite.specs.Halts.{keep_fault, faults_after};
@@ -12,7 +13,7 @@ ghost use Rattle.keeper_sqlite.specs.Stops.{FailsBy, StopsIn, StopsText, LosesPh
 ghost use Rattle.keeper_sqlite.specs.Kept.Call.{Runs};
 ghost use Rattle.std.specs.List.{AllByRecursion};
 ghost use Rattle.keeper_mem.specs.Tables.{NoSeason, Records, with_season, with_answer, with_raise, with_cut, AreTold, IsFound, IsLoaded, IsTold};
-ghost use Rattle.stored_tables.specs.Told.{told, tables_in, without_raises};
+ghost use Rattle.stored_tables.specs.Told.{tables_in};
 ghost use Rattle.stored_tables.specs.Leaves.{LeavesTables};
 ghost use Rattle.stored_tables.specs.Rising.{are_rising};
 ghost use Rattle.keeper_mem.specs.declared.rows.Kept.{Kept};
@@ -58,7 +59,8 @@ impl<S: Alter> SqliteKeeper<S> {
 
     /// Shows that the visible tables of the keeper are those of its store. It does nothing.
     pub fn tells(&self)
-        ensures { (⟦<SqliteKeeper<S> as Keeper>⟧.seen self.now).tables ≡ told (state S.Store self.now.connection) }
+        ensures { (⟦<SqliteKeeper<S> as Keeper>⟧.seen self.now).tables
+            ≡ shown S.Store self.now.connection }
     {
         let _ = self.connection.is_autocommit();
     }
@@ -88,14 +90,25 @@ impl<S: Alter> SqliteKeeper<S> {
     /// One without the table of raises shows what it kept and no raises.
     /// One with all five shows what it kept.
     pub fn make_tables(&mut self) -> Result<(), KeepFault>
-        ensures blamed { FailsByOne (IsErrOf result KeepFault.Failed) self.old.faults self.new.faults }
-        ensures once { CommitsOnce (state S.Store self.old.connection) (state S.Store self.new.connection) }
-        ensures kept { HasCleanDisk (state S.Store self.new.connection) → OnOk result (Keeps S.Store (DidAll S.Store (plain_calls table_texts)) self.old.connection self.new.connection) }
-        ensures rows { HasCleanDisk (state S.Store self.new.connection) → OnOk result (LeavesTables (state S.Store self.old.connection).now (state S.Store self.new.connection).now) }
-        ensures fresh { HasCleanDisk (state S.Store self.new.connection) → self.old.connection.schema ≡ no_schema → OnOk result (told (state S.Store self.new.connection) ≡ NoSeason) }
-        ensures older { (strict : Bool) → HasCleanDisk (state S.Store self.new.connection) → self.old.connection.schema ≡ first_four strict → OnOk result (told (state S.Store self.new.connection) ≡ tables_in (without_raises (state S.Store self.old.connection).now.trees)) }
-        ensures whole { (strict : Bool) → HasCleanDisk (state S.Store self.new.connection) → self.old.connection.schema ≡ stored strict → OnOk result (told (state S.Store self.new.connection) ≡ tables_in (state S.Store self.old.connection).now.trees) }
-        ensures lost { HasCleanDisk (state S.Store self.new.connection) → IfErr result (FailsBy (λ halt. Loses S.Store (StopsIn S.Store (plain_calls table_texts)) (DidAll S.Store (plain_calls table_texts)) halt self.old.connection self.new.connection)) }
+        ensures blamed { FailsByOne (IsErrOf result KeepFault.Failed)
+            self.old.faults self.new.faults }
+        ensures once { CommitsOnce (state S.Store self.old.connection)
+            (state S.Store self.new.connection) }
+        ensures kept { IsClean S.Store self.new.connection → OnOk result (Keeps S.Store
+            (DidAll S.Store (plain_calls table_texts)) self.old.connection self.new.connection) }
+        ensures rows { IsClean S.Store self.new.connection → OnOk result (LeavesTables
+            (content S.Store self.old.connection) (content S.Store self.new.connection)) }
+        ensures fresh { IsClean S.Store self.new.connection → self.old.connection.schema ≡ no_schema
+            → OnOk result (shown S.Store self.new.connection ≡ NoSeason) }
+        ensures older { (strict : Bool) → IsClean S.Store self.new.connection
+            → self.old.connection.schema ≡ first_four strict → OnOk result (shown S.Store
+            self.new.connection ≡ tables_without_raises S.Store self.old.connection) }
+        ensures whole { (strict : Bool) → IsClean S.Store self.new.connection
+            → self.old.connection.schema ≡ stored strict → OnOk result (shown S.Store
+            self.new.connection ≡ tables_in (content S.Store self.old.connection).trees) }
+        ensures lost { IsClean S.Store self.new.connection → IfErr result
+            (FailsBy (λ halt. Loses S.Store (StopsIn S.Store (plain_calls table_texts)) (DidAll
+            S.Store (plain_calls table_texts)) halt self.old.connection self.new.connection)) }
     {
         self.commit(Change::Tables)
     }
@@ -104,12 +117,20 @@ impl<S: Alter> SqliteKeeper<S> {
     fn commit(&mut self, change: Change<'_>) -> Result<(), KeepFault>
         ensures count { self.old.faults ≤ self.new.faults }
         ensures steady { ¬ IsErrOf result KeepFault.Failed → self.new.faults ≡ self.old.faults }
-        ensures counted { IsErrOf result KeepFault.Failed → self.new.faults ≡ counted self.old.faults }
-        ensures once { CommitsOnce (state S.Store self.old.connection) (state S.Store self.new.connection) }
-        ensures stays_err { HasCleanDisk (state S.Store self.new.connection) → IsTrue (state S.Store self.new.connection).is_open → OnErr result (told (state S.Store self.new.connection) ≡ told (state S.Store self.old.connection)) }
-        ensures made { Survives (state S.Store self.old.connection) (state S.Store self.new.connection) (MadeBy S.Store change.entry self.old.connection) }
-        ensures kept { HasCleanDisk (state S.Store self.new.connection) → OnOk result (Keeps S.Store (Makes S.Store change.entry) self.old.connection self.new.connection) }
-        ensures lost { HasCleanDisk (state S.Store self.new.connection) → IfErr result (FailsBy (λ halt. Loses S.Store (Breaks S.Store change.entry) (Makes S.Store change.entry) halt self.old.connection self.new.connection)) }
+        ensures counted { IsErrOf result KeepFault.Failed
+            → self.new.faults ≡ counted self.old.faults }
+        ensures once { CommitsOnce (state S.Store self.old.connection)
+            (state S.Store self.new.connection) }
+        ensures stays_err { IsClean S.Store self.new.connection
+            → IsTrue (state S.Store self.new.connection).is_open
+            → OnErr result (shown S.Store self.new.connection ≡ shown S.Store self.old.connection) }
+        ensures made { Survives (state S.Store self.old.connection)
+            (state S.Store self.new.connection) (MadeBy S.Store change.entry self.old.connection) }
+        ensures kept { IsClean S.Store self.new.connection → OnOk result
+            (Keeps S.Store (Makes S.Store change.entry) self.old.connection self.new.connection) }
+        ensures lost { IsClean S.Store self.new.connection
+            → IfErr result (FailsBy (λ halt. Loses S.Store (Breaks S.Store change.entry)
+            (Makes S.Store change.entry) halt self.old.connection self.new.connection)) }
     {
         let done = transactions::commit(&mut self.connection, change);
         self.settle(done)
@@ -121,7 +142,8 @@ impl<S: Alter> SqliteKeeper<S> {
         ensures err { IfErr result (λ fault. IsErrAnd done (λ halt. fault ≡ keep_fault halt)) }
         ensures count { self.old.faults ≤ self.new.faults }
         ensures steady { ¬ IsErrOf result KeepFault.Failed → self.new ≡ self.old }
-        ensures counted { IsErrOf result KeepFault.Failed → self.new ≡ record self.old { faults = counted self.old.faults } }
+        ensures counted { IsErrOf result KeepFault.Failed
+            → self.new ≡ record self.old { faults = counted self.old.faults } }
     {
         match done {
             Ok(value) => Ok(value),
@@ -134,7 +156,8 @@ impl<S: Alter> SqliteKeeper<S> {
     fn fault_of(&mut self, halt: Halt) -> KeepFault
         ensures count { self.old.faults ≤ self.new.faults }
         ensures fault { result ≡ keep_fault halt }
-        ensures faults { self.new ≡ record self.old { faults = faults_after result self.old.faults } }
+        ensures faults { self.new
+            ≡ record self.old { faults = faults_after result self.old.faults } }
     {
         match halt {
             Halt::NoMemory | Halt::Refused(Error::SqliteFailure(ErrorCode::OutOfMemory)) => {
@@ -155,28 +178,46 @@ impl<S: Alter> Keeper for SqliteKeeper<S> {
     ghost seen = { λ k. record { tables = told (state S.Store k.connection); faults = k.faults; holds_room = false; spare = 0 } };
 
     fn has_season(&mut self) -> Result<bool, KeepFault>
-        ensures ok { IfOk result (λ found. IsFound found (told (state S.Store self.new.connection))) }
-        ensures told { AreTold (told (state S.Store self.old.connection)) (told (state S.Store self.new.connection)) }
-        ensures stays { HasCleanDisk (state S.Store self.new.connection) → IsTrue (state S.Store self.new.connection).is_open → told (state S.Store self.new.connection) ≡ told (state S.Store self.old.connection) }
-        ensures blamed { FailsByOne (IsErrOf result KeepFault.Failed) self.old.faults self.new.faults }
-        ensures nothing { CommitsNothing (state S.Store self.old.connection) (state S.Store self.new.connection) }
-        ensures found { HasCleanDisk (state S.Store self.new.connection) → IfOk result (λ found. Looks S.Store (TellsSeason S.Store found) self.old.connection self.new.connection) }
-        ensures lost { HasCleanDisk (state S.Store self.new.connection) → IfErr result (FailsBy (λ halt. IsBusy halt self.old.connection ⊎ Looks S.Store (LosesPhase S.Store halt) self.old.connection self.new.connection)) }
+        ensures ok { IfOk result (λ found. IsFound found (shown S.Store self.new.connection)) }
+        ensures told { AreTold (shown S.Store self.old.connection)
+            (shown S.Store self.new.connection) }
+        ensures stays { IsClean S.Store self.new.connection
+            → IsTrue (state S.Store self.new.connection).is_open
+            → shown S.Store self.new.connection ≡ shown S.Store self.old.connection }
+        ensures blamed { FailsByOne (IsErrOf result KeepFault.Failed)
+            self.old.faults self.new.faults }
+        ensures nothing { CommitsNothing (state S.Store self.old.connection)
+            (state S.Store self.new.connection) }
+        ensures found { IsClean S.Store self.new.connection → IfOk result (λ found.
+            Looks S.Store (TellsSeason S.Store found) self.old.connection self.new.connection) }
+        ensures lost { IsClean S.Store self.new.connection
+            → IfErr result (FailsBy (λ halt. IsBusy halt self.old.connection
+            ⊎ Looks S.Store (LosesPhase S.Store halt) self.old.connection self.new.connection)) }
     {
         let done = transactions::has_season(&mut self.connection);
         self.settle(done)
     }
 
     fn put_season(&mut self, text: &[u8]) -> Result<(), KeepFault>
-        ensures ok { OnOk result (AreTold (with_season text.now (told (state S.Store self.old.connection))) (told (state S.Store self.new.connection))) }
-        ensures err { OnErr result (AreTold (told (state S.Store self.old.connection)) (told (state S.Store self.new.connection))) }
-        ensures stays { HasCleanDisk (state S.Store self.new.connection) → OnOk result (told (state S.Store self.new.connection) ≡ with_season text.now (told (state S.Store self.old.connection))) }
-        ensures crash { IsTold (told (state S.Store self.old.connection)) → Survives (state S.Store self.old.connection) (state S.Store self.new.connection) (λ db. tables_in db ≡ with_season text.now (told (state S.Store self.old.connection))) }
-        ensures alone { HasCleanDisk (state S.Store self.new.connection) → OnOk result (IsTold (told (state S.Store self.new.connection)) → (db : Trees) → (state S.Store self.new.connection).may_leave db → tables_in db ≡ told (state S.Store self.new.connection)) }
-        ensures blamed { FailsByOne (IsErrOf result KeepFault.Failed) self.old.faults self.new.faults }
-        ensures change { Transacts S.Store (PutsText S.Store season_calls text.now)
-            (StopsText S.Store season_calls 0 text.now) self.old.connection self.new.connection result }
-        ensures empty { (strict : Bool) → HasCleanDisk (state S.Store self.new.connection) → self.old.connection.schema ≡ stored strict → OnOk result (AllByRecursion (λ t. (state S.Store self.old.connection).now.trees t ≡ []) (0 ∷ 1 ∷ 3 ∷ 5 ∷ 6 ∷ [])) }
+        ensures ok { OnOk result (AreTold (with_season text.now (shown S.Store self.old.connection))
+            (shown S.Store self.new.connection)) }
+        ensures err { OnErr result
+            (AreTold (shown S.Store self.old.connection) (shown S.Store self.new.connection)) }
+        ensures stays { IsClean S.Store self.new.connection → OnOk result (shown S.Store
+            self.new.connection ≡ with_season text.now (shown S.Store self.old.connection)) }
+        ensures crash { IsTold (shown S.Store self.old.connection)
+            → CrashLeaves S.Store (with_season text.now (shown S.Store self.old.connection))
+            self.old.connection self.new.connection }
+        ensures alone { IsClean S.Store self.new.connection → OnOk result (IsTold (shown S.Store
+            self.new.connection) → (db : Trees) → (state S.Store self.new.connection).may_leave db
+            → tables_in db ≡ shown S.Store self.new.connection) }
+        ensures blamed { FailsByOne (IsErrOf result KeepFault.Failed)
+            self.old.faults self.new.faults }
+        ensures change { Transacts S.Store (PutsText S.Store season_calls text.now) (StopsText
+            S.Store season_calls 0 text.now) self.old.connection self.new.connection result }
+        ensures empty { (strict : Bool) → IsClean S.Store self.new.connection
+            → self.old.connection.schema ≡ stored strict → OnOk result (AllByRecursion (λ t.
+            (content S.Store self.old.connection).trees t ≡ []) (0 ∷ 1 ∷ 3 ∷ 5 ∷ 6 ∷ [])) }
     {
         self.commit(Change::Season(text))
     }
@@ -186,53 +227,93 @@ impl<S: Alter> Keeper for SqliteKeeper<S> {
     }
 
     fn put_answer(&mut self, row: AnswerRow) -> Result<(), KeepFault>
-        ensures ok { IsFound true (told (state S.Store self.old.connection)) → OnOk result (AreTold (with_answer row (told (state S.Store self.old.connection))) (told (state S.Store self.new.connection))) }
-        ensures err { OnErr result (AreTold (told (state S.Store self.old.connection)) (told (state S.Store self.new.connection))) }
-        ensures stays { IsFound true (told (state S.Store self.old.connection)) → HasCleanDisk (state S.Store self.new.connection) → OnOk result (told (state S.Store self.new.connection) ≡ with_answer row (told (state S.Store self.old.connection))) }
-        ensures crash { IsFound true (told (state S.Store self.old.connection)) → IsTold (told (state S.Store self.old.connection)) → Survives (state S.Store self.old.connection) (state S.Store self.new.connection) (λ db. tables_in db ≡ with_answer row (told (state S.Store self.old.connection))) }
-        ensures alone { HasCleanDisk (state S.Store self.new.connection) → OnOk result (IsTold (told (state S.Store self.new.connection)) → (db : Trees) → (state S.Store self.new.connection).may_leave db → tables_in db ≡ told (state S.Store self.new.connection)) }
-        ensures blamed { FailsByOne (IsErrOf result KeepFault.Failed) self.old.faults self.new.faults }
+        ensures ok { IsFound true (shown S.Store self.old.connection)
+            → OnOk result (AreTold (with_answer row (shown S.Store self.old.connection))
+            (shown S.Store self.new.connection)) }
+        ensures err { OnErr result
+            (AreTold (shown S.Store self.old.connection) (shown S.Store self.new.connection)) }
+        ensures stays { IsFound true (shown S.Store self.old.connection)
+            → IsClean S.Store self.new.connection → OnOk result (shown S.Store self.new.connection
+            ≡ with_answer row (shown S.Store self.old.connection)) }
+        ensures crash { IsFound true (shown S.Store self.old.connection)
+            → IsTold (shown S.Store self.old.connection) → CrashLeaves S.Store (with_answer row
+            (shown S.Store self.old.connection)) self.old.connection self.new.connection }
+        ensures alone { IsClean S.Store self.new.connection → OnOk result (IsTold (shown S.Store
+            self.new.connection) → (db : Trees) → (state S.Store self.new.connection).may_leave db
+            → tables_in db ≡ shown S.Store self.new.connection) }
+        ensures blamed { FailsByOne (IsErrOf result KeepFault.Failed)
+            self.old.faults self.new.faults }
         ensures change { Transacts S.Store (Ran S.Store answer_text (answer_values row))
-            (StopsIn S.Store (Runs answer_text (answer_values row) ∷ [])) self.old.connection self.new.connection result }
+            (StopsIn S.Store (Runs answer_text (answer_values row) ∷ []))
+            self.old.connection self.new.connection result }
     {
         self.commit(Change::Answer(row))
     }
 
     fn put_raise(&mut self, row: RaiseRow) -> Result<(), KeepFault>
-        ensures ok { IsFound true (told (state S.Store self.old.connection)) → OnOk result (AreTold (with_raise row (told (state S.Store self.old.connection))) (told (state S.Store self.new.connection))) }
-        ensures err { OnErr result (AreTold (told (state S.Store self.old.connection)) (told (state S.Store self.new.connection))) }
-        ensures stays { IsFound true (told (state S.Store self.old.connection)) → HasCleanDisk (state S.Store self.new.connection) → OnOk result (told (state S.Store self.new.connection) ≡ with_raise row (told (state S.Store self.old.connection))) }
-        ensures crash { IsFound true (told (state S.Store self.old.connection)) → IsTold (told (state S.Store self.old.connection)) → Survives (state S.Store self.old.connection) (state S.Store self.new.connection) (λ db. tables_in db ≡ with_raise row (told (state S.Store self.old.connection))) }
-        ensures alone { HasCleanDisk (state S.Store self.new.connection) → OnOk result (IsTold (told (state S.Store self.new.connection)) → (db : Trees) → (state S.Store self.new.connection).may_leave db → tables_in db ≡ told (state S.Store self.new.connection)) }
-        ensures blamed { FailsByOne (IsErrOf result KeepFault.Failed) self.old.faults self.new.faults }
+        ensures ok { IsFound true (shown S.Store self.old.connection)
+            → OnOk result (AreTold (with_raise row (shown S.Store self.old.connection))
+            (shown S.Store self.new.connection)) }
+        ensures err { OnErr result
+            (AreTold (shown S.Store self.old.connection) (shown S.Store self.new.connection)) }
+        ensures stays { IsFound true (shown S.Store self.old.connection)
+            → IsClean S.Store self.new.connection → OnOk result (shown S.Store self.new.connection
+            ≡ with_raise row (shown S.Store self.old.connection)) }
+        ensures crash { IsFound true (shown S.Store self.old.connection)
+            → IsTold (shown S.Store self.old.connection) → CrashLeaves S.Store (with_raise row
+            (shown S.Store self.old.connection)) self.old.connection self.new.connection }
+        ensures alone { IsClean S.Store self.new.connection → OnOk result (IsTold (shown S.Store
+            self.new.connection) → (db : Trees) → (state S.Store self.new.connection).may_leave db
+            → tables_in db ≡ shown S.Store self.new.connection) }
+        ensures blamed { FailsByOne (IsErrOf result KeepFault.Failed)
+            self.old.faults self.new.faults }
         ensures change { Transacts S.Store (Ran S.Store raise_text (raise_values row))
-            (StopsIn S.Store (Runs raise_text (raise_values row) ∷ [])) self.old.connection self.new.connection result }
+            (StopsIn S.Store (Runs raise_text (raise_values row) ∷ []))
+            self.old.connection self.new.connection result }
     {
         self.commit(Change::Raise(row))
     }
 
     fn put_cut(&mut self, rows: &[AllotRow]) -> Result<(), KeepFault>
-        ensures ok { OnOk result (AreTold (with_cut rows.now (told (state S.Store self.old.connection))) (told (state S.Store self.new.connection))) }
-        ensures err { OnErr result (AreTold (told (state S.Store self.old.connection)) (told (state S.Store self.new.connection))) }
-        ensures stays { HasCleanDisk (state S.Store self.new.connection) → OnOk result (told (state S.Store self.new.connection) ≡ with_cut rows.now (told (state S.Store self.old.connection))) }
-        ensures crash { IsTold (told (state S.Store self.old.connection)) → Survives (state S.Store self.old.connection) (state S.Store self.new.connection) (λ db. tables_in db ≡ with_cut rows.now (told (state S.Store self.old.connection))) }
-        ensures alone { HasCleanDisk (state S.Store self.new.connection) → OnOk result (IsTold (told (state S.Store self.new.connection)) → (db : Trees) → (state S.Store self.new.connection).may_leave db → tables_in db ≡ told (state S.Store self.new.connection)) }
-        ensures blamed { FailsByOne (IsErrOf result KeepFault.Failed) self.old.faults self.new.faults }
+        ensures ok { OnOk result (AreTold (with_cut rows.now (shown S.Store self.old.connection))
+            (shown S.Store self.new.connection)) }
+        ensures err { OnErr result
+            (AreTold (shown S.Store self.old.connection) (shown S.Store self.new.connection)) }
+        ensures stays { IsClean S.Store self.new.connection → OnOk result (shown S.Store
+            self.new.connection ≡ with_cut rows.now (shown S.Store self.old.connection)) }
+        ensures crash { IsTold (shown S.Store self.old.connection) → CrashLeaves S.Store (with_cut
+            rows.now (shown S.Store self.old.connection)) self.old.connection self.new.connection }
+        ensures alone { IsClean S.Store self.new.connection → OnOk result (IsTold (shown S.Store
+            self.new.connection) → (db : Trees) → (state S.Store self.new.connection).may_leave db
+            → tables_in db ≡ shown S.Store self.new.connection) }
+        ensures blamed { FailsByOne (IsErrOf result KeepFault.Failed)
+            self.old.faults self.new.faults }
         ensures change { Transacts S.Store (MakesCut S.Store rows.now)
             (LosesCut S.Store rows.now) self.old.connection self.new.connection result }
-        ensures rises { (kept : Kept) → told (state S.Store self.old.connection) ≡ Records kept → HasCleanDisk (state S.Store self.new.connection) → OnOk result (are_rising (kept.allots ++ rows.now) ≡ true) }
+        ensures rises { (kept : Kept) → shown S.Store self.old.connection ≡ Records kept
+            → IsClean S.Store self.new.connection
+            → OnOk result (are_rising (kept.allots ++ rows.now) ≡ true) }
     {
         self.commit(Change::Cut(rows))
     }
 
     fn load(&mut self, alloc: Global) -> Result<Option<Kept>, KeepFault>
-        ensures ok { IfOk result (λ found. MatchOption found (IsFound false (told (state S.Store self.new.connection))) (IsLoaded (told (state S.Store self.new.connection)))) }
-        ensures told { AreTold (told (state S.Store self.old.connection)) (told (state S.Store self.new.connection)) }
-        ensures stays { HasCleanDisk (state S.Store self.new.connection) → IsTrue (state S.Store self.new.connection).is_open → told (state S.Store self.new.connection) ≡ told (state S.Store self.old.connection) }
-        ensures blamed { FailsByOne (IsErrOf result KeepFault.Failed) self.old.faults self.new.faults }
-        ensures nothing { CommitsNothing (state S.Store self.old.connection) (state S.Store self.new.connection) }
-        ensures loaded { HasCleanDisk (state S.Store self.new.connection) → IfOk result (λ found. Looks S.Store (TellsKept S.Store found) self.old.connection self.new.connection) }
-        ensures lost { HasCleanDisk (state S.Store self.new.connection) → IfErr result (FailsBy (λ halt. IsBusy halt self.old.connection ⊎ Looks S.Store (LosesKept S.Store halt) self.old.connection self.new.connection)) }
+        ensures ok { IfOk result (λ found. MatchOption found (IsFound false
+            (shown S.Store self.new.connection)) (IsLoaded (shown S.Store self.new.connection))) }
+        ensures told { AreTold (shown S.Store self.old.connection)
+            (shown S.Store self.new.connection) }
+        ensures stays { IsClean S.Store self.new.connection
+            → IsTrue (state S.Store self.new.connection).is_open
+            → shown S.Store self.new.connection ≡ shown S.Store self.old.connection }
+        ensures blamed { FailsByOne (IsErrOf result KeepFault.Failed)
+            self.old.faults self.new.faults }
+        ensures nothing { CommitsNothing (state S.Store self.old.connection)
+            (state S.Store self.new.connection) }
+        ensures loaded { IsClean S.Store self.new.connection → IfOk result (λ found.
+            Looks S.Store (TellsKept S.Store found) self.old.connection self.new.connection) }
+        ensures lost { IsClean S.Store self.new.connection
+            → IfErr result (FailsBy (λ halt. IsBusy halt self.old.connection
+            ⊎ Looks S.Store (LosesKept S.Store halt) self.old.connection self.new.connection)) }
     {
         let done = transactions::load(&mut self.connection, alloc);
         self.settle(done)

@@ -1,16 +1,14 @@
 // The table of one row that says that a season is there, and how many cuts were made.
 ghost use Rattle.std.specs.Prelude.{◌≡◌, ℕ, Option, [], ◌∷◌, IfOk, IfErr, OnOk, Bool, Some};
-ghost use Rattle.sqlite.specs.State.{HasCleanDisk};
+ghost use Rattle.keeper_sqlite.specs.Inside.{IsClean, StaysInside, content};
 ghost use Rattle.keeper_sqlite.specs.Halts.{WantsMemory};
 ghost use Rattle.keeper_sqlite.specs.Columns.{IsPhaseRow, TellsPhase};
-ghost use Rattle.sqlite.specs.Held.{state};
-ghost use Rattle.keeper_sqlite.specs.Commits.{CommitsNothing};
-ghost use Rattle.keeper_sqlite.specs.Kept.{DidAll, TellsPhaseOf, phase_table, phase_query, cuts_text, cuts_values, opening_text, opening_values};
+ghost use Rattle.keeper_sqlite.specs.Kept.{DidAll, TellsPhaseOf, phase_table, cuts_text, cuts_values, opening_text, opening_values};
 ghost use Rattle.stored_tables.specs.Layout.{stored};
 ghost use Rattle.stored_tables.specs.Puts.{OpensPhase, PutsCuts};
 ghost use Rattle.stored_tables.specs.Rows.{cuts_of};
 ghost use Rattle.keeper_sqlite.specs.Stops.{StopsIn, LosesPhase};
-ghost use Rattle.keeper_sqlite.specs.Kept.Call.{Runs, Places, Asks};
+ghost use Rattle.keeper_sqlite.specs.Kept.Call.{Runs, Places};
 
 use crate::calls::{ask, place, run};
 use crate::columns::{number_at, small_number_at};
@@ -22,11 +20,14 @@ const ID: u32 = 1;
 
 /// Makes the table if it is missing.
 pub(crate) fn create<S: Alter>(tx: &mut Transaction<'_, S>) -> Result<(), Halt>
-    ensures same_reference { tx.new.conn.ghost_name ≡ tx.old.conn.ghost_name }
-    ensures inside { CommitsNothing (state S.Store tx.old.conn.now) (state S.Store tx.new.conn.now) }
-    ensures ran { HasCleanDisk (state S.Store tx.new.conn.now) → OnOk result (DidAll S.Store (Runs phase_table [] ∷ []) tx.old.conn.now tx.new.conn.now) }
-    ensures lost { HasCleanDisk (state S.Store tx.new.conn.now) → IfErr result (λ halt. StopsIn S.Store (Runs phase_table [] ∷ []) halt tx.old.conn.now tx.new.conn.now) }
-    ensures stands { (strict : Bool) → HasCleanDisk (state S.Store tx.new.conn.now) → tx.old.conn.now.schema ≡ stored strict → OnOk result ((state S.Store tx.new.conn.now).now ≡ (state S.Store tx.old.conn.now).now) }
+    ensures inside { StaysInside S.Store tx.old.conn tx.new.conn }
+    ensures ran { IsClean S.Store tx.new.conn.now
+        → OnOk result (DidAll S.Store (Runs phase_table [] ∷ []) tx.old.conn.now tx.new.conn.now) }
+    ensures lost { IsClean S.Store tx.new.conn.now → IfErr result (λ halt.
+        StopsIn S.Store (Runs phase_table [] ∷ []) halt tx.old.conn.now tx.new.conn.now) }
+    ensures stands { (strict : Bool) → IsClean S.Store tx.new.conn.now
+        → tx.old.conn.now.schema ≡ stored strict
+        → OnOk result (content S.Store tx.new.conn.now ≡ content S.Store tx.old.conn.now) }
 {
     run(
         tx,
@@ -37,11 +38,14 @@ pub(crate) fn create<S: Alter>(tx: &mut Transaction<'_, S>) -> Result<(), Halt>
 
 /// Puts the row of a season without cuts, if the table has no row.
 pub(crate) fn insert<S: Alter>(tx: &mut Transaction<'_, S>) -> Result<(), Halt>
-    ensures same_reference { tx.new.conn.ghost_name ≡ tx.old.conn.ghost_name }
-    ensures inside { CommitsNothing (state S.Store tx.old.conn.now) (state S.Store tx.new.conn.now) }
-    ensures ran { HasCleanDisk (state S.Store tx.new.conn.now) → OnOk result (DidAll S.Store (Places opening_text opening_values ∷ []) tx.old.conn.now tx.new.conn.now) }
-    ensures lost { HasCleanDisk (state S.Store tx.new.conn.now) → IfErr result (λ halt. StopsIn S.Store (Places opening_text opening_values ∷ []) halt tx.old.conn.now tx.new.conn.now) }
-    ensures put { (strict : Bool) → HasCleanDisk (state S.Store tx.new.conn.now) → tx.old.conn.now.schema ≡ stored strict → OnOk result (OpensPhase (state S.Store tx.old.conn.now).now (state S.Store tx.new.conn.now).now) }
+    ensures inside { StaysInside S.Store tx.old.conn tx.new.conn }
+    ensures ran { IsClean S.Store tx.new.conn.now → OnOk result
+        (DidAll S.Store (Places opening_text opening_values ∷ []) tx.old.conn.now tx.new.conn.now) }
+    ensures lost { IsClean S.Store tx.new.conn.now → IfErr result (λ halt. StopsIn S.Store
+        (Places opening_text opening_values ∷ []) halt tx.old.conn.now tx.new.conn.now) }
+    ensures put { (strict : Bool) → IsClean S.Store tx.new.conn.now
+        → tx.old.conn.now.schema ≡ stored strict → OnOk result
+        (OpensPhase (content S.Store tx.old.conn.now) (content S.Store tx.new.conn.now)) }
 {
     place(
         tx,
@@ -52,11 +56,12 @@ pub(crate) fn insert<S: Alter>(tx: &mut Transaction<'_, S>) -> Result<(), Halt>
 
 /// Writes the number of cuts.
 pub(crate) fn upsert<S: Alter>(tx: &mut Transaction<'_, S>, cuts: u16) -> Result<(), Halt>
-    ensures same_reference { tx.new.conn.ghost_name ≡ tx.old.conn.ghost_name }
-    ensures inside { CommitsNothing (state S.Store tx.old.conn.now) (state S.Store tx.new.conn.now) }
-    ensures ran { HasCleanDisk (state S.Store tx.new.conn.now) → OnOk result (DidAll S.Store (Runs cuts_text (cuts_values cuts) ∷ []) tx.old.conn.now tx.new.conn.now) }
-    ensures lost { HasCleanDisk (state S.Store tx.new.conn.now) → IfErr result (λ halt. StopsIn S.Store (Runs cuts_text (cuts_values cuts) ∷ []) halt tx.old.conn.now tx.new.conn.now) }
-    ensures put { (strict : Bool) → HasCleanDisk (state S.Store tx.new.conn.now) → tx.old.conn.now.schema ≡ stored strict → (n : ℕ) → cuts_of ((state S.Store tx.old.conn.now).now.trees 5) ≡ Some (Some n) → OnOk result (PutsCuts cuts (state S.Store tx.old.conn.now).now (state S.Store tx.new.conn.now).now) }
+    ensures inside { StaysInside S.Store tx.old.conn tx.new.conn }
+    ensures ran { IsClean S.Store tx.new.conn.now → OnOk result
+        (DidAll S.Store (Runs cuts_text (cuts_values cuts) ∷ []) tx.old.conn.now tx.new.conn.now) }
+    ensures lost { IsClean S.Store tx.new.conn.now → IfErr result (λ halt. StopsIn S.Store
+        (Runs cuts_text (cuts_values cuts) ∷ []) halt tx.old.conn.now tx.new.conn.now) }
+    ensures put { (strict : Bool) → IsClean S.Store tx.new.conn.now → tx.old.conn.now.schema ≡ stored strict → (n : ℕ) → cuts_of ((content S.Store tx.old.conn.now).trees 5) ≡ Some (Some n) → OnOk result (PutsCuts cuts (content S.Store tx.old.conn.now) (content S.Store tx.new.conn.now)) }
 {
     run(
         tx,
@@ -67,11 +72,14 @@ pub(crate) fn upsert<S: Alter>(tx: &mut Transaction<'_, S>, cuts: u16) -> Result
 
 /// Returns the number of cuts, or None if there is no season.
 pub(crate) fn read<S: Alter>(tx: &mut Transaction<'_, S>) -> Result<Option<u16>, Halt>
-    ensures same_reference { tx.new.conn.ghost_name ≡ tx.old.conn.ghost_name }
-    ensures inside { CommitsNothing (state S.Store tx.old.conn.now) (state S.Store tx.new.conn.now) }
-    ensures told { HasCleanDisk (state S.Store tx.new.conn.now) → IfOk result (λ found. TellsPhaseOf S.Store found tx.old.conn.now tx.new.conn.now) }
-    ensures lost { HasCleanDisk (state S.Store tx.new.conn.now) → IfErr result (λ halt. LosesPhase S.Store halt tx.old.conn.now tx.new.conn.now) }
-    ensures stands { (strict : Bool) → HasCleanDisk (state S.Store tx.new.conn.now) → tx.old.conn.now.schema ≡ stored strict → IfOk result (λ found. cuts_of ((state S.Store tx.old.conn.now).now.trees 5) ≡ Some found) }
+    ensures inside { StaysInside S.Store tx.old.conn tx.new.conn }
+    ensures told { IsClean S.Store tx.new.conn.now
+        → IfOk result (λ found. TellsPhaseOf S.Store found tx.old.conn.now tx.new.conn.now) }
+    ensures lost { IsClean S.Store tx.new.conn.now
+        → IfErr result (λ halt. LosesPhase S.Store halt tx.old.conn.now tx.new.conn.now) }
+    ensures stands { (strict : Bool) → IsClean S.Store tx.new.conn.now
+        → tx.old.conn.now.schema ≡ stored strict
+        → IfOk result (λ found. cuts_of ((content S.Store tx.old.conn.now).trees 5) ≡ Some found) }
 {
     phase_of(&ask(tx, "SELECT id, cuts FROM phase ORDER BY id")?)
 }
@@ -79,7 +87,8 @@ pub(crate) fn read<S: Alter>(tx: &mut Transaction<'_, S>) -> Result<Option<u16>,
 /// Returns the number of cuts in the rows of the table.
 fn phase_of(rows: &[Row]) -> Result<Option<u16>, Halt>
     ensures ok { IfOk result (TellsPhase rows.now) }
-    ensures err { IfErr result (λ halt. ¬ WantsMemory halt → (found : Option ℕ) → ¬ TellsPhase rows.now found) }
+    ensures err { IfErr result (λ halt. ¬ WantsMemory halt
+        → (found : Option ℕ) → ¬ TellsPhase rows.now found) }
 {
     match rows {
         [] => Ok(None),
@@ -90,7 +99,8 @@ fn phase_of(rows: &[Row]) -> Result<Option<u16>, Halt>
 
 fn cuts_of(row: &Row) -> Result<u16, Halt>
     ensures ok { IfOk result (IsPhaseRow row.now) }
-    ensures err { IfErr result (λ halt. ¬ WantsMemory halt → (cuts : ℕ) → ¬ IsPhaseRow row.now cuts) }
+    ensures err { IfErr result (λ halt. ¬ WantsMemory halt
+        → (cuts : ℕ) → ¬ IsPhaseRow row.now cuts) }
 {
     if number_at(row, 0)? != ID {
         return Err(Halt::Unfit);

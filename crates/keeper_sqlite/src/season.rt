@@ -1,12 +1,10 @@
 // The table of the season's text, in parts.
 ghost use Rattle.std.specs.Prelude.{◌≡◌, ◌+◌, ◌++◌, ◌^◌, ℕ, List, [], ◌∷◌, codes, IfOk, OnErr, IfErr, OnOk, Bool, Some};
 ghost use Rattle.std.specs.List.{AllZip, concat};
+ghost use Rattle.keeper_sqlite.specs.Inside.{IsClean, StaysInside, content};
 ghost use Rattle.keeper_sqlite.specs.Halts.{WantsMemory};
 ghost use Rattle.keeper_sqlite.specs.declared.halt.Halt.TheVariants.{Unfit};
 ghost use Rattle.keeper_sqlite.specs.Columns.{IsPartRow};
-ghost use Rattle.sqlite.specs.State.{HasCleanDisk};
-ghost use Rattle.sqlite.specs.Held.{state};
-ghost use Rattle.keeper_sqlite.specs.Commits.{CommitsNothing};
 ghost use Rattle.keeper_sqlite.specs.Kept.{DidAll, PutsText, TellsText, text_query, season_table, text_calls, part_calls, part_text, part_values};
 ghost use Rattle.stored_tables.specs.Layout.{stored};
 ghost use Rattle.stored_tables.specs.Puts.{PutsPart};
@@ -26,11 +24,14 @@ const PART: usize = 65_536;
 
 /// Makes the table if it is missing.
 pub(crate) fn create<S: Alter>(tx: &mut Transaction<'_, S>) -> Result<(), Halt>
-    ensures same_reference { tx.new.conn.ghost_name ≡ tx.old.conn.ghost_name }
-    ensures inside { CommitsNothing (state S.Store tx.old.conn.now) (state S.Store tx.new.conn.now) }
-    ensures ran { HasCleanDisk (state S.Store tx.new.conn.now) → OnOk result (DidAll S.Store (Runs season_table [] ∷ []) tx.old.conn.now tx.new.conn.now) }
-    ensures lost { HasCleanDisk (state S.Store tx.new.conn.now) → IfErr result (λ halt. StopsIn S.Store (Runs season_table [] ∷ []) halt tx.old.conn.now tx.new.conn.now) }
-    ensures stands { (strict : Bool) → HasCleanDisk (state S.Store tx.new.conn.now) → tx.old.conn.now.schema ≡ stored strict → OnOk result ((state S.Store tx.new.conn.now).now ≡ (state S.Store tx.old.conn.now).now) }
+    ensures inside { StaysInside S.Store tx.old.conn tx.new.conn }
+    ensures ran { IsClean S.Store tx.new.conn.now
+        → OnOk result (DidAll S.Store (Runs season_table [] ∷ []) tx.old.conn.now tx.new.conn.now) }
+    ensures lost { IsClean S.Store tx.new.conn.now → IfErr result (λ halt.
+        StopsIn S.Store (Runs season_table [] ∷ []) halt tx.old.conn.now tx.new.conn.now) }
+    ensures stands { (strict : Bool) → IsClean S.Store tx.new.conn.now
+        → tx.old.conn.now.schema ≡ stored strict
+        → OnOk result (content S.Store tx.new.conn.now ≡ content S.Store tx.old.conn.now) }
 {
     run(
         tx,
@@ -41,21 +42,24 @@ pub(crate) fn create<S: Alter>(tx: &mut Transaction<'_, S>) -> Result<(), Halt>
 
 /// Tests that no row is there.
 pub(crate) fn expect_empty<S: Alter>(tx: &mut Transaction<'_, S>) -> Result<(), Halt>
-    ensures same_reference { tx.new.conn.ghost_name ≡ tx.old.conn.ghost_name }
-    ensures inside { CommitsNothing (state S.Store tx.old.conn.now) (state S.Store tx.new.conn.now) }
-    ensures told { HasCleanDisk (state S.Store tx.new.conn.now) → OnOk result (DidAll S.Store (Asks (codes "SELECT part FROM season LIMIT 1") [] ∷ []) tx.old.conn.now tx.new.conn.now) }
-    ensures lost { HasCleanDisk (state S.Store tx.new.conn.now) → IfErr result (λ halt. StopsIn S.Store (Asks (codes "SELECT part FROM season LIMIT 1") [] ∷ []) halt tx.old.conn.now tx.new.conn.now) }
-    ensures none { (strict : Bool) → HasCleanDisk (state S.Store tx.new.conn.now) → tx.old.conn.now.schema ≡ stored strict → OnOk result ((state S.Store tx.old.conn.now).now.trees 0 ≡ []) }
+    ensures inside { StaysInside S.Store tx.old.conn tx.new.conn }
+    ensures told { IsClean S.Store tx.new.conn.now → OnOk result (DidAll S.Store
+        (Asks (codes "SELECT part FROM season LIMIT 1") [] ∷ []) tx.old.conn.now tx.new.conn.now) }
+    ensures lost { IsClean S.Store tx.new.conn.now → IfErr result (λ halt. StopsIn S.Store (Asks
+        (codes "SELECT part FROM season LIMIT 1") [] ∷ []) halt tx.old.conn.now tx.new.conn.now) }
+    ensures none { (strict : Bool) → IsClean S.Store tx.new.conn.now → tx.old.conn.now.schema
+        ≡ stored strict → OnOk result ((content S.Store tx.old.conn.now).trees 0 ≡ []) }
 {
     expect_none(tx, "SELECT part FROM season LIMIT 1")
 }
 
 /// Puts a text in parts, from 0, by one statement that is made ready once.
 pub(crate) fn insert_text<S: Alter>(tx: &mut Transaction<'_, S>, text: &[u8]) -> Result<(), Halt>
-    ensures same_reference { tx.new.conn.ghost_name ≡ tx.old.conn.ghost_name }
-    ensures inside { CommitsNothing (state S.Store tx.old.conn.now) (state S.Store tx.new.conn.now) }
-    ensures ran { HasCleanDisk (state S.Store tx.new.conn.now) → OnOk result (PutsText S.Store text_calls text.now tx.old.conn.now tx.new.conn.now) }
-    ensures lost { HasCleanDisk (state S.Store tx.new.conn.now) → IfErr result (λ halt. StopsText S.Store text_calls 0 text.now halt tx.old.conn.now tx.new.conn.now) }
+    ensures inside { StaysInside S.Store tx.old.conn tx.new.conn }
+    ensures ran { IsClean S.Store tx.new.conn.now
+        → OnOk result (PutsText S.Store text_calls text.now tx.old.conn.now tx.new.conn.now) }
+    ensures lost { IsClean S.Store tx.new.conn.now → IfErr result (λ halt.
+        StopsText S.Store text_calls 0 text.now halt tx.old.conn.now tx.new.conn.now) }
 {
     let insert = make_ready(tx, "INSERT INTO season (part, bytes) VALUES (?1, ?2)")?;
     insert_parts(tx, &insert, text)
@@ -66,10 +70,11 @@ fn insert_parts<S: Alter>(
     insert: &Statement,
     text: &[u8],
 ) -> Result<(), Halt>
-    ensures same_reference { tx.new.conn.ghost_name ≡ tx.old.conn.ghost_name }
-    ensures inside { CommitsNothing (state S.Store tx.old.conn.now) (state S.Store tx.new.conn.now) }
-    ensures ran { HasCleanDisk (state S.Store tx.new.conn.now) → OnOk result (PutsText S.Store (part_calls insert.now.text 0) text.now tx.old.conn.now tx.new.conn.now) }
-    ensures lost { HasCleanDisk (state S.Store tx.new.conn.now) → IfErr result (λ halt. StopsText S.Store (part_calls insert.now.text 0) 0 text.now halt tx.old.conn.now tx.new.conn.now) }
+    ensures inside { StaysInside S.Store tx.old.conn tx.new.conn }
+    ensures ran { IsClean S.Store tx.new.conn.now → OnOk result
+        (PutsText S.Store (part_calls insert.now.text 0) text.now tx.old.conn.now tx.new.conn.now) }
+    ensures lost { IsClean S.Store tx.new.conn.now → IfErr result (λ halt. StopsText S.Store
+        (part_calls insert.now.text 0) 0 text.now halt tx.old.conn.now tx.new.conn.now) }
 {
     let mut rest = text;
     let mut number = 0;
@@ -95,30 +100,38 @@ fn insert_part<S: Alter>(
     number: u32,
     part: &[u8],
 ) -> Result<(), Halt>
-    ensures same_reference { tx.new.conn.ghost_name ≡ tx.old.conn.ghost_name }
-    ensures inside { CommitsNothing (state S.Store tx.old.conn.now) (state S.Store tx.new.conn.now) }
-    ensures ran { HasCleanDisk (state S.Store tx.new.conn.now) → OnOk result (DidAll S.Store (Runs insert.now.text (part_values number part.now) ∷ []) tx.old.conn.now tx.new.conn.now) }
-    ensures lost { HasCleanDisk (state S.Store tx.new.conn.now) → IfErr result (λ halt. StopsIn S.Store (Runs insert.now.text (part_values number part.now) ∷ []) halt tx.old.conn.now tx.new.conn.now) }
-    ensures put { (strict : Bool) → HasCleanDisk (state S.Store tx.new.conn.now) → tx.old.conn.now.schema ≡ stored strict → insert.now.text ≡ part_text → OnOk result (PutsPart number part.now (state S.Store tx.old.conn.now).now (state S.Store tx.new.conn.now).now) }
+    ensures inside { StaysInside S.Store tx.old.conn tx.new.conn }
+    ensures ran { IsClean S.Store tx.new.conn.now → OnOk result (DidAll S.Store
+        (Runs insert.now.text (part_values number part.now) ∷ []) tx.old.conn.now tx.new.conn.now) }
+    ensures lost { IsClean S.Store tx.new.conn.now → IfErr result (λ halt. StopsIn S.Store (Runs
+        insert.now.text (part_values number part.now) ∷ []) halt tx.old.conn.now tx.new.conn.now) }
+    ensures put { (strict : Bool) → IsClean S.Store tx.new.conn.now → tx.old.conn.now.schema
+        ≡ stored strict → insert.now.text ≡ part_text → OnOk result (PutsPart number
+        part.now (content S.Store tx.old.conn.now) (content S.Store tx.new.conn.now)) }
 {
     run_ready(tx, insert, params![number, part])
 }
 
 /// Returns the parts joined, by rising part.
 pub(crate) fn read_text<S: Alter>(tx: &mut Transaction<'_, S>, alloc: Global) -> Result<Text, Halt>
-    ensures same_reference { tx.new.conn.ghost_name ≡ tx.old.conn.ghost_name }
-    ensures inside { CommitsNothing (state S.Store tx.old.conn.now) (state S.Store tx.new.conn.now) }
-    ensures told { HasCleanDisk (state S.Store tx.new.conn.now) → IfOk result (λ text. TellsText S.Store text tx.old.conn.now tx.new.conn.now) }
-    ensures lost { HasCleanDisk (state S.Store tx.new.conn.now) → IfErr result (λ halt. LosesRecords S.Store IsPartRow text_query halt tx.old.conn.now tx.new.conn.now) }
-    ensures stands { (strict : Bool) → HasCleanDisk (state S.Store tx.new.conn.now) → tx.old.conn.now.schema ≡ stored strict → IfOk result (λ text. (all : List ℕ) → text_in (state S.Store tx.old.conn.now).now.trees ≡ Some all → all ≡ text) }
+    ensures inside { StaysInside S.Store tx.old.conn tx.new.conn }
+    ensures told { IsClean S.Store tx.new.conn.now
+        → IfOk result (λ text. TellsText S.Store text tx.old.conn.now tx.new.conn.now) }
+    ensures lost { IsClean S.Store tx.new.conn.now → IfErr result (λ halt.
+        LosesRecords S.Store IsPartRow text_query halt tx.old.conn.now tx.new.conn.now) }
+    ensures stands { (strict : Bool) → IsClean S.Store tx.new.conn.now
+        → tx.old.conn.now.schema ≡ stored strict → IfOk result (λ text. (all : List ℕ)
+        → text_in (content S.Store tx.old.conn.now).trees ≡ Some all → all ≡ text) }
 {
     let rows = ask(tx, "SELECT part, bytes FROM season ORDER BY part")?;
     text_of(alloc, &rows)
 }
 
 fn text_of(alloc: Global, rows: &[Row]) -> Result<Text, Halt>
-    ensures ok { IfOk result (λ text. (parts : List (List ℕ)) × AllZip IsPartRow rows.now parts × (concat parts ≡ text)) }
-    ensures err { IfErr result (λ halt. ¬ WantsMemory halt → (parts : List (List ℕ)) → ¬ AllZip IsPartRow rows.now parts) }
+    ensures ok { IfOk result (λ text. (parts : List (List ℕ))
+        × AllZip IsPartRow rows.now parts × (concat parts ≡ text)) }
+    ensures err { IfErr result (λ halt. ¬ WantsMemory halt
+        → (parts : List (List ℕ)) → ¬ AllZip IsPartRow rows.now parts) }
 {
     let mut text = Listed::new(alloc);
     for row in rows {
@@ -128,8 +141,10 @@ fn text_of(alloc: Global, rows: &[Row]) -> Result<Text, Halt>
 }
 
 fn push_part(text: &mut Text, row: &Row) -> Result<(), Halt>
-    ensures ok { OnOk result ((bytes : List ℕ) × IsPartRow row.now bytes × (text.new ≡ text.old ++ bytes)) }
-    ensures err { IfErr result (λ halt. ¬ WantsMemory halt → (bytes : List ℕ) → ¬ IsPartRow row.now bytes) }
+    ensures ok { OnOk result ((bytes : List ℕ) × IsPartRow row.now bytes
+        × (text.new ≡ text.old ++ bytes)) }
+    ensures err { IfErr result (λ halt. ¬ WantsMemory halt
+        → (bytes : List ℕ) → ¬ IsPartRow row.now bytes) }
     ensures same { OnErr result (text.new ≡ text.old) }
 {
     let _part: u64 = row.get(0)?;

@@ -1,13 +1,12 @@
 // The transactions of a keeper: what each method does to the tables, all of it or nothing.
 ghost use Rattle.std.specs.Prelude.{◌≡◌, ◌+◌, ◌<◌, ◌^◌, [], ◌∷◌, drop, false, Ok, Err, IsTrue, IfOk, IfErr, OnOk, OnErr, ◌⊎◌};
-ghost use Rattle.sqlite.specs.State.{HasCleanDisk, IsLive, IsRolledBack, Survives};
-ghost use Rattle.sqlite.specs.Steps.{FailsToCommit};
-ghost use Rattle.stored_tables.specs.Told.{told};
+ghost use Rattle.sqlite.specs.State.{IsLive, Survives};
 ghost use Rattle.sqlite.specs.Held.{state};
 ghost use Rattle.std.specs.List.{AllByRecursion};
 ghost use Rattle.stored_tables.specs.Fits.{AllotFits};
+ghost use Rattle.keeper_sqlite.specs.Inside.{FailsToSettle, IsClean, StaysInside, content, shown};
 ghost use Rattle.keeper_sqlite.specs.declared.halt.Halt.TheVariants.{Unfit};
-ghost use Rattle.keeper_sqlite.specs.Stops.{IsRefusal, StopsIn, StopsText, LosesPhase, LosesMade, LosesOrder, LosesSeats, LosesCut, Breaks, IsBusy, Loses, LosesTables, LosesKept};
+ghost use Rattle.keeper_sqlite.specs.Stops.{StopsIn, StopsText, LosesPhase, LosesMade, LosesOrder, LosesSeats, LosesCut, Breaks, IsBusy, Loses, LosesTables, LosesKept};
 ghost use Rattle.keeper_sqlite.specs.Commits.{CommitsNothing, CommitsOnce};
 ghost use Rattle.keeper_sqlite.specs.Kept.{Keeps, MadeBy, Looks, TellsSeason, TellsKept, TellsTables, Makes, MakesCut, ToldPhase, AreAbove, PutsText, DidAll, seat_calls, season_calls, unanswered_calls, any_row_queries, plain_calls, table_texts, season_table, phase_table, answer_table, lift_table, allot_table};
 
@@ -49,7 +48,9 @@ fn expect_free<S: Alter>(connection: &Connection<S>) -> Result<(), Halt>
 /// It does nothing.
 fn at_rest<S: Alter>(connection: &Connection<S>)
     ensures live { IsLive (state S.Store connection.now) }
-    ensures settled { connection.now.in_transaction ≡ false → IsTrue (state S.Store connection.now).is_open → (state S.Store connection.now).now ≡ (state S.Store connection.now).committed }
+    ensures settled { connection.now.in_transaction ≡ false
+        → IsTrue (state S.Store connection.now).is_open
+        → (content S.Store connection.now) ≡ (state S.Store connection.now).committed }
 {
     let _schema = connection.schema();
     let _free = connection.is_autocommit();
@@ -57,16 +58,22 @@ fn at_rest<S: Alter>(connection: &Connection<S>)
 
 /// Commits what was done, or rolls it back.
 fn settle<S: Alter>(tx: Transaction<'_, S>, done: Result<(), Halt>) -> Result<(), Halt>
-    ensures shown { Survives (state S.Store tx.entry.conn.now) (state S.Store tx.exit.0.now) (λ db. (done ≡ Ok tt) × (db ≡ (state S.Store tx.entry.conn.now).now.trees)) }
-    ensures nothing { OnErr done (CommitsNothing (state S.Store tx.entry.conn.now) (state S.Store tx.exit.0.now)) }
+    ensures shown { Survives (state S.Store tx.entry.conn.now) (state S.Store tx.exit.0.now)
+        (λ db. (done ≡ Ok tt) × (db ≡ (content S.Store tx.entry.conn.now).trees)) }
+    ensures nothing { OnErr done
+        (CommitsNothing (state S.Store tx.entry.conn.now) (state S.Store tx.exit.0.now)) }
     ensures ended { (tx.exit.0.now.in_transaction ≡ false) × OnOk result (done ≡ Ok tt) }
-    ensures back { HasCleanDisk (state S.Store tx.exit.0.now) → IsTrue (state S.Store tx.exit.0.now).is_open
-        → OnErr result (IsTrue (state S.Store tx.entry.conn.now).is_open × ((state S.Store tx.exit.0.now).committed ≡ (state S.Store tx.entry.conn.now).committed)) }
-    ensures shows { HasCleanDisk (state S.Store tx.exit.0.now) → OnOk result (IsTrue (state S.Store tx.entry.conn.now).is_open × IsTrue (state S.Store tx.exit.0.now).is_open) }
-    ensures now { HasCleanDisk (state S.Store tx.exit.0.now) → OnOk result ((state S.Store tx.exit.0.now).now ≡ (state S.Store tx.entry.conn.now).now) }
-    ensures committed { HasCleanDisk (state S.Store tx.exit.0.now) → OnOk result ((state S.Store tx.exit.0.now).committed ≡ (state S.Store tx.entry.conn.now).now) }
-    ensures why { HasCleanDisk (state S.Store tx.exit.0.now) → IfErr result (λ halt. ((done ≡ Err halt) × IsRolledBack (state S.Store tx.entry.conn.now) (state S.Store tx.exit.0.now))
-        ⊎ ((done ≡ Ok tt) × IsRefusal (λ error. FailsToCommit (state S.Store tx.entry.conn.now) (state S.Store tx.exit.0.now) error) halt)) }
+    ensures back { IsClean S.Store tx.exit.0.now → IsTrue (state S.Store tx.exit.0.now).is_open
+        → OnErr result (IsTrue (state S.Store tx.entry.conn.now).is_open
+        × ((state S.Store tx.exit.0.now).committed ≡ (state S.Store tx.entry.conn.now).committed)) }
+    ensures shows { IsClean S.Store tx.exit.0.now → OnOk result (IsTrue
+        (state S.Store tx.entry.conn.now).is_open × IsTrue (state S.Store tx.exit.0.now).is_open) }
+    ensures now { IsClean S.Store tx.exit.0.now
+        → OnOk result (content S.Store tx.exit.0.now ≡ content S.Store tx.entry.conn.now) }
+    ensures committed { IsClean S.Store tx.exit.0.now → OnOk result
+        ((state S.Store tx.exit.0.now).committed ≡ (content S.Store tx.entry.conn.now)) }
+    ensures why { IsClean S.Store tx.exit.0.now
+        → IfErr result (FailsToSettle S.Store done tx.entry.conn.now tx.exit.0.now) }
 {
     done?;
     tx.commit()?;
@@ -79,10 +86,15 @@ pub(crate) fn commit<S: Alter>(
     change: Change<'_>,
 ) -> Result<(), Halt>
     ensures once { CommitsOnce (state S.Store connection.old) (state S.Store connection.new) }
-    ensures stays_err { HasCleanDisk (state S.Store connection.new) → IsTrue (state S.Store connection.new).is_open → OnErr result (told (state S.Store connection.new) ≡ told (state S.Store connection.old)) }
-    ensures made { Survives (state S.Store connection.old) (state S.Store connection.new) (MadeBy S.Store change.entry connection.old) }
-    ensures kept { HasCleanDisk (state S.Store connection.new) → OnOk result (Keeps S.Store (Makes S.Store change.entry) connection.old connection.new) }
-    ensures lost { HasCleanDisk (state S.Store connection.new) → IfErr result (λ halt. Loses S.Store (Breaks S.Store change.entry) (Makes S.Store change.entry) halt connection.old connection.new) }
+    ensures stays_err { IsClean S.Store connection.new
+        → IsTrue (state S.Store connection.new).is_open
+        → OnErr result (shown S.Store connection.new ≡ shown S.Store connection.old) }
+    ensures made { Survives (state S.Store connection.old) (state S.Store connection.new)
+        (MadeBy S.Store change.entry connection.old) }
+    ensures kept { IsClean S.Store connection.new
+        → OnOk result (Keeps S.Store (Makes S.Store change.entry) connection.old connection.new) }
+    ensures lost { IsClean S.Store connection.new → IfErr result (λ halt. Loses S.Store (Breaks
+        S.Store change.entry) (Makes S.Store change.entry) halt connection.old connection.new) }
 {
     expect_free(connection)?;
     at_rest(connection);
@@ -94,11 +106,11 @@ pub(crate) fn commit<S: Alter>(
 }
 
 fn write<S: Alter>(tx: &mut Transaction<'_, S>, change: Change<'_>) -> Result<(), Halt>
-    ensures same_reference { tx.new.conn.ghost_name ≡ tx.old.conn.ghost_name }
-    ensures inside { CommitsNothing (state S.Store tx.old.conn.now) (state S.Store tx.new.conn.now) }
-    ensures made { HasCleanDisk (state S.Store tx.new.conn.now) → IsTrue tx.old.conn.now.in_transaction
+    ensures inside { StaysInside S.Store tx.old.conn tx.new.conn }
+    ensures made { IsClean S.Store tx.new.conn.now → IsTrue tx.old.conn.now.in_transaction
         → OnOk result (Makes S.Store change.entry tx.old.conn.now tx.new.conn.now) }
-    ensures lost { HasCleanDisk (state S.Store tx.new.conn.now) → IfErr result (λ halt. Breaks S.Store change.entry halt tx.old.conn.now tx.new.conn.now) }
+    ensures lost { IsClean S.Store tx.new.conn.now
+        → IfErr result (λ halt. Breaks S.Store change.entry halt tx.old.conn.now tx.new.conn.now) }
 {
     match change {
         Change::Tables => write_tables(tx),
@@ -110,30 +122,34 @@ fn write<S: Alter>(tx: &mut Transaction<'_, S>, change: Change<'_>) -> Result<()
 }
 
 fn write_tables<S: Alter>(tx: &mut Transaction<'_, S>) -> Result<(), Halt>
-    ensures same_reference { tx.new.conn.ghost_name ≡ tx.old.conn.ghost_name }
-    ensures inside { CommitsNothing (state S.Store tx.old.conn.now) (state S.Store tx.new.conn.now) }
-    ensures ran { HasCleanDisk (state S.Store tx.new.conn.now) → OnOk result (DidAll S.Store (plain_calls table_texts) tx.old.conn.now tx.new.conn.now) }
-    ensures lost { HasCleanDisk (state S.Store tx.new.conn.now) → IfErr result (λ halt. StopsIn S.Store (plain_calls table_texts) halt tx.old.conn.now tx.new.conn.now) }
+    ensures inside { StaysInside S.Store tx.old.conn tx.new.conn }
+    ensures ran { IsClean S.Store tx.new.conn.now
+        → OnOk result (DidAll S.Store (plain_calls table_texts) tx.old.conn.now tx.new.conn.now) }
+    ensures lost { IsClean S.Store tx.new.conn.now → IfErr result (λ halt.
+        StopsIn S.Store (plain_calls table_texts) halt tx.old.conn.now tx.new.conn.now) }
 {
     make_first_tables(tx)?;
     make_last_tables(tx)
 }
 
 fn make_first_tables<S: Alter>(tx: &mut Transaction<'_, S>) -> Result<(), Halt>
-    ensures same_reference { tx.new.conn.ghost_name ≡ tx.old.conn.ghost_name }
-    ensures inside { CommitsNothing (state S.Store tx.old.conn.now) (state S.Store tx.new.conn.now) }
-    ensures ran { HasCleanDisk (state S.Store tx.new.conn.now) → OnOk result (DidAll S.Store (plain_calls (season_table ∷ answer_table ∷ [])) tx.old.conn.now tx.new.conn.now) }
-    ensures lost { HasCleanDisk (state S.Store tx.new.conn.now) → IfErr result (λ halt. StopsIn S.Store (plain_calls (season_table ∷ answer_table ∷ [])) halt tx.old.conn.now tx.new.conn.now) }
+    ensures inside { StaysInside S.Store tx.old.conn tx.new.conn }
+    ensures ran { IsClean S.Store tx.new.conn.now → OnOk result (DidAll S.Store
+        (plain_calls (season_table ∷ answer_table ∷ [])) tx.old.conn.now tx.new.conn.now) }
+    ensures lost { IsClean S.Store tx.new.conn.now → IfErr result (λ halt. StopsIn S.Store
+        (plain_calls (season_table ∷ answer_table ∷ [])) halt tx.old.conn.now tx.new.conn.now) }
 {
     season::create(tx)?;
     answer::create(tx)
 }
 
 fn make_last_tables<S: Alter>(tx: &mut Transaction<'_, S>) -> Result<(), Halt>
-    ensures same_reference { tx.new.conn.ghost_name ≡ tx.old.conn.ghost_name }
-    ensures inside { CommitsNothing (state S.Store tx.old.conn.now) (state S.Store tx.new.conn.now) }
-    ensures ran { HasCleanDisk (state S.Store tx.new.conn.now) → OnOk result (DidAll S.Store (plain_calls (allot_table ∷ phase_table ∷ lift_table ∷ [])) tx.old.conn.now tx.new.conn.now) }
-    ensures lost { HasCleanDisk (state S.Store tx.new.conn.now) → IfErr result (λ halt. StopsIn S.Store (plain_calls (allot_table ∷ phase_table ∷ lift_table ∷ [])) halt tx.old.conn.now tx.new.conn.now) }
+    ensures inside { StaysInside S.Store tx.old.conn tx.new.conn }
+    ensures ran { IsClean S.Store tx.new.conn.now → OnOk result (DidAll S.Store (plain_calls
+        (allot_table ∷ phase_table ∷ lift_table ∷ [])) tx.old.conn.now tx.new.conn.now) }
+    ensures lost { IsClean S.Store tx.new.conn.now
+        → IfErr result (λ halt. StopsIn S.Store (plain_calls
+        (allot_table ∷ phase_table ∷ lift_table ∷ [])) halt tx.old.conn.now tx.new.conn.now) }
 {
     allot::create(tx)?;
     phase::create(tx)?;
@@ -142,10 +158,13 @@ fn make_last_tables<S: Alter>(tx: &mut Transaction<'_, S>) -> Result<(), Halt>
 
 /// Returns whether a season is kept.
 pub(crate) fn has_season<S: Alter>(connection: &mut Connection<S>) -> Result<bool, Halt>
-    ensures stays { HasCleanDisk (state S.Store connection.new) → IsTrue (state S.Store connection.new).is_open → told (state S.Store connection.new) ≡ told (state S.Store connection.old) }
+    ensures stays { IsClean S.Store connection.new → IsTrue (state S.Store connection.new).is_open
+        → shown S.Store connection.new ≡ shown S.Store connection.old }
     ensures nothing { CommitsNothing (state S.Store connection.old) (state S.Store connection.new) }
-    ensures found { HasCleanDisk (state S.Store connection.new) → IfOk result (λ found. Looks S.Store (TellsSeason S.Store found) connection.old connection.new) }
-    ensures lost { HasCleanDisk (state S.Store connection.new) → IfErr result (λ halt. IsBusy halt connection.old ⊎ Looks S.Store (LosesPhase S.Store halt) connection.old connection.new) }
+    ensures found { IsClean S.Store connection.new → IfOk result (λ found.
+        Looks S.Store (TellsSeason S.Store found) connection.old connection.new) }
+    ensures lost { IsClean S.Store connection.new → IfErr result (λ halt. IsBusy halt connection.old
+        ⊎ Looks S.Store (LosesPhase S.Store halt) connection.old connection.new) }
 {
     expect_free(connection)?;
     at_rest(connection);
@@ -157,19 +176,21 @@ pub(crate) fn has_season<S: Alter>(connection: &mut Connection<S>) -> Result<boo
 }
 
 fn look_for_season<S: Alter>(tx: &mut Transaction<'_, S>) -> Result<bool, Halt>
-    ensures same_reference { tx.new.conn.ghost_name ≡ tx.old.conn.ghost_name }
-    ensures inside { CommitsNothing (state S.Store tx.old.conn.now) (state S.Store tx.new.conn.now) }
-    ensures told { HasCleanDisk (state S.Store tx.new.conn.now) → IfOk result (λ found. TellsSeason S.Store found tx.old.conn.now tx.new.conn.now) }
-    ensures lost { HasCleanDisk (state S.Store tx.new.conn.now) → IfErr result (λ halt. LosesPhase S.Store halt tx.old.conn.now tx.new.conn.now) }
+    ensures inside { StaysInside S.Store tx.old.conn tx.new.conn }
+    ensures told { IsClean S.Store tx.new.conn.now
+        → IfOk result (λ found. TellsSeason S.Store found tx.old.conn.now tx.new.conn.now) }
+    ensures lost { IsClean S.Store tx.new.conn.now
+        → IfErr result (λ halt. LosesPhase S.Store halt tx.old.conn.now tx.new.conn.now) }
 {
     Ok(phase::read(tx)?.is_some())
 }
 
 fn write_season<S: Alter>(tx: &mut Transaction<'_, S>, text: &[u8]) -> Result<(), Halt>
-    ensures same_reference { tx.new.conn.ghost_name ≡ tx.old.conn.ghost_name }
-    ensures inside { CommitsNothing (state S.Store tx.old.conn.now) (state S.Store tx.new.conn.now) }
-    ensures made { HasCleanDisk (state S.Store tx.new.conn.now) → OnOk result (PutsText S.Store season_calls text.now tx.old.conn.now tx.new.conn.now) }
-    ensures lost { HasCleanDisk (state S.Store tx.new.conn.now) → IfErr result (λ halt. StopsText S.Store season_calls 0 text.now halt tx.old.conn.now tx.new.conn.now) }
+    ensures inside { StaysInside S.Store tx.old.conn tx.new.conn }
+    ensures made { IsClean S.Store tx.new.conn.now
+        → OnOk result (PutsText S.Store season_calls text.now tx.old.conn.now tx.new.conn.now) }
+    ensures lost { IsClean S.Store tx.new.conn.now → IfErr result (λ halt.
+        StopsText S.Store season_calls 0 text.now halt tx.old.conn.now tx.new.conn.now) }
 {
     expect_empty(tx)?;
     season::insert_text(tx, text)?;
@@ -178,20 +199,22 @@ fn write_season<S: Alter>(tx: &mut Transaction<'_, S>, text: &[u8]) -> Result<()
 
 /// Tests that no table other than the phase has a row.
 fn expect_empty<S: Alter>(tx: &mut Transaction<'_, S>) -> Result<(), Halt>
-    ensures same_reference { tx.new.conn.ghost_name ≡ tx.old.conn.ghost_name }
-    ensures inside { CommitsNothing (state S.Store tx.old.conn.now) (state S.Store tx.new.conn.now) }
-    ensures told { HasCleanDisk (state S.Store tx.new.conn.now) → OnOk result (DidAll S.Store (unanswered_calls any_row_queries) tx.old.conn.now tx.new.conn.now) }
-    ensures lost { HasCleanDisk (state S.Store tx.new.conn.now) → IfErr result (λ halt. StopsIn S.Store (unanswered_calls any_row_queries) halt tx.old.conn.now tx.new.conn.now) }
+    ensures inside { StaysInside S.Store tx.old.conn tx.new.conn }
+    ensures told { IsClean S.Store tx.new.conn.now → OnOk result
+        (DidAll S.Store (unanswered_calls any_row_queries) tx.old.conn.now tx.new.conn.now) }
+    ensures lost { IsClean S.Store tx.new.conn.now → IfErr result (λ halt.
+        StopsIn S.Store (unanswered_calls any_row_queries) halt tx.old.conn.now tx.new.conn.now) }
 {
     season::expect_empty(tx)?;
     expect_no_rows(tx)
 }
 
 fn expect_no_rows<S: Alter>(tx: &mut Transaction<'_, S>) -> Result<(), Halt>
-    ensures same_reference { tx.new.conn.ghost_name ≡ tx.old.conn.ghost_name }
-    ensures inside { CommitsNothing (state S.Store tx.old.conn.now) (state S.Store tx.new.conn.now) }
-    ensures told { HasCleanDisk (state S.Store tx.new.conn.now) → OnOk result (DidAll S.Store (unanswered_calls (drop 1 any_row_queries)) tx.old.conn.now tx.new.conn.now) }
-    ensures lost { HasCleanDisk (state S.Store tx.new.conn.now) → IfErr result (λ halt. StopsIn S.Store (unanswered_calls (drop 1 any_row_queries)) halt tx.old.conn.now tx.new.conn.now) }
+    ensures inside { StaysInside S.Store tx.old.conn tx.new.conn }
+    ensures told { IsClean S.Store tx.new.conn.now → OnOk result (DidAll S.Store
+        (unanswered_calls (drop 1 any_row_queries)) tx.old.conn.now tx.new.conn.now) }
+    ensures lost { IsClean S.Store tx.new.conn.now → IfErr result (λ halt. StopsIn S.Store
+        (unanswered_calls (drop 1 any_row_queries)) halt tx.old.conn.now tx.new.conn.now) }
 {
     answer::expect_empty(tx)?;
     lift::expect_empty(tx)?;
@@ -199,10 +222,11 @@ fn expect_no_rows<S: Alter>(tx: &mut Transaction<'_, S>) -> Result<(), Halt>
 }
 
 fn write_cut<S: Alter>(tx: &mut Transaction<'_, S>, rows: &[AllotRow]) -> Result<(), Halt>
-    ensures same_reference { tx.new.conn.ghost_name ≡ tx.old.conn.ghost_name }
-    ensures inside { CommitsNothing (state S.Store tx.old.conn.now) (state S.Store tx.new.conn.now) }
-    ensures made { HasCleanDisk (state S.Store tx.new.conn.now) → OnOk result (MakesCut S.Store rows.now tx.old.conn.now tx.new.conn.now) }
-    ensures lost { HasCleanDisk (state S.Store tx.new.conn.now) → IfErr result (λ halt. LosesCut S.Store rows.now halt tx.old.conn.now tx.new.conn.now) }
+    ensures inside { StaysInside S.Store tx.old.conn tx.new.conn }
+    ensures made { IsClean S.Store tx.new.conn.now
+        → OnOk result (MakesCut S.Store rows.now tx.old.conn.now tx.new.conn.now) }
+    ensures lost { IsClean S.Store tx.new.conn.now
+        → IfErr result (λ halt. LosesCut S.Store rows.now halt tx.old.conn.now tx.new.conn.now) }
 {
     let made = read_made(tx)?;
     expect_above(tx, rows)?;
@@ -211,20 +235,22 @@ fn write_cut<S: Alter>(tx: &mut Transaction<'_, S>, rows: &[AllotRow]) -> Result
 
 /// Returns how many cuts were made. A season must be kept.
 fn read_made<S: Alter>(tx: &mut Transaction<'_, S>) -> Result<u16, Halt>
-    ensures same_reference { tx.new.conn.ghost_name ≡ tx.old.conn.ghost_name }
-    ensures inside { CommitsNothing (state S.Store tx.old.conn.now) (state S.Store tx.new.conn.now) }
-    ensures told { HasCleanDisk (state S.Store tx.new.conn.now) → IfOk result (λ made. ToldPhase S.Store made tx.old.conn.now tx.new.conn.now) }
-    ensures lost { HasCleanDisk (state S.Store tx.new.conn.now) → IfErr result (λ halt. LosesMade S.Store halt tx.old.conn.now tx.new.conn.now) }
+    ensures inside { StaysInside S.Store tx.old.conn tx.new.conn }
+    ensures told { IsClean S.Store tx.new.conn.now
+        → IfOk result (λ made. ToldPhase S.Store made tx.old.conn.now tx.new.conn.now) }
+    ensures lost { IsClean S.Store tx.new.conn.now
+        → IfErr result (λ halt. LosesMade S.Store halt tx.old.conn.now tx.new.conn.now) }
 {
     phase::read(tx)?.ok_or(Halt::Unfit)
 }
 
 /// Tests that the rows rise above the last that is kept.
 fn expect_above<S: Alter>(tx: &mut Transaction<'_, S>, rows: &[AllotRow]) -> Result<(), Halt>
-    ensures same_reference { tx.new.conn.ghost_name ≡ tx.old.conn.ghost_name }
-    ensures inside { CommitsNothing (state S.Store tx.old.conn.now) (state S.Store tx.new.conn.now) }
-    ensures told { HasCleanDisk (state S.Store tx.new.conn.now) → OnOk result (AreAbove S.Store rows.now tx.old.conn.now tx.new.conn.now) }
-    ensures lost { HasCleanDisk (state S.Store tx.new.conn.now) → IfErr result (λ halt. LosesOrder S.Store rows.now halt tx.old.conn.now tx.new.conn.now) }
+    ensures inside { StaysInside S.Store tx.old.conn tx.new.conn }
+    ensures told { IsClean S.Store tx.new.conn.now
+        → OnOk result (AreAbove S.Store rows.now tx.old.conn.now tx.new.conn.now) }
+    ensures lost { IsClean S.Store tx.new.conn.now
+        → IfErr result (λ halt. LosesOrder S.Store rows.now halt tx.old.conn.now tx.new.conn.now) }
 {
     if are_rising(allot::last_key(tx)?, rows) {
         Ok(())
@@ -246,12 +272,13 @@ fn put_seats<S: Alter>(
     made: u16,
     rows: &[AllotRow],
 ) -> Result<(), Halt>
-    ensures same_reference { tx.new.conn.ghost_name ≡ tx.old.conn.ghost_name }
-    ensures inside { CommitsNothing (state S.Store tx.old.conn.now) (state S.Store tx.new.conn.now) }
-    ensures ran { HasCleanDisk (state S.Store tx.new.conn.now) → OnOk result (DidAll S.Store (seat_calls made rows.now) tx.old.conn.now tx.new.conn.now) }
+    ensures inside { StaysInside S.Store tx.old.conn tx.new.conn }
+    ensures ran { IsClean S.Store tx.new.conn.now
+        → OnOk result (DidAll S.Store (seat_calls made rows.now) tx.old.conn.now tx.new.conn.now) }
     ensures fit { OnOk result (AllByRecursion AllotFits rows.now) }
     ensures room { OnOk result (made + 1 < 2 ^ 16) }
-    ensures lost { HasCleanDisk (state S.Store tx.new.conn.now) → IfErr result (λ halt. LosesSeats S.Store made rows.now halt tx.old.conn.now tx.new.conn.now) }
+    ensures lost { IsClean S.Store tx.new.conn.now → IfErr result (λ halt.
+        LosesSeats S.Store made rows.now halt tx.old.conn.now tx.new.conn.now) }
 {
     let cuts = one_more(made)?;
     allot::insert_all(tx, rows)?;
@@ -263,10 +290,13 @@ pub(crate) fn load<S: Alter>(
     connection: &mut Connection<S>,
     alloc: Global,
 ) -> Result<Option<Kept>, Halt>
-    ensures stays { HasCleanDisk (state S.Store connection.new) → IsTrue (state S.Store connection.new).is_open → told (state S.Store connection.new) ≡ told (state S.Store connection.old) }
+    ensures stays { IsClean S.Store connection.new → IsTrue (state S.Store connection.new).is_open
+        → shown S.Store connection.new ≡ shown S.Store connection.old }
     ensures nothing { CommitsNothing (state S.Store connection.old) (state S.Store connection.new) }
-    ensures loaded { HasCleanDisk (state S.Store connection.new) → IfOk result (λ found. Looks S.Store (TellsKept S.Store found) connection.old connection.new) }
-    ensures lost { HasCleanDisk (state S.Store connection.new) → IfErr result (λ halt. IsBusy halt connection.old ⊎ Looks S.Store (LosesKept S.Store halt) connection.old connection.new) }
+    ensures loaded { IsClean S.Store connection.new → IfOk result (λ found.
+        Looks S.Store (TellsKept S.Store found) connection.old connection.new) }
+    ensures lost { IsClean S.Store connection.new → IfErr result (λ halt. IsBusy halt connection.old
+        ⊎ Looks S.Store (LosesKept S.Store halt) connection.old connection.new) }
 {
     expect_free(connection)?;
     at_rest(connection);
@@ -278,10 +308,11 @@ pub(crate) fn load<S: Alter>(
 }
 
 fn read_records<S: Alter>(tx: &mut Transaction<'_, S>, alloc: Global) -> Result<Option<Kept>, Halt>
-    ensures same_reference { tx.new.conn.ghost_name ≡ tx.old.conn.ghost_name }
-    ensures inside { CommitsNothing (state S.Store tx.old.conn.now) (state S.Store tx.new.conn.now) }
-    ensures told { HasCleanDisk (state S.Store tx.new.conn.now) → IfOk result (λ found. TellsKept S.Store found tx.old.conn.now tx.new.conn.now) }
-    ensures lost { HasCleanDisk (state S.Store tx.new.conn.now) → IfErr result (λ halt. LosesKept S.Store halt tx.old.conn.now tx.new.conn.now) }
+    ensures inside { StaysInside S.Store tx.old.conn tx.new.conn }
+    ensures told { IsClean S.Store tx.new.conn.now
+        → IfOk result (λ found. TellsKept S.Store found tx.old.conn.now tx.new.conn.now) }
+    ensures lost { IsClean S.Store tx.new.conn.now
+        → IfErr result (λ halt. LosesKept S.Store halt tx.old.conn.now tx.new.conn.now) }
 {
     match phase::read(tx)? {
         None => Ok(None),
@@ -290,11 +321,12 @@ fn read_records<S: Alter>(tx: &mut Transaction<'_, S>, alloc: Global) -> Result<
 }
 
 fn read_kept<S: Alter>(tx: &mut Transaction<'_, S>, alloc: Global, cuts: u16) -> Result<Kept, Halt>
-    ensures same_reference { tx.new.conn.ghost_name ≡ tx.old.conn.ghost_name }
-    ensures inside { CommitsNothing (state S.Store tx.old.conn.now) (state S.Store tx.new.conn.now) }
+    ensures inside { StaysInside S.Store tx.old.conn tx.new.conn }
     ensures cuts { IfOk result (λ kept. kept.cuts ≡ cuts) }
-    ensures told { HasCleanDisk (state S.Store tx.new.conn.now) → IfOk result (λ kept. TellsTables S.Store kept tx.old.conn.now tx.new.conn.now) }
-    ensures lost { HasCleanDisk (state S.Store tx.new.conn.now) → IfErr result (λ halt. LosesTables S.Store halt tx.old.conn.now tx.new.conn.now) }
+    ensures told { IsClean S.Store tx.new.conn.now
+        → IfOk result (λ kept. TellsTables S.Store kept tx.old.conn.now tx.new.conn.now) }
+    ensures lost { IsClean S.Store tx.new.conn.now
+        → IfErr result (λ halt. LosesTables S.Store halt tx.old.conn.now tx.new.conn.now) }
 {
     Ok(Kept {
         season: season::read_text(tx, alloc)?,

@@ -1,4 +1,4 @@
--- A record is read back from the row in which it is stored, and a row stands for one record alone.
+-- A record is read back from the row in which it is stored, and a row represents one record alone.
 use Rattle.std.proofs.Common.{◌≡◌, ◌<◌, ◌^◌, ℕ, ℤ, pos, ◌∷◌, Some, refl, ap}
 use Rattle.std.proofs.lemmas.Bool.{lt-ltb}
 use Rattle.sqlite.specs.declared.types.Value.TheVariants.{Null, Int}

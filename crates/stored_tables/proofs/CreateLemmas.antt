@@ -148,7 +148,7 @@ fifth_made strict old new has m =
     let it = makes_one s (record lift { tree = 0 }) lift_table m.s4 new m.n5 lift-defined (lift-made strict).0 (lift-made strict).1 (lift-made strict).2 refl (ap on d ∙ has) m.lift in
     (it.schema_is, subst (λ (db : Database). MakesOne s (record lift { tree = 0 }) db new.now) d it)
 
--- over no table, all are made, and no row stands
+-- over no table, all are made, and there is no row
 pub all_made : (old new : State) → old.now.schema ≡ no_schema → MakesAll old new → (new.now.schema ≡ stored true) × (tables_in new.now.trees ≡ NoSeason)
 all_made old new has m =
     let a = makes_one no_schema (record (season true) { tree = 0 }) season_table old m.s1 m.n1 season-defined season-made.0 season-made.1 season-made.2 refl has m.season in

@@ -1,15 +1,10 @@
 -- Two schemas with one code are one.
 use Rattle.std.proofs.Common.{◌≡◌, inl, inr, ◌==◌, ◌&&◌, ◌||◌, ℕ, Bool, true, false, refl, ap, ap₂, true≢false, sym}
-use Rattle.std.proofs.lemmas.Bool.{cases_Bool, eqb-true, eq-eqb}
+use Rattle.std.proofs.lemmas.Bool.{cases_Bool, eqb-true, eq-eqb, and_parts}
 use base.Stored.{Gv, gnil, gnum, gcons}
 use Rattle.sqlite_schema.specs.contracts.schema.Schema.{the_row}
 use Rattle.stored_tables.specs.Layout.{stored}
 use Rattle.stored_tables.specs.Layout.{same_code, same_schema, has_tables, LayoutLaw}
-
-both : (a b : Bool) → (a && b) ≡ true → (a ≡ true) × (b ≡ true)
-both true true h = (refl, refl)
-both true false h = absurd (true≢false (sym h))
-both false b h = absurd (true≢false (sym h))
 
 same_number : (m n : ℕ) → (m == n) ≡ true → m ≡ n
 same_number m n h = eqb-true m n h
@@ -23,7 +18,7 @@ same_is (gnum m) (gnum n) h = ap gnum (same_number m n h)
 same_is (gnum m) (gcons c d) h = absurd (true≢false (sym h))
 same_is (gcons a b) gnil h = absurd (true≢false (sym h))
 same_is (gcons a b) (gnum n) h = absurd (true≢false (sym h))
-same_is (gcons a b) (gcons c d) h = let p = both (same_code a c) (same_code b d) h in ap₂ gcons (same_is a c p.0) (same_is b d p.1)
+same_is (gcons a b) (gcons c d) h = let p = and_parts (same_code a c) (same_code b d) h in ap₂ gcons (same_is a c p.0) (same_is b d p.1)
 
 same_itself : (a : Gv) → same_code a a ≡ true
 same_itself gnil = refl

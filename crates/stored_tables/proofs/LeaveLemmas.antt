@@ -82,11 +82,11 @@ does_leave limit mode params text (Some what) old done h = absurd (let e = h in 
 
 -- ---- what the texts are
 
-then_inv : {A B : Type 0} (x : Checked A) (f : A → Checked B) (b : B) → and_then x f ≡ Ok b → (a : A) × (x ≡ Ok a) × (f a ≡ Ok b)
+pub then_inv : {A B : Type 0} (x : Checked A) (f : A → Checked B) (b : B) → and_then x f ≡ Ok b → (a : A) × (x ≡ Ok a) × (f a ≡ Ok b)
 then_inv (Ok a) f b h = (a, refl, h)
 then_inv (Err e) f b h = absurd (let k = h in cc)
 
--- a table is made, or one stands
+-- a table is made, or there is one
 abbrev Makes : Command → Type 0
 Makes c = (c ≡ MakeTable) ⊎ (c ≡ Nothing)
 

@@ -1,26 +1,20 @@
--- Published seats that rise by round and candidate, and the rows of which they are told.
-use Rattle.std.proofs.Common.{◌≡◌, ◌<◌, ◌⊎◌, inl, inr, ℕ, pos, List, [], ◌∷◌, ◌++◌, reverse, Bool, true, false, ◌&&◌, ◌==◌, nat_lt, Some, option_map, refl, sym, ap, ap₂, subst, ◌∙◌, arith, Less, Equal, true≢false}
+-- Published seats that rise by round and candidate, and the rows from which they are read.
+use Rattle.std.proofs.Common.{◌≡◌, ◌<◌, ◌⊎◌, inl, inr, ℕ, pos, List, [], ◌∷◌, ◌++◌, reverse, Bool, true, false, ◌==◌, ◌&&◌, nat_lt, Some, option_map, refl, sym, ap, ap₂, subst, ◌∙◌, arith, Less, Equal, true≢false}
 use Rattle.std.specs.List.{AllByRecursion}
 use Rattle.std.specs.Ordering.{ordering_then}
-use Rattle.std.proofs.lemmas.Bool.{cases_Bool, ltb-true, eqb-true}
-use Rattle.std.proofs.lemmas.Int.{ints}
+use Rattle.std.proofs.lemmas.Bool.{cases_Bool, ltb-true, eqb-true, and_parts}
 use Rattle.std.proofs.lemmas.Cmp.{tied_itself}
 use Rattle.std.proofs.lemmas.List.{reverse-append}
 use Rattle.sqlite.specs.declared.types.Value.TheVariants.{Int}
 use Rattle.sqlite.specs.Order.{Row, column, value_cmp}
 use Rattle.sqlite.specs.Tree.{IsAscending}
-use Rattle.sqlite_value.proofs.OrderLemmas.{value_cmp-Int, value_cmp_total}
-use Rattle.sqlite_keyed.proofs.KeyedLemmas.{Less-from_lt}
+use Rattle.sqlite_value.proofs.OrderLemmas.{value_cmp_total}
+use Rattle.office_base.proofs.Lists.{all_push}
 use Rattle.keeper_mem.specs.declared.rows.AllotRow.{AllotRow}
 use Rattle.stored_tables.specs.Rising.{comes_after, rise_after, are_rising}
 use Rattle.stored_tables.specs.Rows.{allot_of, rows_from, rising_alone}
-use Rattle.stored_tables.proofs.RowLemmas.{begins}
+use Rattle.stored_tables.proofs.RowLemmas.{begins, cmp_below}
 use Rattle.stored_tables.proofs.StandLemmas.{allot_stands}
-
-both : (a b : Bool) → (a && b) ≡ true → (a ≡ true) × (b ≡ true)
-both true true h = (refl, refl)
-both true false h = absurd (true≢false (sym h))
-both false b h = absurd (true≢false (sym h))
 
 -- the pair comes after the other
 abbrev After : ℕ → ℕ → AllotRow → Type 0
@@ -29,7 +23,7 @@ After round cand row = (round < row.round) ⊎ ((round ≡ row.round) × (cand <
 after_means : (round cand : ℕ) (row : AllotRow) → comes_after round cand row ≡ true → After round cand row
 after_means round cand row h = elim (cases_Bool (nat_lt round row.round)) [
   | inl low ↦ inl (ltb-true round row.round low)
-  | inr high ↦ (let p = both (round == row.round) (nat_lt cand row.cand.0) (rw high at h) in inr (eqb-true round row.round p.0, ltb-true cand row.cand.0 p.1))
+  | inr high ↦ (let p = and_parts (round == row.round) (nat_lt cand row.cand.0) (rw high at h) in inr (eqb-true round row.round p.0, ltb-true cand row.cand.0 p.1))
 ]
 
 after_then : (round cand : ℕ) (a b : AllotRow) → After round cand a → After a.round a.cand.0 b → After round cand b
@@ -42,7 +36,7 @@ after_then round cand a b (inr p) (inr q) = inr (omega (arith, p.0, q.0), omega 
 rise_all : (round cand : ℕ) (all : List AllotRow) → rise_after round cand all ≡ true → AllByRecursion (After round cand) all
 rise_all round cand [] h = tt
 rise_all round cand (a ∷ all) h =
-    let p = both (comes_after round cand a) (rise_after a.round a.cand.0 all) h in
+    let p = and_parts (comes_after round cand a) (rise_after a.round a.cand.0 all) h in
     let first = after_means round cand a p.0 in
     (first, weaker first all (rise_all a.round a.cand.0 all p.1))
   where
@@ -56,19 +50,16 @@ rise_all round cand (a ∷ all) h =
 abbrev pub KeyLess : Row → Row → Type 0
 KeyLess x y = ordering_then (value_cmp (column x 1) (column y 1)) (ordering_then (value_cmp (column x 2) (column y 2)) Equal) ≡ Less
 
-less : (m n : ℕ) → m < n → value_cmp (Int (pos m)) (Int (pos n)) ≡ Less
-less m n h = value_cmp-Int (pos m) (pos n) ∙ Less-from_lt (pos m) (pos n) (omega (arith, ints, h))
-
 key_less : (x y : Row) (a b : AllotRow) → allot_of x ≡ Some a → allot_of y ≡ Some b → After a.round a.cand.0 b → KeyLess x y
 key_less x y a b p q (inl low) =
     let one = (allot_stands x a p).round.1 in
     let two = (allot_stands y b q).round.1 in
-    ap (λ o. ordering_then o (ordering_then (value_cmp (column x 2) (column y 2)) Equal)) (ap₂ value_cmp one two ∙ less a.round b.round low)
+    ap (λ o. ordering_then o (ordering_then (value_cmp (column x 2) (column y 2)) Equal)) (ap₂ value_cmp one two ∙ cmp_below a.round b.round low)
 key_less x y a b p q (inr same) =
     let s = allot_stands x a p in
     let t = allot_stands y b q in
     let tied : value_cmp (column x 1) (column y 1) ≡ Equal = ap₂ value_cmp s.round.1 (t.round.1 ∙ ap (λ (n : ℕ). Int (pos n)) (sym same.0)) ∙ tied_itself value_cmp_total (Int (pos a.round)) in
-    ap₂ (λ o p. ordering_then o (ordering_then p Equal)) tied (ap₂ value_cmp s.cand.1 t.cand.1 ∙ less a.cand.0 b.cand.0 same.1)
+    ap₂ (λ o p. ordering_then o (ordering_then p Equal)) tied (ap₂ value_cmp s.cand.1 t.cand.1 ∙ cmp_below a.cand.0 b.cand.0 same.1)
 
 all_less : (x : Row) (a : AllotRow) → allot_of x ≡ Some a → (rows : List Row) (least : ℕ) (all : List AllotRow) → rows_from allot_of least rows ≡ Some all → AllByRecursion (After a.round a.cand.0) all → AllByRecursion (KeyLess x) rows
 all_less x a is [] least all told h = tt
@@ -86,7 +77,7 @@ keys_rise (row ∷ rows) least all told h =
   where
     rising_more : (round cand : ℕ) (more : List AllotRow) → rise_after round cand more ≡ true → are_rising more ≡ true
     rising_more round cand [] h = refl
-    rising_more round cand (a ∷ more) h = (both (comes_after round cand a) (rise_after a.round a.cand.0 more) h).1
+    rising_more round cand (a ∷ more) h = (and_parts (comes_after round cand a) (rise_after a.round a.cand.0 more) h).1
 
 -- ---- the last of them
 
@@ -101,10 +92,6 @@ last_of a (b ∷ bs) = last_of b bs
 pub reverse_first : (x : Row) (xs : List Row) → (more : List Row) × (reverse (x ∷ xs) ≡ last_row x xs ∷ more)
 reverse_first x [] = ([], refl)
 reverse_first x (y ∷ ys) = let p = reverse_first y ys in (p.0 ++ x ∷ [], reverse-append (x ∷ []) (y ∷ ys) ∙ ap (λ l. l ++ x ∷ []) p.1)
-
-all_push : {X : Type 0} (P : X → Type 0) (xs : List X) (x : X) → AllByRecursion P xs → P x → AllByRecursion P (xs ++ x ∷ [])
-all_push P [] x all one = (one, tt)
-all_push P (y ∷ ys) x all one = (all.0, all_push P ys x all.1 one)
 
 ascending_push : {X : Type 0} (R : X → X → Type 0) (xs : List X) (x : X) → IsAscending R xs → AllByRecursion (λ y. R y x) xs → IsAscending R (xs ++ x ∷ [])
 ascending_push R [] x up all = (tt, tt)
@@ -131,21 +118,21 @@ last_stands x a (y ∷ ys) least ones is told =
 pub rise_on : (a : AllotRow) (ones rows : List AllotRow) → are_rising (a ∷ ones) ≡ true → rise_after (last_of a ones).round (last_of a ones).cand.0 rows ≡ true → are_rising ((a ∷ ones) ++ rows) ≡ true
 rise_on a [] rows h more = more
 rise_on a (b ∷ bs) rows h more =
-    let p = both (comes_after a.round a.cand.0 b) (rise_after b.round b.cand.0 bs) h in
+    let p = and_parts (comes_after a.round a.cand.0 b) (rise_after b.round b.cand.0 bs) h in
     ap₂ ◌&&◌ p.0 (rise_on b bs rows p.1 more)
 
 -- and rows that rise rise up to each of them
 pub rise_before : (round cand : ℕ) (ones rows : List AllotRow) → rise_after round cand (ones ++ rows) ≡ true → rise_after round cand ones ≡ true
 rise_before round cand [] rows h = refl
 rise_before round cand (a ∷ ones) rows h =
-    let p = both (comes_after round cand a) (rise_after a.round a.cand.0 (ones ++ rows)) h in
+    let p = and_parts (comes_after round cand a) (rise_after a.round a.cand.0 (ones ++ rows)) h in
     ap₂ ◌&&◌ p.0 (rise_before a.round a.cand.0 ones rows p.1)
 
 abbrev pub more_rise : List AllotRow → List AllotRow → Type 0
 more_rise [] rows = are_rising rows ≡ true
 more_rise (a ∷ ones) rows = rise_after (last_of a ones).round (last_of a ones).cand.0 rows ≡ true
 
--- the seats that are told with some put after them are those that were told, and these
+-- the seats that are read with some put after them are those that were read before, and these
 pub rising_exactly : (all rows : List AllotRow) → (are_rising all ≡ true → more_rise all rows) → rising_alone (all ++ rows) ≡ option_map (λ some. some ++ rows) (rising_alone all)
 rising_exactly [] rows h = rw (h refl)
 rising_exactly (a ∷ ones) rows h = elim (cases_Bool (are_rising (a ∷ ones))) [

@@ -77,7 +77,7 @@ module _ (task : Task) (new : Row) (db : Trees) (one : Written) where
   tried (inl over) = absurd (let e = over.1 in cc)
   tried (inr put) = judged put.0 put.2
 
--- the row that stands is the one that is met
+-- the row that is there is the one that is met
 met : (strict : Bool) (indexes : List Index) (was : Row) (n : ℕ) (found : List Row) → AreConflicts (Some (0 ∷ [])) indexes (phase strict) ((Int (pos 1) ∷ was) ∷ []) (phase_row n) found
     → (more : List Row) × (found ≡ (Int (pos 1) ∷ []) ∷ more)
 unfolding binary first_key
@@ -87,7 +87,7 @@ met strict indexes was n (there ∷ more) h =
     let row : it.0 ≡ (Int (pos 1) ∷ was) = (elim it.1 [ inl same ↦ same | inr none ↦ absurd none ]) in
     (more, ap (λ (r : Row). r ∷ more) (it.3 ∙ ap (λ (r : Row). rowid r ∷ []) row))
 
--- what stands before the row that stands, for the update
+-- what is before the row that is there, for the update
 abbrev given : ℕ → Row
 given n = Int (pos 1) ∷ Int (pos n) ∷ Int (pos 1) ∷ Int (pos 1) ∷ Int (pos 1) ∷ Int (pos n) ∷ []
 
@@ -129,7 +129,7 @@ replaced strict limit params db was n one has h =
 abbrev task_of : Bool → Option ℕ → Row → Task
 task_of strict limit params = record { limit = limit; keys = Enforced; schema = stored strict; table = phase strict; params = params }
 
--- the row that was to be put meets the one that stands
+-- the row that was to be put meets the one that is there
 resolved : (strict : Bool) (limit : Option ℕ) (db : Trees) (was : Row) (n : ℕ) (one : Written) → db 5 ≡ (Int (pos 1) ∷ was) ∷ []
     → Upserts (task_of strict limit (Int (pos 1) ∷ Int (pos n) ∷ [])) Abort (phase_row n) db (clause ∷ []) (Ok one) → Replaces n db one.trees
 resolved strict limit db was n one has h =

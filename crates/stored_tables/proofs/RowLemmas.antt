@@ -1,4 +1,4 @@
--- What a row that is put above the others is told as.
+-- What a row that is put above the others is read as.
 use Rattle.std.proofs.Common.{◌≡◌, ◌<◌, ◌≤◌, ◌+◌, inl, inr, ℕ, ℤ, pos, negsuc, ◌+ℤ◌, List, [], ◌∷◌, ◌++◌, fold, true, false, nat_lt, Option, Some, None, option_map, refl, sym, ap, ap₂, subst, ◌∙◌, arith, Ordering, Less, Equal, Greater, true≢false}
 use Rattle.std.specs.Ordering.{match_ordering}
 use Rattle.std.specs.List.{AllByRecursion}
@@ -23,7 +23,7 @@ is_number least (Real x) h = absurd (omega (arith, ltb-true least 0 h))
 is_number least (Text t) h = absurd (omega (arith, ltb-true least 0 h))
 is_number least (Blob b) h = absurd (omega (arith, ltb-true least 0 h))
 
--- the parts of a list that is told
+-- the parts of a list that is read
 pub parts_of : {A : Type 0} (first : Option A) (rest : Option (List A)) (all : List A) → first_of first rest ≡ Some all → (a : A) × (more : List A) × (first ≡ Some a) × (rest ≡ Some more) × (all ≡ a ∷ more)
 parts_of None rest all h = absurd (let e = h in cc)
 parts_of (Some a) None all h = absurd (let e = h in cc)
@@ -32,7 +32,7 @@ parts_of (Some a) (Some more) all h = (a, more, refl, refl, let e = h in cc)
 abbrev pub after : ℤ → Row → ℤ
 after _ row = id_in (rowid row) +ℤ pos 1
 
-cmp_below : (m n : ℕ) → m < n → value_cmp (Int (pos m)) (Int (pos n)) ≡ Less
+pub cmp_below : (m n : ℕ) → m < n → value_cmp (Int (pos m)) (Int (pos n)) ≡ Less
 cmp_below m n h = value_cmp-Int (pos m) (pos n) ∙ Less-from_lt (pos m) (pos n) (omega (arith, ints, h))
 
 module _ {R : Type 0} (of : Row → Option R) where
@@ -52,7 +52,7 @@ module _ {R : Type 0} (of : Row → Option R) where
       let high : nat_lt least (after_of (rowid new)) ≡ true = ap (λ v. nat_lt least (after_of v)) it.id ∙ lt-ltb least (n + 1) (omega (arith, low)) in
       rw high it.is
 
-  -- the first row of rows that are told, and the others
+  -- the first row of rows that are read, and the others
   pub record Begins (least : ℕ) (row : Row) (rows : List Row) (all : List R) : Type 0 where
     pub first : R
     pub more : List R
@@ -83,7 +83,7 @@ module _ {R : Type 0} (of : Row → Option R) where
       let high = tops rows (after_of (rowid row)) top b.more b.rest (moved row rows b.n (pos top) b.id b.after_is is) in
       omega (arith, b.low, b.after_is, high)
 
-  -- the number after the last of rows that are told
+  -- the number after the last of rows that are read
   pub top_of : (rows : List Row) (least : ℕ) (all : List R) → rows_from of least rows ≡ Some all → (top : ℕ) × (fold after (pos least) rows ≡ pos top)
   top_of [] least all told = (least, refl)
   top_of (row ∷ rows) least all told =
@@ -91,7 +91,7 @@ module _ {R : Type 0} (of : Row → Option R) where
       let more = top_of rows (after_of (rowid row)) b.more b.rest in
       (more.0, ap (λ v. fold after (id_in v +ℤ pos 1) rows) b.id ∙ (ap (λ (m : ℕ). fold after (pos m) rows) (sym b.after_is) ∙ more.1))
 
-  -- a row with this number or a higher one is told after the others
+  -- a row with this number or a higher one is read after the others
   pub told_next : (new : Row) (r : R) (rows : List Row) (least top n : ℕ) (all : List R) → rows_from of least rows ≡ Some all → fold after (pos least) rows ≡ pos top → top ≤ n
       → IsNumbered new r n → rows_from of least (put_row new rows) ≡ Some (all ++ r ∷ [])
   told_next new r [] least top n all told is high next =
@@ -107,7 +107,7 @@ module _ {R : Type 0} (of : Row → Option R) where
       let put : put_row new (row ∷ rows) ≡ row ∷ put_row new rows = rw less in
       ap (rows_from of least) put ∙ (ap₂ first_of b.from more ∙ ap (λ l. Some (l ++ r ∷ [])) (sym b.whole))
 
-  -- rows that are told with one that was put were told before
+  -- rows that are read with one that was put were read before
   pub told_before : (new : Row) (rows : List Row) (least : ℕ) (all : List R) → is_taken rows new ≡ false → rows_from of least (put_row new rows) ≡ Some all
       → (before : List R) × (rows_from of least rows ≡ Some before)
   told_before new [] least all fresh told = ([], refl)
@@ -132,7 +132,7 @@ module _ {R : Type 0} (of : Row → Option R) where
           let first : row_from of least row ≡ Some c.first = from_numbered row c.first c.n least (record { id = c.id; is = c.is }) (omega (arith, b.low, b.after_is, c.low)) in
           (c.first ∷ c.more, ap₂ first_of first c.rest)
 
-  -- what is told with a row above the others is what was told, and the row
+  -- what is read with a row above the others is what was read, and the row
   pub told_exactly : (new : Row) (r : R) (rows : List Row) (least : ℕ) → ((top : ℕ) → fold after (pos least) rows ≡ pos top → (n : ℕ) × (top ≤ n) × IsNumbered new r n) → is_taken rows new ≡ false
       → rows_from of least (put_row new rows) ≡ option_map (λ all. all ++ r ∷ []) (rows_from of least rows)
   told_exactly new r rows least next fresh = go (rows_from of least rows) refl
@@ -145,7 +145,7 @@ module _ {R : Type 0} (of : Row → Option R) where
       go None was = none _ refl was
       go (Some all) was = let top = top_of rows least all was in let it = next top.0 top.1 in told_next new r rows least top.0 it.0 all was top.1 it.1 it.2
 
-  -- the numbers of rows that are told rise
+  -- the numbers of rows that are read rise
   pub rising : (rows : List Row) (least : ℕ) (all : List R) → rows_from of least rows ≡ Some all
       → AllByRecursion (λ row. (n : ℕ) × (rowid row ≡ Int (pos n)) × (least ≤ n)) rows × IsAscending (λ a b. value_cmp (rowid a) (rowid b) ≡ Less) rows
   rising [] least all told = (tt, tt)

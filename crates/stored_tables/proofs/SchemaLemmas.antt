@@ -33,14 +33,11 @@ use Rattle.sqlite.specs.Clock.{timed}
 use Rattle.sqlite.specs.State.{State, mode_of, text_of, shows_rows, Runs, ExecutesIn, Executes, Shown, ShowsRows}
 use Rattle.stored_tables.specs.Texts.{answer_text, raise_text, allot_text, part_text, opening_text, cuts_text}
 use Rattle.stored_tables.proofs.PutLemmas.{went, same_value}
+use Rattle.stored_tables.proofs.LeaveLemmas.{then_inv}
 
 -- rows are put into a table
 abbrev pub IsWrite : Command → Type 0
 IsWrite c = ((at : ℕ) × (s : Source) × (c ≡ Insert at s)) ⊎ ((at : ℕ) × (way : Conflict) × (s : Source) × (found : List Upsert) × (c ≡ InsertOr at way s found))
-
-then_inv : {A B : Type 0} (x : Checked A) (f : A → Checked B) (b : B) → and_then x f ≡ Ok b → (a : A) × (x ≡ Ok a) × (f a ≡ Ok b)
-then_inv (Ok a) f b h = (a, refl, h)
-then_inv (Err e) f b h = absurd (let k = h in cc)
 
 inserts : (schema : Schema) (base : ℕ) (name : List ℕ) (columns : List (List ℕ)) (rows : Rows) (c : Command) → insert schema base name columns rows ≡ Ok c → IsWrite c
 unfolding insert

@@ -1,4 +1,4 @@
--- Told seats rise.
+-- Visible seats rise.
 use Rattle.std.proofs.Common.{◌≡◌, inl, inr, ℕ, cond, Bool, true, false, List, Option, Some, None, refl, sym, ap, ◌∙◌}
 use Rattle.std.proofs.lemmas.Bool.{cases_Bool}
 use Rattle.keeper_mem.specs.declared.rows.AnswerRow.{AnswerRow}

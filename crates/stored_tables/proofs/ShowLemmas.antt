@@ -1,4 +1,4 @@
--- What each query of a keeper shows of what its table stands for.
+-- What each query of a keeper shows of what its table represents.
 use Rattle.std.proofs.Common.{◌≡◌, ◌==◌, inl, inr, ℕ, pos, negsuc, List, [], ◌∷◌, map, length, take, reverse, Bool, true, false, Option, Some, None, option_map, refl, sym, ap, subst, ◌∙◌, arith, IsPermutation}
 use Rattle.std.specs.List.{AllZip}
 use Rattle.std.proofs.lemmas.List.Sorted.{length_permutation, IsPermutation-refl, IsPermutation-reverse, IsPermutation-sym}
@@ -111,11 +111,7 @@ shows_key strict old new rows has h all told rise =
     let is : rows ≡ take 1 (map key_shown (reverse stood)) = in_order 3 m.project m.order one_row old.now.trees rows (reverse stood) (IsPermutation-reverse stood) (ascending_reverse KeyLess stood (keys_rise stood 1 all told rise)) it in
     first_key stood all rows told is
 
--- ---- whether a row stands
-
-no_length : {X : Type 0} (xs : List X) → length xs ≡ 0 → xs ≡ []
-no_length [] h = refl
-no_length (x ∷ xs) h = absurd (omega (arith, h))
+-- ---- whether there is a row
 
 none_before : {X : Type 0} (f : Row → X) (stood : List Row) (ordered : List X) → IsPermutation (map f stood) ordered → ordered ≡ [] → stood ≡ []
 none_before f [] ordered same none = refl
@@ -177,7 +173,7 @@ shows_phase strict old new rows has h found tells = go found tells (asked_of pha
         let r = one_before _ (old.now.trees 5) it.ordered o.0 it.same o.1 in
         one_phase (old.now.trees 5) r.0 made r.1 (subst (λ (x : Row). IsPhaseRow x made) (o.2 ∙ ap (λ (p : Output). p.1) (sym r.2)) t.2)
 
--- a season of which the phase tells is told by the one row with the number 1
+-- a phase that says how many cuts a season has is the one row with the number 1
 pub phase_stands : (rows : List Row) (n : ℕ) → cuts_of rows ≡ Some (Some n) → (was : Row) × (rows ≡ (Int (pos 1) ∷ was) ∷ [])
 phase_stands [] n h = absurd (let e = h in cc)
 phase_stands (row ∷ a ∷ more) n h = absurd (let e = h in cc)

@@ -1,4 +1,4 @@
--- What a row that a query shows stands for, where the row of the table is told.
+-- What a row that a query shows represents, if the row of the table is read as a record.
 use Rattle.std.proofs.Common.{◌≡◌, ◌<◌, ◌≤◌, ◌^◌, ◌==◌, inl, inr, ℕ, pos, negsuc, List, [], ◌∷◌, map, nat_lt, Option, Some, None, option_map, option_and_then, refl, sym, ap, subst, ◌∙◌, arith}
 use Rattle.std.specs.List.{AllZip}
 use Rattle.std.proofs.lemmas.Bool.{cases_Bool, ltb-true, eqb-true}
@@ -150,7 +150,7 @@ allot_stands row a is =
 pub part_stands : (row : Row) (bytes : List ℕ) (n : ℕ) → part_of row ≡ Some bytes → rowid row ≡ Int (pos n) → IsPartRow (part_shown row) bytes
 part_stands row bytes n is id = record { part = (n, id); bytes = bytes_is (column row 2) bytes is }
 
--- each row of a table that is told stands for its record
+-- each row of a table that is read represents its record
 pub stand_from : {R : Type 0} (of : Row → Option R) (Stands : Row → R → Type 0) (shown : Row → Row) (low : ℕ) → ((row : Row) (r : R) (n : ℕ) → of row ≡ Some r → rowid row ≡ Int (pos n) → low ≤ n → Stands (shown row) r)
     → (rows : List Row) (least : ℕ) (all : List R) → low ≤ least → rows_from of least rows ≡ Some all → AllZip Stands (map shown rows) all
 stand_from {R} of Stands shown low one [] least all above told = (let none : [] ≡ all = some_value told in subst (AllZip Stands []) none tt)
@@ -160,9 +160,9 @@ stand_from {R} of Stands shown low one (row ∷ rows) least all above told =
     let more = stand_from of Stands shown low one rows _ b.more (let next = b.after_is in omega (arith, next, b.low, above)) b.rest in
     subst (AllZip Stands (map shown (row ∷ rows))) (sym b.whole) (first, more)
 
--- ---- a row stands for one record alone
+-- ---- a row represents one record alone
 
-same_number : {m n : ℕ} → Int (pos m) ≡ Int (pos n) → m ≡ n
+pub same_number : {m n : ℕ} → Int (pos m) ≡ Int (pos n) → m ≡ n
 same_number e = cc
 
 number_once : (v : Value) (m n : ℕ) → v ≡ Int (pos m) → v ≡ Int (pos n) → m ≡ n

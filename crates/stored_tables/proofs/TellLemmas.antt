@@ -1,8 +1,9 @@
--- What the tables are told as, once something was put.
+-- What the tables are read as, once something was put.
 use Rattle.std.proofs.Common.{◌≡◌, ◌+◌, ℕ, List, [], ◌∷◌, ◌++◌, Bool, true, false, ◌&&◌, cond, Option, Some, None, option_map, option_and_then, refl, sym, ap, ◌∙◌, true≢false}
 use Rattle.std.specs.List.{concat}
 use Rattle.sqlite.specs.Tree.{Trees}
 use Rattle.sqlite.specs.Effect.{Database}
+use Rattle.std.proofs.lemmas.Bool.{and_right, and_left}
 use Rattle.keeper_mem.specs.Tables.{Untold, NoSeason, Records, with_answer, with_raise, with_cut, IsFound, opening_records}
 use Rattle.keeper_mem.specs.declared.rows.AnswerRow.{AnswerRow}
 use Rattle.keeper_mem.specs.declared.rows.AllotRow.{AllotRow}
@@ -11,26 +12,13 @@ use Rattle.stored_tables.specs.Rows.{rows_from, part_of, answer_of, raise_of, al
 use Rattle.stored_tables.specs.Told.{is_bare, are_bare, records_of, tables_with, tables_in}
 use Rattle.stored_tables.specs.Puts.{PutsAnswer, PutsRaise, Stay}
 
--- ---- no row stands
-
-none_and : (a b : Bool) → b ≡ false → (a && b) ≡ false
-none_and true b h = h
-none_and false b h = refl
-
-first_false : (a b : Bool) → a ≡ false → (a && b) ≡ false
-first_false a b h = ap (λ c. c && b) h
-
-pub bare_0 : (db : Trees) → is_bare (db 0) ≡ false → are_bare db ≡ false
-bare_0 db h = first_false (is_bare (db 0)) _ h
+-- ---- there is no row
 
 pub bare_1 : (db : Trees) → is_bare (db 1) ≡ false → are_bare db ≡ false
-bare_1 db h = none_and (is_bare (db 0)) _ (first_false (is_bare (db 1)) _ h)
-
-pub bare_3 : (db : Trees) → is_bare (db 3) ≡ false → are_bare db ≡ false
-bare_3 db h = none_and (is_bare (db 0)) _ (none_and (is_bare (db 1)) _ (first_false (is_bare (db 3)) _ h))
+bare_1 db h = and_right (is_bare (db 0)) _ (and_left (is_bare (db 1)) _ h)
 
 pub bare_6 : (db : Trees) → is_bare (db 6) ≡ false → are_bare db ≡ false
-bare_6 db h = none_and (is_bare (db 0)) _ (none_and (is_bare (db 1)) _ (none_and (is_bare (db 3)) _ h))
+bare_6 db h = and_right (is_bare (db 0)) _ (and_right (is_bare (db 1)) _ (and_right (is_bare (db 3)) _ h))
 
 if_bare : (b : Bool) → IsFound true (cond b NoSeason Untold) → cond b NoSeason Untold ≡ Untold
 if_bare true h = absurd (true≢false h)
@@ -62,7 +50,7 @@ one_cut n (Some t) (Some a) None s rows = refl
 one_cut n (Some t) None r s rows = refl
 one_cut n None a r s rows = refl
 
--- ---- what is told
+-- ---- what is visible
 
 -- trees that are the same stand for the same
 pub text_same : (old new : Trees) → new 0 ≡ old 0 → text_in new ≡ text_in old

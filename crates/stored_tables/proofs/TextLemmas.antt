@@ -247,7 +247,7 @@ pub lift-made : (strict : Bool) → (command_of (understood (first_four strict) 
 unfolding understood everything
 lift-made strict = (refl, refl, (refl, refl))
 
--- the row that stands gets the number of cuts that was to be put
+-- the row that is there gets the number of cuts that was to be put
 abbrev pub mends : Query
 mends = record {
   from = inner 5 end;

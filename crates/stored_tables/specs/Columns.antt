@@ -1,4 +1,4 @@
--- What a row that a query shows stands for.
+-- What a row that a query shows represents.
 use Rattle.std.specs.Prelude.{◌≡◌, ◌<◌, ◌^◌, ℕ, pos, List, [], ◌∷◌, Option, Some, None}
 use Rattle.sqlite.specs.Order.{Row, column}
 use Rattle.sqlite.specs.declared.types.Value.TheVariants.{Int, Blob}

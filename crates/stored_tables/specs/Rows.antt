@@ -14,7 +14,7 @@ use Rattle.keeper_mem.specs.declared.rows.RaiseRow.{RaiseRow}
 use Rattle.stored_tables.specs.Numbers.{choice_of}
 use Rattle.stored_tables.specs.Rising.{are_rising}
 
--- ---- what a value stands for
+-- ---- what a value represents
 
 -- a whole number of at most so many bits
 abbrev pub number_in : ℕ → Value → Option ℕ
@@ -43,7 +43,7 @@ abbrev pub is_one : Value → Bool
 is_one (Int (pos n)) = n == 1
 is_one _ = false
 
--- ---- what a row stands for. The first value is the number of the row, and the second is empty where the table has a column for it.
+-- ---- what a row represents. The first value is the number of the row. The second is empty if the table has a column for it.
 
 -- seq, win, cand, turn, choice
 abbrev pub answer_of : Row → Option AnswerRow
@@ -87,7 +87,7 @@ rows_from of least (row ∷ rows) = first_of (row_from of least row) (rows_from 
 abbrev pub rising_alone : List AllotRow → Option (List AllotRow)
 rising_alone rows = if are_rising rows then Some rows else None
 
--- ---- what a database stands for, where its tables stand in these trees
+-- ---- what a database represents, if its tables are in these trees
 
 abbrev pub text_in : Trees → Option (List ℕ)
 text_in db = option_map concat (rows_from part_of 0 (db 0))

@@ -1,4 +1,4 @@
--- Published seats as they are told.
+-- The published seats that are visible.
 use Rattle.std.specs.Prelude.{◌≡◌, true}
 use Rattle.sqlite.specs.Tree.{Trees}
 use Rattle.keeper_mem.specs.declared.rows.Kept.{Kept}
@@ -6,6 +6,6 @@ use Rattle.keeper_mem.specs.Tables.{Records}
 use Rattle.stored_tables.specs.Rising.{are_rising}
 use Rattle.stored_tables.specs.Told.{tables_in}
 
--- Where records are told, their seats rise by round and candidate in the order in which they were put.
+-- If records are visible, their seats rise by round and candidate, in the order in which they were put.
 abbrev pub SeatsRiseLaw : Type 0
 SeatsRiseLaw = (db : Trees) (kept : Kept) → tables_in db ≡ Records kept → are_rising kept.allots ≡ true

@@ -1,4 +1,4 @@
--- The texts of the keeper, and the values that stand for rows in them.
+-- The texts of the keeper, and the values that represent rows in them.
 use Rattle.std.specs.Prelude.{ℕ, pos, List, [], ◌∷◌, codes}
 use Rattle.sqlite.specs.Order.{Row}
 use Rattle.sqlite.specs.declared.types.Value.TheVariants.{Int, Blob}
@@ -45,14 +45,14 @@ allot_text = codes "INSERT INTO allot (rnd, cand, prog, step) VALUES (?1, ?2, ?3
 abbrev pub allot_values : AllotRow → Row
 allot_values row = Int (pos row.round) ∷ Int (pos row.cand.0) ∷ Int (pos row.prog.0) ∷ Int (pos (step_number row.step)) ∷ []
 
--- the number of cuts is put in place of the one that stands
+-- puts the number of cuts in place of the one that is there
 abbrev pub cuts_text : List ℕ
 cuts_text = codes "INSERT INTO phase (id, cuts) VALUES (?1, ?2) ON CONFLICT (id) DO UPDATE SET cuts = excluded.cuts"
 
 abbrev pub cuts_values : ℕ → Row
 cuts_values cuts = Int (pos 1) ∷ Int (pos cuts) ∷ []
 
--- the row of a season without cuts, put where no row stands
+-- puts the row of a season without cuts, if no row is there
 abbrev pub opening_text : List ℕ
 opening_text = codes "INSERT INTO phase (id, cuts) SELECT ?1, 0 WHERE NOT EXISTS (SELECT id FROM phase)"
 
@@ -89,7 +89,7 @@ allots_query = codes "SELECT rnd, cand, prog, step FROM allot ORDER BY rnd, cand
 abbrev pub key_query : List ℕ
 key_query = codes "SELECT rnd, cand FROM allot ORDER BY rnd DESC, cand DESC LIMIT 1"
 
--- whether a row stands, in each of the four tables beside the phase
+-- whether there is a row, for each of the four tables other than the phase
 abbrev pub any_part : List ℕ
 any_part = codes "SELECT part FROM season LIMIT 1"
 

@@ -8,7 +8,7 @@ pub fn layout()
     ensures { LayoutLaw }
 {}
 
-/// Told seats rise by round and candidate, in the order in which they were put.
+/// Visible seats rise by round and candidate, in the order in which they were put.
 #[tactic(auto, using(crate::proofs::SeatLemmas::seats_rise))]
 pub fn seats_rise()
     ensures { SeatsRiseLaw }

@@ -8,7 +8,7 @@ use Rattle.keeper_sqlite.proofs.allot.insert_all.Goals as goal
 
 pub returns-clause-ran : goal.returns-clause-ran
 returns-clause-ran g c =
-    ready_then g.S.Store allot_text _ (λ text. allot_calls text c.args.rows.now) c.args.tx.now.conn.now c.make_ready.new.tx.conn.now c.insert_each.new.tx.conn.now c.insert_each.result c.insert_each.ensures.inside c.in_ok-insert.ensures.made c.insert_each.ensures.ran
+    ready_then g.S.Store allot_text _ (λ text. allot_calls text c.args.rows.now) c.args.tx.now.conn.now c.make_ready.new.tx.conn.now c.insert_each.new.tx.conn.now c.insert_each.result c.insert_each.ensures.inside.1 c.in_ok-insert.ensures.made c.insert_each.ensures.ran
 
 pub returns-in_err-insert-clause-lost : goal.returns-in_err-insert-clause-lost
 returns-in_err-insert-clause-lost g c = λ clean.
@@ -17,4 +17,4 @@ returns-in_err-insert-clause-lost g c = λ clean.
 
 pub returns-clause-lost : goal.returns-clause-lost
 returns-clause-lost g c =
-    ready_lost g.S.Store allot_text _ (λ text. allot_calls text c.args.rows.now) c.args.tx.now.conn.now c.make_ready.new.tx.conn.now c.insert_each.new.tx.conn.now c.insert_each.result c.insert_each.ensures.inside c.in_ok-insert.ensures.made c.insert_each.ensures.lost
+    ready_lost g.S.Store allot_text _ (λ text. allot_calls text c.args.rows.now) c.args.tx.now.conn.now c.make_ready.new.tx.conn.now c.insert_each.new.tx.conn.now c.insert_each.result c.insert_each.ensures.inside.1 c.in_ok-insert.ensures.made c.insert_each.ensures.lost

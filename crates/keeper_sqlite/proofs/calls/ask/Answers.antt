@@ -7,10 +7,10 @@ pub returns-clause-told : goal.returns-clause-told
 returns-clause-told g c = λ clean. (_, c.in_ok-query_all.ensures.ok clean, refl)
 
 pub returns-in_err-query_all-clause-inside : goal.returns-in_err-query_all-clause-inside
-returns-in_err-query_all-clause-inside g c = ask_nothing g.S.Store _ _ (λ rows. rows.items) c.args.tx.now.conn.now c.query_all.new.self.conn.now c.query_all.result c.query_all.ensures.ok c.query_all.ensures.err c.query_all.ensures.survives
+returns-in_err-query_all-clause-inside g c = (c.query_all.ensures.same_reference, ask_nothing g.S.Store _ _ (λ rows. rows.items) c.args.tx.now.conn.now c.query_all.new.self.conn.now c.query_all.result c.query_all.ensures.ok c.query_all.ensures.err c.query_all.ensures.survives)
 
 pub returns-clause-inside : goal.returns-clause-inside
-returns-clause-inside g c = ask_nothing g.S.Store _ _ (λ rows. rows.items) c.args.tx.now.conn.now c.query_all.new.self.conn.now c.query_all.result c.query_all.ensures.ok c.query_all.ensures.err c.query_all.ensures.survives
+returns-clause-inside g c = (c.query_all.ensures.same_reference, ask_nothing g.S.Store _ _ (λ rows. rows.items) c.args.tx.now.conn.now c.query_all.new.self.conn.now c.query_all.result c.query_all.ensures.ok c.query_all.ensures.err c.query_all.ensures.survives)
 
 pub returns-in_err-query_all-clause-refused : goal.returns-in_err-query_all-clause-refused
 returns-in_err-query_all-clause-refused g c = λ clean.

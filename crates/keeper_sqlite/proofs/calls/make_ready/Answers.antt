@@ -9,10 +9,10 @@ returns-clause-made g c = λ clean.
     (made.0, (_, record { outline = c.in_ok-prepare.field-0; is = c.in_ok-prepare.ensures.shape clean; same = made.1 }, refl))
 
 pub returns-in_err-prepare-clause-inside : goal.returns-in_err-prepare-clause-inside
-returns-in_err-prepare-clause-inside g c = ready_nothing g.S.Store _ (λ s. s.text ≡ c.args.text.now) c.args.tx.now.conn.now c.prepare.new.self.conn.now c.prepare.result c.prepare.ensures.ok c.prepare.ensures.err c.prepare.ensures.survives
+returns-in_err-prepare-clause-inside g c = (c.prepare.ensures.same_reference, ready_nothing g.S.Store _ (λ s. s.text ≡ c.args.text.now) c.args.tx.now.conn.now c.prepare.new.self.conn.now c.prepare.result c.prepare.ensures.ok c.prepare.ensures.err c.prepare.ensures.survives)
 
 pub returns-clause-inside : goal.returns-clause-inside
-returns-clause-inside g c = ready_nothing g.S.Store _ (λ s. s.text ≡ c.args.text.now) c.args.tx.now.conn.now c.prepare.new.self.conn.now c.prepare.result c.prepare.ensures.ok c.prepare.ensures.err c.prepare.ensures.survives
+returns-clause-inside g c = (c.prepare.ensures.same_reference, ready_nothing g.S.Store _ (λ s. s.text ≡ c.args.text.now) c.args.tx.now.conn.now c.prepare.new.self.conn.now c.prepare.result c.prepare.ensures.ok c.prepare.ensures.err c.prepare.ensures.survives)
 
 pub returns-in_err-prepare-clause-lost : goal.returns-in_err-prepare-clause-lost
 returns-in_err-prepare-clause-lost g c = λ clean.

@@ -9,13 +9,13 @@ pub returns-then-branch-eq1-clause-ran : goal.returns-then-branch-eq1-clause-ran
 returns-then-branch-eq1-clause-ran g c = placed_inside g.S.Store _ _ _ _ c.execute.result _ c.in_ok-execute.was (search rules) c.execute.ensures.ended c.execute.ensures.runs
 
 pub returns-in_err-execute-clause-inside : goal.returns-in_err-execute-clause-inside
-returns-in_err-execute-clause-inside g c = run_nothing g.S.Store _ _ _ _ c.execute.result c.execute.ensures.ended c.execute.ensures.runs c.execute.ensures.survives
+returns-in_err-execute-clause-inside g c = (c.execute.ensures.same_reference, run_nothing g.S.Store _ _ _ _ c.execute.result c.execute.ensures.ended c.execute.ensures.runs c.execute.ensures.survives)
 
 pub returns-then-branch-eq1-clause-inside : goal.returns-then-branch-eq1-clause-inside
-returns-then-branch-eq1-clause-inside g c = run_nothing g.S.Store _ _ _ _ c.execute.result c.execute.ensures.ended c.execute.ensures.runs c.execute.ensures.survives
+returns-then-branch-eq1-clause-inside g c = (c.execute.ensures.same_reference, run_nothing g.S.Store _ _ _ _ c.execute.result c.execute.ensures.ended c.execute.ensures.runs c.execute.ensures.survives)
 
 pub returns-else-branch-eq1-clause-inside : goal.returns-else-branch-eq1-clause-inside
-returns-else-branch-eq1-clause-inside g c = run_nothing g.S.Store _ _ _ _ c.execute.result c.execute.ensures.ended c.execute.ensures.runs c.execute.ensures.survives
+returns-else-branch-eq1-clause-inside g c = (c.execute.ensures.same_reference, run_nothing g.S.Store _ _ _ _ c.execute.result c.execute.ensures.ended c.execute.ensures.runs c.execute.ensures.survives)
 
 pub returns-in_err-execute-clause-lost : goal.returns-in_err-execute-clause-lost
 returns-in_err-execute-clause-lost g c = λ clean.

@@ -9,10 +9,10 @@ pub returns-clause-ran : goal.returns-clause-ran
 returns-clause-ran g c = ran_inside g.S.Store _ _ _ _ c.execute_prepared.result _ c.in_ok-execute_prepared.was c.execute_prepared.ensures.ended c.execute_prepared.ensures.runs
 
 pub returns-in_err-execute_prepared-clause-inside : goal.returns-in_err-execute_prepared-clause-inside
-returns-in_err-execute_prepared-clause-inside g c = run_nothing g.S.Store _ _ _ _ c.execute_prepared.result c.execute_prepared.ensures.ended c.execute_prepared.ensures.runs c.execute_prepared.ensures.survives
+returns-in_err-execute_prepared-clause-inside g c = (c.execute_prepared.ensures.same_reference, run_nothing g.S.Store _ _ _ _ c.execute_prepared.result c.execute_prepared.ensures.ended c.execute_prepared.ensures.runs c.execute_prepared.ensures.survives)
 
 pub returns-clause-inside : goal.returns-clause-inside
-returns-clause-inside g c = run_nothing g.S.Store _ _ _ _ c.execute_prepared.result c.execute_prepared.ensures.ended c.execute_prepared.ensures.runs c.execute_prepared.ensures.survives
+returns-clause-inside g c = (c.execute_prepared.ensures.same_reference, run_nothing g.S.Store _ _ _ _ c.execute_prepared.result c.execute_prepared.ensures.ended c.execute_prepared.ensures.runs c.execute_prepared.ensures.survives)
 
 pub returns-in_err-execute_prepared-clause-lost : goal.returns-in_err-execute_prepared-clause-lost
 returns-in_err-execute_prepared-clause-lost g c = λ clean.

@@ -8,12 +8,12 @@ use Rattle.keeper_sqlite.proofs.season.insert_parts.Goals as goal
 
 pub parts-preserved : goal.parts-preserved
 parts-preserved g c = (
-  c.insert_part.ensures.same_reference ∙ c.parts.invariant.0,
-  nothing_then _ _ _ c.parts.invariant.1 c.insert_part.ensures.inside,
+  c.insert_part.ensures.inside.0 ∙ c.parts.invariant.0,
+  nothing_then _ _ _ c.parts.invariant.1 c.insert_part.ensures.inside.1,
   part_put g.S.Store c.args.insert.now.text c.args.text.now c.parts.rest.now c.split_at.result.0.now c.split_at.result.1.now c.parts.number c.in_ok-number.number c.args.tx.now.conn.now c.parts.tx.conn.now c.insert_part.new.tx.conn.now
-      c.split_at.ensures.by_index.0 (omega (arith, c.split_at.ensures.front_len, c.min.ensures)) c.in_ok-number.ensures.ok c.insert_part.ensures.inside c.parts.invariant.2 c.in_ok-insert_part.ensures.ran,
+      c.split_at.ensures.by_index.0 (omega (arith, c.split_at.ensures.front_len, c.min.ensures)) c.in_ok-number.ensures.ok c.insert_part.ensures.inside.1 c.parts.invariant.2 c.in_ok-insert_part.ensures.ran,
   part_stop g.S.Store c.args.insert.now.text c.args.text.now c.parts.rest.now c.split_at.result.0.now c.split_at.result.1.now c.parts.number c.in_ok-number.number c.args.tx.now.conn.now c.parts.tx.conn.now c.insert_part.new.tx.conn.now
-      c.split_at.ensures.by_index.0 (omega (arith, c.split_at.ensures.front_len, c.min.ensures)) c.in_ok-number.ensures.ok c.insert_part.ensures.inside c.parts.invariant.3 c.in_ok-insert_part.ensures.ran,
+      c.split_at.ensures.by_index.0 (omega (arith, c.split_at.ensures.front_len, c.min.ensures)) c.in_ok-number.ensures.ok c.insert_part.ensures.inside.1 c.parts.invariant.3 c.in_ok-insert_part.ensures.ran,
 )
 
 pub returns-clause-ran : goal.returns-clause-ran
@@ -25,10 +25,10 @@ pub returns-in_err-insert_part-clause-lost : goal.returns-in_err-insert_part-cla
 returns-in_err-insert_part-clause-lost g c = λ clean.
     let p = err_from_is_err_and c.from_residual.result c.from_residual.ensures.1 in
     rw (p.1, p.2) (part_lost g.S.Store c.args.insert.now.text c.args.text.now c.parts.rest.now c.split_at.result.0.now c.split_at.result.1.now c.parts.number _ c.args.tx.now.conn.now c.parts.tx.conn.now c.insert_part.new.tx.conn.now
-    c.split_at.ensures.by_index.0 (omega (arith, c.split_at.ensures.front_len, c.min.ensures)) c.insert_part.ensures.inside c.parts.invariant.3 clean (c.in_err-insert_part.ensures.lost clean))
+    c.split_at.ensures.by_index.0 (omega (arith, c.split_at.ensures.front_len, c.min.ensures)) c.insert_part.ensures.inside.1 c.parts.invariant.3 clean (c.in_err-insert_part.ensures.lost clean))
 
 pub returns-in_err-number-clause-lost : goal.returns-in_err-number-clause-lost
 returns-in_err-number-clause-lost g c = λ clean.
     let p = err_from_is_err_and c.from_residual-in_err-number.result c.from_residual-in_err-number.ensures.1 in
     rw (p.1, p.2) (parts_many g.S.Store c.args.insert.now.text c.args.text.now c.parts.rest.now c.split_at.result.0.now c.split_at.result.1.now c.parts.number _ c.args.tx.now.conn.now c.parts.tx.conn.now c.insert_part.new.tx.conn.now
-    c.split_at.ensures.by_index.0 (omega (arith, c.split_at.ensures.front_len, c.min.ensures)) c.insert_part.ensures.inside c.parts.invariant.3 clean c.in_err-number.ensures.err)
+    c.split_at.ensures.by_index.0 (omega (arith, c.split_at.ensures.front_len, c.min.ensures)) c.insert_part.ensures.inside.1 c.parts.invariant.3 clean c.in_err-number.ensures.err)

@@ -5,7 +5,7 @@ use Rattle.keeper_sqlite.proofs.season.insert_text.Goals as goal
 
 pub returns-clause-ran : goal.returns-clause-ran
 returns-clause-ran g c =
-    text_ready g.S.Store _ c.args.text.now c.args.tx.now.conn.now c.make_ready.new.tx.conn.now c.insert_parts.new.tx.conn.now c.insert_parts.result c.insert_parts.ensures.inside c.in_ok-insert.ensures.made c.insert_parts.ensures.ran
+    text_ready g.S.Store _ c.args.text.now c.args.tx.now.conn.now c.make_ready.new.tx.conn.now c.insert_parts.new.tx.conn.now c.insert_parts.result c.insert_parts.ensures.inside.1 c.in_ok-insert.ensures.made c.insert_parts.ensures.ran
 
 pub returns-in_err-insert-clause-lost : goal.returns-in_err-insert-clause-lost
 returns-in_err-insert-clause-lost g c = λ clean.
@@ -14,4 +14,4 @@ returns-in_err-insert-clause-lost g c = λ clean.
 
 pub returns-clause-lost : goal.returns-clause-lost
 returns-clause-lost g c =
-    text_stops g.S.Store _ c.args.text.now c.args.tx.now.conn.now c.make_ready.new.tx.conn.now c.insert_parts.new.tx.conn.now c.insert_parts.result c.insert_parts.ensures.inside c.in_ok-insert.ensures.made c.insert_parts.ensures.lost
+    text_stops g.S.Store _ c.args.text.now c.args.tx.now.conn.now c.make_ready.new.tx.conn.now c.insert_parts.new.tx.conn.now c.insert_parts.result c.insert_parts.ensures.inside.1 c.in_ok-insert.ensures.made c.insert_parts.ensures.lost

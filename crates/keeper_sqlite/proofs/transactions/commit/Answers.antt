@@ -19,7 +19,7 @@ returns-clause-once g c =
     let last = c.settle-ended.new.tx.0 in
     let same : last ≡ c.connection-1.given.0 = search rules in
     subst (λ h. CommitsOnce (state g.S.Store c.args.connection.now) (state g.S.Store h)) same
-    (once_made g.S.Store _ _ c.write-done.new.tx.conn.now last c.transaction-begun.ensures.begun c.write-done.ensures.inside (shown_by g.S.Store c.write-done.result c.write-done.new.tx.conn.now last c.settle-ended.ensures.shown))
+    (once_made g.S.Store _ _ c.write-done.new.tx.conn.now last c.transaction-begun.ensures.begun c.write-done.ensures.inside.1 (shown_by g.S.Store c.write-done.result c.write-done.new.tx.conn.now last c.settle-ended.ensures.shown))
 
 pub returns-in_err-expect_free-clause-made : goal.returns-in_err-expect_free-clause-made
 returns-in_err-expect_free-clause-made g c = made_same g.S.Store c.args.change c.args.connection.now
@@ -29,7 +29,7 @@ returns-clause-made g c =
     let last = c.settle-ended.new.tx.0 in
     let same : last ≡ c.connection-1.given.0 = search rules in
     subst (λ h. Survives (state g.S.Store c.args.connection.now) (state g.S.Store h) (MadeBy g.S.Store c.args.change c.args.connection.now)) same
-    (made_once g.S.Store c.args.change c.args.connection.now _ c.write-done.new.tx.conn.now last c.write-done.result c.transaction-begun.ensures.begun c.write-done.ensures.inside c.write-done.ensures.made c.settle-ended.ensures.shown)
+    (made_once g.S.Store c.args.change c.args.connection.now _ c.write-done.new.tx.conn.now last c.write-done.result c.transaction-begun.ensures.begun c.write-done.ensures.inside.1 c.write-done.ensures.made c.settle-ended.ensures.shown)
 
 pub returns-clause-kept : goal.returns-clause-kept
 returns-clause-kept g c =
@@ -51,7 +51,7 @@ returns-clause-stays_err g c =
     let live = subst (λ h. IsLive (state g.S.Store h)) (sym same) c.at_rest-2.ensures.live in
     let after = subst (λ h. h.in_transaction ≡ false → IsTrue (state g.S.Store h).is_open → (state g.S.Store h).now ≡ (state g.S.Store h).committed) (sym same) c.at_rest-2.ensures.settled in
     (put_back g.S.Store c.args.connection.now c.transaction-begun.result.conn.now mid last c.settle-ended.result c.transaction-begun.ensures.begun (g.met.S.Store.settled c.args.connection.now.store) (g.met.S.Store.stays mid.store)
-    c.at_rest.ensures.live live c.write-done.ensures.inside (c.at_rest.ensures.settled (search rules)) (after c.settle-ended.ensures.ended.0) (λ sound. omega (arith, sound, c.settle-ended.ensures.shown.clean)) c.settle-ended.ensures.back)
+    c.at_rest.ensures.live live c.write-done.ensures.inside.1 (c.at_rest.ensures.settled (search rules)) (after c.settle-ended.ensures.ended.0) (λ sound. omega (arith, sound, c.settle-ended.ensures.shown.clean)) c.settle-ended.ensures.back)
 
 pub returns-in_err-expect_free-clause-lost : goal.returns-in_err-expect_free-clause-lost
 returns-in_err-expect_free-clause-lost g c = λ clean.

@@ -8,7 +8,7 @@ use Rattle.keeper_sqlite.proofs.transactions.expect_empty.Goals as goal
 pub returns-clause-told : goal.returns-clause-told
 returns-clause-told g c =
     both_done g.S.Store (unanswered_calls (take 1 any_row_queries)) (unanswered_calls (drop 1 any_row_queries)) c.args.tx.now.conn.now c.expect_empty.new.tx.conn.now c.expect_no_rows.new.tx.conn.now c.expect_empty.result c.expect_no_rows.result
-    c.in_ok-expect_empty.was c.expect_no_rows.ensures.inside c.expect_empty.ensures.told c.expect_no_rows.ensures.told
+    c.in_ok-expect_empty.was c.expect_no_rows.ensures.inside.1 c.expect_empty.ensures.told c.expect_no_rows.ensures.told
 
 pub returns-in_err-expect_empty-clause-lost : goal.returns-in_err-expect_empty-clause-lost
 returns-in_err-expect_empty-clause-lost g c = λ clean.
@@ -16,4 +16,4 @@ returns-in_err-expect_empty-clause-lost g c = λ clean.
     rw (p.1, p.2) (stops_more g.S.Store (unanswered_calls (take 1 any_row_queries)) (unanswered_calls (drop 1 any_row_queries)) _ c.args.tx.now.conn.now c.expect_empty.new.tx.conn.now (c.in_err-expect_empty.ensures.lost clean))
 
 pub returns-clause-lost : goal.returns-clause-lost
-returns-clause-lost g c = later_lost g.S.Store (unanswered_calls (take 1 any_row_queries)) (unanswered_calls (drop 1 any_row_queries)) c.args.tx.now.conn.now c.expect_empty.new.tx.conn.now c.expect_no_rows.new.tx.conn.now c.expect_no_rows.result c.expect_no_rows.ensures.inside c.in_ok-expect_empty.ensures.told c.expect_no_rows.ensures.lost
+returns-clause-lost g c = later_lost g.S.Store (unanswered_calls (take 1 any_row_queries)) (unanswered_calls (drop 1 any_row_queries)) c.args.tx.now.conn.now c.expect_empty.new.tx.conn.now c.expect_no_rows.new.tx.conn.now c.expect_no_rows.result c.expect_no_rows.ensures.inside.1 c.in_ok-expect_empty.ensures.told c.expect_no_rows.ensures.lost

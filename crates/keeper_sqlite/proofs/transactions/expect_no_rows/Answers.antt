@@ -9,9 +9,9 @@ use Rattle.keeper_sqlite.proofs.transactions.expect_no_rows.Goals as goal
 pub returns-clause-told : goal.returns-clause-told
 returns-clause-told g c =
     both_done g.S.Store (unanswered_calls (take 1 (drop 1 any_row_queries))) (unanswered_calls (drop 2 any_row_queries)) c.args.tx.now.conn.now c.expect_empty.new.tx.conn.now c.expect_empty-3.new.tx.conn.now c.expect_empty.result c.expect_empty-3.result c.in_ok-expect_empty.was
-    (nothing_then _ _ _ c.expect_empty-2.ensures.inside c.expect_empty-3.ensures.inside) c.expect_empty.ensures.told
+    (nothing_then _ _ _ c.expect_empty-2.ensures.inside.1 c.expect_empty-3.ensures.inside.1) c.expect_empty.ensures.told
     (both_done g.S.Store (unanswered_calls (take 1 (drop 2 any_row_queries))) (unanswered_calls (drop 3 any_row_queries)) c.expect_empty.new.tx.conn.now c.expect_empty-2.new.tx.conn.now c.expect_empty-3.new.tx.conn.now c.expect_empty-2.result c.expect_empty-3.result
-    c.in_ok-expect_empty-2.was c.expect_empty-3.ensures.inside c.expect_empty-2.ensures.told c.expect_empty-3.ensures.told)
+    c.in_ok-expect_empty-2.was c.expect_empty-3.ensures.inside.1 c.expect_empty-2.ensures.told c.expect_empty-3.ensures.told)
 
 pub returns-in_err-expect_empty-clause-lost : goal.returns-in_err-expect_empty-clause-lost
 returns-in_err-expect_empty-clause-lost g c = λ clean.
@@ -21,10 +21,10 @@ returns-in_err-expect_empty-clause-lost g c = λ clean.
 pub returns-in_err-expect_empty-2-clause-lost : goal.returns-in_err-expect_empty-2-clause-lost
 returns-in_err-expect_empty-2-clause-lost g c = λ clean.
     let p = err_from_is_err_and c.from_residual-in_err-expect_empty-2.result c.from_residual-in_err-expect_empty-2.ensures.1 in
-    rw (p.1, p.2) (second_lost g.S.Store (unanswered_calls (take 1 (drop 1 any_row_queries))) (unanswered_calls (drop 2 any_row_queries)) _ c.args.tx.now.conn.now c.expect_empty.new.tx.conn.now c.expect_empty-2.new.tx.conn.now c.expect_empty-2.ensures.inside c.in_ok-expect_empty.ensures.told clean
+    rw (p.1, p.2) (second_lost g.S.Store (unanswered_calls (take 1 (drop 1 any_row_queries))) (unanswered_calls (drop 2 any_row_queries)) _ c.args.tx.now.conn.now c.expect_empty.new.tx.conn.now c.expect_empty-2.new.tx.conn.now c.expect_empty-2.ensures.inside.1 c.in_ok-expect_empty.ensures.told clean
     (stops_more g.S.Store (unanswered_calls (take 1 (drop 2 any_row_queries))) (unanswered_calls (drop 3 any_row_queries)) _ c.expect_empty.new.tx.conn.now c.expect_empty-2.new.tx.conn.now (c.in_err-expect_empty-2.ensures.lost clean)))
 
 pub returns-clause-lost : goal.returns-clause-lost
 returns-clause-lost g c =
-    later_lost g.S.Store (unanswered_calls (take 1 (drop 1 any_row_queries))) (unanswered_calls (drop 2 any_row_queries)) c.args.tx.now.conn.now c.expect_empty.new.tx.conn.now c.expect_empty-3.new.tx.conn.now c.expect_empty-3.result (nothing_then _ _ _ c.expect_empty-2.ensures.inside c.expect_empty-3.ensures.inside) c.in_ok-expect_empty.ensures.told
-    (later_lost g.S.Store (unanswered_calls (take 1 (drop 2 any_row_queries))) (unanswered_calls (drop 3 any_row_queries)) c.expect_empty.new.tx.conn.now c.expect_empty-2.new.tx.conn.now c.expect_empty-3.new.tx.conn.now c.expect_empty-3.result c.expect_empty-3.ensures.inside c.in_ok-expect_empty-2.ensures.told c.expect_empty-3.ensures.lost)
+    later_lost g.S.Store (unanswered_calls (take 1 (drop 1 any_row_queries))) (unanswered_calls (drop 2 any_row_queries)) c.args.tx.now.conn.now c.expect_empty.new.tx.conn.now c.expect_empty-3.new.tx.conn.now c.expect_empty-3.result (nothing_then _ _ _ c.expect_empty-2.ensures.inside.1 c.expect_empty-3.ensures.inside.1) c.in_ok-expect_empty.ensures.told
+    (later_lost g.S.Store (unanswered_calls (take 1 (drop 2 any_row_queries))) (unanswered_calls (drop 3 any_row_queries)) c.expect_empty.new.tx.conn.now c.expect_empty-2.new.tx.conn.now c.expect_empty-3.new.tx.conn.now c.expect_empty-3.result c.expect_empty-3.ensures.inside.1 c.in_ok-expect_empty-2.ensures.told c.expect_empty-3.ensures.lost)

@@ -29,7 +29,7 @@ returns-clause-stays g c =
     (λ clean is_so.
     let back = c.rollback.ensures.undone clean in
     back_told g.S.Store c.args.connection.now c.transaction-tx.result.conn.now mid last c.transaction-tx.ensures.begun (g.met.S.Store.settled c.args.connection.now.store) (g.met.S.Store.stays mid.store)
-    c.at_rest.ensures.live live c.look_for_season-found.ensures.inside (c.at_rest.ensures.settled (search rules)) (after c.rollback.ensures.ended) (omega (arith, clean, c.rollback.ensures.survives.clean)) (back.was_open is_so) (back.undone is_so).1 is_so)
+    c.at_rest.ensures.live live c.look_for_season-found.ensures.inside.1 (c.at_rest.ensures.settled (search rules)) (after c.rollback.ensures.ended) (omega (arith, clean, c.rollback.ensures.survives.clean)) (back.was_open is_so) (back.undone is_so).1 is_so)
 
 pub returns-in_err-expect_free-clause-stays : goal.returns-in_err-expect_free-clause-stays
 returns-in_err-expect_free-clause-stays g c = λ clean is_so. refl

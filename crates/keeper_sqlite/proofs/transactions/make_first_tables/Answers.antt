@@ -7,7 +7,7 @@ use Rattle.keeper_sqlite.proofs.transactions.make_first_tables.Goals as goal
 
 pub returns-clause-ran : goal.returns-clause-ran
 returns-clause-ran g c =
-    both_done g.S.Store (plain_calls (season_table ∷ [])) (plain_calls (answer_table ∷ [])) _ _ _ c.create.result c.create-2.result c.in_ok-create.was c.create-2.ensures.inside c.create.ensures.ran c.create-2.ensures.ran
+    both_done g.S.Store (plain_calls (season_table ∷ [])) (plain_calls (answer_table ∷ [])) _ _ _ c.create.result c.create-2.result c.in_ok-create.was c.create-2.ensures.inside.1 c.create.ensures.ran c.create-2.ensures.ran
 
 pub returns-in_err-create-clause-lost : goal.returns-in_err-create-clause-lost
 returns-in_err-create-clause-lost g c = λ clean.
@@ -15,4 +15,4 @@ returns-in_err-create-clause-lost g c = λ clean.
     rw (p.1, p.2) (stops_more g.S.Store (plain_calls (season_table ∷ [])) (plain_calls (answer_table ∷ [])) _ c.args.tx.now.conn.now c.create.new.tx.conn.now (c.in_err-create.ensures.lost clean))
 
 pub returns-clause-lost : goal.returns-clause-lost
-returns-clause-lost g c = later_lost g.S.Store (plain_calls (season_table ∷ [])) (plain_calls (answer_table ∷ [])) c.args.tx.now.conn.now c.create.new.tx.conn.now c.create-2.new.tx.conn.now c.create-2.result c.create-2.ensures.inside c.in_ok-create.ensures.ran c.create-2.ensures.lost
+returns-clause-lost g c = later_lost g.S.Store (plain_calls (season_table ∷ [])) (plain_calls (answer_table ∷ [])) c.args.tx.now.conn.now c.create.new.tx.conn.now c.create-2.new.tx.conn.now c.create-2.result c.create-2.ensures.inside.1 c.in_ok-create.ensures.ran c.create-2.ensures.lost

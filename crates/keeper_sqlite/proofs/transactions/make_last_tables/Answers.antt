@@ -9,8 +9,8 @@ use Rattle.keeper_sqlite.proofs.transactions.make_last_tables.Goals as goal
 pub returns-clause-ran : goal.returns-clause-ran
 returns-clause-ran g c =
     both_done g.S.Store (plain_calls (allot_table ∷ [])) (plain_calls (phase_table ∷ lift_table ∷ [])) _ _ _ c.create.result c.create-3.result c.in_ok-create.was
-    (nothing_then _ _ _ c.create-2.ensures.inside c.create-3.ensures.inside) c.create.ensures.ran
-    (both_done g.S.Store (plain_calls (phase_table ∷ [])) (plain_calls (lift_table ∷ [])) _ _ _ c.create-2.result c.create-3.result c.in_ok-create-2.was c.create-3.ensures.inside c.create-2.ensures.ran c.create-3.ensures.ran)
+    (nothing_then _ _ _ c.create-2.ensures.inside.1 c.create-3.ensures.inside.1) c.create.ensures.ran
+    (both_done g.S.Store (plain_calls (phase_table ∷ [])) (plain_calls (lift_table ∷ [])) _ _ _ c.create-2.result c.create-3.result c.in_ok-create-2.was c.create-3.ensures.inside.1 c.create-2.ensures.ran c.create-3.ensures.ran)
 
 pub returns-in_err-create-clause-lost : goal.returns-in_err-create-clause-lost
 returns-in_err-create-clause-lost g c = λ clean.
@@ -20,10 +20,10 @@ returns-in_err-create-clause-lost g c = λ clean.
 pub returns-in_err-create-2-clause-lost : goal.returns-in_err-create-2-clause-lost
 returns-in_err-create-2-clause-lost g c = λ clean.
     let p = err_from_is_err_and c.from_residual-in_err-create-2.result c.from_residual-in_err-create-2.ensures.1 in
-    rw (p.1, p.2) (second_lost g.S.Store (plain_calls (allot_table ∷ [])) (plain_calls (phase_table ∷ lift_table ∷ [])) _ c.args.tx.now.conn.now c.create.new.tx.conn.now c.create-2.new.tx.conn.now c.create-2.ensures.inside c.in_ok-create.ensures.ran clean
+    rw (p.1, p.2) (second_lost g.S.Store (plain_calls (allot_table ∷ [])) (plain_calls (phase_table ∷ lift_table ∷ [])) _ c.args.tx.now.conn.now c.create.new.tx.conn.now c.create-2.new.tx.conn.now c.create-2.ensures.inside.1 c.in_ok-create.ensures.ran clean
     (stops_more g.S.Store (plain_calls (phase_table ∷ [])) (plain_calls (lift_table ∷ [])) _ c.create.new.tx.conn.now c.create-2.new.tx.conn.now (c.in_err-create-2.ensures.lost clean)))
 
 pub returns-clause-lost : goal.returns-clause-lost
 returns-clause-lost g c =
-    later_lost g.S.Store (plain_calls (allot_table ∷ [])) (plain_calls (phase_table ∷ lift_table ∷ [])) c.args.tx.now.conn.now c.create.new.tx.conn.now c.create-3.new.tx.conn.now c.create-3.result (nothing_then _ _ _ c.create-2.ensures.inside c.create-3.ensures.inside) c.in_ok-create.ensures.ran
-    (later_lost g.S.Store (plain_calls (phase_table ∷ [])) (plain_calls (lift_table ∷ [])) c.create.new.tx.conn.now c.create-2.new.tx.conn.now c.create-3.new.tx.conn.now c.create-3.result c.create-3.ensures.inside c.in_ok-create-2.ensures.ran c.create-3.ensures.lost)
+    later_lost g.S.Store (plain_calls (allot_table ∷ [])) (plain_calls (phase_table ∷ lift_table ∷ [])) c.args.tx.now.conn.now c.create.new.tx.conn.now c.create-3.new.tx.conn.now c.create-3.result (nothing_then _ _ _ c.create-2.ensures.inside.1 c.create-3.ensures.inside.1) c.in_ok-create.ensures.ran
+    (later_lost g.S.Store (plain_calls (phase_table ∷ [])) (plain_calls (lift_table ∷ [])) c.create.new.tx.conn.now c.create-2.new.tx.conn.now c.create-3.new.tx.conn.now c.create-3.result c.create-3.ensures.inside.1 c.in_ok-create-2.ensures.ran c.create-3.ensures.lost)

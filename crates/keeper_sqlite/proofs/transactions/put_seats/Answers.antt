@@ -11,7 +11,7 @@ pub returns-clause-ran : goal.returns-clause-ran
 returns-clause-ran g c =
     let rows = c.args.rows.now in
     both_done g.S.Store (Readies allot_text ∷ allot_calls allot_text rows) (Runs cuts_text (cuts_values (c.args.made + 1)) ∷ []) c.args.tx.now.conn.now c.insert_all.new.tx.conn.now c.upsert.new.tx.conn.now c.insert_all.result c.upsert.result
-    c.in_ok-insert_all.was c.upsert.ensures.inside c.insert_all.ensures.ran (rw c.in_ok-cuts.ensures.ok.0 at c.upsert.ensures.ran)
+    c.in_ok-insert_all.was c.upsert.ensures.inside.1 c.insert_all.ensures.ran (rw c.in_ok-cuts.ensures.ok.0 at c.upsert.ensures.ran)
 
 pub returns-in_err-cuts-clause-lost : goal.returns-in_err-cuts-clause-lost
 returns-in_err-cuts-clause-lost g c = λ clean.
@@ -27,4 +27,4 @@ pub returns-clause-lost : goal.returns-clause-lost
 returns-clause-lost g c =
     on_seats g.S.Store c.args.made c.args.rows.now c.args.tx.now.conn.now c.upsert.new.tx.conn.now c.upsert.result
     (later_lost g.S.Store (Readies allot_text ∷ allot_calls allot_text c.args.rows.now) (Runs cuts_text (cuts_values (c.args.made + 1)) ∷ []) c.args.tx.now.conn.now c.insert_all.new.tx.conn.now c.upsert.new.tx.conn.now c.upsert.result
-    c.upsert.ensures.inside c.in_ok-insert_all.ensures.ran (rw c.in_ok-cuts.ensures.ok.0 at c.upsert.ensures.lost))
+    c.upsert.ensures.inside.1 c.in_ok-insert_all.ensures.ran (rw c.in_ok-cuts.ensures.ok.0 at c.upsert.ensures.lost))

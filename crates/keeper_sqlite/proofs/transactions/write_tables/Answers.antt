@@ -7,7 +7,7 @@ use Rattle.keeper_sqlite.proofs.transactions.write_tables.Goals as goal
 
 pub returns-clause-ran : goal.returns-clause-ran
 returns-clause-ran g c =
-    both_done g.S.Store (plain_calls (season_table ∷ answer_table ∷ [])) (plain_calls (allot_table ∷ phase_table ∷ lift_table ∷ [])) _ _ _ c.make_first_tables.result c.make_last_tables.result c.in_ok-make_first_tables.was c.make_last_tables.ensures.inside c.make_first_tables.ensures.ran c.make_last_tables.ensures.ran
+    both_done g.S.Store (plain_calls (season_table ∷ answer_table ∷ [])) (plain_calls (allot_table ∷ phase_table ∷ lift_table ∷ [])) _ _ _ c.make_first_tables.result c.make_last_tables.result c.in_ok-make_first_tables.was c.make_last_tables.ensures.inside.1 c.make_first_tables.ensures.ran c.make_last_tables.ensures.ran
 
 pub returns-in_err-make_first_tables-clause-lost : goal.returns-in_err-make_first_tables-clause-lost
 returns-in_err-make_first_tables-clause-lost g c = λ clean.
@@ -15,4 +15,4 @@ returns-in_err-make_first_tables-clause-lost g c = λ clean.
     rw (p.1, p.2) (stops_more g.S.Store (plain_calls (season_table ∷ answer_table ∷ [])) (plain_calls (allot_table ∷ phase_table ∷ lift_table ∷ [])) _ c.args.tx.now.conn.now c.make_first_tables.new.tx.conn.now (c.in_err-make_first_tables.ensures.lost clean))
 
 pub returns-clause-lost : goal.returns-clause-lost
-returns-clause-lost g c = later_lost g.S.Store (plain_calls (season_table ∷ answer_table ∷ [])) (plain_calls (allot_table ∷ phase_table ∷ lift_table ∷ [])) c.args.tx.now.conn.now c.make_first_tables.new.tx.conn.now c.make_last_tables.new.tx.conn.now c.make_last_tables.result c.make_last_tables.ensures.inside c.in_ok-make_first_tables.ensures.ran c.make_last_tables.ensures.lost
+returns-clause-lost g c = later_lost g.S.Store (plain_calls (season_table ∷ answer_table ∷ [])) (plain_calls (allot_table ∷ phase_table ∷ lift_table ∷ [])) c.args.tx.now.conn.now c.make_first_tables.new.tx.conn.now c.make_last_tables.new.tx.conn.now c.make_last_tables.result c.make_last_tables.ensures.inside.1 c.in_ok-make_first_tables.ensures.ran c.make_last_tables.ensures.lost

@@ -1,0 +1,43 @@
+-- What calls inside a transaction leave, and what a connection shows.
+use Rattle.std.specs.Prelude.{◌≡◌, ◌⊎◌, Result, Ok, Err}
+use Rattle.std.specs.Borrow.{MutBor}
+use Rattle.sqlite.specs.Store.{Ghosts}
+use Rattle.sqlite.specs.Effect.{Database}
+use Rattle.sqlite.specs.State.{HasCleanDisk, IsRolledBack, Survives}
+use Rattle.sqlite.specs.Steps.{FailsToCommit}
+use Rattle.sqlite.specs.Held.{Held, state}
+use Rattle.keeper_mem.specs.Tables.{Tables}
+use Rattle.stored_tables.specs.Told.{told, tables_in, without_raises}
+use Rattle.keeper_sqlite.specs.Commits.{CommitsNothing}
+use Rattle.keeper_sqlite.specs.Stops.{IsRefusal}
+use Rattle.keeper_sqlite.specs.declared.halt.Halt.{Halt}
+
+module _ {S : Type 0} (g : Ghosts S) where
+  -- so far the disk under a connection returned what was written
+  abbrev pub IsClean : Held S → Type 0
+  IsClean connection = HasCleanDisk (state g connection)
+
+  -- the database as a connection sees it
+  abbrev pub content : Held S → Database
+  content connection = (state g connection).now
+
+  -- the tables that a connection shows
+  abbrev pub shown : Held S → Tables
+  shown connection = told (state g connection)
+
+  -- the transaction is over the same connection, and nothing more is committed
+  abbrev pub StaysInside : MutBor (Held S) → MutBor (Held S) → Type 0
+  StaysInside old new = (new.ghost_name ≡ old.ghost_name) × CommitsNothing (state g old.now) (state g new.now)
+
+  -- the tables in its trees, without any raise
+  abbrev pub tables_without_raises : Held S → Tables
+  tables_without_raises connection = tables_in (without_raises (content connection).trees)
+
+  -- a crash leaves what it could leave before, or these tables
+  abbrev pub CrashLeaves : Tables → Held S → Held S → Type 0
+  CrashLeaves tables old new = Survives (state g old) (state g new) (λ db. tables_in db ≡ tables)
+
+  -- the transaction was rolled back because this cause broke off what was done in it; or that was done, and the commit was refused
+  abbrev pub FailsToSettle : Result (Unit {0}) Halt → Held S → Held S → Halt → Type 0
+  FailsToSettle done old new halt = ((done ≡ Err halt) × IsRolledBack (state g old) (state g new))
+      ⊎ ((done ≡ Ok tt) × IsRefusal (λ error. FailsToCommit (state g old) (state g new) error) halt)
