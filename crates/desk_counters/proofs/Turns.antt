@@ -14,8 +14,8 @@ use Rattle.office_moves.specs.History.{grown, newly}
 use Rattle.office_moves.specs.declared.moves.Act.{Act}
 use Rattle.office_moves.specs.declared.moves.Entry.{Entry}
 use Rattle.round_cut.specs.Office.{Opened}
-use Rattle.round_cut.specs.declared.fault.OfficeFault.{OfficeFault}
-use Rattle.round_cut.specs.declared.fault.OfficeFault.TheVariants.{KeeperFault, OutOfMemory}
+use Rattle.http_wire.specs.declared.faults.Fault.{Fault}
+use Rattle.http_wire.specs.declared.faults.Fault.TheVariants.{Keeper, Memory}
 
 -- ---- the office
 
@@ -29,13 +29,13 @@ appends_grown entries after number (Some act) e = inr (record { number = number;
 
 module _ {K : Type 0} (shelf : K → Shelf) where
   -- the office may be put back
-  asked_leaves : (number : ℕ) (token : Option (List ℕ)) (ask : Ask) (result : Result Answered OfficeFault) (old new : Opened K) → AsksOffice shelf number token ask result old new
+  asked_leaves : (number : ℕ) (token : Option (List ℕ)) (ask : Ask) (result : Result Answered Fault) (old new : Opened K) → AsksOffice shelf number token ask result old new
       → (basis_of shelf new ≡ basis_of shelf old) × AppendsAtMost (λ e. e.number) number old.entries new.entries × ((shelf old.keeper).faults ≤ (shelf new.keeper).faults)
   asked_leaves number token ask (Ok answered) old new asked = ((λ i. (asked.season i, asked.room i)), appends_grown old.entries new.entries number (newly old.state.now (decided old.season old.state (request_of old.season token ask))) asked.entries, omega (arith, asked.steady))
   asked_leaves number token ask (Err fault) old new asked = ((λ i. (asked.season i, asked.room i)), inl asked.entries, asked.count)
 
   -- the same, by what the job was shown
-  pub asked_puts_back : (number : ℕ) (token : Option (List ℕ)) (ask : Ask) (result : Result Answered OfficeFault) (shown held put : Opened K) → shown ≡ held
+  pub asked_puts_back : (number : ℕ) (token : Option (List ℕ)) (ask : Ask) (result : Result Answered Fault) (shown held put : Opened K) → shown ≡ held
       → AsksOffice shelf number token ask result shown put
       → (basis_of shelf put ≡ basis_of shelf held) × AppendsAtMost (λ e. e.number) number held.entries put.entries × ((shelf held.keeper).faults ≤ (shelf put.keeper).faults)
   asked_puts_back number token ask result shown held put same asked =
@@ -69,11 +69,12 @@ module _ {K : Type 0} (shelf : K → Shelf) where
       at added is = record {
         old = held.state;
         new = left.state;
+        reply = asked.reply;
         history = asked.history;
         moves = asked.moves;
         number = number;
         grows = sym is ∙ asked.entries;
-        body = asked.body;
+        answer = asked.answer;
       }
 
       found_is : p'.found ≡ p'.count
@@ -115,41 +116,41 @@ module _ {K : Type 0} (shelf : K → Shelf) where
       go (inl none) = none.1
       go (inr one) = absurd (not_longer held.entries left.entries one.0 same one.2)
 
-  unanswered_in_turn : (number : ℕ) (token : Option (List ℕ)) (ask : Ask) (fault : OfficeFault) (held left : Opened K) (p p' : Known Entry) → HasTurned shelf number held left p p'
+  unanswered_in_turn : (number : ℕ) (token : Option (List ℕ)) (ask : Ask) (fault : Fault) (held left : Opened K) (p p' : Known Entry) → HasTurned shelf number held left p p'
       → HasNotAnswered shelf (request_of held.season token ask) fault held left → AsksInTurn held.season (shelf held.keeper).holds_room p token ask (Err fault) p'
-  unanswered_in_turn number token ask KeeperFault held left p p' turned asked =
+  unanswered_in_turn number token ask Keeper held left p p' turned asked =
       let now_seen : p'.seen ≡ held.entries = turned.seen ∙ asked.entries in (
         subst (λ es. Begins p.seen es) (sym now_seen) turned.begins,
-        subst (λ es. IsUnanswered held.season (shelf held.keeper).holds_room es (request_of held.season token ask) KeeperFault) (sym now_seen) asked.unanswered,
+        subst (λ es. IsUnanswered held.season (shelf held.keeper).holds_room es (request_of held.season token ask) Keeper) (sym now_seen) asked.unanswered,
         own_stays number held left p p' turned asked.entries,
         subst (λ n. p.count ≤ n) (sym turned.found) turned.counts,
         subst (λ n. Rose n p'.count) (sym turned.found) (subst (λ n. Rose (shelf held.keeper).faults n) (sym turned.count) (asked.cause refl)),
         turned.shares,
       )
-  unanswered_in_turn number token ask OutOfMemory held left p p' turned asked =
+  unanswered_in_turn number token ask Memory held left p p' turned asked =
       let now_seen : p'.seen ≡ held.entries = turned.seen ∙ asked.entries in (
         subst (λ es. Begins p.seen es) (sym now_seen) turned.begins,
-        subst (λ es. IsUnanswered held.season (shelf held.keeper).holds_room es (request_of held.season token ask) OutOfMemory) (sym now_seen) asked.unanswered,
+        subst (λ es. IsUnanswered held.season (shelf held.keeper).holds_room es (request_of held.season token ask) Memory) (sym now_seen) asked.unanswered,
         own_stays number held left p p' turned asked.entries,
         subst (λ n. p.count ≤ n) (sym (turned.count ∙ asked.steady refl)) turned.counts,
         turned.found ∙ sym (asked.steady refl) ∙ sym turned.count,
         turned.shares,
       )
 
-  asked_here : (number : ℕ) (token : Option (List ℕ)) (ask : Ask) (result : Result Answered OfficeFault) (held left : Opened K) (p p' : Known Entry) → HasTurned shelf number held left p p'
+  asked_here : (number : ℕ) (token : Option (List ℕ)) (ask : Ask) (result : Result Answered Fault) (held left : Opened K) (p p' : Known Entry) → HasTurned shelf number held left p p'
       → AsksOffice shelf number token ask result held left → AsksInTurn held.season (shelf held.keeper).holds_room p token ask result p'
   asked_here number token ask (Ok answered) held left p p' turned asked = answered_in_turn number token ask answered held left p p' turned asked
   asked_here number token ask (Err fault) held left p p' turned asked = unanswered_in_turn number token ask fault held left p p' turned asked
 
   -- a turn in which an ask was put to an office of this season is an ask at the desk
-  pub asked_in_turn : (basis : SeasonFacts × Bool) (number : ℕ) (token : Option (List ℕ)) (ask : Ask) (result : Result Answered OfficeFault) (held left : Opened K) (p p' : Known Entry)
+  pub asked_in_turn : (basis : SeasonFacts × Bool) (number : ℕ) (token : Option (List ℕ)) (ask : Ask) (result : Result Answered Fault) (held left : Opened K) (p p' : Known Entry)
       → basis_of shelf held ≡ basis → HasTurned shelf number held left p p' → AsksOffice shelf number token ask result held left
       → AsksInTurn basis.0 basis.1 p token ask result p'
   asked_in_turn basis number token ask result held left p p' same turned asked =
       subst (λ b. AsksInTurn b.0 b.1 p token ask result p') same (asked_here number token ask result held left p p' turned asked)
 
   -- the same, by what the job was shown and what it left
-  pub asked_at_desk : (basis : SeasonFacts × Bool) (number : ℕ) (token said : Option (List ℕ)) (ask : Ask) (result : Result Answered OfficeFault) (shown held left put : Opened K) (p p' : Known Entry)
+  pub asked_at_desk : (basis : SeasonFacts × Bool) (number : ℕ) (token said : Option (List ℕ)) (ask : Ask) (result : Result Answered Fault) (shown held left put : Opened K) (p p' : Known Entry)
       → token ≡ said → shown ≡ held → left ≡ put → basis_of shelf held ≡ basis → HasTurned shelf number held put p p' → AsksOffice shelf number said ask result shown left
       → AsksInTurn basis.0 basis.1 p token ask result p'
   asked_at_desk basis number token said ask result shown held left put p p' spelt shows leaves same turned asked =

@@ -7,7 +7,7 @@ use Rattle.office_desk.specs.declared.handles.Pass.{Pass}
 use Rattle.office_moves.specs.Facts.{SeasonFacts}
 use Rattle.office_moves.specs.declared.moves.Entry.{Entry}
 use Rattle.http_sessions.specs.declared.counter.Answered.{Answered}
-use Rattle.round_cut.specs.declared.fault.OfficeFault.{OfficeFault}
+use Rattle.http_wire.specs.declared.faults.Fault.{Fault}
 use Rattle.door_histories.specs.Desk.{AsksDesk, Known}
 use Rattle.office_asks.specs.Asking.{AnswersAt, UnanswersAt}
 
@@ -17,5 +17,5 @@ known_of pass = record { seen = seen_of pass; own = own_of pass; found = found_o
 
 -- One ask of an office of this season, at a desk, over a keeper that holds room in advance or does not:
 -- what the pass knows before and after it.
-abbrev pub AsksInTurn : SeasonFacts → Bool → Known Entry → Option (List ℕ) → Ask → Result Answered OfficeFault → Known Entry → Type 0
+abbrev pub AsksInTurn : SeasonFacts → Bool → Known Entry → Option (List ℕ) → Ask → Result Answered Fault → Known Entry → Type 0
 AsksInTurn facts room = AsksDesk (AnswersAt facts) (UnanswersAt facts room)

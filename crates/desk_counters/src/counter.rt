@@ -6,11 +6,11 @@ ghost use Rattle.proceedings.specs.Proceeding.{last_of};
 
 use crate::stood::{Beginning, Stood};
 use http_sessions::{Answered, Counter};
+use http_wire::Fault;
 use keeper_mem::Keeper;
 use office_asks::token_parts;
 use office_base::Ask;
 use office_desk::{Booked, Desk, Pass};
-use round_cut::OfficeFault;
 use std::alloc::Global;
 use std::sync::Wait;
 
@@ -47,19 +47,15 @@ impl<K: Keeper, B: Beginning, R: Wait> Counter for DeskCounter<'_, Stood<K, B>, 
     ghost answers = { λ c token ask answer c'. (c'.desk.now ≡ c.desk.now)
         × AsksInTurn (origin_of c.desk.now).season (K.seen (origin_of c.desk.now).keeper).holds_room (known_of c.pass.now) token ask answer (known_of c'.pass.now) };
 
-    fn ask(
-        &mut self,
-        alloc: Global,
-        token: Option<&[u8]>,
-        ask: &Ask,
-    ) -> Result<Answered, OfficeFault> {
+    fn ask(&mut self, alloc: Global, token: Option<&[u8]>, ask: &Ask) -> Result<Answered, Fault> {
         let (has_token, bytes) = token_parts(token);
         self.desk.turn(
             self.rt,
             self.pass,
-            |office: &mut Stood<K, B>, number: u64| -> Result<Answered, OfficeFault>
+            |office: &mut Stood<K, B>, number: u64| -> Result<Answered, Fault>
                 requires { last_of office.old.entries < number }
-                ensures { AsksOffice K.seen number (token_of has_token bytes.entry.now) ask.entry.now result office.old office.new }
+                ensures { AsksOffice K.seen number (token_of has_token bytes.entry.now)
+                    ask.entry.now result office.old office.new }
             { office.put(alloc, number, has_token, bytes, ask) },
         )
     }

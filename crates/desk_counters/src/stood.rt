@@ -5,11 +5,12 @@ ghost use Rattle.office_asks.specs.Asking.{AsksOffice, token_of};
 ghost use Rattle.proceedings.specs.Proceeding.{last_of};
 
 use http_sessions::Answered;
+use http_wire::Fault;
 use keeper_mem::Keeper;
 use office_asks::put_to_office;
 use office_base::{Ask, Booked};
 use office_moves::Entry;
-use round_cut::{Office, OfficeFault};
+use round_cut::Office;
 use std::alloc::Global;
 use std::marker::{Brand, Model, PhantomData};
 
@@ -86,9 +87,10 @@ impl<K: Keeper, B: Beginning> Stood<K, B> {
         has_token: bool,
         token: &[u8],
         ask: &Ask,
-    ) -> Result<Answered, OfficeFault>
+    ) -> Result<Answered, Fault>
         requires { last_of self.old.entries < number }
-        ensures { AsksOffice K.seen number (token_of has_token token.now) ask.now result self.old self.new }
+        ensures { AsksOffice K.seen number (token_of has_token token.now)
+            ask.now result self.old self.new }
     {
         put_to_office(alloc, &mut self.office, number, has_token, token, ask)
     }

@@ -5,10 +5,6 @@ pub some_is : (a b : Bool) → a || b ≡ true → (a ≡ true) ⊎ (b ≡ true)
 some_is true b e = inl refl
 some_is false b e = inr e
 
-pub none_is : (a b : Bool) → a || b ≡ false → (a ≡ false) × (b ≡ false)
-none_is true b e = absurd cc
-none_is false b e = (refl, e)
-
 pub not_both : (a : Bool) → a ≡ true → a ≡ false → ⊥
 not_both true e f = absurd cc
 not_both false e f = absurd cc

@@ -7,8 +7,8 @@ use Rattle.http_asks.specs.Verdicts.{Verdict, refuses, asks}
 use Rattle.http_sessions.specs.Exchange.{Item, Outcome, Goes, Runs, IsAsked, wired, unread, heard}
 use Rattle.http_sessions.specs.Doors.{AreHeld, HasVisited}
 use Rattle.http_sessions.specs.declared.counter.Answered.{Answered}
-use Rattle.round_cut.specs.declared.fault.OfficeFault.{OfficeFault}
-use Rattle.round_cut.specs.declared.fault.OfficeFault.TheVariants.{KeeperFault, OutOfMemory}
+use Rattle.http_wire.specs.declared.faults.Fault.{Fault}
+use Rattle.http_wire.specs.declared.faults.Fault.TheVariants.{Keeper, Memory}
 use Rattle.door_histories.specs.Counts.{RoseBy}
 use Rattle.door_histories.specs.Desk.{Known, AsksDesk}
 use Rattle.door_histories.specs.Served.{Telling, IsPlaced, IsServing, AreServed, DoorServed}
@@ -22,9 +22,9 @@ asked_at (asks token ask) P a = (token, ask, refl, a)
 asked_so : (verdict : Verdict) (token : Option (List ℕ)) (ask : Ask) (P : Option (List ℕ) → Ask → Type 0) → verdict ≡ asks token ask → P token ask → IsAsked verdict P
 asked_so verdict token ask P e p = subst (λ (v : Verdict). IsAsked v P) (sym e) p
 
-module _ {I : Type 0} (Answers : List I → Option (List ℕ) → Ask → Answered → List I → Type 0) (Unanswers : List I → Option (List ℕ) → Ask → OfficeFault → Type 0)
-    {C : Type 0} (R : C → Option (List ℕ) → Ask → Result Answered OfficeFault → C → Type 0) (knows : C → Known I) (Keeps : C → Type 0)
-    (asked : (c c' : C) (token : Option (List ℕ)) (ask : Ask) (r : Result Answered OfficeFault) → Keeps c → R c token ask r c' → Keeps c' × AsksDesk Answers Unanswers (knows c) token ask r (knows c')) where
+module _ {I : Type 0} (Answers : List I → Option (List ℕ) → Ask → Answered → List I → Type 0) (Unanswers : List I → Option (List ℕ) → Ask → Fault → Type 0)
+    {C : Type 0} (R : C → Option (List ℕ) → Ask → Result Answered Fault → C → Type 0) (knows : C → Known I) (Keeps : C → Type 0)
+    (asked : (c c' : C) (token : Option (List ℕ)) (ask : Ask) (r : Result Answered Fault) → Keeps c → R c token ask r c' → Keeps c' × AsksDesk Answers Unanswers (knows c) token ask r (knows c')) where
   -- what goes with whatever takes the counter from here to there
   record Moves (c c' : C) (added : List I) (n : ℕ) : Type 0 where
     keeps : Keeps c'
@@ -104,11 +104,11 @@ module _ {I : Type 0} (Answers : List I → Option (List ℕ) → Ask → Answer
         );
         begins = begins_same (place ++ added) (knows c').seen did.4;
       }
-  goes_from A c c' item (heard (Err KeeperFault)) keeps from g =
-      let at = asked_at item.verdict (λ token ask. R c token ask (Err KeeperFault) c') g in
+  goes_from A c c' item (heard (Err Keeper)) keeps from g =
+      let at = asked_at item.verdict (λ token ask. R c token ask (Err Keeper) c') g in
       let token = at.0 in
       let ask = at.1 in
-      let told = asked c c' token ask (Err KeeperFault) keeps at.3 in
+      let told = asked c c' token ask (Err Keeper) keeps at.3 in
       let did = told.1 in
       let on = begins_trans A (knows c).seen (knows c').seen from did.0 in
       record {
@@ -127,16 +127,16 @@ module _ {I : Type 0} (Answers : List I → Option (List ℕ) → Ask → Answer
           refl,
           refl,
           asked_so item.verdict token ask
-              (λ token ask. (place : List I) × Begins A place × Begins place B × Unanswers place token ask KeeperFault) at.2
+              (λ token ask. (place : List I) × Begins A place × Begins place B × Unanswers place token ask Keeper) at.2
               ((knows c').seen, on, later, did.1),
         );
         begins = on;
       }
-  goes_from A c c' item (heard (Err OutOfMemory)) keeps from g =
-      let at = asked_at item.verdict (λ token ask. R c token ask (Err OutOfMemory) c') g in
+  goes_from A c c' item (heard (Err Memory)) keeps from g =
+      let at = asked_at item.verdict (λ token ask. R c token ask (Err Memory) c') g in
       let token = at.0 in
       let ask = at.1 in
-      let told = asked c c' token ask (Err OutOfMemory) keeps at.3 in
+      let told = asked c c' token ask (Err Memory) keeps at.3 in
       let did = told.1 in
       let on = begins_trans A (knows c).seen (knows c').seen from did.0 in
       record {
@@ -155,7 +155,7 @@ module _ {I : Type 0} (Answers : List I → Option (List ℕ) → Ask → Answer
           refl,
           refl,
           asked_so item.verdict token ask
-              (λ token ask. (place : List I) × Begins A place × Begins place B × Unanswers place token ask OutOfMemory) at.2
+              (λ token ask. (place : List I) × Begins A place × Begins place B × Unanswers place token ask Memory) at.2
               ((knows c').seen, on, later, did.1),
         );
         begins = on;

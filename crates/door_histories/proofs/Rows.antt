@@ -1,15 +1,16 @@
 -- A row of doors with a crew: each is served, and all their own entries are those of its links.
 use Rattle.std.proofs.Common.{◌≡◌, ◌+◌, ◌≤◌, inl, inr, ℕ, false, List, [], ◌∷◌, ◌++◌, Option, map, arith, refl, sym, ap, subst, ◌∙◌}
+use Rattle.std.proofs.lemmas.Bool.{or_parts}
 use Rattle.office_base.specs.declared.asks.Ask.{Ask}
 use Rattle.desk_rule.specs.Own.{Begins, AreMerged}
 use Rattle.door_crews.specs.Rows.{AllServed}
 use Rattle.http_sessions.specs.declared.counter.Answered.{Answered}
-use Rattle.round_cut.specs.declared.fault.OfficeFault.{OfficeFault}
+use Rattle.http_wire.specs.declared.faults.Fault.{Fault}
 use Rattle.door_histories.specs.Counts.{RoseBy}
 use Rattle.door_histories.specs.Ending.{SomeRose, AllEnded}
 use Rattle.door_histories.specs.Served.{Telling, AllDoorsServed, DoorServed, EachDoor}
 use Rattle.door_histories.specs.Workers.{Worker, IsHired, IsTakenIn, HasWorked, IsRow}
-use Rattle.door_histories.proofs.Bits.{some_is, none_is, not_both}
+use Rattle.door_histories.proofs.Bits.{some_is, not_both}
 use Rattle.door_histories.proofs.Counting.{begins_self, begins_same, begins_trans, merged_sym, rose_within}
 
 module _ {I : Type 0} where
@@ -25,7 +26,7 @@ module _ {I : Type 0} where
     | inr a ↦ subst (λ (x : List I). Begins w.knows.seen x) (sym a.1) a.0
   ]
 
-module _ {I : Type 0} (Answers : List I → Option (List ℕ) → Ask → Answered → List I → Type 0) (Unanswers : List I → Option (List ℕ) → Ask → OfficeFault → Type 0) {D L : Type 0} (of : Telling D L) where
+module _ {I : Type 0} (Answers : List I → Option (List ℕ) → Ask → Answered → List I → Type 0) (Unanswers : List I → Option (List ℕ) → Ask → Fault → Type 0) {D L : Type 0} (of : Telling D L) where
   -- a later history, and a larger count
   later : (A : List I) (c : ℕ) (ds ds' : List D) (Es : List (List I)) (fs : List ℕ) (H K : List I) (k l : ℕ) → Begins H K → k ≤ l
       → EachDoor Answers Unanswers of A c ds ds' Es fs H k → EachDoor Answers Unanswers of A c ds ds' Es fs K l
@@ -77,7 +78,7 @@ module _ {I : Type 0} (Answers : List I → Option (List ℕ) → Ask → Answer
           | inr e ↦ inl (worked.fails e)
         ]);
         ends = λ no.
-            let both = none_is m.failed w'.failed (sym joined.failed ∙ no) in
+            let both = or_parts m.failed w'.failed (sym joined.failed ∙ no) in
             let others = rest.ends both.0 in
             let this = worked.ends both.1 in
             subst (λ (x : List D). AllEnded of.faults of.to_come (d ∷ ds) x) (sym is)

@@ -12,8 +12,8 @@ use Rattle.http_sessions.specs.Doors.{HasPassed}
 use Rattle.http_sessions.specs.declared.conversation.SessionEnd.{SessionEnd}
 use Rattle.http_sessions.specs.declared.conversation.SessionEnd.TheVariants.{LinkFault}
 use Rattle.http_sessions.specs.declared.counter.Answered.{Answered}
-use Rattle.round_cut.specs.declared.fault.OfficeFault.{OfficeFault}
-use Rattle.round_cut.specs.declared.fault.OfficeFault.TheVariants.{KeeperFault, OutOfMemory}
+use Rattle.http_wire.specs.declared.faults.Fault.{Fault}
+use Rattle.http_wire.specs.declared.faults.Fault.TheVariants.{Keeper, Memory}
 use Rattle.door_histories.specs.Counts.{RoseBy}
 
 -- what is read of a door and of its links
@@ -31,9 +31,9 @@ abbrev pub telling : {D L : Type 0} → DoorGhosts D L → LinkGhosts L → Tell
 telling d l = record { to_come = d.to_come; out = d.out; told = d.told; faults = d.faults; left = l.left; written = l.written; failures = l.faults }
 
 -- how many failures of the keeper a fault is
-abbrev pub failures_of : OfficeFault → ℕ
-failures_of KeeperFault = 1
-failures_of OutOfMemory = 0
+abbrev pub failures_of : Fault → ℕ
+failures_of Keeper = 1
+failures_of Memory = 0
 
 -- The list has the elements of all these lists, each once, and those of each in their order.
 abbrev pub AreAllMerged : {I : Type 0} → List (List I) → List I → Type 0
@@ -43,7 +43,7 @@ AreAllMerged {I} (xs ∷ xss) zs = (rest : List I) × AreMerged xs rest zs × Ar
 -- `Answers place token ask answered added`: after the entries of the place the ask is answered so, and adds these.
 -- `Unanswers place token ask fault`:
 -- there it may stay unanswered with this fault.
-module _ {I : Type 0} (Answers : List I → Option (List ℕ) → Ask → Answered → List I → Type 0) (Unanswers : List I → Option (List ℕ) → Ask → OfficeFault → Type 0) where
+module _ {I : Type 0} (Answers : List I → Option (List ℕ) → Ask → Answered → List I → Type 0) (Unanswers : List I → Option (List ℕ) → Ask → Fault → Type 0) where
   -- One message after the history A, of a link that is served to the history B:
   -- what came of it, the entries that it added, how many failures of the keeper it reported, and the history that it
   -- left. An ask is put at a place that begins with A.

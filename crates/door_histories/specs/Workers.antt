@@ -4,7 +4,7 @@ use Rattle.office_base.specs.Outside.{Rose}
 use Rattle.office_base.specs.declared.asks.Ask.{Ask}
 use Rattle.desk_rule.specs.Own.{Begins, AreMerged}
 use Rattle.http_sessions.specs.declared.counter.Answered.{Answered}
-use Rattle.round_cut.specs.declared.fault.OfficeFault.{OfficeFault}
+use Rattle.http_wire.specs.declared.faults.Fault.{Fault}
 use Rattle.door_histories.specs.Counts.{RoseBy}
 use Rattle.door_histories.specs.Desk.{Known}
 use Rattle.door_histories.specs.Ending.{SomeRose, AllEnded}
@@ -38,7 +38,7 @@ module _ {I : Type 0} where
     pub most : w.knows.count ≤ p.knows.count
     pub failed : p.failed ≡ m.failed || w.failed
 
-module _ {I : Type 0} (Answers : List I → Option (List ℕ) → Ask → Answered → List I → Type 0) (Unanswers : List I → Option (List ℕ) → Ask → OfficeFault → Type 0) {D L : Type 0} (of : Telling D L) where
+module _ {I : Type 0} (Answers : List I → Option (List ℕ) → Ask → Answered → List I → Type 0) (Unanswers : List I → Option (List ℕ) → Ask → Fault → Type 0) {D L : Type 0} (of : Telling D L) where
   -- The worker of this number served a door: from what it had seen to what it has seen then.
   -- With it come the entries by which its own grew, and the failures of the keeper by which the count rose.
   -- It reports whether the door failed.

@@ -13,12 +13,12 @@ use Rattle.http_sessions.specs.Exchange.{Item, Outcome, IsItem, Cuts, Goes, Runs
 use Rattle.http_sessions.specs.Sessions.{IsSession, IsEnd, IsTold, Talk, FailsReading, FailsWriting}
 use Rattle.http_sessions.specs.Steps.{IsAnswered, IsReplied, IsCutOff, IsStill, IsStep, end_of}
 use Rattle.http_sessions.specs.declared.counter.Answered.{Answered}
-use Rattle.round_cut.specs.declared.fault.OfficeFault.{OfficeFault}
+use Rattle.http_wire.specs.declared.faults.Fault.{Fault}
 use Rattle.http_sessions.specs.declared.conversation.SessionEnd.{SessionEnd}
 use Rattle.http_sessions.specs.declared.conversation.SessionEnd.TheVariants.{Ended as EndsOpen, Torn as EndsTorn, LimitReached, LinkFault}
 use Rattle.http_sessions.specs.declared.messages.Step.{Step}
 use Rattle.http_sessions.specs.declared.messages.Step.TheVariants.{Next, Last, Ended, Torn, Unread, Unwritten}
-use Rattle.http_sessions.proofs.Talking.{took_on, appends_on, are_left, none_left, cuts_on, runs_on, as_many, replies_on, replies_before, open_on, any_on, closes_on, but_last_on, open_all}
+use Rattle.http_sessions.proofs.Talking.{took_on, appends_on, are_left, cuts_on, runs_on, as_many, replies_on, replies_before, open_on, any_on, closes_on, but_last_on, open_all}
 
 item_within : (bytes : List ℕ) (item : Item) (len : ℕ) → IsItem bytes item len → len ≤ length bytes
 item_within bytes item len (inl is) = let come = is.1.come in let e = is.1.len_is in omega (arith, come, e)
@@ -29,7 +29,7 @@ pub take-append-add : (xs ys : List ℕ) (n : ℕ) → take (length xs + n) (xs 
 take-append-add xs ys n =
     take-add (length xs) n (xs ++ ys) ∙ (ap (λ (a : List ℕ). a ++ take n (drop (length xs) (xs ++ ys))) (take_at xs ys (length xs) refl) ∙ ap (λ (b : List ℕ). xs ++ take n b) (drop_at xs ys (length xs) refl))
 
-module _ {C : Type 0} (R : C → Option (List ℕ) → Ask → Result Answered OfficeFault → C → Type 0) where
+module _ {C : Type 0} (R : C → Option (List ℕ) → Ask → Result Answered Fault → C → Type 0) where
   -- This many messages came and were answered, none of which closes, and later these bytes are held.
   pub record IsTalking (c0 c : C) (left0 left before after : Option (List ℕ)) (held : List ℕ) (done : ℕ) : Type 0 where
     pub got : List ℕ

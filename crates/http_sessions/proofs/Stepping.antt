@@ -7,11 +7,11 @@ use Rattle.http_heads.specs.Messages.{IsTorn, IsUnfinished}
 use Rattle.http_sessions.specs.Exchange.{Item, Outcome, IsItem, Goes, reply_to}
 use Rattle.http_sessions.specs.Steps.{IsSent, IsStep, IsStill, step_of}
 use Rattle.http_sessions.specs.declared.counter.Answered.{Answered}
-use Rattle.round_cut.specs.declared.fault.OfficeFault.{OfficeFault}
+use Rattle.http_wire.specs.declared.faults.Fault.{Fault}
 use Rattle.http_sessions.specs.declared.messages.Step.{Step}
 use Rattle.http_sessions.specs.declared.messages.Step.TheVariants.{Next, Last, Ended, Torn, Unread, Unwritten}
 
-module _ {C : Type 0} (R : C → Option (List ℕ) → Ask → Result Answered OfficeFault → C → Type 0) where
+module _ {C : Type 0} (R : C → Option (List ℕ) → Ask → Result Answered Fault → C → Type 0) where
   pub sent_step : (c c' : C) (number : ℕ) (held kept : List ℕ) (ended : Type 0) (before after : Option (List ℕ)) (step : Step) (text : List ℕ) (last : Bool) (len : ℕ) (item : Item) (outcome : Outcome)
       → ((more : List ℕ) → IsItem (held ++ more) item len) → last ≡ item.closes → Goes R c item outcome c' → text ≡ reply_to number item outcome → IsSent text last len held kept before after step
       → IsStep R c c' number held kept ended before after step

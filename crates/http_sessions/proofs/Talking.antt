@@ -1,15 +1,16 @@
 -- A session from message to message.
-use Rattle.std.proofs.Common.{◌≡◌, ◌≢◌, ◌<◌, ◌≤◌, ◌+◌, ◌⊎◌, inl, inr, ℕ, Bool, true, false, not, ◌||◌, ◌&&◌, List, [], ◌∷◌, ◌++◌, Option, Some, None, Result, length, take, drop, arith, refl, sym, ap, subst, ◌∙◌, append_assoc, length-append}
+use Rattle.std.proofs.Common.{◌≡◌, ◌≢◌, ◌<◌, ◌≤◌, ◌+◌, ◌⊎◌, inl, inr, ℕ, true, false, not, ◌&&◌, List, [], ◌∷◌, ◌++◌, Option, Some, None, Result, length, take, drop, arith, refl, sym, ap, subst, ◌∙◌, append_assoc, length-append}
 use Rattle.std.proofs.lemmas.List.{append-nil}
 use Rattle.std.specs.List.{list_any}
 use Rattle.std.specs.Option.{unwrap_or}
-use Rattle.office_base.specs.Outside.{Appends, AreLeft, IsAtEnd, Took}
+use Rattle.std.proofs.lemmas.Bool.{or_parts}
+use Rattle.office_base.specs.Outside.{Appends, AreLeft, Took}
 use Rattle.office_base.specs.declared.asks.Ask.{Ask}
 use Rattle.http_heads.specs.Messages.{IsTorn, IsUnfinished}
 use Rattle.http_sessions.specs.Exchange.{Item, Outcome, IsItem, Cuts, Goes, Runs, reply_to, replies, is_last, open_before, closes_last, but_last}
 use Rattle.http_sessions.specs.Steps.{IsAnswered, IsReplied, IsCutOff, IsStill, IsStep}
 use Rattle.http_sessions.specs.declared.counter.Answered.{Answered}
-use Rattle.round_cut.specs.declared.fault.OfficeFault.{OfficeFault}
+use Rattle.http_wire.specs.declared.faults.Fault.{Fault}
 
 -- ---- bytes taken and written, one after another
 
@@ -28,17 +29,13 @@ pub are_left : (taken : List ℕ) (before after : Option (List ℕ)) → Took ta
 are_left taken None after t = tt
 are_left taken (Some left) after t = ap (λ (m : Option (List ℕ)). taken ++ unwrap_or m []) t.1 ∙ sym t.2
 
-pub none_left : (after : Option (List ℕ)) → IsAtEnd after → unwrap_or after [] ≡ []
-none_left None e = refl
-none_left (Some left) e = e
-
 -- ---- one message more
 
 pub cuts_on : (bytes : List ℕ) (items : List Item) (item : Item) (rest : List ℕ) (len : ℕ) → Cuts bytes items rest → IsItem rest item len → Cuts bytes (items ++ item ∷ []) (drop len rest)
 cuts_on bytes [] item rest len same is = (len, subst (λ (b : List ℕ). IsItem b item len) same is, ap (drop len) same)
 cuts_on bytes (first ∷ items) item rest len c is = (c.0, c.1, cuts_on (drop c.0 bytes) items item rest len c.2 is)
 
-module _ {C : Type 0} (R : C → Option (List ℕ) → Ask → Result Answered OfficeFault → C → Type 0) where
+module _ {C : Type 0} (R : C → Option (List ℕ) → Ask → Result Answered Fault → C → Type 0) where
   pub runs_on : (c mid c' : C) (items : List Item) (outcomes : List Outcome) (item : Item) (outcome : Outcome) → Runs R c items outcomes mid → Goes R mid item outcome c' → Runs R c (items ++ item ∷ []) (outcomes ++ outcome ∷ []) c'
   runs_on c mid c' [] [] item outcome same goes = (c', subst (λ (s : C). Goes R s item outcome c') same goes, refl)
   runs_on c mid c' [] (o ∷ os) item outcome r goes = absurd r
@@ -65,18 +62,14 @@ replies_before n [] outcomes more e = refl
 replies_before n (i ∷ is) [] more e = absurd (omega (arith, e))
 replies_before n (i ∷ is) (o ∷ os) more e = ap (λ (x : List ℕ). reply_to n i o ++ x) (replies_before (n + 1) is os more (omega (arith, e)))
 
-either_false : (a b : Bool) → (a || b) ≡ false → (a ≡ false) × (b ≡ false)
-either_false true b e = absurd (grind (arith, e))
-either_false false b e = (refl, e)
-
 pub open_on : (items : List Item) (item : Item) → list_any is_last items ≡ false → open_before (items ++ item ∷ []) ≡ true
 open_on [] item e = refl
-open_on (i ∷ []) item e = let f = either_false i.closes false e in rw f.0 refl
-open_on (i ∷ j ∷ is) item e = let f = either_false i.closes (list_any is_last (j ∷ is)) e in rw f.0 (open_on (j ∷ is) item f.1)
+open_on (i ∷ []) item e = let f = or_parts i.closes false e in rw f.0 refl
+open_on (i ∷ j ∷ is) item e = let f = or_parts i.closes (list_any is_last (j ∷ is)) e in rw f.0 (open_on (j ∷ is) item f.1)
 
 pub any_on : (items : List Item) (item : Item) → list_any is_last items ≡ false → item.closes ≡ false → list_any is_last (items ++ item ∷ []) ≡ false
 any_on [] item e shut = rw shut refl
-any_on (i ∷ is) item e shut = let f = either_false i.closes (list_any is_last is) e in rw f.0 (any_on is item f.1 shut)
+any_on (i ∷ is) item e shut = let f = or_parts i.closes (list_any is_last is) e in rw f.0 (any_on is item f.1 shut)
 
 pub closes_on : (items : List Item) (item : Item) → closes_last (items ++ item ∷ []) ≡ item.closes
 closes_on [] item = refl
@@ -91,4 +84,4 @@ but_last_on (i ∷ j ∷ is) item = ap (λ (x : List Item). i ∷ x) (but_last_o
 pub open_all : (items : List Item) → list_any is_last items ≡ false → open_before items ≡ true
 open_all [] e = refl
 open_all (i ∷ []) e = refl
-open_all (i ∷ j ∷ is) e = let f = either_false i.closes (list_any is_last (j ∷ is)) e in rw f.0 (open_all (j ∷ is) f.1)
+open_all (i ∷ j ∷ is) e = let f = or_parts i.closes (list_any is_last (j ∷ is)) e in rw f.0 (open_all (j ∷ is) f.1)

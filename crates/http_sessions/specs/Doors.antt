@@ -5,7 +5,7 @@ use Rattle.office_base.specs.declared.asks.Ask.{Ask}
 use Rattle.office_links.specs.Visits.{Visits}
 use Rattle.http_sessions.specs.Sessions.{IsSession, Talk}
 use Rattle.http_sessions.specs.declared.counter.Answered.{Answered}
-use Rattle.round_cut.specs.declared.fault.OfficeFault.{OfficeFault}
+use Rattle.http_wire.specs.declared.faults.Fault.{Fault}
 use Rattle.http_sessions.specs.declared.conversation.SessionEnd.{SessionEnd}
 use Rattle.http_sessions.specs.declared.conversation.SessionEnd.TheVariants.{LinkFault}
 
@@ -16,7 +16,7 @@ module _ {L : Type 0} where
   HasPassed (Some before) pairs None = ⊥
   HasPassed (Some before) pairs (Some after) = (before.coming ≡ map (λ pair. pair.0) pairs ++ after.coming) × (after.returned ≡ before.returned ++ map (λ pair. pair.1) pairs)
 
-module _ {C L : Type 0} (R : C → Option (List ℕ) → Ask → Result Answered OfficeFault → C → Type 0) (left written : L → Option (List ℕ)) (faults : L → ℕ) where
+module _ {C L : Type 0} (R : C → Option (List ℕ) → Ask → Result Answered Fault → C → Type 0) (left written : L → Option (List ℕ)) (faults : L → ℕ) where
   -- A session over a link, as it was found and as it was left: it ends with a fault if and only if the link failed.
   pub record IsHeld (c c' : C) (link link' : L) : Type 0 where
     pub bytes : List ℕ

@@ -9,12 +9,8 @@ use Rattle.http_asks.specs.Verdicts.{Verdict, refuses, asks, verdict_of, reads_b
 use Rattle.http_wire.specs.Replies.{reply_text, fault_body}
 use Rattle.http_wire.specs.Statuses.{fault_status}
 use Rattle.http_wire.specs.declared.faults.Fault.{Fault}
-use Rattle.http_wire.specs.declared.faults.Fault.TheVariants.{Keeper, Memory}
-use Rattle.reply_bodies.specs.Status.{status_of}
+use Rattle.http_wire.specs.declared.faults.Fault.TheVariants.{Memory}
 use Rattle.http_sessions.specs.declared.counter.Answered.{Answered}
-use Rattle.office_moves.specs.declared.moves.Reply.{Reply}
-use Rattle.round_cut.specs.declared.fault.OfficeFault.{OfficeFault}
-use Rattle.round_cut.specs.declared.fault.OfficeFault.TheVariants.{KeeperFault, OutOfMemory}
 
 -- ---- messages
 
@@ -68,20 +64,19 @@ but_last (item ∷ next ∷ items) = item ∷ but_last (next ∷ items)
 pub data Outcome : Type 0 where
   wired : Outcome
   unread : Outcome
-  heard : (answer : Result Answered OfficeFault) → Outcome
+  heard : (answer : Result Answered Fault) → Outcome
 
 abbrev pub fault_text : Bool → Fault → List ℕ
 fault_text close fault = reply_text (fault_status fault) (Some (fault_body fault)) None close
 
--- the reply with a body, or that memory ran out for it
-abbrev pub body_text : Bool → Reply → Result (List ℕ) Want → List ℕ
-body_text close reply (Ok body) = reply_text (status_of reply) (Some body) None close
-body_text close reply (Err want) = fault_text close Memory
+-- the reply with this status and a body, or that memory ran out for the body
+abbrev pub body_text : Bool → ℕ → Result (List ℕ) Want → List ℕ
+body_text close status (Ok body) = reply_text status (Some body) None close
+body_text close status (Err want) = fault_text close Memory
 
-abbrev pub answered_text : Bool → Result Answered OfficeFault → List ℕ
-answered_text close (Ok answered) = body_text close answered.reply answered.body
-answered_text close (Err KeeperFault) = fault_text close Keeper
-answered_text close (Err OutOfMemory) = fault_text close Memory
+abbrev pub answered_text : Bool → Result Answered Fault → List ℕ
+answered_text close (Ok answered) = body_text close answered.status answered.body
+answered_text close (Err fault) = fault_text close fault
 
 abbrev pub refusal_text : Bool → Verdict → List ℕ
 refusal_text close (refuses status allow) = reply_text status None allow close
@@ -112,7 +107,7 @@ abbrev pub IsAsked : Verdict → (Option (List ℕ) → Ask → Type 0) → Type
 IsAsked (refuses status allow) P = ⊥
 IsAsked (asks token ask) P = P token ask
 
-module _ {C : Type 0} (R : C → Option (List ℕ) → Ask → Result Answered OfficeFault → C → Type 0) where
+module _ {C : Type 0} (R : C → Option (List ℕ) → Ask → Result Answered Fault → C → Type 0) where
   -- one message takes the counter from here to there
   abbrev pub Goes : C → Item → Outcome → C → Type 0
   Goes c item wired c' = IsRefusal item.verdict × (c' ≡ c)

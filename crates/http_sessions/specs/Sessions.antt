@@ -6,7 +6,7 @@ use Rattle.office_base.specs.declared.asks.Ask.{Ask}
 use Rattle.http_heads.specs.Messages.{IsTorn, IsUnfinished}
 use Rattle.http_sessions.specs.Exchange.{Item, Outcome, Cuts, Runs, replies, open_before, closes_last, but_last, is_last}
 use Rattle.http_sessions.specs.declared.counter.Answered.{Answered}
-use Rattle.round_cut.specs.declared.fault.OfficeFault.{OfficeFault}
+use Rattle.http_wire.specs.declared.faults.Fault.{Fault}
 use Rattle.http_sessions.specs.declared.conversation.SessionEnd.{SessionEnd}
 use Rattle.http_sessions.specs.declared.conversation.SessionEnd.TheVariants.{Ended, Torn, LimitReached, LinkFault}
 
@@ -52,7 +52,7 @@ IsTold LinkFault bytes talk items outcomes rest = FailsReading bytes talk items 
 IsTold end bytes talk items outcomes rest = IsEnd end items rest × AreWritten talk items outcomes
 
 -- A session over the bytes of a link took a counter from here to there.
-pub record IsSession {C : Type 0} (R : C → Option (List ℕ) → Ask → Result Answered OfficeFault → C → Type 0) (before after : C) (bytes : List ℕ) (talk : Talk) (end : SessionEnd) : Type 0 where
+pub record IsSession {C : Type 0} (R : C → Option (List ℕ) → Ask → Result Answered Fault → C → Type 0) (before after : C) (bytes : List ℕ) (talk : Talk) (end : SessionEnd) : Type 0 where
   pub items : List Item
   pub outcomes : List Outcome
   pub rest : List ℕ

@@ -5,7 +5,7 @@ use Rattle.office_base.specs.declared.asks.Ask.{Ask}
 use Rattle.http_heads.specs.Messages.{IsTorn, IsUnfinished}
 use Rattle.http_sessions.specs.Exchange.{Item, Outcome, IsItem, Goes, reply_to}
 use Rattle.http_sessions.specs.declared.counter.Answered.{Answered}
-use Rattle.round_cut.specs.declared.fault.OfficeFault.{OfficeFault}
+use Rattle.http_wire.specs.declared.faults.Fault.{Fault}
 use Rattle.http_sessions.specs.declared.conversation.SessionEnd.{SessionEnd}
 use Rattle.http_sessions.specs.declared.conversation.SessionEnd.TheVariants.{Ended as EndsOpen, Torn as EndsTorn, LimitReached, LinkFault}
 use Rattle.http_sessions.specs.declared.messages.Step.{Step}
@@ -32,7 +32,7 @@ IsSent text last len held kept before after Torn = ⊥
 IsSent text last len held kept before after Unread = ⊥
 IsSent text last len held kept before after Unwritten = (n : ℕ) × (n < length text) × Appends (take n text) before after
 
-module _ {C : Type 0} (R : C → Option (List ℕ) → Ask → Result Answered OfficeFault → C → Type 0) where
+module _ {C : Type 0} (R : C → Option (List ℕ) → Ask → Result Answered Fault → C → Type 0) where
   -- the held bytes begin with a message, whatever follows, and it takes the counter from here to there
   pub record IsAnswered (c c' : C) (held : List ℕ) (item : Item) (outcome : Outcome) : Type 0 where
     pub len : ℕ

@@ -10,15 +10,13 @@ ghost use Rattle.http_sessions.specs.Exchange.{Item, Outcome, IsItem, Goes, item
 
 use crate::counter::{Answered, Counter};
 use crate::gate::Gate;
+use http::StatusCode;
 use http_asks::{Judged, Routes, judge, token};
 use http_heads::{Held, HeldMessage, held_message};
 use http_wire::{Fault, Outbox};
 use httparse::spans::{EMPTY_HEADER_SPAN, HeaderSpan};
 use office_base::{Ask, Failed, OutOfMemory, Text};
 use office_links::{Link, write_link};
-use office_moves::Reply;
-use reply_bodies::status_of;
-use round_cut::OfficeFault;
 use std::alloc::Global;
 
 /// What a message is read and answered with:
@@ -64,7 +62,7 @@ fn ask_at<C: Counter, G: Gate>(
     ask: &Ask,
     gate: &G,
     at: At,
-) -> Result<Answered, OfficeFault>
+) -> Result<Answered, Fault>
     requires { 1 ≤ C.asks_left counter.old }
     ensures answer { C.answers counter.old (option_copied token.entry) ask.now result counter.new }
     ensures left { C.asks_left counter.old ≤ C.asks_left counter.new + 1 }
@@ -77,34 +75,26 @@ fn ask_at<C: Counter, G: Gate>(
 }
 
 /// Puts the reply to what was asked; it returns the body if it does not fit.
-fn put_answer(
-    outbox: &mut Outbox,
-    answer: Result<Answered, OfficeFault>,
-    close: bool,
-) -> Option<Text>
+fn put_answer(outbox: &mut Outbox, answer: Result<Answered, Fault>, close: bool) -> Option<Text>
     ensures { outbox.new ++ unwrap_or result [] ≡ answered_text close answer }
 {
     match answer {
-        Err(OfficeFault::KeeperFault) => {
-            outbox.fail(Fault::Keeper, close);
+        Err(fault) => {
+            outbox.fail(fault, close);
             None
         }
-        Err(OfficeFault::OutOfMemory) => {
-            outbox.fail(Fault::Memory, close);
-            None
-        }
-        Ok(Answered { reply, body }) => put_body(outbox, &reply, body, close),
+        Ok(Answered { status, body }) => put_body(outbox, status, body, close),
     }
 }
 
 /// Puts a reply with its body, or that memory ran out for it. It returns the body if it does not fit.
 fn put_body(
     outbox: &mut Outbox,
-    reply: &Reply,
+    status: StatusCode,
     body: Result<Text, OutOfMemory>,
     close: bool,
 ) -> Option<Text>
-    ensures { outbox.new ++ unwrap_or result [] ≡ body_text close reply.now body }
+    ensures { outbox.new ++ unwrap_or result [] ≡ body_text close status body }
 {
     match body {
         Err(OutOfMemory) => {
@@ -112,7 +102,7 @@ fn put_body(
             None
         }
         Ok(text) => {
-            if outbox.reply(status_of(reply), text.as_slice(), close) {
+            if outbox.reply(status.as_u16(), text.as_slice(), close) {
                 return None;
             }
             Some(text)
@@ -138,8 +128,9 @@ fn answer_message<C: Counter, G: Gate>(
     at: At,
 ) -> Option<Text>
     requires { 1 ≤ C.asks_left counter.old }
-    ensures goes { (outcome : Outcome) × Goes C.answers counter.old (item_of (told_message message.now)) outcome counter.new
-        × (outbox.new ++ unwrap_or result [] ≡ reply_to at.message (item_of (told_message message.now)) outcome) }
+    ensures goes { (outcome : Outcome) × Goes C.answers counter.old
+        (item_of (told_message message.now)) outcome counter.new × (outbox.new
+        ++ unwrap_or result [] ≡ reply_to at.message (item_of (told_message message.now)) outcome) }
     ensures left { C.asks_left counter.old ≤ C.asks_left counter.new + 1 }
     ensures same { C.lender counter.new ≡ C.lender counter.old }
 {
@@ -213,8 +204,11 @@ pub(crate) fn send<L: Link>(
     outbox: &Outbox,
     body: &Option<Text>,
 ) -> Result<(), Failed>
-    ensures ok { OnOk result (Appends (outbox.now ++ unwrap_or body.now []) (L.written link.old) (L.written link.new)) }
-    ensures err { OnErr result ((n : ℕ) × (n < length (outbox.now ++ unwrap_or body.now [])) × Appends (take n (outbox.now ++ unwrap_or body.now [])) (L.written link.old) (L.written link.new)) }
+    ensures ok { OnOk result
+        (Appends (outbox.now ++ unwrap_or body.now []) (L.written link.old) (L.written link.new)) }
+    ensures err { OnErr result ((n : ℕ) × (n < length (outbox.now ++ unwrap_or body.now []))
+        × Appends (take n (outbox.now ++ unwrap_or body.now []))
+        (L.written link.old) (L.written link.new)) }
     ensures apart { L.left link.new ≡ L.left link.old }
     ensures cause { OnErr result (Rose (L.faults link.old) (L.faults link.new)) }
     ensures count { L.faults link.old ≤ L.faults link.new }

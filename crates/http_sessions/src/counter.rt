@@ -3,17 +3,17 @@ ghost use Rattle.std.specs.Prelude.{◌≡◌, ◌+◌, ◌≤◌, ℕ, List, Op
 ghost use Rattle.std.specs.Borrow.{GName};
 ghost use Rattle.office_base.specs.declared.asks.Ask.{Ask as AnyAsk};
 ghost use Rattle.http_sessions.specs.declared.counter.Answered.{Answered as AnyAnswered};
-ghost use Rattle.round_cut.specs.declared.fault.OfficeFault.{OfficeFault as AnyFault};
+ghost use Rattle.http_wire.specs.declared.faults.Fault.{Fault as AnyFault};
 
+use http::StatusCode;
+use http_wire::Fault;
 use office_base::{Ask, OutOfMemory, Text};
-use office_moves::Reply;
-use round_cut::OfficeFault;
 use std::alloc::Global;
 
-/// A reply of the office, and its body, for which memory may have run out. What was asked is done either way.
+/// The status of a reply, and its body, for which memory may have run out. What was asked is done either way.
 #[derive(Debug, Drop)]
 pub struct Answered {
-    pub reply: Reply,
+    pub status: StatusCode,
     pub body: Result<Text, OutOfMemory>,
 }
 
@@ -29,13 +29,8 @@ pub trait Counter {
     ghost answers: { Self → Option (List ℕ) → AnyAsk → Result AnyAnswered AnyFault → Self → Type 0 };
 
     /// Puts an ask with its token, and lowers the number of asks left by at most one.
-    /// `KeeperFault` and `OutOfMemory` are faults of the office.
-    fn ask(
-        &mut self,
-        alloc: Global,
-        token: Option<&[u8]>,
-        ask: &Ask,
-    ) -> Result<Answered, OfficeFault>
+    /// An `Err` says why there is no answer.
+    fn ask(&mut self, alloc: Global, token: Option<&[u8]>, ask: &Ask) -> Result<Answered, Fault>
         requires { 1 ≤ asks_left self.old }
         ensures answer { answers self.old (option_copied token.entry) ask.now result self.new }
         ensures left { asks_left self.old ≤ asks_left self.new + 1 }

@@ -20,7 +20,8 @@ fn hold<C: Counter, L: Link, G: Gate>(
     worker: u32,
 )
     requires { 100 ≤ C.asks_left counter.old }
-    ensures held { IsHeld C.answers L.left L.written L.faults counter.old counter.new link.old link.new }
+    ensures held { IsHeld C.answers L.left L.written L.faults
+        counter.old counter.new link.old link.new }
     ensures left { C.asks_left counter.old ≤ C.asks_left counter.new + 100 }
     ensures same { C.lender counter.new ≡ C.lender counter.old }
 {
@@ -39,8 +40,10 @@ fn serve_one<C: Counter, D: Door, G: Gate>(
 )
     requires asks { 100 ≤ C.asks_left counter.old }
     requires given { 1 ≤ D.out door.old }
-    ensures held { (back : _) × IsHeld C.answers D.Conn.left D.Conn.written D.Conn.faults counter.old counter.new conn back × TakesBack (D.told door.old) back (D.told door.new) }
-    ensures numbers { (D.out door.old ≡ D.out door.new + 1) × (D.to_come door.new ≡ D.to_come door.old) }
+    ensures held { (back : _) × IsHeld C.answers D.Conn.left D.Conn.written D.Conn.faults
+        counter.old counter.new conn back × TakesBack (D.told door.old) back (D.told door.new) }
+    ensures numbers { (D.out door.old ≡ D.out door.new + 1)
+        × (D.to_come door.new ≡ D.to_come door.old) }
     ensures count { D.faults door.new ≡ D.faults door.old }
     ensures left { C.asks_left counter.old ≤ C.asks_left counter.new + 100 }
     ensures same { C.lender counter.new ≡ C.lender counter.old }
@@ -62,8 +65,10 @@ pub fn serve_door<C: Counter, D: Door, G: Gate>(
     worker: u32,
 ) -> bool
     requires { 100 * D.to_come door.old ≤ C.asks_left counter.old }
-    ensures visited { HasVisited C.answers D.Conn.left D.Conn.written D.Conn.faults counter.old counter.new (D.told door.old) (D.told door.new) }
-    ensures done { result ≡ false → (D.to_come door.new ≡ 0) × (D.faults door.new ≡ D.faults door.old) }
+    ensures visited { HasVisited C.answers D.Conn.left D.Conn.written D.Conn.faults
+        counter.old counter.new (D.told door.old) (D.told door.new) }
+    ensures done { result ≡ false → (D.to_come door.new ≡ 0)
+        × (D.faults door.new ≡ D.faults door.old) }
     ensures failed { result ≡ true → Rose (D.faults door.old) (D.faults door.new) }
     ensures out { D.out door.new ≡ D.out door.old }
     ensures fewer { D.to_come door.new ≤ D.to_come door.old }

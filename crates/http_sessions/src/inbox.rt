@@ -31,7 +31,8 @@ fn read_behind<L: Link>(link: &mut L, bytes: &mut [u8], end: usize) -> Result<us
     requires { end < length bytes.old }
     ensures within { IfOk result (λ n. end + n ≤ length bytes.old) }
     ensures front { take end bytes.new ≡ take end bytes.old }
-    ensures taken { IfOk result (λ n. TakesPrefix n (L.left link.old) (L.left link.new) (drop end bytes.new)) }
+    ensures taken { IfOk result (λ n.
+        TakesPrefix n (L.left link.old) (L.left link.new) (drop end bytes.new)) }
     ensures ended { IfOk result (λ n. n ≡ 0 → IsAtEnd (L.left link.new)) }
     ensures kept { OnErr result (L.left link.new ≡ L.left link.old) }
     ensures apart { L.written link.new ≡ L.written link.old }
@@ -79,7 +80,8 @@ impl Inbox {
     /// Reads once behind what is held. Where there is no room, what is held moves to the front first.
     pub fn fill<L: Link>(&mut self, link: &mut L) -> Result<usize, Failed>
         requires { length self.old < 12288 }
-        ensures got { IfOk result (λ n. (got : List ℕ) × (length got ≡ n) × (self.new ≡ self.old ++ got) × Took got (L.left link.old) (L.left link.new)) }
+        ensures got { IfOk result (λ n. (got : List ℕ) × (length got ≡ n)
+            × (self.new ≡ self.old ++ got) × Took got (L.left link.old) (L.left link.new)) }
         ensures ended { IfOk result (λ n. n ≡ 0 → IsAtEnd (L.left link.new)) }
         ensures kept { OnErr result ((self.new ≡ self.old) × (L.left link.new ≡ L.left link.old)) }
         ensures apart { L.written link.new ≡ L.written link.old }

@@ -33,7 +33,8 @@ pub(crate) enum Step {
 /// Writes a reply that is ready, and drops its message.
 fn finish<L: Link>(link: &mut L, inbox: &mut Inbox, outbox: &Outbox, ready: Ready) -> Step
     requires { ready.len ≤ length inbox.old }
-    ensures sent { IsSent (outbox.now ++ unwrap_or ready.body []) ready.last ready.len inbox.old inbox.new (L.written link.old) (L.written link.new) result }
+    ensures sent { IsSent (outbox.now ++ unwrap_or ready.body []) ready.last ready.len
+        inbox.old inbox.new (L.written link.old) (L.written link.new) result }
     ensures apart { L.left link.new ≡ L.left link.old }
     ensures cause { result ≡ Step.Unwritten → Rose (L.faults link.old) (L.faults link.new) }
     ensures count { L.faults link.old ≤ L.faults link.new }
@@ -58,12 +59,15 @@ pub(crate) fn exchange_one<C: Counter, L: Link, G: Gate>(
 ) -> Step
     requires { 1 ≤ C.asks_left counter.old }
     ensures met { (got : List ℕ) × Took got (L.left link.old) (L.left link.new)
-        × IsStep C.answers counter.old counter.new at.message (inbox.old ++ got) inbox.new (IsAtEnd (L.left link.new)) (L.written link.old) (L.written link.new) result }
+        × IsStep C.answers counter.old counter.new at.message (inbox.old ++ got) inbox.new
+        (IsAtEnd (L.left link.new)) (L.written link.old) (L.written link.new) result }
     ensures left { C.asks_left counter.old ≤ C.asks_left counter.new + 1 }
     ensures same { C.lender counter.new ≡ C.lender counter.old }
-    ensures cause { (result ≡ Step.Unwritten) ⊎ (result ≡ Step.Unread) → Rose (L.faults link.old) (L.faults link.new) }
+    ensures cause { (result ≡ Step.Unwritten) ⊎ (result ≡ Step.Unread)
+        → Rose (L.faults link.old) (L.faults link.new) }
     ensures count { L.faults link.old ≤ L.faults link.new }
-    ensures steady { result ≢ Step.Unwritten → result ≢ Step.Unread → L.faults link.new ≡ L.faults link.old }
+    ensures steady { result ≢ Step.Unwritten → result ≢ Step.Unread
+        → L.faults link.new ≡ L.faults link.old }
 {
     unfinished_bytes_are_few();
     'reads: loop {

@@ -9,7 +9,7 @@ use Rattle.office_moves.specs.declared.moves.Act.{Act}
 use Rattle.office_moves.specs.declared.moves.Entry.{Entry}
 use Rattle.proceedings.specs.Proceeding.{last_of}
 use Rattle.round_cut.specs.Office.{Opened}
-use Rattle.round_cut.specs.declared.fault.OfficeFault.{OfficeFault}
+use Rattle.http_wire.specs.declared.faults.Fault.{Fault}
 use Rattle.http_sessions.specs.declared.counter.Answered.{Answered}
 use Rattle.office_asks.specs.Asking.{AsksOffice, request_of}
 
@@ -26,7 +26,7 @@ last_of_grown entries number (Some act) e =
 
 module _ {K : Type 0} (seen : K → Shelf) where
   -- an ask under the next number raises the last number by one at most
-  pub last_after : (number : ℕ) (token : Option (List ℕ)) (ask : Ask) (result : Result Answered OfficeFault) (old new : Opened K) → AsksOffice seen number token ask result old new
+  pub last_after : (number : ℕ) (token : Option (List ℕ)) (ask : Ask) (result : Result Answered Fault) (old new : Opened K) → AsksOffice seen number token ask result old new
       → number ≡ last_of old.entries + 1 → last_of new.entries ≤ last_of old.entries + 1
   last_after number token ask (Ok answered) old new asked next =
       subst (λ entries. last_of entries ≤ last_of old.entries + 1) (sym asked.entries)

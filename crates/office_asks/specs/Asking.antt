@@ -14,11 +14,13 @@ use Rattle.office_moves.specs.History.{IsHistory, grown, newly}
 use Rattle.office_moves.specs.Moves.{IsMove}
 use Rattle.office_moves.specs.Stands.{Stand}
 use Rattle.office_moves.specs.declared.moves.Entry.{Entry}
+use Rattle.office_moves.specs.declared.moves.Reply.{Reply}
 use Rattle.proceedings.specs.Told.{takes_nothing}
 use Rattle.reply_bodies.specs.Bodies.{reply_body}
+use Rattle.reply_bodies.specs.Status.{status_of}
 use Rattle.round_cut.specs.Office.{Opened, who_by, withdraws}
-use Rattle.round_cut.specs.declared.fault.OfficeFault.{OfficeFault}
-use Rattle.round_cut.specs.declared.fault.OfficeFault.TheVariants.{KeeperFault, OutOfMemory}
+use Rattle.http_wire.specs.declared.faults.Fault.{Fault}
+use Rattle.http_wire.specs.declared.faults.Fault.TheVariants.{Keeper, Memory}
 use Rattle.http_sessions.specs.declared.counter.Answered.{Answered}
 
 -- ---- who asks what
@@ -39,57 +41,61 @@ request_of facts token ask = record { by = by_token facts token; ask = ask }
 
 -- ---- one ask after a history
 
--- The body, if there is one, is that of the reply.
-abbrev pub HasItsBody : SeasonFacts → Answered → Type 0
-HasItsBody facts answered = IfOk answered.body (λ text. text ≡ reply_body facts.matrix answered.reply)
+-- The status is that of the reply, and so is the body, if there is one.
+abbrev pub IsAnswerOf : SeasonFacts → Reply → Answered → Type 0
+IsAnswerOf facts reply answered = (answered.status ≡ status_of reply) × IfOk answered.body (λ text. text ≡ reply_body facts.matrix reply)
 
 -- A request after a history is answered: it is the move of the state to which the history leads.
+-- The answer is that of the move's reply.
 -- These entries, one or none, are what it newly accepted.
 pub record IsAnsweredAt (facts : SeasonFacts) (place : List Entry) (request : Request) (answered : Answered) (added : List Entry) : Type 0 where
   pub old : State
   pub new : State
+  pub reply : Reply
   pub history : IsHistory facts place old
-  pub moves : IsMove facts old request answered.reply new
+  pub moves : IsMove facts old request reply new
   pub number : ℕ
   pub grows : place ++ added ≡ grown place number (newly old.now (decided facts old request))
-  pub body : HasItsBody facts answered
+  pub answer : IsAnswerOf facts reply answered
 
 -- A request after a history is not answered. It is none of those that take nothing.
 -- Over a keeper that holds room in advance, it is no withdrawal for which memory runs out.
 -- If it would keep nothing, the fault is not the keeper's.
-pub record IsUnanswered (facts : SeasonFacts) (room : Bool) (place : List Entry) (request : Request) (fault : OfficeFault) : Type 0 where
+pub record IsUnanswered (facts : SeasonFacts) (room : Bool) (place : List Entry) (request : Request) (fault : Fault) : Type 0 where
   pub old : State
   pub history : IsHistory facts place old
   pub some : takes_nothing (decided facts old request) ≡ true → ⊥
-  pub spared : room ≡ true → withdraws (decided facts old request) ≡ true → fault ≡ OutOfMemory → ⊥
-  pub asked : newly old.now (decided facts old request) ≡ None → fault ≡ KeeperFault → ⊥
+  pub spared : room ≡ true → withdraws (decided facts old request) ≡ true → fault ≡ Memory → ⊥
+  pub asked : newly old.now (decided facts old request) ≡ None → fault ≡ Keeper → ⊥
 
 -- the same two of an ask with its token, in a season
 abbrev pub AnswersAt : SeasonFacts → List Entry → Option (List ℕ) → Ask → Answered → List Entry → Type 0
 AnswersAt facts place token ask answered added = IsAnsweredAt facts place (request_of facts token ask) answered added
 
-abbrev pub UnanswersAt : SeasonFacts → Bool → List Entry → Option (List ℕ) → Ask → OfficeFault → Type 0
+abbrev pub UnanswersAt : SeasonFacts → Bool → List Entry → Option (List ℕ) → Ask → Fault → Type 0
 UnanswersAt facts room place token ask fault = IsUnanswered facts room place (request_of facts token ask) fault
 
 -- ---- one ask of an office
 
 module _ {K : Type 0} (seen : K → Shelf) where
   -- The office answered a request under this number. The move begins where the last one ended.
+  -- The answer is that of the move's reply.
   -- What is newly accepted is kept and is the last entry, and the keeper did not fail.
   pub record HasAnswered (number : ℕ) (request : Request) (answered : Answered) (old new : Opened K) : Type 0 where
+    pub reply : Reply
     pub history : IsHistory old.season old.entries old.state
-    pub moves : IsMove old.season old.state request answered.reply new.state
+    pub moves : IsMove old.season old.state request reply new.state
     pub entries : new.entries ≡ grown old.entries number (newly old.state.now (decided old.season old.state request))
     pub season : new.season ≡ old.season
     pub stands : Stand new.season new.state (seen new.keeper).tables
     pub told_before : IsTold (seen new.keeper).tables → IsTold (seen old.keeper).tables
-    pub body : HasItsBody old.season answered
+    pub answer : IsAnswerOf old.season reply answered
     pub room : (seen new.keeper).holds_room ≡ (seen old.keeper).holds_room
     pub steady : (seen new.keeper).faults ≡ (seen old.keeper).faults
 
   -- The office did not answer a request: the office and the visible tables of its keeper are unchanged.
   -- The keeper failed if and only if that is the fault.
-  pub record HasNotAnswered (request : Request) (fault : OfficeFault) (old new : Opened K) : Type 0 where
+  pub record HasNotAnswered (request : Request) (fault : Fault) (old new : Opened K) : Type 0 where
     pub unanswered : IsUnanswered old.season (seen old.keeper).holds_room old.entries request fault
     pub entries : new.entries ≡ old.entries
     pub state : new.state ≡ old.state
@@ -98,10 +104,10 @@ module _ {K : Type 0} (seen : K → Shelf) where
     pub told_before : IsTold (seen new.keeper).tables → IsTold (seen old.keeper).tables
     pub room : (seen new.keeper).holds_room ≡ (seen old.keeper).holds_room
     pub count : (seen old.keeper).faults ≤ (seen new.keeper).faults
-    pub cause : fault ≡ KeeperFault → Rose (seen old.keeper).faults (seen new.keeper).faults
-    pub steady : fault ≡ OutOfMemory → (seen new.keeper).faults ≡ (seen old.keeper).faults
+    pub cause : fault ≡ Keeper → Rose (seen old.keeper).faults (seen new.keeper).faults
+    pub steady : fault ≡ Memory → (seen new.keeper).faults ≡ (seen old.keeper).faults
 
   -- an ask with its token, put to an office under a number: its answer, and the office before and after it
-  abbrev pub AsksOffice : ℕ → Option (List ℕ) → Ask → Result Answered OfficeFault → Opened K → Opened K → Type 0
+  abbrev pub AsksOffice : ℕ → Option (List ℕ) → Ask → Result Answered Fault → Opened K → Opened K → Type 0
   AsksOffice number token ask (Ok answered) old new = HasAnswered number (request_of old.season token ask) answered old new
   AsksOffice number token ask (Err fault) old new = HasNotAnswered (request_of old.season token ask) fault old new

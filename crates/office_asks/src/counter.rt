@@ -3,9 +3,10 @@ ghost use Rattle.std.specs.Prelude.{◌≡◌};
 
 use crate::putting::{put_to_office, token_parts};
 use http_sessions::{Answered, Counter};
+use http_wire::Fault;
 use keeper_mem::Keeper;
 use office_base::Ask;
-use round_cut::{Office, OfficeFault};
+use round_cut::Office;
 use std::alloc::Global;
 
 /// An office to which asks are put one after another, each under the number after the last one.
@@ -36,12 +37,7 @@ impl<K: Keeper> Counter for OfficeCounter<'_, K> {
 
     ghost answers = { λ c token ask answer c'. AsksOffice K.seen (last_of c.office.now.entries + 1) token ask answer c.office.now c'.office.now };
 
-    fn ask(
-        &mut self,
-        alloc: Global,
-        token: Option<&[u8]>,
-        ask: &Ask,
-    ) -> Result<Answered, OfficeFault> {
+    fn ask(&mut self, alloc: Global, token: Option<&[u8]>, ask: &Ask) -> Result<Answered, Fault> {
         let (has_token, bytes) = token_parts(token);
         let number = self.office.last_number() + 1;
         put_to_office(alloc, self.office, number, has_token, bytes, ask)

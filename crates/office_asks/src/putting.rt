@@ -1,17 +1,18 @@
 // An ask with its token, put to an office.
-ghost use Rattle.std.specs.Prelude.{◌≡◌, ◌<◌, [], None, IfOk, option_copied};
+ghost use Rattle.std.specs.Prelude.{◌≡◌, ◌<◌, [], None, option_copied};
 ghost use Rattle.keeper_mem.specs.Tables.{IsTold};
-ghost use Rattle.office_asks.specs.Asking.{AsksOffice, request_of, token_of};
+ghost use Rattle.office_asks.specs.Asking.{AsksOffice, IsAnswerOf, request_of, token_of};
 ghost use Rattle.proceedings.specs.Proceeding.{last_of};
-ghost use Rattle.reply_bodies.specs.Bodies.{reply_body};
 ghost use Rattle.reply_texts.specs.Replies.{IsReplyOf};
 ghost use Rattle.script_runs.specs.Runs.{CameOf};
 
+use http::StatusCode;
 use http_sessions::Answered;
+use http_wire::Fault;
 use keeper_mem::Keeper;
-use office_base::{Ask, By, OutOfMemory, Request, Text};
+use office_base::{Ask, By, Request};
 use office_moves::{Reply, says_what_is_sound};
-use reply_bodies::reply_json;
+use reply_bodies::{reply_json, status_of};
 use round_cut::{Office, OfficeFault};
 use script_runs::laws::replies_can_be_shown;
 use std::alloc::Global;
@@ -28,8 +29,8 @@ pub fn token_parts(token: Option<&[u8]>) -> (bool, &[u8])
 
 /// Puts an ask with its token to an office. The token has two parts: whether there is one, and its bytes.
 /// What is newly accepted has this number, which must be above the last one.
-/// The body is made with the reply. If memory runs out for the body, what was asked is done all the same.
-/// It returns `KeeperFault` only if the keeper failed in this call, and `OutOfMemory` if it did not.
+/// The status and the body are those of the reply. If memory runs out for the body, what was asked is done all the same.
+/// It returns `Fault::Keeper` only if the keeper failed in this call, and `Fault::Memory` if it did not.
 /// Both leave the office and the visible tables of its keeper unchanged.
 pub fn put_to_office<K: Keeper>(
     alloc: Global,
@@ -38,16 +39,20 @@ pub fn put_to_office<K: Keeper>(
     has_token: bool,
     token: &[u8],
     ask: &Ask,
-) -> Result<Answered, OfficeFault>
+) -> Result<Answered, Fault>
     requires { last_of office.old.entries < number }
-    ensures asked { AsksOffice K.seen number (token_of has_token token.now) ask.now result office.old office.new }
-    ensures told_before { IsTold (K.seen office.new.keeper).tables → IsTold (K.seen office.old.keeper).tables }
+    ensures asked { AsksOffice K.seen number (token_of has_token token.now)
+        ask.now result office.old office.new }
+    ensures told_before { IsTold (K.seen office.new.keeper).tables
+        → IsTold (K.seen office.old.keeper).tables }
 {
     let _entries = office.entries();
     let request = request_by(office, has_token, token, ask);
-    let reply = office.handle(alloc, number, &request)?;
-    let body = body_of(alloc, office, &reply);
-    Ok(Answered { reply, body })
+    match office.handle(alloc, number, &request) {
+        Ok(reply) => Ok(answer_of(alloc, office, &reply)),
+        Err(OfficeFault::KeeperFault) => Err(Fault::Keeper),
+        Err(OfficeFault::OutOfMemory) => Err(Fault::Memory),
+    }
 }
 
 /// Returns who asks what, by a token in two parts. It allocates nothing.
@@ -62,13 +67,17 @@ fn request_by<K: Keeper>(office: &Office<K>, has_token: bool, token: &[u8], ask:
     Request { by, ask: *ask }
 }
 
-/// Returns the body of a reply that led to the office's state.
-fn body_of<K: Keeper>(alloc: Global, office: &Office<K>, reply: &Reply) -> Result<Text, OutOfMemory>
+/// Returns the status and the body of a reply that led to the office's state.
+fn answer_of<K: Keeper>(alloc: Global, office: &Office<K>, reply: &Reply) -> Answered
     requires { CameOf office.now.season office.now.state reply.now }
-    ensures { IfOk result (λ text. text ≡ reply_body office.now.season.matrix reply.now) }
+    ensures { IsAnswerOf office.now.season reply.now result }
 {
+    let Ok(status) = StatusCode::from_u16(status_of(reply)) else {
+        unreachable!("it is a status")
+    };
     can_be_written(office, reply);
-    reply_json(alloc, office.season(), reply)
+    let body = reply_json(alloc, office.season(), reply);
+    Answered { status, body }
 }
 
 /// Shows that a reply that led to the office's state has a body. It allocates nothing.

@@ -6,7 +6,7 @@ use Rattle.http_sessions.specs.declared.counter.Answered.{Answered}
 use Rattle.office_desk.specs.Words.{origin_of}
 use Rattle.office_desk.specs.declared.handles.Desk.{Desk}
 use Rattle.round_cut.specs.Office.{Opened}
-use Rattle.round_cut.specs.declared.fault.OfficeFault.{OfficeFault}
+use Rattle.http_wire.specs.declared.faults.Fault.{Fault}
 use Rattle.desk_rule.specs.Own.{among}
 use Rattle.door_histories.specs.Desk.{Known, AsksDesk}
 use Rattle.office_asks.specs.Asking.{AnswersAt, UnanswersAt}
@@ -23,7 +23,7 @@ ended_so true X Y Z done fails = inr (fails refl)
 ended_so false X Y Z done fails = inl (done refl).0
 
 -- an ask at a desk keeps the desk
-pub asked_there : {K : Type 0} (holds_room : K → Bool) (x d d' : Desk (Opened K) Entry) (p p' : Known Entry) (token : Option (List ℕ)) (ask : Ask) (r : Result Answered OfficeFault) → d ≡ x
+pub asked_there : {K : Type 0} (holds_room : K → Bool) (x d d' : Desk (Opened K) Entry) (p p' : Known Entry) (token : Option (List ℕ)) (ask : Ask) (r : Result Answered Fault) → d ≡ x
     → (d' ≡ d) × AsksInTurn (origin_of d).season (holds_room (origin_of d).keeper) p token ask r p'
     → (d' ≡ x) × AsksDesk (AnswersAt (origin_of x).season) (UnanswersAt (origin_of x).season (holds_room (origin_of x).keeper)) p token ask r p'
 asked_there holds_room x d d' p p' token ask r is a =

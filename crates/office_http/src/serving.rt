@@ -54,13 +54,17 @@ pub fn serve<
     requires suit { AllByRecursion (λ door. D.to_come door ≤ 100000) doors.old }
     requires last { last_of office.entries < 2 ^ 40 }
     ensures season { IfOk result (λ served. served.office.season ≡ office.season) }
-    ensures room { IfOk result (λ served. (K.seen served.office.keeper).holds_room ≡ (K.seen office.keeper).holds_room) }
+    ensures room { IfOk result (λ served.
+        (K.seen served.office.keeper).holds_room ≡ (K.seen office.keeper).holds_room) }
     ensures served { IfOk result (λ served. DoorsServed office.season (K.seen office.keeper).holds_room
         (telling D.Door D.Conn.Link)
         office.entries (K.seen office.keeper).faults doors.old doors.new served.office.entries (K.seen served.office.keeper).faults) }
-    ensures failed { IfOk result (λ served. served.door_failed ≡ true → SomeRose D.faults doors.old doors.new) }
-    ensures done { IfOk result (λ served. served.door_failed ≡ false → AllEnded D.faults D.to_come doors.old doors.new) }
-    ensures told_before { IfOk result (λ served. IsTold (K.seen served.office.keeper).tables → IsTold (K.seen office.keeper).tables) }
+    ensures failed { IfOk result (λ served. served.door_failed ≡ true
+        → SomeRose D.faults doors.old doors.new) }
+    ensures done { IfOk result (λ served. served.door_failed ≡ false
+        → AllEnded D.faults D.to_come doors.old doors.new) }
+    ensures told_before { IfOk result (λ served. IsTold (K.seen served.office.keeper).tables
+        → IsTold (K.seen office.keeper).tables) }
     ensures err { IfErr result (λ refused. refused.0 ≡ office) }
     ensures spared { OnErr result (doors.new ≡ doors.old) }
 {
@@ -87,13 +91,17 @@ fn serve_stood<
     requires suit { AllByRecursion (λ door. D.to_come door ≤ 100000) doors.old }
     requires last { last_of office.entries < 2 ^ 40 }
     ensures season { IfOk result (λ served. served.office.season ≡ office.season) }
-    ensures room { IfOk result (λ served. (K.seen served.office.keeper).holds_room ≡ (K.seen office.keeper).holds_room) }
+    ensures room { IfOk result (λ served.
+        (K.seen served.office.keeper).holds_room ≡ (K.seen office.keeper).holds_room) }
     ensures served { IfOk result (λ served. DoorsServed office.season (K.seen office.keeper).holds_room
         (telling D.Door D.Conn.Link)
         office.entries (K.seen office.keeper).faults doors.old doors.new served.office.entries (K.seen served.office.keeper).faults) }
-    ensures failed { IfOk result (λ served. served.door_failed ≡ true → SomeRose D.faults doors.old doors.new) }
-    ensures done { IfOk result (λ served. served.door_failed ≡ false → AllEnded D.faults D.to_come doors.old doors.new) }
-    ensures told_before { IfOk result (λ served. IsTold (K.seen served.office.keeper).tables → IsTold (K.seen office.keeper).tables) }
+    ensures failed { IfOk result (λ served. served.door_failed ≡ true
+        → SomeRose D.faults doors.old doors.new) }
+    ensures done { IfOk result (λ served. served.door_failed ≡ false
+        → AllEnded D.faults D.to_come doors.old doors.new) }
+    ensures told_before { IfOk result (λ served. IsTold (K.seen served.office.keeper).tables
+        → IsTold (K.seen office.keeper).tables) }
     ensures err { IfErr result (λ refused. refused.0 ≡ office) }
     ensures spared { OnErr result (doors.new ≡ doors.old) }
 {
@@ -126,9 +134,11 @@ fn serve_desk<
     requires as_many { length buffers.old ≡ length doors.old }
     requires suit { AllByRecursion (λ door. D.to_come door ≤ 100000) doors.old }
     requires whole { belongs desk pass × (shares_of pass ≡ 2 ^ 30) × (left_of pass ≡ 2 ^ 40) }
-    requires first { (tickets_of pass ≡ []) × (seen_of pass ≡ (origin_of desk).entries) × (count_of pass ≡ (K.seen (origin_of desk).keeper).faults) }
+    requires first { (tickets_of pass ≡ []) × (seen_of pass ≡ (origin_of desk).entries)
+        × (count_of pass ≡ (K.seen (origin_of desk).keeper).faults) }
     ensures season { result.office.season ≡ (origin_of desk).season }
-    ensures room { (K.seen result.office.keeper).holds_room ≡ (K.seen (origin_of desk).keeper).holds_room }
+    ensures room { (K.seen result.office.keeper).holds_room
+        ≡ (K.seen (origin_of desk).keeper).holds_room }
     ensures served { DoorsServed (origin_of desk).season (K.seen (origin_of desk).keeper).holds_room
         (telling D.Door D.Conn.Link)
         (origin_of desk).entries (K.seen (origin_of desk).keeper).faults doors.old doors.new result.office.entries (K.seen result.office.keeper).faults }
@@ -202,12 +212,13 @@ fn serve_all<
     requires few { length doors.old ≤ 64 }
     requires as_many { length buffers.old ≡ length doors.old }
     requires suit { AllByRecursion (λ door. D.to_come door ≤ 100000) doors.old }
-    requires whole { belongs desk.now hand.old.pass × (shares_of hand.old.pass ≡ 2 ^ 30) × (left_of hand.old.pass ≡ 2 ^ 40) }
+    requires whole { belongs desk.now hand.old.pass × (shares_of hand.old.pass ≡ 2 ^ 30)
+        × (left_of hand.old.pass ≡ 2 ^ 40) }
     requires fresh { (own_of hand.old.pass ≡ []) × (hand.old.failed ≡ false) }
     ensures same_desk { belongs desk.now hand.new.pass }
-    ensures row { IsRow (AnswersAt (origin_of desk.now).season) (UnanswersAt (origin_of desk.now).season (K.seen (origin_of desk.now).keeper).holds_room)
-        (telling D.Door D.Conn.Link)
-        (worker_of hand.old) doors.old doors.new (worker_of hand.new) }
+    ensures row { IsRow (AnswersAt (origin_of desk.now).season)
+        (UnanswersAt (origin_of desk.now).season (K.seen (origin_of desk.now).keeper).holds_room)
+        (telling D.Door D.Conn.Link) (worker_of hand.old) doors.old doors.new (worker_of hand.new) }
     ensures shares { shares_of hand.new.pass ≡ shares_of hand.old.pass }
     ensures failed { hand.new.failed ≡ true → SomeRose D.faults doors.old doors.new }
     ensures done { hand.new.failed ≡ false → AllEnded D.faults D.to_come doors.old doors.new }
