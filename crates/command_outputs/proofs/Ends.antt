@@ -1,5 +1,5 @@
 -- A command writes the same for the same input.
-use Rattle.std.proofs.Common.{◌≡◌, inl, inr, ℕ, true, List, Some, sym, ap, ◌∙◌, subst}
+use Rattle.std.proofs.Common.{◌≡◌, inl, inr, ℕ, true, List, Some, sym, ap, ◌∙◌}
 use Rattle.office_base.specs.declared.asks.Request.{Request}
 use Rattle.keeper_mem.specs.Tables.{Tables}
 use Rattle.season_file.specs.Season.{content_of}
@@ -8,7 +8,7 @@ use Rattle.season_generator.specs.Bundle.{generated}
 use Rattle.season_generator.specs.Summary.{summary_text}
 use Rattle.office_moves.specs.Season.{facts_of}
 use Rattle.script_runs.specs.Tally.{tally_of}
-use Rattle.command_answers.specs.Answers.{Answers, HasLeft, HaveOneAnswer}
+use Rattle.command_answers.specs.Answers.{Answers, HaveOneAnswer}
 use Rattle.command_answers.specs.Writes.{IsTextOf, IsWantText, Writes}
 use Rattle.command_answers.specs.declared.status.Status.{Status}
 use Rattle.command_answers.specs.declared.status.Status.TheVariants.{Ok as Done, Usage, BadInput, ReadFault, WriteFault, KeeperFault, OutOfMemory, DoorFault, Differs, Broken}
@@ -17,24 +17,7 @@ use Rattle.season_commands.specs.Generated.{EndsMade, IsCountedText, summary_of}
 use Rattle.season_commands.specs.Run.{EndsSeason, IsUnreadText}
 use Rattle.one_output.specs.Laws.{Give, OneOutput, OneTally}
 use Rattle.command_outputs.specs.Laws.{ChecksAreOne, GeneratedRunsAreOne, IsAnswered, RunsAreOne}
-
--- what was written of an answer is its whole text
-whole : (IsText : Status → List ℕ → Type 0) (status : Status) (output : List ℕ) → IsAnswered status → Writes IsText status output → IsText status output
-whole IsText status output answered (inl text) = text
-whole IsText Done output answered (inr cut) = absurd (let e = cut.0 in cc)
-whole IsText Usage output answered (inr cut) = absurd (let e = cut.0 in cc)
-whole IsText BadInput output answered (inr cut) = absurd (let e = cut.0 in cc)
-whole IsText ReadFault output answered (inr cut) = absurd answered
-whole IsText WriteFault output answered (inr cut) = absurd answered
-whole IsText KeeperFault output answered (inr cut) = absurd answered
-whole IsText OutOfMemory output answered (inr cut) = absurd answered
-whole IsText DoorFault output answered (inr cut) = absurd answered
-whole IsText Differs output answered (inr cut) = absurd (let e = cut.0 in cc)
-whole IsText Broken output answered (inr cut) = absurd (let e = cut.0 in cc)
-
--- what bytes that are left have, they have themselves
-left_has : (Has : List ℕ → List ℕ → Type 0) (bytes text : List ℕ) → HasLeft Has (Some bytes) text → Has bytes text
-left_has Has bytes text left = subst (λ b. Has b text) left.1 left.2
+use Rattle.command_outputs.proofs.Written.{left_has, whole}
 
 -- ---- one text
 

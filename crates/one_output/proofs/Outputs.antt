@@ -22,7 +22,7 @@ answers_too facts holders old new [] output answers = answers
 answers_too facts holders old new (request ∷ script) output answers =
     (answers.0, answers.1, answers.2, answers.3, answers.4, answers_too facts holders answers.1 new script answers.2 answers.5)
 
-same_season : (facts other : SeasonFacts) → SayTheSame facts other → kept_so facts other.holders ≡ other
+pub same_season : (facts other : SeasonFacts) → SayTheSame facts other → kept_so facts other.holders ≡ other
 same_season facts other same = λ i. record {
   version = same.version i;
   rounds = same.rounds i;

@@ -1,6 +1,5 @@
 -- Bytes give one sound season.
-use Rattle.std.proofs.Common.{◌≡◌, ◌<◌, ℕ, suc, Bool, false, List, [], ◌∷◌, Some, length, map, arith, refl, sym, ap, ◌∙◌, subst}
-use Rattle.std.specs.Prelude.{slice_get}
+use Rattle.std.proofs.Common.{◌≡◌, ◌<◌, ℕ, Bool, false, List, [], ◌∷◌, map, arith, refl, sym, ap, ◌∙◌, subst}
 use Rattle.std.proofs.lemmas.Option.{slice_get_within}
 use Rattle.office_base.specs.Lists.{Pairwise}
 use Rattle.office_base.specs.declared.asks.Request.{Request}
@@ -17,14 +16,7 @@ use Rattle.round_laws.proofs.People.{there_is}
 use Rattle.round_laws.proofs.Season.{aligned_length, length_lists, list_at_place}
 use Rattle.office_moves.specs.Season.{facts_of}
 use Rattle.one_output.specs.Laws.{OneKeptSeason, OneSeason, SayTheSame}
-
--- lists with the same value at each place are one
-at_each : {X : Type 0} (xs ys : List X) → length xs ≡ length ys → ((i : ℕ) (x y : X) → slice_get xs i ≡ Some x → slice_get ys i ≡ Some y → x ≡ y) → xs ≡ ys
-at_each [] [] full same = refl
-at_each [] (y ∷ ys) full same = absurd (omega (arith, full))
-at_each (x ∷ xs) [] full same = absurd (omega (arith, full))
-at_each (x ∷ xs) (y ∷ ys) full same =
-    ap (λ z. z ∷ xs) (same 0 x y refl refl) ∙ ap (λ rest. y ∷ rest) (at_each xs ys (omega (arith, full)) (λ i a b at at'. same (suc i) a b at at'))
+use Rattle.round_laws.proofs.OneRound.{same_places as at_each}
 
 -- choices are their ids and their lists
 both_parts : (lists other : Lists) → map (λ (held : ℕ × List ProgId). held.0) lists ≡ map (λ (held : ℕ × List ProgId). held.0) other → lists_in lists ≡ lists_in other → lists ≡ other

@@ -26,27 +26,16 @@ use Rattle.audit_rules.specs.Replay.{before}
 use Rattle.audit_rules.specs.Verdict.{IsVerdict}
 use Rattle.audit_rules.specs.declared.verdict.Verdict.{Verdict}
 use Rattle.audit_rules.specs.declared.verdict.Verdict.TheVariants.{Sound, Broken}
-use Rattle.one_output.specs.Laws.{OneKeptSeason, SayTheSame}
+use Rattle.one_output.specs.Laws.{OneKeptSeason}
 use Rattle.one_verdict.specs.Laws.{OneVerdictOfBytes, audited_of}
-use Rattle.one_verdict.proofs.Cuts.{one_cut}
+use Rattle.dossier_file.proofs.CutLemmas.{one_cut}
+use Rattle.one_output.proofs.Outputs.{same_season}
 
 -- ---- the order of tokens
 
 -- the season with its tokens kept in another order
 abbrev kept_so : SeasonFacts → List (List ℕ × CandId) → SeasonFacts
 kept_so facts holders = record facts { holders = holders }
-
-same_season : (facts other : SeasonFacts) → SayTheSame facts other → kept_so facts other.holders ≡ other
-same_season facts other same = λ i. record {
-  version = same.version i;
-  rounds = same.rounds i;
-  clerk = same.clerk i;
-  people = same.people i;
-  holders = other.holders;
-  matrix = same.matrix i;
-  lists = same.lists i;
-  text = same.text i;
-}
 
 holds_too : (facts : SeasonFacts) (holders : List (List ℕ × CandId)) (papers : Papers) (state : State) (decision : Decision) → HoldsAt (kept_so facts holders) papers state decision
     → HoldsAt facts papers state decision

@@ -1,0 +1,2 @@
+mod Dossiers
+mod Ends

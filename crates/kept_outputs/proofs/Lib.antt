@@ -1,0 +1,4 @@
+mod Ends
+pub mod Replayed
+pub mod Resumed
+pub mod Tokens

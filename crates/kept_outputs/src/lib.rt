@@ -1,0 +1,6 @@
+// That the same requests over the same kept records give the same output of `resume`.
+//
+// `special_outputs` builds on its lemmas. It has no code but its law, and knows of no source, no sink and no keeper.
+#![tactic(auto)]
+
+pub mod laws;

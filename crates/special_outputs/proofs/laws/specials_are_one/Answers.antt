@@ -1,0 +1,18 @@
+use Rattle.special_outputs.proofs.Ends as ends
+use Rattle.special_outputs.proofs.laws.specials_are_one.Goals as goal
+
+pub returns : goal.returns
+returns c = ends.specials_are_one (record {
+  readings = c.one_reading.ensures;
+  seasons = c.one_kept_season.ensures;
+  records = c.one_end.ensures;
+  grows = c.history_grows.ensures;
+  orderly = c.orderly.ensures;
+  known = c.finals_are_known.ensures;
+  certificate = c.one_certificate.ensures;
+  lists = c.one_reading-2.ensures;
+  carry = c.same_reading.ensures;
+  enter = c.enter.ensures;
+  round = c.one_round.ensures;
+  answer = c.one_special_answer.ensures;
+})
