@@ -1,17 +1,20 @@
-// The program: it hands the words, standard input, standard output, a keeper over the store and doors at the port that the words name to `allocate` and ends
-// with its status.
+// The program. It passes the words, standard input, standard output, a keeper and doors to `allocate`, and exits with
+// its status. The keeper is over the store that the words name, and the doors are at their port.
 //
-// `allocate`, of `office_commands`, is the one top call of the office: what it writes and how it ends is proved, for the words, the bytes and the doors that
-// it was given. The adapters over the real streams and sockets are the trusted edge: they count their errors and tell no bytes. The keeper over a file tells
-// its tables while nobody else writes it and the disk returns what was written. Nothing stands on this crate, and it decides nothing of seats itself.
+// `allocate`, of `office_commands`, is the one top call of the office. What it writes and how it ends is proved,
+// for the words, the bytes and the doors that it is given. That these are the doors that the words name is proved here.
+// The adapters over the real streams and sockets are the trusted edge: they count their errors, and hide their bytes.
+// The tables of a keeper over a file are visible if nobody else writes the file and the disk returns what was written.
+// No crate depends on this one, and it decides nothing of seats itself.
 #![tactic(auto)]
 
-ghost use Rattle.std.specs.Prelude.{◌≤◌, IfSome, length};
+ghost use Rattle.std.specs.Prelude.{◌≡◌, ◌≤◌, IfOk, IfSome, length, map, replicate};
 ghost use Rattle.std.specs.List.{AllByRecursion};
-ghost use Rattle.command_words.specs.Words.{IsInRange};
+ghost use Rattle.allocation_cli.specs.Named.{AreDoorsFor, AreNamed, HaveTaken, NameService};
 
 use command_answers::{Status, tell_no_memory};
-use command_words::{Command, WordsFault, read_words};
+use command_words::laws::one_spelling;
+use command_words::{Service, WordsFault, read_words};
 use file_keepers::{close_keeper, open_keeper};
 use keeper_mem::{Keeper, SureKeeper};
 use loopback_links::{Edge, LoopbackDoor, SystemListener, Watched};
@@ -27,10 +30,10 @@ use std::sync::Wait;
 use std::thread::Threads;
 use std::{env, io};
 
-// How the program ends where the store that its words name cannot be opened, or the port cannot be bound.
+// The exit status if the store that the words name cannot be opened, or the port cannot be bound.
 const NO_OPENING: u8 = 1;
 
-// The answers of which the first is reported on standard error: those by which the store failed.
+// The answers that report a failure of the store. The first of them is reported on standard error.
 const STORE_FAULTS: Watched = Watched {
     start: b"HTTP/1.1 503 ",
     line: "answered 503: the store failed; later failures are not reported here",
@@ -39,23 +42,13 @@ const STORE_FAULTS: Watched = Watched {
 // A door over a listener of the system.
 type SystemDoor<'e> = LoopbackDoor<'e, SystemListener<TcpListener>, HostRuntime>;
 
-// What the program is called with: its words; the name of the file that they name as the store, which is none where they name memory or spell no command; and
-// how they have an office served, if they do.
+// What the program is called with: its words, the file that they name as the store, and how they have an office served.
+// There is no file if the words name memory, and neither if they spell no command.
 #[derive(Drop)]
 struct Call {
     words: Words,
     file: Option<Text>,
     service: Option<Service>,
-}
-
-// How an office is served: so many workers, each of which takes so many connections at this port.
-#[derive(Clone, Copy)]
-struct Service {
-    conns: u32,
-    workers: u8,
-    port: u16,
-    ghost few_conns: { conns ≤ 100000 },
-    ghost few_workers: { workers ≤ 64 },
 }
 
 // What the words name and cannot be opened.
@@ -69,7 +62,7 @@ fn main(rt: HostRuntime) -> ExitCode {
     let alloc = rt.alloc();
     let call = call_of(&rt, alloc);
     let output = rt.stdout();
-    // what a file keeps is told before more is kept
+    // what a file keeps is written before more is kept
     let at_once = output.is_terminal() || keeps_a_file(&call);
     let Ok(mut sink) = StandardOutput::new(alloc, output, at_once) else {
         return ExitCode::from(tell_unheld(&mut rt.stdout()).code());
@@ -90,7 +83,7 @@ fn main(rt: HostRuntime) -> ExitCode {
     ExitCode::from(status.code())
 }
 
-// Tells what cannot be opened.
+// Reports what cannot be opened.
 fn tell_unopened(rt: &HostRuntime, unopened: Unopened) -> ExitCode {
     let _ = match unopened {
         Unopened::Store => eprintln!(rt; "cannot open store"),
@@ -99,7 +92,7 @@ fn tell_unopened(rt: &HostRuntime, unopened: Unopened) -> ExitCode {
     ExitCode::from(NO_OPENING)
 }
 
-// Whether the words name a file as the store.
+// Returns whether the words name a file as the store.
 fn keeps_a_file(call: &Result<Call, OutOfMemory>) -> bool {
     match call {
         Ok(call) => call.file.is_some(),
@@ -107,13 +100,18 @@ fn keeps_a_file(call: &Result<Call, OutOfMemory>) -> bool {
     }
 }
 
-// The words with the file and the service that they name.
-fn call_of(rt: &(impl Env + AllocGlobal), alloc: Global) -> Result<Call, OutOfMemory> {
+// Returns the words with the file and the service that they name.
+fn call_of(rt: &(impl Env + AllocGlobal), alloc: Global) -> Result<Call, OutOfMemory>
+    ensures { IfOk result (λ call. AreNamed call.words call.file call.service) }
+{
     let words = words_of(rt, alloc)?;
     match read_words(alloc, &words) {
         Ok(command) => {
-            let service = service_of(&command);
-            let file = file_of(command);
+            let service = command.service();
+            let file = match command.store() {
+                Some(store) => store.file(),
+                None => None,
+            };
             Ok(Call {
                 words,
                 file,
@@ -129,30 +127,6 @@ fn call_of(rt: &(impl Env + AllocGlobal), alloc: Global) -> Result<Call, OutOfMe
     }
 }
 
-// The name of the file that a command names as the store.
-fn file_of(command: Command) -> Option<Text> {
-    command.store()?.file()
-}
-
-// How a command has an office served.
-fn service_of(command: &Command) -> Option<Service>
-    requires { IsInRange command.now }
-{
-    match command {
-        Command::Serve {
-            conns,
-            workers,
-            port,
-            ..
-        } => Some(Service {
-            conns: *conns,
-            workers: *workers,
-            port: *port,
-        }),
-        _ => None,
-    }
-}
-
 // Runs the words over the store that they name.
 fn over_store<H: Threads + Wait + Sync + Net<Listener = TcpListener, Stream = TcpStream>, K: Sink>(
     rt: &HostRuntime,
@@ -160,15 +134,17 @@ fn over_store<H: Threads + Wait + Sync + Net<Listener = TcpListener, Stream = Tc
     alloc: Global,
     call: &Call,
     sink: &mut K,
-) -> Result<Status, Unopened> {
+) -> Result<Status, Unopened>
+    requires { AreNamed call.now.words call.now.file call.now.service }
+{
     match &call.file {
         Some(name) => over_file(rt, host, alloc, call, sink, name),
         None => answer(rt, host, alloc, call, sink, SureKeeper::new(alloc)).0,
     }
 }
 
-// Runs the words over a keeper over the file of this name. What it kept stands in the file and the log beside it, also where the log cannot be
-// copied into the file at the end.
+// Runs the words over a keeper over the file of this name.
+// What was kept is in the file and its log, even if the log cannot be copied into the file at the end.
 fn over_file<H: Threads + Wait + Sync + Net<Listener = TcpListener, Stream = TcpStream>, K: Sink>(
     rt: &HostRuntime,
     host: &H,
@@ -176,7 +152,9 @@ fn over_file<H: Threads + Wait + Sync + Net<Listener = TcpListener, Stream = Tcp
     call: &Call,
     sink: &mut K,
     name: &Text,
-) -> Result<Status, Unopened> {
+) -> Result<Status, Unopened>
+    requires { AreNamed call.now.words call.now.file call.now.service }
+{
     let Some(keeper) = open_keeper(rt, name) else {
         return Err(Unopened::Store);
     };
@@ -197,7 +175,10 @@ fn answer<
     call: &Call,
     sink: &mut K,
     keeper: P,
-) -> (Result<Status, Unopened>, P) {
+) -> (Result<Status, Unopened>, P)
+    requires { AreNamed call.now.words call.now.file call.now.service }
+{
+    one_spelling();
     match &call.service {
         Some(service) => answer_at_doors(rt, host, alloc, &call.words, sink, keeper, service),
         None => {
@@ -220,7 +201,10 @@ fn answer_at_doors<
     sink: &mut K,
     keeper: P,
     service: &Service,
-) -> (Result<Status, Unopened>, P) {
+) -> (Result<Status, Unopened>, P)
+    requires { NameService words.now service.now }
+{
+    one_spelling();
     let edge = Edge::new(*rt, STORE_FAULTS);
     let Some(mut doors) = doors_of(host, alloc, service, &edge) else {
         return (Err(Unopened::Port), keeper);
@@ -241,6 +225,9 @@ fn answer_at<H: Threads + Wait + Sync, K: Sink, P: Keeper + Send>(
 ) -> (Result<Status, Unopened>, P)
     requires few { length doors.old.items ≤ 64 }
     requires suit { AllByRecursion (λ d. d.left ≤ 100000) doors.old.items }
+    requires named { AreDoorsFor words.now (map (λ d. d.left) doors.old.items) }
+    ensures taken { IfOk result.0 (λ status. status ≡ Status.Ok → HaveTaken words.now
+        (map (λ d. d.left) doors.old.items) (map (λ d. d.left) doors.new.items)) }
 {
     let mut source = StandardInput::new(rt.stdin());
     let (status, keeper) = allocate(
@@ -255,19 +242,20 @@ fn answer_at<H: Threads + Wait + Sync, K: Sink, P: Keeper + Send>(
     (Ok(status), keeper)
 }
 
-// Doors over one listener at the port of this machine, one for each worker. None where it cannot be bound.
+// Returns doors over one listener at the port of this machine: one for each worker, with as many connections to come
+// as a worker takes. It returns None if the port cannot be bound.
 fn doors_of<'e, H: Net<Listener = TcpListener, Stream = TcpStream>>(
     host: &H,
     alloc: Global,
     service: &Service,
     edge: &'e Edge<HostRuntime>,
 ) -> Option<Vec<SystemDoor<'e>>>
-    ensures few { IfSome result (λ doors. length doors.items ≤ 64) }
-    ensures suit { IfSome result (λ doors. AllByRecursion (λ d. d.left ≤ 100000) doors.items) }
+    ensures { IfSome result (λ doors. map (λ d. d.left) doors.items
+        ≡ replicate service.now.workers service.now.conns) }
 {
     let listener = TcpListener::bind(host, (Ipv4Addr::LOCALHOST, service.port)).ok()?;
     let mut doors = Vec::new(alloc);
-    for made in 1..service.workers {
+    for made in 0..service.workers {
         let _ = made;
         let Ok(other) = listener.try_clone() else {
             return None;
@@ -277,14 +265,10 @@ fn doors_of<'e, H: Net<Listener = TcpListener, Stream = TcpStream>>(
             return None;
         }
     }
-    let door = LoopbackDoor::new(SystemListener::new(listener), service.conns, edge);
-    if doors.push(door).is_err() {
-        return None;
-    }
     Some(doors)
 }
 
-// Tells, on standard error, where an office is served, and how that ends.
+// Reports, on standard error, where an office is served, and how that ends.
 fn tell_service(rt: &HostRuntime, service: &Service) {
     let Service {
         conns,
@@ -298,8 +282,8 @@ fn tell_service(rt: &HostRuntime, service: &Service) {
     );
 }
 
-// The words after the program's name. Where the system tells none, or one of them is no text, there are none: they spell
-// no command then.
+// Returns the words after the program's name.
+// If the system gives none, or one of them is no text, there are no words: these spell no command.
 fn words_of(rt: &(impl Env + AllocGlobal), alloc: Global) -> Result<Words, OutOfMemory> {
     let mut words = Words::new(alloc);
     match env::args(rt) {

@@ -1,5 +1,5 @@
 -- What `clap` makes of plain words.
-use Rattle.std.proofs.Common.{◌≡◌, ◌∙◌, ◌<◌, ◌&&◌, ◌⊎◌, inl, inr, refl, sym, ap, ap₂, true≢false, arith, ℕ, Bool, true, false, not, List, [], ◌∷◌, Option, None, length, is_some}
+use Rattle.std.proofs.Common.{◌≡◌, ◌∙◌, ◌<◌, ◌⊎◌, inl, inr, refl, sym, ap, ap₂, true≢false, arith, ℕ, Bool, true, false, List, [], ◌∷◌, Option, None, length, is_some}
 use Rattle.std.specs.Prelude.{◌==◌, fold, if◌then◌else◌}
 use Rattle.std.specs.List.{list_all}
 use Rattle.std.specs.Option.{option_map_or}
@@ -11,6 +11,7 @@ use Rattle.clap.specs.Simple.{Shape, built, entered, is_simple, matches_of}
 use Rattle.clap.specs.Walk.{Held, Row, Rule, Step, Text, Walk, after_step, arg_by_index, finished, idle, long_or_other, nothing_held, settled, short_or_plain, to_positional, trailing, value, walk, walk_from, walked, word_met}
 use Rattle.clap.specs.declared.error.kind.ErrorKind.TheVariants as kind
 use Rattle.clap.proofs.OnLiterals.{clap_on_literals}
+use Rattle.std.proofs.lemmas.Bool.{and_parts, not-true}
 use Rattle.command_words.specs.Parts.{ArePlain, AreRows, is_plain, program}
 
 -- ---- a plain word is no flag
@@ -20,19 +21,10 @@ record IsNoFlag (word : Text) : Type 0 where
   pub long : long_of word ≡ None
   pub short : short_of word ≡ None
 
-not_true : (b : Bool) → not b ≡ true → b ≡ false
-not_true true h = absurd (true≢false (sym h))
-not_true false h = refl
-
-both : (a b : Bool) → (a && b) ≡ true → (a ≡ true) × (b ≡ true)
-both true true h = (refl, refl)
-both true false h = absurd (true≢false (sym h))
-both false b h = absurd (true≢false (sym h))
-
 no_flag : (word : Text) → is_plain word ≡ true → IsNoFlag word
 no_flag [] plain = absurd (true≢false (sym plain))
 no_flag (byte ∷ bytes) plain =
-    let other : (byte == 45) ≡ false = not_true (byte == 45) plain in
+    let other : (byte == 45) ≡ false = not-true (byte == 45) plain in
     record { dashes = rw other refl; long = rw other refl; short = rw other refl }
 
 -- ---- a turn of the walk
@@ -253,10 +245,10 @@ divides_well : (words : List Text) → IsDivided words → Divides words
 divides_well words is = (λ none. is.rows, λ some. absurd (some is.faultless))
 
 head_of : (w : Text) (words : List Text) → ArePlain (w ∷ words) → IsNoFlag w
-head_of w words plain = no_flag w (both (is_plain w) (list_all is_plain words) plain).0
+head_of w words plain = no_flag w (and_parts (is_plain w) (list_all is_plain words) plain).0
 
 rest_of : (w : Text) (words : List Text) → ArePlain (w ∷ words) → ArePlain words
-rest_of w words plain = (both (is_plain w) (list_all is_plain words) plain).1
+rest_of w words plain = (and_parts (is_plain w) (list_all is_plain words) plain).1
 
 -- Plain words are divided into their places if there are one to six of them, and otherwise refused.
 pub divides : (words : List Text) → ArePlain words → Divides words

@@ -1,8 +1,8 @@
 -- The words of a line, one after another.
-use Rattle.std.proofs.Common.{◌≡◌, ◌∙◌, ◌<◌, ◌≤◌, ◌+◌, ◌&&◌, ◌++◌, ℕ, Bool, true, false, List, [], ◌∷◌, Some, drop, length, refl, sym, ap, true≢false, append_assoc}
+use Rattle.std.proofs.Common.{◌≡◌, ◌∙◌, ◌<◌, ◌+◌, ◌&&◌, ◌++◌, ℕ, Bool, true, false, List, [], ◌∷◌, Some, drop, length, sym, ap, true≢false, append_assoc}
 use Rattle.std.specs.Prelude.{slice_get}
 use Rattle.std.specs.List.{list_all}
-use Rattle.std.proofs.lemmas.List.{append-nil, drop_all, drop_more}
+use Rattle.std.proofs.lemmas.List.{drop_more}
 use Rattle.std.proofs.lemmas.Option.{get_or_from_slice_get, slice_get_within}
 use Rattle.command_words.specs.Parts.{ArePlain, is_plain}
 
@@ -16,9 +16,6 @@ next_word words at word there =
 pub record IsDone (words done : List (List ℕ)) (at : ℕ) : Type 0 where
   pub whole : done ++ drop at words ≡ words
   pub plain : list_all is_plain (drop at words) ≡ list_all is_plain words
-
-pub begins : (words : List (List ℕ)) → IsDone words [] 0
-begins words = record { whole = refl; plain = refl }
 
 -- One more word is done.
 pub goes_on : (words done : List (List ℕ)) (at : ℕ) (word : List ℕ) → slice_get words at ≡ Some word → is_plain word ≡ true → IsDone words done at → IsDone words (done ++ word ∷ []) (at + 1)
@@ -36,9 +33,3 @@ not_plain words done at word there flag is all =
     let next = next_word words at word there in
     let some : list_all is_plain (drop at words) ≡ false = ap (list_all is_plain) next ∙ ap (λ (b : Bool). b && list_all is_plain (drop (at + 1) words)) flag in
     true≢false (sym all ∙ (sym is.plain ∙ some))
-
--- At the end all words are done, and they are plain.
-pub ends : (words done : List (List ℕ)) (at : ℕ) → length words ≤ at → IsDone words done at → (done ≡ words) × ArePlain words
-ends words done at past is =
-    let none = drop_all at words past in
-    (sym (append-nil done) ∙ (ap (λ (rest : List (List ℕ)). done ++ rest) (sym none) ∙ is.whole), sym is.plain ∙ ap (list_all is_plain) none)

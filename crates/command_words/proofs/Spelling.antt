@@ -257,13 +257,6 @@ many_spell_nothing words many command spelled =
     let same : length words ≡ length (words_of command) = ap length spelled.0 in
     elim many [ inl none ↦ omega (arith, few.0, none, same) | inr more ↦ omega (arith, few.1, more, same) ]
 
--- Three words, and five, spell no command.
-pub odd_spell_nothing : (words : List (List ℕ)) → (length words ≡ 3) ⊎ (length words ≡ 5) → SpellNothing words
-odd_spell_nothing words odd command spelled =
-    let has = some_words command in
-    let same : length words ≡ length (words_of command) = ap length spelled.0 in
-    elim odd [ inl three ↦ has.2 (sym same ∙ three) | inr five ↦ has.3 (sym same ∙ five) ]
-
 -- ---- by places
 
 -- the words in the places, and their numbers
@@ -288,18 +281,6 @@ two_words (w ∷ x ∷ []) parts s0 s1 are h0 h1 none =
     let e0 : s0.now ≡ w = cc in let e1 : s1.now ≡ x = cc in cc
 two_words (w ∷ x ∷ y ∷ rest) parts s0 s1 are h0 h1 none = let bad : None ≡ Some y = sym (ap now_of none) ∙ are.second in absurd cc
 
--- the three words that there are
-three_words : (words : List (List ℕ)) (parts : Parts) (s0 s1 s2 : Bor (List ℕ)) → AreParts words parts → parts.command ≡ Some s0 → parts.first ≡ Some s1 → parts.second ≡ Some s2 → parts.third ≡ None → words ≡ s0.now ∷ s1.now ∷ s2.now ∷ []
-three_words [] parts s0 s1 s2 are h0 h1 h2 none = let bad : Some s0.now ≡ None = sym (ap now_of h0) ∙ are.command in absurd cc
-three_words (w ∷ []) parts s0 s1 s2 are h0 h1 h2 none = let bad : Some s1.now ≡ None = sym (ap now_of h1) ∙ are.first in absurd cc
-three_words (w ∷ x ∷ []) parts s0 s1 s2 are h0 h1 h2 none = let bad : Some s2.now ≡ None = sym (ap now_of h2) ∙ are.second in absurd cc
-three_words (w ∷ x ∷ y ∷ []) parts s0 s1 s2 are h0 h1 h2 none =
-    let t0 : Some s0.now ≡ Some w = sym (ap now_of h0) ∙ are.command in
-    let t1 : Some s1.now ≡ Some x = sym (ap now_of h1) ∙ are.first in
-    let t2 : Some s2.now ≡ Some y = sym (ap now_of h2) ∙ are.second in
-    let e0 : s0.now ≡ w = cc in let e1 : s1.now ≡ x = cc in let e2 : s2.now ≡ y = cc in cc
-three_words (w ∷ x ∷ y ∷ z ∷ rest) parts s0 s1 s2 are h0 h1 h2 none = let bad : None ≡ Some z = sym (ap now_of none) ∙ are.third in absurd cc
-
 -- the four words that there are
 four_words : (words : List (List ℕ)) (parts : Parts) (s0 s1 s2 s3 : Bor (List ℕ)) → AreParts words parts → parts.command ≡ Some s0 → parts.first ≡ Some s1 → parts.second ≡ Some s2 → parts.third ≡ Some s3 → parts.fourth ≡ None → words ≡ s0.now ∷ s1.now ∷ s2.now ∷ s3.now ∷ []
 four_words [] parts s0 s1 s2 s3 are h0 h1 h2 h3 none = let bad : Some s0.now ≡ None = sym (ap now_of h0) ∙ are.command in absurd cc
@@ -313,22 +294,6 @@ four_words (w ∷ x ∷ y ∷ z ∷ []) parts s0 s1 s2 s3 are h0 h1 h2 h3 none =
     let t3 : Some s3.now ≡ Some z = sym (ap now_of h3) ∙ are.third in
     let e0 : s0.now ≡ w = cc in let e1 : s1.now ≡ x = cc in let e2 : s2.now ≡ y = cc in let e3 : s3.now ≡ z = cc in cc
 four_words (w ∷ x ∷ y ∷ z ∷ u ∷ rest) parts s0 s1 s2 s3 are h0 h1 h2 h3 none = let bad : None ≡ Some u = sym (ap now_of none) ∙ are.fourth in absurd cc
-
--- the five words that there are
-five_words : (words : List (List ℕ)) (parts : Parts) (s0 s1 s2 s3 s4 : Bor (List ℕ)) → AreParts words parts → parts.command ≡ Some s0 → parts.first ≡ Some s1 → parts.second ≡ Some s2 → parts.third ≡ Some s3 → parts.fourth ≡ Some s4 → parts.fifth ≡ None → words ≡ s0.now ∷ s1.now ∷ s2.now ∷ s3.now ∷ s4.now ∷ []
-five_words [] parts s0 s1 s2 s3 s4 are h0 h1 h2 h3 h4 none = let bad : Some s0.now ≡ None = sym (ap now_of h0) ∙ are.command in absurd cc
-five_words (w ∷ []) parts s0 s1 s2 s3 s4 are h0 h1 h2 h3 h4 none = let bad : Some s1.now ≡ None = sym (ap now_of h1) ∙ are.first in absurd cc
-five_words (w ∷ x ∷ []) parts s0 s1 s2 s3 s4 are h0 h1 h2 h3 h4 none = let bad : Some s2.now ≡ None = sym (ap now_of h2) ∙ are.second in absurd cc
-five_words (w ∷ x ∷ y ∷ []) parts s0 s1 s2 s3 s4 are h0 h1 h2 h3 h4 none = let bad : Some s3.now ≡ None = sym (ap now_of h3) ∙ are.third in absurd cc
-five_words (w ∷ x ∷ y ∷ z ∷ []) parts s0 s1 s2 s3 s4 are h0 h1 h2 h3 h4 none = let bad : Some s4.now ≡ None = sym (ap now_of h4) ∙ are.fourth in absurd cc
-five_words (w ∷ x ∷ y ∷ z ∷ u ∷ []) parts s0 s1 s2 s3 s4 are h0 h1 h2 h3 h4 none =
-    let t0 : Some s0.now ≡ Some w = sym (ap now_of h0) ∙ are.command in
-    let t1 : Some s1.now ≡ Some x = sym (ap now_of h1) ∙ are.first in
-    let t2 : Some s2.now ≡ Some y = sym (ap now_of h2) ∙ are.second in
-    let t3 : Some s3.now ≡ Some z = sym (ap now_of h3) ∙ are.third in
-    let t4 : Some s4.now ≡ Some u = sym (ap now_of h4) ∙ are.fourth in
-    let e0 : s0.now ≡ w = cc in let e1 : s1.now ≡ x = cc in let e2 : s2.now ≡ y = cc in let e3 : s3.now ≡ z = cc in let e4 : s4.now ≡ u = cc in cc
-five_words (w ∷ x ∷ y ∷ z ∷ u ∷ v ∷ rest) parts s0 s1 s2 s3 s4 are h0 h1 h2 h3 h4 none = let bad : None ≡ Some v = sym (ap now_of none) ∙ are.fifth in absurd cc
 
 -- the six words that there are
 six_words : (words : List (List ℕ)) (parts : Parts) (s0 s1 s2 s3 s4 s5 : Bor (List ℕ)) → AreParts words parts → parts.command ≡ Some s0 → parts.first ≡ Some s1 → parts.second ≡ Some s2 → parts.third ≡ Some s3 → parts.fourth ≡ Some s4 → parts.fifth ≡ Some s5 → words ≡ s0.now ∷ s1.now ∷ s2.now ∷ s3.now ∷ s4.now ∷ s5.now ∷ []
@@ -380,19 +345,6 @@ read_four parts s0 s1 s2 s3 told h0 h1 h2 h3 none = read parts (s0.now ∷ s1.no
 pub read_six : (parts : Parts) (s0 s1 s2 s3 s4 s5 : Bor (List ℕ)) (told : Result Command WordsFault) → parts.command ≡ Some s0 → parts.first ≡ Some s1 → parts.second ≡ Some s2 → parts.third ≡ Some s3 → parts.fourth ≡ Some s4 → parts.fifth ≡ Some s5
     → IfOk told (Spell (s0.now ∷ s1.now ∷ s2.now ∷ s3.now ∷ s4.now ∷ s5.now ∷ [])) → (IsErrOf told Usage → SpellNothing (s0.now ∷ s1.now ∷ s2.now ∷ s3.now ∷ s4.now ∷ s5.now ∷ [])) → AreRead parts told
 read_six parts s0 s1 s2 s3 s4 s5 told h0 h1 h2 h3 h4 h5 = read parts (s0.now ∷ s1.now ∷ s2.now ∷ s3.now ∷ s4.now ∷ s5.now ∷ []) told (λ words are. six_words words parts s0 s1 s2 s3 s4 s5 are h0 h1 h2 h3 h4 h5)
-
--- Three words spell nothing.
-pub not_three : (parts : Parts) (s0 s1 s2 : Bor (List ℕ)) → parts.command ≡ Some s0 → parts.first ≡ Some s1 → parts.second ≡ Some s2 → parts.third ≡ None → (words : List (List ℕ)) → AreParts words parts → SpellNothing words
-not_three parts s0 s1 s2 h0 h1 h2 none words are = odd_spell_nothing words (inl (ap length (three_words words parts s0 s1 s2 are h0 h1 h2 none)))
-
--- Five words spell nothing.
-pub not_five : (parts : Parts) (s0 s1 s2 s3 s4 : Bor (List ℕ)) → parts.command ≡ Some s0 → parts.first ≡ Some s1 → parts.second ≡ Some s2 → parts.third ≡ Some s3 → parts.fourth ≡ Some s4 → parts.fifth ≡ None → (words : List (List ℕ)) → AreParts words parts → SpellNothing words
-not_five parts s0 s1 s2 s3 s4 h0 h1 h2 h3 h4 none words are = odd_spell_nothing words (inr (ap length (five_words words parts s0 s1 s2 s3 s4 are h0 h1 h2 h3 h4 none)))
-
--- No words are none.
-pub not_none : (parts : Parts) → parts.command ≡ None → (words : List (List ℕ)) → AreParts words parts → SpellNothing words
-not_none parts none [] are = let bad = are.some in absurd (omega arith)
-not_none parts none (w ∷ words) are = let bad : None ≡ Some w = sym (ap now_of none) ∙ are.command in absurd cc
 
 -- Those of plain words that may name a file are plain.
 pub named_plain : (words : List (List ℕ)) (parts : Parts) → ArePlain words → AreParts words parts → NamePlain parts

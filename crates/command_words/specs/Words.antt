@@ -45,13 +45,25 @@ store_of Audit = None
 store_of AuditBest = None
 store_of (Generate n seed out) = None
 
+-- how a command has an office served, if it serves one
+abbrev pub service_of : Command → Option Service
+service_of Step = None
+service_of Check = None
+service_of (Run store) = None
+service_of (Resume store) = None
+service_of (Units store) = None
+service_of (Special store) = None
+service_of (Serve conns workers start port store) = Some (record { conns = conns; workers = workers; start = start; port = port })
+service_of Audit = None
+service_of AuditBest = None
+service_of (Generate n seed out) = None
+
 -- the name of the file that a store is, if it is one
 abbrev pub file_of : Store → Option (List ℕ)
 file_of Memory = None
 file_of (File name) = Some name
 
--- the words of a command: its name alone; `audit` with `best`; `run`, `resume`, `units` or `special`, and where the records are kept; `serve`, how many connections, how many
--- workers, how the office begins, at which port, and where the records are kept; or `generate`, how many candidates, the seed, and what is written
+-- the words of a command
 abbrev pub words_of : Command → List (List ℕ)
 words_of Step = codes "step" ∷ []
 words_of Check = codes "check" ∷ []
@@ -64,7 +76,7 @@ words_of Audit = codes "audit" ∷ []
 words_of AuditBest = codes "audit" ∷ codes "best" ∷ []
 words_of (Generate n seed out) = codes "generate" ∷ decimal n ∷ decimal seed ∷ word_out out ∷ []
 
--- the numbers of a command lie in their ranges, and its file has a name
+-- the numbers of a command are in their ranges, and its file has a name
 abbrev pub IsInRange : Command → Type 0
 IsInRange Step = Unit {0}
 IsInRange Check = Unit {0}
@@ -77,7 +89,7 @@ IsInRange Audit = Unit {0}
 IsInRange AuditBest = Unit {0}
 IsInRange (Generate n seed out) = (1 ≤ n) × (n ≤ 100000) × (seed < 2 ^ 32)
 
--- the words after `serve`, without the store, are those of this service, whose numbers lie in their ranges
+-- the words after `serve`, without the store, are those of this service, whose numbers are in their ranges
 pub record AreServiceWords (service : Service) (conns workers start port : List ℕ) : Type 0 where
   pub conns_are : conns ≡ decimal service.conns
   pub conns_range : (1 ≤ service.conns) × (service.conns ≤ 100000)

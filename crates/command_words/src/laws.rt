@@ -5,7 +5,8 @@ ghost use Rattle.command_words.specs.declared.words.Command.{Command as AnyComma
 
 /// Words spell at most one command.
 pub fn one_spelling()
-    ensures { (words : List (List ℕ)) (command other : AnyCommand) → Spell words command → Spell words other → command ≡ other }
+    ensures { (words : List (List ℕ)) (command other : AnyCommand)
+        → Spell words command → Spell words other → command ≡ other }
 {
     office_text::laws::numbers_are_inverse();
 }

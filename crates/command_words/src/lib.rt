@@ -9,4 +9,4 @@ pub mod laws;
 mod parts;
 mod words;
 
-pub use words::{Command, OutKind, Start, Store, WordsFault, read_words};
+pub use words::{Command, OutKind, Service, Start, Store, WordsFault, read_words};

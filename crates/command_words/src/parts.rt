@@ -1,5 +1,5 @@
 // The words of a command line in their places, divided by `clap`.
-ghost use Rattle.std.specs.Prelude.{◌≡◌, ◌≢◌, ◌<◌, ◌⊎◌, IfOk, IsErrOf, length, map};
+ghost use Rattle.std.specs.Prelude.{◌≡◌, ◌↔◌, ◌<◌, ◌⊎◌, IfOk, IsErrOf, length, map};
 ghost use Rattle.clap.specs.Values.{kind_of};
 ghost use Rattle.clap.specs.Words.{app_of, found_of, rows_of};
 ghost use Rattle.command_words.specs.Parts.{ArePlain, AreParts, AreRows, program, short_program};
@@ -25,7 +25,8 @@ pub struct Parts<'a> {
 pub fn parts_of<'a>(alloc: Global, line: &'a [&'a str]) -> Result<Parts<'a>, WordsFault>
     requires { ArePlain (map (λ word. word.now) line.now) }
     ensures parts { IfOk result (AreParts (map (λ word. word.now) line.entry.now)) }
-    ensures usage { IsErrOf result WordsFault.Usage → (length line.entry.now ≡ 0) ⊎ (6 < length line.entry.now) }
+    ensures usage { IsErrOf result WordsFault.Usage
+        → (length line.entry.now ≡ 0) ⊎ (6 < length line.entry.now) }
 {
     let matches = divided(alloc, line)?;
     Ok(Parts {
@@ -41,8 +42,10 @@ pub fn parts_of<'a>(alloc: Global, line: &'a [&'a str]) -> Result<Parts<'a>, Wor
 /// Returns what `clap` finds in the words. No word may be empty or begin with `-`.
 fn divided<'a>(alloc: Global, line: &'a [&'a str]) -> Result<ArgMatches<'a>, WordsFault>
     requires { ArePlain (map (λ word. word.now) line.now) }
-    ensures rows { IfOk result (λ matches. AreRows (map (λ word. word.now) line.entry.now) (rows_of (found_of matches))) }
-    ensures usage { IsErrOf result WordsFault.Usage → (length line.entry.now ≡ 0) ⊎ (6 < length line.entry.now) }
+    ensures rows { IfOk result (λ matches.
+        AreRows (map (λ word. word.now) line.entry.now) (rows_of (found_of matches))) }
+    ensures usage { IsErrOf result WordsFault.Usage
+        → (length line.entry.now ≡ 0) ⊎ (6 < length line.entry.now) }
 {
     let parser = parser(alloc)?;
     match parser.try_get_matches_from(line) {
@@ -53,8 +56,7 @@ fn divided<'a>(alloc: Global, line: &'a [&'a str]) -> Result<ArgMatches<'a>, Wor
 
 /// Returns the fault for an error of `clap`.
 fn fault_of(error: &Error) -> WordsFault
-    ensures usage { result ≡ WordsFault.Usage → kind_of error.now ≢ ErrorKind.OutOfMemory }
-    ensures memory { result ≡ WordsFault.OutOfMemory → kind_of error.now ≡ ErrorKind.OutOfMemory }
+    ensures { (result ≡ WordsFault.OutOfMemory) ↔ (kind_of error.now ≡ ErrorKind.OutOfMemory) }
 {
     match error.kind() {
         ErrorKind::OutOfMemory => WordsFault::OutOfMemory,

@@ -2,7 +2,7 @@
 ghost use Rattle.std.specs.Prelude.{◌≡◌, ◌≤◌, [], ◌∷◌, ℕ, List, true, IsErrOf, IfNone, IfOk, IfSome, OnOk, codes, map};
 ghost use Rattle.std.specs.Fmt.{decimal};
 ghost use Rattle.command_words.specs.Parts.{ArePlain, AreParts, NamePlain, is_plain};
-ghost use Rattle.command_words.specs.Words.{AreServiceWords, IsNamed, Spell, SpellNothing, file_of, store_of, word_of, word_out, word_start};
+ghost use Rattle.command_words.specs.Words.{AreServiceWords, IsNamed, Spell, SpellNothing, file_of, service_of, store_of, word_of, word_out, word_start};
 ghost use Rattle.command_words.specs.declared.words.OutKind.{OutKind as AnyOutKind};
 ghost use Rattle.command_words.specs.declared.words.Start.{Start as AnyStart};
 ghost use Rattle.command_words.specs.declared.words.WordsFault.TheVariants.{OutOfMemory as NoMemory};
@@ -80,6 +80,45 @@ impl Command {
             | Command::Generate { .. } => None,
         }
     }
+
+    /// Returns how the command has an office served, or None if it serves none.
+    pub fn service(&self) -> Option<Service>
+        ensures { result ≡ service_of self.now }
+    {
+        match self {
+            Command::Serve {
+                conns,
+                workers,
+                start,
+                port,
+                ..
+            } => Some(Service {
+                conns: *conns,
+                workers: *workers,
+                start: *start,
+                port: *port,
+            }),
+            Command::Run(_)
+            | Command::Resume(_)
+            | Command::Units(_)
+            | Command::Special(_)
+            | Command::Step
+            | Command::Check
+            | Command::Audit
+            | Command::AuditBest
+            | Command::Generate { .. } => None,
+        }
+    }
+}
+
+/// How an office is served: with `workers` workers side by side, each of which takes at most `conns` connections.
+/// `start` says how the office begins, and `port` at which port of this machine it answers.
+#[derive(Clone, Copy, Debug)]
+pub struct Service {
+    pub conns: u32,
+    pub workers: u8,
+    pub start: Start,
+    pub port: u16,
 }
 
 /// How a served office begins.
@@ -154,9 +193,16 @@ impl<T: Drop> From<AllocFailed<T>> for WordsFault {
     }
 }
 
-/// The command that the words spell: its name alone; `audit` with `best`; `run`, `resume`, `units` or `special` with `memory` or the name of a file; `serve` with how many
-/// connections, how many workers, `new` or `kept`, a port, and `memory` or the name of a file; or `generate` with how many candidates, a seed, and `text` or
-/// `run`. `Usage` comes exactly where they spell none, but for want of memory.
+/// Returns the command that the words spell. The first word is its name, and these follow it:
+///
+/// - nothing, after `step`, `check` and `audit`;
+/// - `best`, after `audit`;
+/// - `memory` or the name of a file, after `run`, `resume`, `units` and `special`;
+/// - how many connections, how many workers, `new` or `kept`, a port, and `memory` or the name of a file,
+///   after `serve`;
+/// - how many candidates, a seed, and `text` or `run`, after `generate`.
+///
+/// It returns `Usage` only if they spell none. Any words can end with `OutOfMemory`.
 pub fn read_words(alloc: Global, words: &Words) -> Result<Command, WordsFault>
     ensures command { IfOk result (Spell words.now) }
     ensures usage { IsErrOf result WordsFault.Usage → SpellNothing words.now }
@@ -172,7 +218,8 @@ pub fn read_words(alloc: Global, words: &Words) -> Result<Command, WordsFault>
 fn read_line(alloc: Global, line: &[&str]) -> Result<Command, WordsFault>
     requires { ArePlain (map (λ word. word.now) line.now) }
     ensures command { IfOk result (Spell (map (λ word. word.now) line.now)) }
-    ensures usage { IsErrOf result WordsFault.Usage → SpellNothing (map (λ word. word.now) line.now) }
+    ensures usage { IsErrOf result WordsFault.Usage
+        → SpellNothing (map (λ word. word.now) line.now) }
 {
     match parts_of(alloc, line) {
         Ok(parts) => command_of(alloc, parts),
@@ -212,8 +259,10 @@ fn is_plain(word: &str) -> bool
 /// Returns the command of these words. The second and the last of six may not be empty or begin with `-`.
 fn command_of(alloc: Global, parts: Parts<'_>) -> Result<Command, WordsFault>
     requires { NamePlain parts }
-    ensures some { IfOk result (λ command. (words : List (List ℕ)) → AreParts words parts.entry → Spell words command) }
-    ensures none { IsErrOf result WordsFault.Usage → (words : List (List ℕ)) → AreParts words parts.entry → SpellNothing words }
+    ensures some { IfOk result (λ command. (words : List (List ℕ))
+        → AreParts words parts.entry → Spell words command) }
+    ensures none { IsErrOf result WordsFault.Usage → (words : List (List ℕ))
+        → AreParts words parts.entry → SpellNothing words }
 {
     let Some(name) = parts.command else {
         return Err(WordsFault::Usage);
@@ -249,7 +298,7 @@ fn read_name(name: &str) -> Result<Command, WordsFault>
     }
 }
 
-/// The command of this name over the store of this word, or `audit` with it.
+/// Returns the command of this name over the store of this word, or `audit` with it.
 fn read_store(alloc: Global, name: &str, word: &str) -> Result<Command, WordsFault>
     requires { is_plain word.now ≡ true }
     ensures command { IfOk result (Spell (name.now ∷ word.now ∷ [])) }
@@ -294,7 +343,8 @@ fn store_of(alloc: Global, word: &str) -> Result<Store, OutOfMemory>
 /// Returns the command of this name with two numbers and this last word.
 fn read_season(name: &str, first: &str, second: &str, out: &str) -> Result<Command, WordsFault>
     ensures command { IfOk result (Spell (name.now ∷ first.now ∷ second.now ∷ out.now ∷ [])) }
-    ensures none { IsErrOf result WordsFault.Usage → SpellNothing (name.now ∷ first.now ∷ second.now ∷ out.now ∷ []) }
+    ensures none { IsErrOf result WordsFault.Usage
+        → SpellNothing (name.now ∷ first.now ∷ second.now ∷ out.now ∷ []) }
 {
     season_of(name, first, second, out).ok_or(WordsFault::Usage)
 }
@@ -314,16 +364,6 @@ fn season_of(name: &str, first: &str, second: &str, out: &str) -> Option<Command
     Some(Command::Generate { n, seed, out })
 }
 
-// How an office is served: how many connections a worker takes, how many workers there are, how the office begins,
-// and at which port.
-#[derive(Clone, Copy, Debug)]
-struct Service {
-    conns: u32,
-    workers: u8,
-    start: Start,
-    port: u16,
-}
-
 /// Returns the command of this name with these words, of which the last is not empty and does not begin with `-`.
 fn read_service(
     alloc: Global,
@@ -335,8 +375,10 @@ fn read_service(
     store: &str,
 ) -> Result<Command, WordsFault>
     requires { is_plain store.now ≡ true }
-    ensures command { IfOk result (Spell (name.now ∷ conns.now ∷ workers.now ∷ start.now ∷ port.now ∷ store.now ∷ [])) }
-    ensures none { IsErrOf result WordsFault.Usage → SpellNothing (name.now ∷ conns.now ∷ workers.now ∷ start.now ∷ port.now ∷ store.now ∷ []) }
+    ensures command { IfOk result
+        (Spell (name.now ∷ conns.now ∷ workers.now ∷ start.now ∷ port.now ∷ store.now ∷ [])) }
+    ensures none { IsErrOf result WordsFault.Usage → SpellNothing (name.now
+        ∷ conns.now ∷ workers.now ∷ start.now ∷ port.now ∷ store.now ∷ []) }
 {
     let Some(service) = service_of(name, conns, workers, start, port) else {
         return Err(WordsFault::Usage);
@@ -353,8 +395,10 @@ fn read_service(
 
 /// Returns how an office is served, by the words of `serve`. None if no store makes them a command.
 fn service_of(name: &str, conns: &str, workers: &str, start: &str, port: &str) -> Option<Service>
-    ensures some { IfSome result (λ service. (name.now ≡ codes "serve") × AreServiceWords service conns.now workers.now start.now port.now) }
-    ensures none { IfNone result ((store : List ℕ) → SpellNothing (name.now ∷ conns.now ∷ workers.now ∷ start.now ∷ port.now ∷ store ∷ [])) }
+    ensures some { IfSome result (λ service. (name.now ≡ codes "serve")
+        × AreServiceWords service conns.now workers.now start.now port.now) }
+    ensures none { IfNone result ((store : List ℕ)
+        → SpellNothing (name.now ∷ conns.now ∷ workers.now ∷ start.now ∷ port.now ∷ store ∷ [])) }
 {
     if name != "serve" {
         return None;

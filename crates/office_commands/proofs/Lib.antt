@@ -1,3 +1,4 @@
 mod Blaming
+mod Coming
 mod Ended
 mod GeneratedEnds

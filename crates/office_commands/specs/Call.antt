@@ -26,6 +26,9 @@ pub record Call : Type 1 where
   -- what became of the doors, and that no connection is still to come at them
   pub doors : Doors
   pub all_came : Type 0
+  -- how many connections were still to come at each door before, and after
+  pub coming : List ℕ
+  pub still_coming : List ℕ
   -- how often each object had failed, and has
   pub counts : Counts
   pub now_counts : Counts
@@ -43,6 +46,8 @@ call_of s k p d l source source' sink sink' keeper keeper' doors doors' = record
   same_keeper = keeper' ≡ keeper;
   doors = doors_of (telling d l) (p.seen keeper).holds_room (p.seen keeper).faults (p.seen keeper').faults doors doors';
   all_came = AllByRecursion (λ door. d.to_come door ≡ 0) doors';
+  coming = map d.to_come doors;
+  still_coming = map d.to_come doors';
   counts = record { source = s.faults source; sink = k.faults sink; keeper = (p.seen keeper).faults; doors = map d.faults doors };
   now_counts = record { source = s.faults source'; sink = k.faults sink'; keeper = (p.seen keeper').faults; doors = map d.faults doors' };
   door_failed = SomeRose d.faults doors doors';

@@ -1,5 +1,5 @@
 -- What the program keeps to under a command, in addition to what it writes and which objects it blames.
-use Rattle.std.specs.Prelude.{◌≡◌, ◌⊎◌, ℕ, List}
+use Rattle.std.specs.Prelude.{◌≡◌, ◌⊎◌, ◌+◌, ℕ, List, sum}
 use Rattle.keeper_mem.specs.Tables.{still, Tables}
 use Rattle.office_base.specs.Outside.{Appends, IsAtEnd, Rose}
 use Rattle.command_answers.specs.Answers.{Tells}
@@ -7,13 +7,14 @@ use Rattle.command_answers.specs.declared.status.Status.{Status}
 use Rattle.command_answers.specs.declared.status.Status.TheVariants.{Ok as Done, BadInput, OutOfMemory, Usage, Differs as DiffersStatus}
 use Rattle.command_words.specs.declared.words.Command.{Command}
 use Rattle.command_words.specs.declared.words.Command.TheVariants.{Resume, Special}
-use Rattle.command_words.specs.Words.{Spell, SpellNothing}
+use Rattle.command_words.specs.Words.{Spell, SpellNothing, service_of}
 use Rattle.command_words.specs.declared.words.Store.{Store}
 use Rattle.season_commands.specs.Resume.{IsFaultyScript, TellsNoOffice, TellsRowFault, TellsSound, TellsTextFault}
 use Rattle.season_commands.specs.Run.{TellsNoSeason, TellsSeason}
 use Rattle.special_command.specs.Special.{AreFaultyKeptLists, AreKeptLists}
 use Rattle.office_commands.specs.Blames.{Blames}
 use Rattle.office_commands.specs.Call.{Call}
+use Rattle.office_commands.specs.Named.{connections_named, doors_named}
 use Rattle.office_commands.specs.Program.{BeginsOffice, Ends, IsReady, IsWritten, ReadsSource, Resumes, Serves, SpellServing, Succeeds, TellsFault, TellsInput}
 
 -- the source is unchanged
@@ -34,6 +35,10 @@ WriteFailed call = Rose call.counts.sink call.now_counts.sink
 abbrev pub KeepFailed : Call → Type 0
 KeepFailed call = Rose call.counts.keeper call.now_counts.keeper
 
+-- that many connections were taken at the doors in all
+abbrev pub HaveCome : ℕ → Call → Type 0
+HaveCome n call = sum call.coming ≡ n + sum call.still_coming
+
 -- it ends with this status, or memory ran out
 abbrev pub EndsWith : Status → Status → Type 0
 EndsWith wanted status = (status ≡ wanted) ⊎ (status ≡ OutOfMemory)
@@ -42,12 +47,15 @@ EndsWith wanted status = (status ≡ wanted) ⊎ (status ≡ OutOfMemory)
 -- or if the records of the keeper come first and have a fault;
 -- the keeper if the command has no office;
 -- the doors if it serves none.
+-- If a service ends well, no connection is still to come. If the doors were those that the words name,
+-- as many connections were taken as the words name.
 pub record Spares (command : Command) (call : Call) (status : Status) : Type 0 where
   pub read_whole : ReadsSource command → Succeeds command status → IsAtEnd call.still_left
   pub spared : ¬ ReadsSource command → IsSpared call
   pub untouched : ¬ BeginsOffice command → ¬ Resumes command → call.same_keeper
   pub spared_doors : ¬ Serves command → call.doors.spared
   pub all_served : Serves command → status ≡ Done → call.all_came
+  pub all_named : Serves command → status ≡ Done → call.coming ≡ doors_named (service_of command) → HaveCome (connections_named (service_of command)) call
   pub records_first : Resumes command → (status ≡ DiffersStatus) ⊎ TellsNoOffice (held call) → IsSpared call
 
 -- If nothing failed, the status is the one that the bytes and the tables call for, or memory ran out.

@@ -1,4 +1,5 @@
 pub mod Blames
 pub mod Call
 pub mod Keeping
+pub mod Named
 pub mod Program

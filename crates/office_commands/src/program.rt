@@ -49,8 +49,9 @@ use units_command::units_season;
 /// answers the requests of that season, and then writes its summary.
 ///
 /// If the words name a store, the given keeper takes its place, whatever it is. In the same way, the given doors take
-/// the place of the workers and connections that the words name. There are at most 64 doors, each with at most 100,000
-/// connections still to come.
+/// the place of the workers and connections that the words name. If they are those, one for each worker with as many
+/// connections to come as the words say, a service that ends well took all these connections.
+/// There are at most 64 doors, each with at most 100,000 connections still to come.
 pub fn allocate<
     R: Threads + Wait + Sync,
     S: Source,
@@ -129,9 +130,9 @@ fn served<
 ) -> (Status, P)
     requires few { length doors.old ≤ 64 }
     requires suit { AllByRecursion (λ d. D.to_come d ≤ 100000) doors.old }
-    ensures { (conns workers port : ℕ) (store : AnyStore) → Runs (Serve conns workers start port store)
-        (call_of S.Source K.Sink P.Keeper D.Door D.Conn.Link
-        source.old source.new sink.old sink.new keeper result.1 doors.old doors.new) result.0 }
+    ensures { (conns workers port : ℕ) (store : AnyStore) → Runs (Serve conns workers start
+        port store) (call_of S.Source K.Sink P.Keeper D.Door D.Conn.Link source.old
+        source.new sink.old sink.new keeper result.1 doors.old doors.new) result.0 }
 {
     match start {
         Start::New => serve_season(rt, alloc, source, sink, keeper, doors),
@@ -156,9 +157,9 @@ fn generated<K: Sink, P: Keeper>(
     ensures no_read_fault { result.0 ≢ Status.ReadFault }
     ensures blamed { BlamesOffice result.0 (outside_of K.Sink P.Keeper sink.old keeper)
         (outside_of K.Sink P.Keeper sink.new result.1) }
-    ensures complete { IsReady (Generate n seed out) (still (P.seen keeper).tables (P.seen result.1).tables)
-        → ¬ Rose (K.faults sink.old) (K.faults sink.new) → ¬ Rose (P.seen keeper).faults (P.seen result.1).faults
-        → EndsWith Status.Ok result.0 }
+    ensures complete { IsReady (Generate n seed out) (still (P.seen keeper).tables
+        (P.seen result.1).tables) → ¬ Rose (K.faults sink.old) (K.faults sink.new)
+        → ¬ Rose (P.seen keeper).faults (P.seen result.1).faults → EndsWith Status.Ok result.0 }
     ensures not_empty { BeginsOffice (Generate n seed out) → TellsSeason (still (P.seen keeper).tables (P.seen result.1).tables)
         → ¬ Rose (K.faults sink.old) (K.faults sink.new) → ¬ Rose (P.seen keeper).faults (P.seen result.1).faults
         → EndsWith Status.BadInput result.0 }

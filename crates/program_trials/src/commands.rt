@@ -1,6 +1,7 @@
 // The commands on worked inputs and on a failing outside, over objects in memory.
 //
-// `over` is the one place where these modules run the program over objects in memory: a test hands it a row of a table, and compares what comes back.
+// These modules run the program over objects in memory by `over` alone.
+// A test passes it a row of a table, and compares what it returns.
 ghost use Rattle.std.specs.Prelude.{◌<◌, ◌≤◌, length};
 
 use command_answers::Status;
@@ -23,7 +24,7 @@ fn words_of(alloc: Global, text: &[&str]) -> Result<Words, Fail> {
     Ok(words)
 }
 
-// Runs the words with no door, as a command that serves nobody is run.
+// Runs the words with no door, as for a command that serves no office.
 fn without_doors<R: Threads + Wait + Sync, S: Source, K: Sink, P: Keeper + Send>(
     rt: &R,
     alloc: Global,
@@ -39,8 +40,9 @@ fn without_doors<R: Threads + Wait + Sync, S: Source, K: Sink, P: Keeper + Send>
 // More bytes than any command of these tests writes.
 const ROOM: usize = 1_000_000;
 
-// Runs the words on an input, in pieces of so many bytes, over a keeper: how that ends, what is written, and the keeper. The numbers are those of the
-// calls of the source and of the sink that fail, 0 for none.
+// Runs the words over a keeper, on an input in pieces of this number of bytes.
+// It returns the status, what is written, and the keeper.
+// The numbers are those of the calls of the source and of the sink that fail, 0 for none.
 pub(crate) fn over<R: Threads + Wait + Sync, P: Keeper + Drop + Send>(
     rt: &R,
     alloc: Global,
@@ -61,7 +63,7 @@ pub(crate) fn over<R: Threads + Wait + Sync, P: Keeper + Drop + Send>(
     Ok((status, output, keeper))
 }
 
-// Runs the words on an input, over a keeper, at one door: how that ends, and what is written.
+// Runs the words on an input, over a keeper, at one door. It returns the status and what is written.
 pub(crate) fn at_door<R: Threads + Wait + Sync, P: Keeper + Drop + Send>(
     rt: &R,
     alloc: Global,
@@ -134,7 +136,7 @@ fn nothing_of_the_outside_fails(rt: HostRuntime) -> Result<(), Fail> {
     Ok(())
 }
 
-// A reader of bytes in pieces of two, whose call of this number fails, once.
+// A reader of bytes in pieces of two, whose call of this number fails once.
 #[derive(Drop)]
 struct Pieces {
     bytes: &'static [u8],
@@ -155,7 +157,8 @@ impl io::Read for Pieces {
     }
 }
 
-// A writer that takes three bytes at a time, and whose call of this number fails, once: with an error, or by taking nothing.
+// A writer that takes three bytes at a time, and whose call of this number fails once.
+// It fails with an error, or by taking nothing.
 #[derive(Drop)]
 struct Slow {
     bytes: Vec<u8>,
@@ -183,7 +186,8 @@ impl io::Write for Slow {
     }
 }
 
-// The numbers of the calls of a reader and a writer that fail, 0 for none; the status; and how much is written of what.
+// The numbers of the calls of a reader and a writer that fail, 0 for none.
+// Then the status, and how much is written of what.
 type Failing = (u64, u64, u64, Status, &'static str, usize);
 
 const NO_SEATS: &str = "step seats 0 candidates 0 admitted 0\nhonoured 0\nend\n";
@@ -201,7 +205,7 @@ const FAILING: [Failing; 9] = [
     (5, 3, 0, Status::WriteFault, "fault: read\n", 6),
 ];
 
-// Whether `step` over such streams ends so, and writes so much.
+// Returns whether `step` over such streams ends with that status, and writes that much.
 fn fails_once<R: Threads + Wait + Sync>(
     rt: &R,
     alloc: Global,
@@ -245,7 +249,8 @@ fn the_real_streams_fail_once(rt: HostRuntime) -> Result<(), Fail> {
     Ok(())
 }
 
-// What is asked in the season of five candidates, and the reply to each request: candidate 1 leaves, and everybody moves up.
+// What is asked in the season of five candidates, and the reply to each request.
+// Candidate 1 leaves, and everybody moves up.
 pub(crate) const REQUESTS: &str =
     "cut,clerk,0\nanswer,1,1,1,1,withdraw\nanswer,2,2,1,1,float\nanswer,3,3,1,1,float\nanswer,4,4,1,1,float\ncut,clerk,1\n";
 
@@ -262,7 +267,8 @@ pub(crate) fn asked_season(alloc: Global) -> Result<String, Fail> {
     Ok(format!(in alloc; "{SEASON}{REQUESTS}")?)
 }
 
-// Whether the words run over these bytes and records in memory end with this status and output, and leave so many answers and cuts kept, or no season.
+// Returns whether the words, run over these bytes and records in memory, end with this status and output,
+// and leave these numbers of answers and cuts kept, or no season.
 // The numbers are those of the calls of the source, the sink and the keeper that fail, 0 for none.
 pub(crate) fn ends_so<R: Threads + Wait + Sync>(
     rt: &R,
@@ -286,7 +292,7 @@ pub(crate) fn ends_so<R: Threads + Wait + Sync>(
     Ok(ended == status && written.as_str() == output && held == kept)
 }
 
-// The replies to the first requests, and a line.
+// Returns the replies to the first requests, and a line.
 pub(crate) fn first_replies(alloc: Global, count: usize, line: &str) -> Result<String, Fail> {
     let mut text = String::new(alloc);
     for (at, reply) in REPLIES.iter().enumerate() {
@@ -298,20 +304,23 @@ pub(crate) fn first_replies(alloc: Global, count: usize, line: &str) -> Result<S
     Ok(text)
 }
 
-// What is kept after so many requests of the season of five candidates: answers and cuts.
+// The answers and cuts that are kept after each number of requests of the season of five candidates.
 const KEPT: [(usize, u16); 7] = [(0, 0), (0, 1), (1, 1), (2, 1), (3, 1), (4, 1), (4, 2)];
 
-// The calls of the source, the sink and the keeper that fail in that season; how that ends, how many replies are written and which line after them;
-// and what is kept then, as an item of KEPT, or no season.
+// The calls of the source, the sink and the keeper that fail in that season.
+// Then the status, how many replies are written, and which line after them.
+// Then what is kept, as an item of KEPT, or no season.
 type Failed = ([u32; 3], Status, usize, &'static str, Option<usize>);
 
 const FAILED: [Failed; 23] = [
-    // there is no fifteenth read, no seventh write, and no thirteenth call of the keeper but that of `ends_so`, which looks at what is kept
+    // there is no fifteenth read and no seventh write;
+    // the thirteenth call of the keeper is that of `ends_so`, which looks at what is kept
     ([0, 0, 0], Status::Ok, 6, "", Some(6)),
     ([15, 0, 0], Status::Ok, 6, "", Some(6)),
     ([0, 7, 0], Status::Ok, 6, "", Some(6)),
     ([0, 0, 14], Status::Ok, 6, "", Some(6)),
-    // three calls of the keeper begin the office, each cut and the withdrawal are one call, and the other answers take room first
+    // three calls of the keeper begin the office; each cut and the withdrawal are one call;
+    // the other answers take room first
     ([0, 0, 1], Status::KeeperFault, 0, "fault: keeper\n", None),
     ([0, 0, 2], Status::KeeperFault, 0, "fault: keeper\n", None),
     ([0, 0, 3], Status::KeeperFault, 0, "fault: keeper\n", None),
@@ -388,7 +397,7 @@ const FAILED: [Failed; 23] = [
     ([0, 3, 6], Status::WriteFault, 2, "", Some(2)),
 ];
 
-// Whether that season ends so where these calls fail.
+// Returns whether that season ends in this way if these calls fail.
 fn fails_so<R: Threads + Wait + Sync>(rt: &R, alloc: Global, failed: Failed) -> Result<bool, Fail> {
     let (fail_at, status, count, line, kept) = failed;
     let season = asked_season(alloc)?;

@@ -1,12 +1,14 @@
-// The command `generate` with `run`: what it writes and keeps of a season that a person followed, and a failing outside.
+// The command `generate` with `run`: what it writes and keeps of a season that a person followed by hand.
+// Some calls of the outside fail.
 use crate::commands::{ends_so, over};
 use command_answers::Status;
 use keeper_mem::SureKeeper;
 use std::alloc::Global;
 use std::test::Fail;
 
-// Two candidates have the seats of their first choices in all rounds. One answers float four times, then slide, then float, which is wider; the other
-// float twice, then slide, then float three times.
+// Two candidates have the seats of their first choices in all rounds.
+// One answers float four times, then slide, then float, which is wider.
+// The other answers float twice, then slide, then float three times.
 const TWO: &str =
     "generated 2 seed 1\nround 1 seated 2\nround 2 seated 2\nround 3 seated 2\nround 4 seated 2\nround 5 seated 2\n\
     round 6 seated 2\nnoted 8 refused 4\nfinal admitted 2\n";
@@ -18,10 +20,10 @@ fn the_outside_of_a_generated_run_fails(rt: HostRuntime) -> Result<(), Fail> {
     let fault = "fault: keeper\n";
     let cases = [
         ([0, 0, 0], Status::Ok, TWO, Some((8, 7))),
-        // where the keeper fails nothing but that is written
+        // if the keeper fails, nothing but that is written
         ([0, 0, 1], Status::KeeperFault, fault, None),
         ([0, 0, 10], Status::KeeperFault, fault, Some((2, 2))),
-        // where the sink fails all requests are answered and kept
+        // if the sink fails, all requests are answered and kept
         ([0, 1, 0], Status::WriteFault, "", Some((8, 7))),
     ];
     for (fail_at, status, output, kept) in cases {

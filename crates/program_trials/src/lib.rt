@@ -1,7 +1,8 @@
 // The program over objects in memory and over streams that fail: what no input of its own can show.
 //
-// It has tests alone, so nothing stands on it. Worked inputs, damaged stores and a plain slow office stand outside, in cases/ and checks/: the built program
-// is held against them.
+// It has tests alone, so no crate depends on it.
+// Worked inputs and damaged stores are in cases/, and a plain slow office is in checks/.
+// The built program is compared with these.
 #![tactic(auto)]
 
 #[cfg(test)]

@@ -1,5 +1,5 @@
-// The command `resume` over the records in memory that remain after each failing call, and an office over given records. Damaged records are in
-// cases/stores.txt.
+// The command `resume` over the records in memory that remain after each failing call.
+// An office over given records. Damaged records are in cases/stores.txt.
 use crate::commands::{REQUESTS, asked_season, first_replies, over};
 use command_answers::Status;
 use keeper_mem::{Keeper, Kept, MemKeeper};
@@ -9,7 +9,8 @@ use std::sync::Wait;
 use std::test::Fail;
 use std::thread::Threads;
 
-// The keeper of the season of everybody moving up, where these calls of the sink and of the keeper fail, 0 for none.
+// Returns the keeper of the season in which everybody moves up.
+// The numbers are those of the calls of the sink and of the keeper that fail, 0 for none.
 fn run_over<R: Threads + Wait + Sync>(
     rt: &R,
     alloc: Global,
@@ -23,7 +24,7 @@ fn run_over<R: Threads + Wait + Sync>(
     Ok(keeper)
 }
 
-// What such a keeper holds.
+// Returns what such a keeper holds.
 fn held_by(alloc: Global, mut keeper: MemKeeper) -> Result<Kept, Fail> {
     match keeper.load(alloc) {
         Ok(Some(kept)) => Ok(kept),
@@ -39,8 +40,9 @@ fn are_same(one: &Kept, other: &Kept) -> bool {
         && one.cuts == other.cuts
 }
 
-// What is kept where the office goes on from what stands after these failing calls, and is asked everything again: each request has its reply of the
-// undisturbed run, which is its receipt where it was answered before.
+// Returns what is kept if the office resumes from what remains after these failing calls,
+// and is asked everything again.
+// Each request has its reply of the undisturbed run. If it was answered before, that reply is its receipt.
 fn kept_again<R: Threads + Wait + Sync>(
     rt: &R,
     alloc: Global,
@@ -57,7 +59,7 @@ fn kept_again<R: Threads + Wait + Sync>(
     held_by(alloc, keeper)
 }
 
-// Whether that leaves the tables of the undisturbed run.
+// Returns whether that leaves the tables of the undisturbed run.
 fn is_undisturbed<R: Threads + Wait + Sync>(
     rt: &R,
     alloc: Global,
@@ -81,7 +83,8 @@ fn an_office_goes_on_after_each_failing_call(rt: HostRuntime) -> Result<(), Fail
     Ok(())
 }
 
-// Returns whether an office goes on from these records: its window is theirs, it has an entry for each row and each cut, and the records stay.
+// Returns whether an office resumes from these records.
+// Its window is theirs, it has an entry for each row and each cut, and the records stay.
 fn goes_on_from(alloc: Global, kept: Kept, same: &Kept) -> Result<bool, Fail> {
     let keeper = MemKeeper::from_tables(alloc, kept, &[])?;
     match Office::resume(alloc, keeper) {
@@ -96,7 +99,7 @@ fn goes_on_from(alloc: Global, kept: Kept, same: &Kept) -> Result<bool, Fail> {
     }
 }
 
-// Returns whether no office goes on from a keeper without a season, and that is the fault.
+// Returns whether no office resumes from a keeper without a season, and that is the fault.
 fn none_goes_on(alloc: Global) -> Result<bool, Fail> {
     match Office::resume(alloc, MemKeeper::new(alloc, &[])?) {
         Ok(office) => {

@@ -1,4 +1,5 @@
-// The command `serve` at a door in memory that fails. What connections ask stands in serve_trials, and over sockets outside.
+// The command `serve` at a door in memory that fails.
+// What connections ask is tested in serve_trials, and over sockets in checks/.
 use crate::commands::{SEASON, at_door};
 use command_answers::Status;
 use keeper_mem::SureKeeper;

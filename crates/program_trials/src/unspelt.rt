@@ -1,4 +1,4 @@
-// Requests that no row of a script spells: a turn 0, seats that are none or too many, and raises of the seats left unfilled.
+// Requests that no row of a script spells: a turn 0, no seats or too many, and raises of the seats left unfilled.
 ghost use Rattle.std.specs.Prelude.{IfOk, IfSome};
 ghost use Rattle.season_file.specs.Season.{IsSeason};
 
@@ -40,7 +40,7 @@ fn raise(prog: Code, by: By, window: u16, step: StepKind, seats: u16) -> Request
     Request { by, ask }
 }
 
-/// The requests, in window 1, and the reply to each.
+/// Returns the requests, in window 1, and the reply to each.
 fn requests(prog: Code) -> [(Request, &'static str); 9] {
     let (open, rest) = (StepKind::Open, StepKind::Dereserved);
     [
@@ -68,7 +68,7 @@ fn requests(prog: Code) -> [(Request, &'static str); 9] {
     ]
 }
 
-/// The season of five candidates, with the first cut for its only request; None where it has a fault.
+/// Returns the season of five candidates with the first cut as its only request, or None if it has a fault.
 fn read(alloc: Global) -> Result<Option<(Season, Script)>, OutOfMemory>
     ensures { IfOk result (λ found. IfSome found (λ read. IsSeason read.0.text read.0)) }
 {
@@ -80,7 +80,7 @@ fn read(alloc: Global) -> Result<Option<(Season, Script)>, OutOfMemory>
     }
 }
 
-/// Whether the office gives this reply to a request after the first cut, and accepts nothing.
+/// Returns whether the office gives this reply to a request after the first cut, and accepts nothing.
 fn is_refused(alloc: Global, request: Request, reply: &str) -> Result<bool, OutOfMemory> {
     let Some((season, script)) = read(alloc)? else {
         return Ok(false);
@@ -101,7 +101,7 @@ fn is_refused(alloc: Global, request: Request, reply: &str) -> Result<bool, OutO
     )
 }
 
-/// Whether all of these requests are refused so.
+/// Returns whether all of these requests are refused in this way.
 fn are_refused(alloc: Global, requests: &[(Request, &str)]) -> Result<bool, OutOfMemory> {
     for (request, reply) in requests {
         if !is_refused(alloc, *request, reply)? {

@@ -6,7 +6,7 @@ use Rattle.clap.specs.Simple.{is_simple, matches_of}
 use Rattle.clap.specs.Walk.{Text}
 use Rattle.clap.specs.Words.{App, app_of, found_of, rows_of}
 use Rattle.command_words.specs.Parts.{program}
-use Rattle.command_words.specs.declared.words.WordsFault.TheVariants.{Usage}
+use Rattle.command_words.specs.declared.words.WordsFault.TheVariants.{OutOfMemory, Usage}
 use Rattle.command_words.proofs.Divided.{as_rows, divides, is_free_program, is_simple_program}
 use Rattle.command_words.proofs.parts.divided.Goals as goal
 
@@ -25,7 +25,7 @@ returns-in-Err-clause-usage c usage =
     let has = c.in-Err.ensures.kinds (ap is_simple_and_free parser_is ∙ is_free_program) in
     let told : c.fault_of.result ≡ Usage = cc usage in
     let many = (divides words c.requires).1 (λ none. elim has [
-      | inl memory ↦ c.fault_of.ensures.usage told memory
+      | inl memory ↦ let wrong : Usage ≡ OutOfMemory = sym told ∙ c.fault_of.ensures.1 memory in cc wrong
       | inr among ↦ subst (λ (kinds : Kinds). IsAmong c.in-Err.error.kind kinds) (ap (λ (a : App). fault_of a words) parser_is ∙ none) among
     ]) in
     let same : length words ≡ length c.args.line.now = length-map c.args.line.now (λ word. word.now) in

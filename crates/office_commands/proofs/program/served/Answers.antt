@@ -2,6 +2,7 @@ use Rattle.std.proofs.Common.{◌≡◌, ◌≢◌, ◌⊎◌, inl, inr, refl}
 use Rattle.command_answers.specs.declared.status.Status.{Status}
 use Rattle.command_answers.specs.declared.status.Status.TheVariants.{BadInput, ReadFault, Differs}
 use Rattle.office_commands.proofs.Blaming.{serve_blames}
+use Rattle.office_commands.proofs.Coming.{all_come}
 use Rattle.office_commands.proofs.program.served.Goals as goal
 
 -- where nothing differs, and where nothing is read
@@ -26,6 +27,7 @@ returns-in-New g c =
         untouched = λ begins resumes. absurd (begins tt);
         spared_doors = λ none. absurd (none tt);
         all_served = λ serves well. e.doors.all_served well;
+        all_named = λ serves well. all_come g.D.Door.to_come conns workers _ _ (e.doors.all_served well);
         records_first = λ resumes. absurd resumes;
       };
       answers = record {
@@ -54,6 +56,7 @@ returns-in-Kept g c =
         untouched = λ begins resumes. absurd (resumes tt);
         spared_doors = λ none. absurd (none tt);
         all_served = λ serves well. e.doors.all_served well;
+        all_named = λ serves well. all_come g.D.Door.to_come conns workers _ _ (e.doors.all_served well);
         records_first = λ resumes early. (refl, refl);
       };
       answers = record {
