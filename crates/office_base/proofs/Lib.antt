@@ -1,4 +1,5 @@
 pub mod Lists
+pub mod Options
 pub mod People
 pub mod StepNumbers
 pub mod Streams

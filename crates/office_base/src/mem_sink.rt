@@ -32,7 +32,8 @@ impl Model for MemSink {
 impl MemSink {
     /// Makes a sink with room for this many bytes. The calls with the numbers in `fail_at`, from 1, fail.
     pub fn new(alloc: Global, room: usize, fail_at: &[u32]) -> Result<MemSink, OutOfMemory>
-        ensures { IfOk result (λ sink. sink ≡ record { written = []; room = room; calls = 0; fail_at = fail_at.now; faults = 0 }) }
+        ensures { IfOk result (λ sink. sink
+            ≡ record { written = []; room = room; calls = 0; fail_at = fail_at.now; faults = 0 }) }
     {
         Ok(MemSink {
             bytes: Vec::with_capacity(alloc, room)?,
@@ -59,7 +60,8 @@ impl Sink for MemSink {
     fn write(&mut self, piece: &[u8]) -> Result<usize, Failed>
         ensures within { IfOk result (λ n. n ≤ length piece.now) }
         ensures some { IfOk result (λ n. 0 < length piece.now → 0 < n) }
-        ensures appended { IfOk result (λ n. AppendsPrefix n piece.now (Some self.old.written) (Some self.new.written)) }
+        ensures appended { IfOk result (λ n.
+            AppendsPrefix n piece.now (Some self.old.written) (Some self.new.written)) }
         ensures kept { OnErr result (Some self.new.written ≡ Some self.old.written) }
         ensures count { self.old.faults ≤ self.new.faults }
         ensures steady { OnOk result (self.new.faults ≡ self.old.faults) }

@@ -39,7 +39,13 @@ impl MemSource {
         fail_at: &[u32],
     ) -> Result<MemSource, OutOfMemory>
         requires { 0 < piece }
-        ensures { IfOk result (λ source. source ≡ record { left = bytes.now; piece = piece; calls = 0; fail_at = fail_at.now; faults = 0 }) }
+        ensures { IfOk result (λ source. source ≡ record {
+          left = bytes.now;
+          piece = piece;
+          calls = 0;
+          fail_at = fail_at.now;
+          faults = 0;
+        }) }
     {
         Ok(MemSource {
             bytes: Vec::from_slice(alloc, bytes)?,
@@ -59,7 +65,8 @@ impl Source for MemSource {
 
     fn read(&mut self, buf: &mut [u8]) -> Result<usize, Failed>
         ensures within { IfOk result (λ n. n ≤ length buf.old) }
-        ensures taken { IfOk result (λ n. TakesPrefix n (Some self.old.left) (Some self.new.left) buf.new) }
+        ensures taken { IfOk result (λ n.
+            TakesPrefix n (Some self.old.left) (Some self.new.left) buf.new) }
         ensures ended { IfOk result (λ n. ComesAtTheEnd n (length buf.old) (Some self.old.left)) }
         ensures kept { OnErr result (Some self.new.left ≡ Some self.old.left) }
         ensures count { self.old.faults ≤ self.new.faults }

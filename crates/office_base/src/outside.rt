@@ -39,7 +39,8 @@ pub trait Sink {
     fn write(&mut self, piece: &[u8]) -> Result<usize, Failed>
         ensures within { IfOk result (λ n. n ≤ length piece.now) }
         ensures some { IfOk result (λ n. 0 < length piece.now → 0 < n) }
-        ensures appended { IfOk result (λ n. AppendsPrefix n piece.now (written self.old) (written self.new)) }
+        ensures appended { IfOk result (λ n.
+            AppendsPrefix n piece.now (written self.old) (written self.new)) }
         ensures kept { OnErr result (written self.new ≡ written self.old) }
         ensures count { faults self.old ≤ faults self.new }
         ensures steady { OnOk result (faults self.new ≡ faults self.old) }

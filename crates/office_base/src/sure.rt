@@ -46,7 +46,8 @@ impl Source for SureSource {
 
     fn read(&mut self, buf: &mut [u8]) -> Result<usize, Failed>
         ensures within { IfOk result (λ n. n ≤ length buf.old) }
-        ensures taken { IfOk result (λ n. TakesPrefix n (Some self.old.0) (Some self.new.0) buf.new) }
+        ensures taken { IfOk result (λ n.
+            TakesPrefix n (Some self.old.0) (Some self.new.0) buf.new) }
         ensures ended { IfOk result (λ n. ComesAtTheEnd n (length buf.old) (Some self.old.0)) }
         ensures kept { OnErr result (Some self.new.0 ≡ Some self.old.0) }
         ensures count { 0 ≤ 0 }

@@ -66,8 +66,10 @@ fn read_through<S: Source>(
     ensures taken { IfOk result (λ all. Took all (S.left source.old) (S.left source.new)) }
     ensures ended { IfOk result (λ all. IsAtEnd (S.left source.new)) }
     ensures short { IfOk result (λ all. length all ≤ limit) }
-    ensures too_long { IsErrOf result ReadFault.TooLong → TookMore limit (S.left source.old) (S.left source.new) }
-    ensures blamed { Fails (IsErrOf result ReadFault.Failed) (S.faults source.old) (S.faults source.new) }
+    ensures too_long { IsErrOf result ReadFault.TooLong
+        → TookMore limit (S.left source.old) (S.left source.new) }
+    ensures blamed { Fails (IsErrOf result ReadFault.Failed)
+        (S.faults source.old) (S.faults source.new) }
 {
     loop {
         let count = source.read(buffer)?;
@@ -87,8 +89,10 @@ pub fn read_whole<S: Source>(alloc: Global, source: &mut S, limit: usize) -> Res
     ensures taken { IfOk result (λ bytes. Took bytes (S.left source.old) (S.left source.new)) }
     ensures ended { IfOk result (λ bytes. IsAtEnd (S.left source.new)) }
     ensures short { IfOk result (λ bytes. length bytes ≤ limit) }
-    ensures too_long { IsErrOf result ReadFault.TooLong → TookMore limit (S.left source.old) (S.left source.new) }
-    ensures blamed { Fails (IsErrOf result ReadFault.Failed) (S.faults source.old) (S.faults source.new) }
+    ensures too_long { IsErrOf result ReadFault.TooLong
+        → TookMore limit (S.left source.old) (S.left source.new) }
+    ensures blamed { Fails (IsErrOf result ReadFault.Failed)
+        (S.faults source.old) (S.faults source.new) }
 {
     let mut buffer = zeros(alloc, BUFFER_LEN)?;
     read_through(Text::new(alloc), source, &mut buffer, limit)
@@ -98,7 +102,8 @@ pub fn read_whole<S: Source>(alloc: Global, source: &mut S, limit: usize) -> Res
 /// if it returns `Ok`, the sink did not fail.
 pub fn write_whole<K: Sink>(sink: &mut K, piece: &[u8]) -> Result<(), Failed>
     ensures ok { OnOk result (Appends piece.now (K.written sink.old) (K.written sink.new)) }
-    ensures err { OnErr result ((n : ℕ) × Appends (take n piece.now) (K.written sink.old) (K.written sink.new)) }
+    ensures err { OnErr result ((n : ℕ)
+        × Appends (take n piece.now) (K.written sink.old) (K.written sink.new)) }
     ensures cause { OnErr result (Rose (K.faults sink.old) (K.faults sink.new)) }
     ensures count { K.faults sink.old ≤ K.faults sink.new }
     ensures steady { OnOk result (K.faults sink.new ≡ K.faults sink.old) }

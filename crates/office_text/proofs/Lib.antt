@@ -1,4 +1,4 @@
 pub mod FirstFaultLemmas
 pub mod LinesLemmas
-mod NumberLemmas
-mod TraitsLemmas
+pub mod NumberLemmas
+pub mod TraitsLemmas

@@ -37,7 +37,7 @@ cut_at-whole separator [] before = refl
 cut_at-whole separator (b ∷ bytes) before =
     cond-false (eqb b separator) _ _ (ne_eqb b separator (before zero (omega arith))) ∙ ap (onto_first b) (cut_at-whole separator bytes (λ k below. before (suc k) (omega arith)))
 
--- What stands before other pieces is no last piece.
+-- What comes before other pieces is no last piece.
 kept_before : (piece : List ℕ) (pieces : List (List ℕ)) → IsFilled pieces → without_empty_last (piece ∷ map drop_cr pieces) ≡ piece ∷ without_empty_last (map drop_cr pieces)
 kept_before [] pieces filled = rw filled.2 refl
 kept_before (byte ∷ piece) pieces filled = rw filled.2 refl

@@ -18,11 +18,8 @@ abbrev weighted : ℕ → ℕ → List (ℕ × ℕ)
 weighted zero k = []
 weighted (suc m) k = (letter k, 2 ^ k) ∷ weighted m (suc k)
 
-weighted-all : weighted 6 0 ≡ weighted_letters
-weighted-all = refl
-
--- the letter of a trait tells the trait
-trait_of-letter : (t : ℕ) → t < 6 → trait_of (letter t) ≡ Some t
+-- the letter of a trait is read as the trait
+pub trait_of-letter : (t : ℕ) → t < 6 → trait_of (letter t) ≡ Some t
 trait_of-letter zero small = refl
 trait_of-letter (suc zero) small = refl
 trait_of-letter (suc (suc zero)) small = refl

@@ -1,11 +1,11 @@
 -- Which fault of some rows is the first.
 use Rattle.std.specs.Prelude.{◌≡◌, ◌<◌, ◌≤◌, ◌⊎◌, ℕ, List, Option, Some, None, length, take, slice_get}
 
--- What is wrong with a row, given the rows before it. None in place of the row stands for the end of the rows.
+-- What is wrong with a row, given the rows before it. None in place of the row means the end of the rows.
 abbrev pub Judge : Type 0 → Type 0 → Type 0
 Judge Row Kind = List Row → Option Row → Option Kind
 
--- what is wrong with the row of this number, counted from 0; the number of rows stands for their end
+-- what is wrong with the row of this number, counted from 0; the number of rows means their end
 abbrev pub fault_at : {Row Kind : Type 0} → Judge Row Kind → List Row → ℕ → Option Kind
 fault_at judge rows n = judge (take n rows) (slice_get rows n)
 

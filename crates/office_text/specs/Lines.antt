@@ -38,8 +38,8 @@ without_empty_last ([] ∷ []) = []
 without_empty_last ((byte ∷ piece) ∷ []) = (byte ∷ piece) ∷ []
 without_empty_last (piece ∷ next ∷ pieces) = piece ∷ without_empty_last (next ∷ pieces)
 
--- The lines of bytes that no mark begins: they end with LF or CR LF. What stands after the last LF is a line too, where
--- it is not empty; a CR at its end is no part of it.
+-- The lines of bytes that no mark begins. They end with LF or CR LF. What follows the last LF is a line too, unless
+-- it is empty. A CR at the end of a line is no part of it.
 abbrev pub lines_of : List ℕ → List (List ℕ)
 lines_of bytes = without_empty_last (map drop_cr (cut_at 10 bytes))
 

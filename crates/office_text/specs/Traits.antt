@@ -20,7 +20,7 @@ trait_of byte = position (λ other. other == byte) letters
 abbrev pub weighted_letters : List (ℕ × ℕ)
 weighted_letters = (87, 1) ∷ (68, 2) ∷ (88, 4) ∷ (83, 8) ∷ (70, 16) ∷ (76, 32) ∷ []
 
--- the set of the letters of a text, which are among those allowed and stand in their order
+-- the set of the letters of a text, which are among those allowed and in their order
 abbrev pub read_from : List (ℕ × ℕ) → List ℕ → Option ℕ
 read_from [] [] = Some 0
 read_from [] (byte ∷ text) = None

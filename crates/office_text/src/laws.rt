@@ -1,4 +1,4 @@
-// What holds of the spellings themselves, whoever reads and writes them.
+// Laws of the spellings themselves, for any reader and writer.
 ghost use Rattle.std.specs.Prelude.{ℕ, List};
 ghost use Rattle.office_text.specs.FirstFault.{Judge, HaveOneAnswer};
 ghost use Rattle.office_text.specs.Number.{AreInverse};

@@ -1,9 +1,10 @@
-// How the texts of the office are spelled: numbers, sets of traits, steps, choices, lines of fields, and which fault is the first.
+// How the texts of the office are spelled: numbers, sets of traits, steps, choices, lines of fields, and which fault
+// is the first.
 //
-// Every reader and writer of a sheet or a request stands on it. Reading takes no memory and gives back parts of the
-// bytes that it was given. `specs/` says each spelling as a function of the bytes, by cases on them, so that a
-// reader's contract can name the one value of a text. It knows of no sheet, no command and no file, and it must
-// never decide what a fault is: a judge of rows, given from above, does.
+// Every reader and writer of a sheet or a request depends on it. Reading allocates nothing and returns parts of the
+// bytes that it was given. `specs/` defines each spelling as a function of the bytes, by cases on them, so that a
+// reader's contract can name the one value of a text. It knows of no sheet, no command and no file. It must never
+// decide what a fault is: a judge of rows, given from above, decides that.
 #![tactic(auto)]
 
 pub mod laws;

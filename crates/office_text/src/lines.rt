@@ -1,4 +1,4 @@
-// Lines and fields, as parts of the bytes that they stand in.
+// Lines and fields, as parts of the bytes that they are in.
 ghost use Rattle.std.specs.Prelude.{◌≡◌, ◌<◌, ◌≤◌, ◌∷◌, [], length, IfSome, IfNone};
 ghost use Rattle.office_text.specs.Lines.{lines_of, fields_of, drop_cr, skip_mark, trimmed, without_empty_last};
 
@@ -31,7 +31,8 @@ pub fn next_text_line(bytes: &[u8]) -> Option<(&[u8], &[u8])>
 /// The last line, without a CR at its end, and no bytes. None where it is empty.
 fn last_line(bytes: &[u8]) -> Option<(&[u8], &[u8])>
     ensures none { IfNone result (without_empty_last (drop_cr bytes.now ∷ []) ≡ []) }
-    ensures some { IfSome result (λ cut. without_empty_last (drop_cr bytes.now ∷ []) ≡ cut.0.now ∷ lines_of cut.1.now) }
+    ensures some { IfSome result (λ cut.
+        without_empty_last (drop_cr bytes.now ∷ []) ≡ cut.0.now ∷ lines_of cut.1.now) }
     ensures shorter { IfSome result (λ cut. length cut.1.now < length bytes.now) }
 {
     let line = drop_cr(bytes);
@@ -65,10 +66,11 @@ pub fn trim_commas(line: &[u8]) -> &[u8]
     kept
 }
 
-/// The first field of a line, and what stands after its comma, where there is one.
+/// Returns the first field of a line, and what follows its comma if there is one.
 pub fn next_field(line: &[u8]) -> (&[u8], Option<&[u8]>)
     ensures last { IfNone result.1 (fields_of line.now ≡ result.0.now ∷ []) }
-    ensures more { IfSome result.1 (λ rest. fields_of line.now ≡ result.0.now ∷ fields_of rest.now) }
+    ensures more { IfSome result.1 (λ rest.
+        fields_of line.now ≡ result.0.now ∷ fields_of rest.now) }
     ensures shorter { IfSome result.1 (λ rest. length rest.now < length line.now) }
 {
     match memchr(b',', line) {

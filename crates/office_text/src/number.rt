@@ -52,7 +52,8 @@ fn are_digits(text: &[u8]) -> bool
 /// The value of digits, where it fits 32 bits.
 fn value_of(digits: &[u8]) -> Option<u32>
     requires { IsTrue (are_digits digits.now) }
-    ensures { result ≡ (if nat_lt (value_of digits.now) (2 ^ 32) then Some (value_of digits.now) else None) }
+    ensures { result
+        ≡ (if nat_lt (value_of digits.now) (2 ^ 32) then Some (value_of digits.now) else None) }
 {
     let mut value = 0u64;
     for digit in digits {

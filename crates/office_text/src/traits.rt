@@ -51,7 +51,7 @@ pub fn read_traits(text: &[u8]) -> Option<TraitSet>
     read_from(&LETTERS, text).map(TraitSet)
 }
 
-/// The bits of the letters of a text, which are among those allowed and stand in their order.
+/// Returns the bits of the letters of a text, which are among those allowed and in their order.
 fn read_from(allowed: &[(u8, u8)], text: &[u8]) -> Option<u8>
     requires { sum_by (λ pair. pair.1) allowed.now < 2 ^ 8 }
     ensures value { result ≡ read_from allowed.now text.now }

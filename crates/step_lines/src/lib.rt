@@ -1,8 +1,9 @@
-// How the list of one step is written: the name of the step, its numbers, and a line for each person admitted with the letter of
-// the protected position, or a dash.
+// How the list of one step is written: the name of the step, its numbers, and a line for each admitted person with
+// the letter of the protected position that they fill, or a dash.
 //
-// The sheet's output, the published lists and whoever shows a certificate stand on it, so that a list is spelled the same
-// everywhere. It decides nothing: it is told the people and the pairs. It must never know of sheets, of programmes or of rounds.
+// The sheet's output, the published lists and everything that shows a certificate depend on it, so a list is spelled
+// the same everywhere. It decides nothing: the caller gives it the people and the pairs. It must never know of
+// sheets, programmes or rounds.
 #![tactic(auto)]
 
 pub mod lines;

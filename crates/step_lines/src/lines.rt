@@ -18,9 +18,9 @@ pub fn push_count(out: &mut Text, count: usize) -> Result<(), OutOfMemory>
     out.extend_from_slice(buffer.format(count).as_bytes())
 }
 
-/// Puts the lines of one step after its name: its seats, the number of people who stood for them, how many were admitted and how
-/// many protections they fill, and then a line for each person admitted. Where there is no memory, some beginning of these
-/// lines may stand at the end.
+/// Appends the lines of one step after its name: its seats, the number of people who competed for them, how many were
+/// admitted and how many protections they fill, and then a line for each person admitted. If memory runs out, some
+/// beginning of these lines may be at the end.
 pub fn push_step_lines(
     out: &mut Text,
     seats: u32,
@@ -29,7 +29,8 @@ pub fn push_step_lines(
     pairs: &[Pair],
 ) -> Result<(), OutOfMemory>
     requires { AllByRecursion (λ pair. pair.slot < 6) pairs.now }
-    ensures { OnOk result (out.new ≡ out.old ++ step_lines seats candidates admitted.now pairs.now) }
+    ensures { OnOk result
+        (out.new ≡ out.old ++ step_lines seats candidates admitted.now pairs.now) }
 {
     push_counts(out, seats, candidates, admitted.len(), pairs.len())?;
     for person in admitted {
@@ -68,7 +69,7 @@ fn push_admitted(out: &mut Text, person: &Person, pairs: &[Pair]) -> Result<(), 
     out.extend_from_slice(&[b' ', slot_letter(pairs, person.id), b'\n'])
 }
 
-/// The letter of the slot of a candidate, or a dash where the candidate stands in no pair.
+/// Returns the letter of the slot of a candidate, or a dash if the candidate is in no pair.
 fn slot_letter(pairs: &[Pair], cand: CandId) -> u8
     requires { AllByRecursion (λ pair. pair.slot < 6) pairs.now }
     ensures { result ≡ slot_letter (slot_of pairs.now cand) }
