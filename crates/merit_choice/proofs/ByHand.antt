@@ -1,4 +1,5 @@
--- Going down the people by hand: whoever raises the number that those marked before honour raises the number of all before.
+-- Going down the people by hand: a person who raises the number that those marked before honour raises the number of
+-- all before.
 use Rattle.std.proofs.Common.{Bool, true, false, List, [], ◌∷◌, length, refl, inl, arith}
 use Rattle.office_base.specs.Placement.{IsHonoured}
 use Rattle.office_base.specs.declared.person.Person.{Person}

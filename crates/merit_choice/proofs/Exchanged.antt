@@ -41,7 +41,7 @@ module _ (list : ListId) (protections : Protections) (held needed : List Person)
   worst_held : IsAmong worst held
   worst_held = among_more worst needed held r.needs.among r.member
 
-  -- of those held, whoever has the worst one's number is the worst one
+  -- of those held, a person with the worst one's number is the worst one
   is_worst : (other : Person) → IsAmong other held → other.id ≡ worst.id → other ≡ worst
   is_worst other in_held same = one_person held r.held_distinct other worst in_held worst_held same
 

@@ -13,7 +13,7 @@ use Rattle.office_base.specs.declared.person.Person.{Person}
 use Rattle.office_base.specs.declared.step.Pair.{Pair}
 use Rattle.office_base.specs.declared.step.Protections.{Protections}
 use Rattle.office_base.specs.declared.step.Step.{Step}
-use Rattle.placements.proofs.Exchange.{all_weaker, all_joined}
+use Rattle.office_base.proofs.Lists.{all_weaker, all_joined}
 use Rattle.placements.proofs.Greatest.{honoured-one}
 use Rattle.placements.specs.Ranks.{AreAmong}
 use Rattle.placements.proofs.Ranks.{among_sublist, among_front, monotone}
@@ -170,7 +170,7 @@ best_with-is_choice step marks ok raises =
           best_with-no_worse step marks other ok raises may (subst (λ (k : ℕ). IsHonoured step.protections other k) e theirs);
     }
 
--- the same, told by other names
+-- the same, by other names
 pub admitted-is_choice : (step : Step) (people admitted : List Person) (marks set : List Bool) (free : ℕ) → IsStep step → AreRaises step.protections [] step.people marks
     → people ≡ step.people → set ≡ marks → free ≡ step.seats - marked marks → admitted ≡ kept people (filled_up set free) → IsStepChoice step admitted
 admitted-is_choice step people admitted marks set free ok raises all same left told =

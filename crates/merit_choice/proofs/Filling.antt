@@ -4,7 +4,7 @@ use Rattle.std.proofs.Math.Seq.{drop-cons}
 use Rattle.office_base.specs.declared.person.Person.{Person}
 use Rattle.merit_choice.specs.Marks.{kept, filled_up}
 
--- those kept from a place on, told by the person and the mark there
+-- those kept from a place on, by the person and the mark there
 kept_at : (people : List Person) (marks : List Bool) (at free : ℕ) (other : Person) (mark : Bool) → at < length people → at < length marks → get_or marks at false ≡ mark
     → kept (drop at people) (filled_up (drop at marks) free) ≡ kept (get_or people at other ∷ drop (at + 1) people) (filled_up (mark ∷ drop (at + 1) marks) free)
 kept_at people marks at free other mark inside within same =
@@ -44,7 +44,7 @@ full_at (person ∷ people) marks at free admitted whole inside within same none
     subst (λ (n : ℕ). admitted ++ kept (drop (at + 1) all) (filled_up (drop (at + 1) marks) n) ≡ whole) (sym none)
     (ap (λ (rest : List Person). admitted ++ rest) (sym (kept_at all marks at zero person false inside within same)) ∙ now)
 
--- the same, told by other names
+-- the same, by other names
 pub renamed : (people : List Person) (marks : List Bool) (free n : ℕ) (admitted those whole : List Person) → those ≡ admitted → n ≡ free
     → admitted ++ kept people (filled_up marks free) ≡ whole → those ++ kept people (filled_up marks n) ≡ whole
 renamed people marks free n admitted those whole same left so_far = ap₂ (λ (list : List Person) (k : ℕ). list ++ kept people (filled_up marks k)) same left ∙ so_far

@@ -10,7 +10,7 @@ use Rattle.office_base.specs.declared.person.Person.{Person}
 use Rattle.merit_choice.specs.InMerit.{is_better, with_person}
 use Rattle.merit_choice.proofs.Places.{IsBefore, place_here, with_before}
 
--- the person stands before whoever is worse
+-- the person comes before anyone who is worse
 pub before_worse : (list : ListId) (person other : Person) (people : List Person) (at : ℕ) → at < length people → is_better list person (get_or people at other) ≡ true → IsBefore list person people at
 before_worse list person other people at inside worse =
     let rest : drop at people ≡ get_or people at other ∷ drop (suc at) people = drop-cons people at other inside in

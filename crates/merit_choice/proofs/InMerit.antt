@@ -8,9 +8,9 @@ use Rattle.office_base.specs.Person.{IsAhead, IsBetter, IsTraitSet, number_in}
 use Rattle.office_base.specs.StepChoice.{AreRanked}
 use Rattle.office_base.specs.declared.person.ListId.{ListId}
 use Rattle.office_base.specs.declared.person.Person.{Person}
+use Rattle.office_base.proofs.Lists.{all_weaker}
 use Rattle.placements.proofs.Sublists.{IsSublist-nil, IsSublist-same, length-sublist}
 use Rattle.placements.specs.Ranks.{AreAmong, AreDistinct}
-use Rattle.placements.proofs.Exchange.{all_weaker}
 use Rattle.placements.proofs.Ranks.{any_all, all_both, among_longer, among_itself, among_again, are_among, all_among}
 use Rattle.placements.proofs.Merit.{ahead_again, not_ahead, ahead_true}
 use Rattle.merit_choice.specs.InMerit.{is_ahead, is_better, with_person, in_merit, CanBeRanked, IsNewTo, InMeritRanks, OneMeritOrder, SameMeritOrder, PartCanBeRanked, PartInMerit, RankedInMerit, RankedPart, WithPersonRanks}
@@ -175,12 +175,6 @@ pub in_merit_ranks : InMeritRanks
 in_merit_ranks list people can = (ranked_in_order list people can, among_in_merit list people, in_merit_among list people, length-in_merit list people)
 
 -- ---- one order
-
--- nobody is among people who are all worse
-not_among_worse : (list : ListId) (person : Person) (people : List Person) → AllByRecursion (IsBetter list person) people → AnyByRecursion (λ other. person ≡ other) people → ⊥
-not_among_worse list person people worse there =
-    let found = any_all (λ other. person ≡ other) (IsBetter list person) people there worse in
-    not_ahead (number_in list person) (subst (λ one. IsBetter list person one) (sym found.1) found.2)
 
 -- people who are all worse than the first of others are among the rest of these
 among_rest : (list : ListId) (person : Person) (some all : List Person) → AllByRecursion (IsBetter list person) some → AreAmong some (person ∷ all) → AreAmong some all

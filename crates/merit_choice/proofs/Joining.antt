@@ -1,4 +1,4 @@
--- What the matching tells of a person who comes, and what it makes of the needed and of the marks.
+-- What the matching shows of a person who comes, and what it makes of the needed and of the marks.
 use Rattle.std.proofs.Common.{◌≡◌, ◌≢◌, ◌<◌, ◌⊎◌, ℕ, Bool, true, false, Some, List, [], ◌∷◌, ◌++◌, length, get_or, set, sym, ◌∙◌, subst, inl, inr}
 use Rattle.std.specs.Prelude.{IsSome}
 use Rattle.std.specs.List.{AllByRecursion}
@@ -36,7 +36,7 @@ may_join list held marks kept person new matched =
           (all_among (λ other. number_in list person ≢ number_in list other) kept.members held matched.needs.among new.numbers);
     }
 
--- whether the person stands first or last
+-- whether the person comes first or last
 needed_end : (list : ListId) (protections : Protections) (held needed : List Person) (person : Person) → AreDistinct held → AreNeeded list protections held (person ∷ needed)
     → AreNeeded list protections held (needed ++ person ∷ [])
 needed_end list protections held needed person distinct n =

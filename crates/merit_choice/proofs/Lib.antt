@@ -5,7 +5,7 @@ mod Filling
 mod Halves
 pub mod InMerit
 mod Joining
-mod Marking
+pub mod Marking
 mod Marks
 pub mod Members
 pub mod Needed

@@ -1,4 +1,4 @@
--- Down the people a matching tells who raises the number honoured.
+-- Down the people a matching shows who raises the number honoured.
 use Rattle.std.proofs.Common.{◌≡◌, ◌≢◌, ◌<◌, ◌+◌, ℕ, suc, Bool, true, false, Option, Some, None, List, [], ◌∷◌, ◌++◌, length, get_or, take, drop, add-one, refl, sym, ap, ◌∙◌, subst, inl, arith}
 use Rattle.std.proofs.lemmas.List.{length-append, take-append-drop}
 use Rattle.std.proofs.Math.Seq.{take-suc, drop-cons}
@@ -12,19 +12,14 @@ use Rattle.office_base.specs.declared.person.ListId.{ListId}
 use Rattle.office_base.specs.declared.person.Person.{Person}
 use Rattle.office_base.specs.declared.step.Protections.{Protections}
 use Rattle.office_base.specs.declared.step.Step.{Step}
+use Rattle.office_base.proofs.Lists.{all_weaker, all_middle}
 use Rattle.placements.specs.Ranks.{AreAmong, AreDistinct, CanBePlaced}
-use Rattle.placements.proofs.Exchange.{all_weaker}
 use Rattle.placements.proofs.Ranks.{among_longer, among_itself, among_again, among_joined, among_front, among_back, placed_again, taken, refused, all_among}
 use Rattle.slot_matching.specs.Kept.{Kept, MayJoin}
 use Rattle.merit_choice.specs.Marks.{marked, IsRaise, AreRaises, IsJoined}
 use Rattle.merit_choice.proofs.Raises.{onto, AreNew, apart_part, new-from_nobody, raise_from, no_raise_from, honoured_nobody}
 
 -- ---- one of the people, between those before and those behind
-
--- what holds of each of the people holds of the one in the middle
-all_middle : {X : Type 0} (P : X → Type 0) (front : List X) (x : X) (back : List X) → AllByRecursion P (front ++ x ∷ back) → P x
-all_middle P [] x back all = all.0
-all_middle P (y ∷ front) x back all = all_middle P front x back all.1
 
 -- one more of the people, in front of those before
 pub onto-snoc : (front before : List Person) (person : Person) → onto (front ++ person ∷ []) before ≡ person ∷ onto front before
@@ -44,7 +39,7 @@ better_middle list (one ∷ front) before back person ranked better =
     better_middle list front (one ∷ before) back person ranked.1 (all_middle (IsBetter list one) front person back ranked.0, better)
 
 -- a better number is another
-ahead_apart : (first second : Option ℕ) → IsAhead first second → second ≢ first
+pub ahead_apart : (first second : Option ℕ) → IsAhead first second → second ≢ first
 ahead_apart None second ahead same = ahead
 ahead_apart (Some m) None ahead same = ahead
 ahead_apart (Some m) (Some n) ahead same = absurd (let e : n ≡ m = cc in omega arith)

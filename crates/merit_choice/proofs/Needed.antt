@@ -13,8 +13,9 @@ use Rattle.office_base.specs.declared.person.Person.{Person}
 use Rattle.office_base.specs.declared.step.Pair.{Pair}
 use Rattle.office_base.specs.declared.step.Protections.{Protections}
 use Rattle.office_base.specs.declared.step.Step.{Step}
+use Rattle.office_base.proofs.Lists.{all_weaker}
 use Rattle.placements.specs.Ranks.{AreAmong, AreDistinct, CanBePlaced, without}
-use Rattle.placements.proofs.Exchange.{Stands, all_weaker}
+use Rattle.placements.proofs.Exchange.{Stands}
 use Rattle.placements.proofs.Greatest.{honoured-exists}
 use Rattle.placements.proofs.Ranks.{any_all, all_both, any_among, among_longer, among_itself, among_again, among_sublist, one_person, finds_person, everybody_stands, chosen_pairs, narrowed, no_more_than_people, no_more_than_pairs, monotone, exchange, extension, are_among}
 use Rattle.placements.proofs.Without.{is_numbered, without_first, without_later, without_among, without_apart, among_without, length_without, distinct_without}
@@ -75,12 +76,12 @@ abbrev pairs_for : List Person → List Pair
 pairs_for [] = []
 pairs_for (person ∷ people) = record { cand = person.id; slot = 0 } ∷ pairs_for people
 
--- each of them stands there
+-- each of them is in a pair
 stands_for : (person : Person) (people : List Person) → IsAmong person people → Stands person.id (pairs_for people)
 stands_for person [] there = absurd there
 stands_for person (one ∷ people) there = elim there [ inl here ↦ inl (ap (λ (p : Person). p.id) here) | inr later ↦ inr (stands_for person people later) ]
 
--- and whoever stands there is one of them
+-- and a candidate who is in a pair is one of them
 stands_of : (cand : CandId) (people : List Person) → Stands cand (pairs_for people) → AnyByRecursion (λ one. cand ≡ one.id) people
 stands_of cand [] there = absurd there
 stands_of cand (one ∷ people) there = elim there [ inl here ↦ inl here | inr later ↦ inr (stands_of cand people later) ]
@@ -131,7 +132,7 @@ needed_left list protections held rest needed within among n = record {
   best = λ one other mine there out. n.best one other mine (among_more other rest held within there) out;
 }
 
--- the same persons told in another order
+-- the same persons in another order
 pub needed_again : (list : ListId) (protections : Protections) (held others needed again : List Person) → AreDistinct held → AreAmong others held → AreAmong again others
     → AreAmong needed again → AreAmong again needed → AreDistinct again
     → AreNeeded list protections held needed → AreNeeded list protections others again

@@ -26,7 +26,7 @@ use Rattle.merit_choice.proofs.Needed.{among_more, other_number, nobody_of, apar
 use Rattle.merit_choice.proofs.OneByOne.{has_number, seats_for_all}
 use Rattle.merit_choice.proofs.Places.{among_at, zip_insert, zip_remove, zip_length, free_at, all_needed, last_is_worst, free_inside, remove-without}
 
--- A person has come to those held, and the matching and the marks tell of all of them.
+-- A person has come to those held, and the matching and the marks are those of all of them.
 pub record HasCome (state : StepKept) (person : Person) (kept : Kept) (people : List Person) (marks : List Bool) : Type 0 where
   pub is_kept : IsStepKept state
   pub new : IsNewTo state.list state.held person
@@ -200,7 +200,7 @@ all_before R [] at x past each = tt
 all_before R (y ∷ xs) zero x past each = absurd (omega arith)
 all_before R (y ∷ xs) (suc at) x past each = (at_middle (R y) (take at xs) (drop at xs) x each.0, all_before R xs at x (omega arith) each.1)
 
--- Whoever comes after all whom the seats hold, and cannot be placed with the needed, is not chosen.
+-- A person who comes after all whom the seats hold, and cannot be placed with the needed, is not chosen.
 pub refused_choice : (state old : StepKept) (person : Person) (kept : Kept) (marks : List Bool) (at : ℕ) → IsStepKept state → state ≡ old → IsNewTo old.list old.held person
     → IsMatched state.list state.held marks kept → kept.protections ≡ state.protections → at ≤ length state.held → at ≡ state.seats
     → insert state.held at person ≡ with_person state.list person state.held → ¬ CanBePlaced kept.protections (kept.members ++ person ∷ [])
@@ -232,9 +232,9 @@ refused_choice state old person kept marks at ok same told matched protections i
     let stays = subst (IsStepChoice (step_with state person)) (without_with state person held new.distinct) choice in
     subst (λ (s : StepKept). IsStepChoice (step_with s person) s.held) same stays
 
--- ---- told by the fields
+-- ---- by the fields
 
--- what a step keeps, told by its fields
+-- what a step keeps, by its fields
 abbrev pub state_of : ListId → ℕ → Protections → List Person → StepKept
 state_of list seats protections held = record { list = list; seats = seats; protections = protections; held = held }
 

@@ -1,10 +1,11 @@
--- Nobody is passed over for one who is worse and holds no other trait: else the better one in the place of the other would make a better set that honours as many.
-use Rattle.std.proofs.Common.{◌≡◌, ◌≢◌, ◌⊎◌, inl, inr, ℕ, zero, suc, ◌≤◌, ◌<◌, List, [], ◌∷◌, Option, length, map, arith, refl, sym, ap, ◌∙◌, subst, ◌==◌, if◌then◌else◌}
+-- Nobody is passed over for one who is worse and holds no other trait: otherwise the better one in the place of the worse
+-- one would make a better set that honours as many.
+use Rattle.std.proofs.Common.{◌≡◌, ◌≢◌, ◌⊎◌, inl, inr, ℕ, zero, suc, ◌≤◌, ◌<◌, List, [], ◌∷◌, length, map, arith, refl, sym, ap, ◌∙◌, subst, ◌==◌, if◌then◌else◌}
 use Rattle.std.specs.Prelude.{IsTrue}
 use Rattle.std.proofs.lemmas.Bool.{both_ways, cases_Bool, cond-false, cond-true, eq-eqb, eqb-true}
 use Rattle.std.specs.List.{AllByRecursion}
 use Rattle.office_base.specs.Lists.{AnyByRecursion, IsAmong, IsSublist, Pairwise}
-use Rattle.office_base.specs.Person.{IsAhead, IsBetter, has_trait, number_in}
+use Rattle.office_base.specs.Person.{IsBetter, has_trait, number_in}
 use Rattle.office_base.specs.Placement.{Fills, IsHonoured, IsPlacement, placed_on}
 use Rattle.office_base.specs.StepChoice.{AreRanked, IsNoWorse, IsStep, IsStepChoice, MayAdmit}
 use Rattle.office_base.specs.declared.person.CandId.{CandId}
@@ -16,7 +17,7 @@ use Rattle.placements.specs.Ranks.{AreAmong, without}
 use Rattle.placements.proofs.Convert as convert
 use Rattle.placements.proofs.Exchange.{Apart, Leaves, length_leaves}
 use Rattle.placements.proofs.Greatest.{honoured-exists}
-use Rattle.placements.proofs.Merit.{ahead_again, not_ahead}
+use Rattle.placements.proofs.Merit.{not_ahead, not_both_ahead}
 use Rattle.placements.proofs.Ranks.{among_itself, among_sublist, any_all, any_at, are_among, monotone, one_person, pairwise_sublist, ranked_sublist, widen}
 use Rattle.placements.proofs.Sublists.{sublist_again}
 use Rattle.placements.proofs.Without.{among_without, leaves_member, without_apart, without_sublist}
@@ -67,9 +68,6 @@ taken_there x (z ∷ whole) rest leaves = elim leaves [ inl first ↦ inl first.
 ahead_of_all : (list : ListId) (x y : Person) (people : List Person) → AllByRecursion (IsBetter list x) people → IsAmong y people → IsBetter list x y
 ahead_of_all list x y people all there = let found = any_all (λ other. y ≡ other) (IsBetter list x) people there all in subst (IsBetter list x) (sym found.1) found.2
 
-not_both : (first second : Option ℕ) → IsAhead first second → IsAhead second first → ⊥
-not_both first second there back = not_ahead first (ahead_again first second first there back)
-
 is_worse : (list : ListId) (better worse : Person) (whole left right : List Person) → AreRanked list whole → Leaves better whole left → Leaves worse whole right → IsBetter list better worse
     → IsNoWorse list left right → ⊥
 is_worse list better worse [] left right ranked out out' ahead no_worse = absurd out
@@ -85,7 +83,7 @@ is_worse list better worse (z ∷ whole) left right ranked out out' ahead no_wor
         let there = taken_there better whole later.0 later.2 in
         let before = ahead_of_all list z better whole ranked.in_order.0 there in
         let after = subst (IsBetter list better) first.0 ahead in
-        not_both (number_in list z) (number_in list better) before after
+        not_both_ahead (number_in list z) (number_in list better) before after
     | inr also ↦
         let rest : IsNoWorse list (z ∷ later.0) (z ∷ also.0) = subst (λ l. IsNoWorse list l (z ∷ also.0)) later.1 (subst (λ l. IsNoWorse list left l) also.1 no_worse) in
         is_worse list better worse whole later.0 also.0 (record { traits = ranked.traits.1; placed = ranked.placed.1; in_order = ranked.in_order.1; distinct = ranked.distinct.1 }) later.2 also.2 ahead rest.1
@@ -96,25 +94,8 @@ is_worse list better worse (z ∷ whole) left right ranked out out' ahead no_wor
     no_first z [] others all no_worse = no_worse
     no_first z (y ∷ whole) others all no_worse = elim no_worse.0 [
       | inl same ↦ not_ahead (number_in list z) (subst (IsBetter list z) same all.0)
-      | inr back ↦ not_both (number_in list z) (number_in list y) all.0 back
+      | inr back ↦ not_both_ahead (number_in list z) (number_in list y) all.0 back
     ]
-
--- who is one of all is the one taken out, or one of those left
-left_or_out : (x y : Person) (whole rest : List Person) → Leaves x whole rest → IsAmong y whole → (y ≡ x) ⊎ IsAmong y rest
-left_or_out x y [] rest leaves here = absurd leaves
-left_or_out x y (z ∷ whole) rest leaves here = elim leaves [
-  | inl first ↦ elim here [
-    | inl is ↦ inl (is ∙ sym first.0)
-    | inr more ↦ inr (subst (λ l. IsAmong y l) (sym first.1) more)
-  ]
-  | inr later ↦ elim here [
-    | inl is ↦ inr (subst (λ l. IsAmong y l) (sym later.1) (inl is))
-    | inr more ↦ elim (left_or_out x y whole later.0 later.2 more) [
-      | inl out ↦ inl out
-      | inr left ↦ inr (subst (λ l. IsAmong y l) (sym later.1) (inr left))
-    ]
-  ]
-]
 
 -- ---- the better one in the place of the other
 
@@ -210,20 +191,6 @@ module _ (step : Step) (chosen : List Person) (better worse : Person) (ok : IsSt
     | inr same ↦ absurd (is_worse step.list better worse all chosen other ranked with_better.leaves out ahead
         (choice.best other n may_other (subst (λ k. IsHonoured step.protections other k) same his) mine))
   ]
-
-  -- those without the other one, with the better one, are the same persons in merit order
-  other_among : AreAmong other (better ∷ without worse.id chosen)
-  other_among = are_among other (better ∷ without worse.id chosen) (λ person here.
-      let wide = widen person other all (among_sublist other all (without_sublist worse.id all)) here in
-      elim (left_or_out better person all chosen with_better.leaves wide) [
-        | inl is ↦ inl is
-        | inr left ↦ inr (among_without worse.id person chosen left (λ e. not_left person here e))
-      ])
-    where
-      not_left : (person : Person) → IsAmong person other → person.id ≡ worse.id → ⊥
-      not_left person here e =
-          let found = any_all (λ one. person ≡ one) (λ (one : Person). worse.id ≢ one.id) other here (without_apart worse.id all ranked.distinct) in
-          found.2 (sym e ∙ ap (λ (p : Person). p.id) found.1)
 
   among_other : AreAmong (better ∷ without worse.id chosen) other
   among_other = (

@@ -4,7 +4,6 @@ use Rattle.std.specs.Prelude.{IsSome}
 use Rattle.std.specs.List.{AllByRecursion, AllZip, insert, remove}
 use Rattle.std.proofs.lemmas.Bool.{cases_Bool}
 use Rattle.std.proofs.lemmas.List.{get_or_past}
-use Rattle.std.proofs.Math.Seq.{take-suc, drop-cons}
 use Rattle.office_base.specs.Lists.{Pairwise}
 use Rattle.office_base.specs.Person.{IsAhead, IsBetter, number_in}
 use Rattle.office_base.specs.declared.person.CandId.{CandId}
@@ -29,7 +28,7 @@ not_ahead_back first second ahead = elim (cases_Bool (is_ahead first second)) [
   | inr told ↦ told
 ]
 
--- before one who is worse the person stands where the person does among those before that one
+-- before one who is worse the person has the same place as among those before that one
 pub with_before : (list : ListId) (person worse : Person) (front rest : List Person) → is_better list person worse ≡ true
     → with_person list person (front ++ worse ∷ rest) ≡ with_person list person front ++ worse ∷ rest
 with_before list person worse [] rest told =
@@ -41,7 +40,7 @@ with_before list person worse (one ∷ front) rest told =
       | false ↦ ap (λ (people : List Person). one ∷ people) (with_before list person worse front rest told)
     ]
 
--- after people none of whom is worse the person stands last
+-- after people none of whom is worse the person comes last
 with_last : (list : ListId) (person : Person) (front : List Person) → AllByRecursion (λ one. is_better list person one ≡ false) front → with_person list person front ≡ front ++ person ∷ []
 with_last list person [] all = refl
 with_last list person (one ∷ front) all =
@@ -63,11 +62,11 @@ none_worse list person other (one ∷ people) (suc at) order inside better =
     at_all (first ∷ others) zero all inside = all.0
     at_all (first ∷ others) (suc k) all inside = at_all others k all.1 (omega arith)
 
--- how far the search has come: the person stands among those before this place as among all
+-- how far the search has come: the person's place among those before this place is the place among all
 abbrev pub IsBefore : ListId → Person → List Person → ℕ → Type 0
 IsBefore list person people at = with_person list person (take at people) ++ drop at people ≡ with_person list person people
 
--- behind one who is better the person stands here
+-- behind one who is better the person's place is here
 pub place_here : (list : ListId) (person other : Person) (people : List Person) (at last : ℕ) → Pairwise (IsBetter list) people → at ≡ suc last → at ≤ length people
     → IsBetter list (get_or people last other) person → IsBefore list person people at → insert people at person ≡ with_person list person people
 place_here list person other people at last order next inside better so_far =
@@ -75,19 +74,6 @@ place_here list person other people at last order next inside better so_far =
     subst (λ (k : ℕ). AllByRecursion (λ one. is_better list person one ≡ false) (take k people)) (sym next) (none_worse list person other people last order (omega arith) better) in
     sym (append_assoc (take at people) (person ∷ []) (drop at people))
     ∙ ap (λ (front : List Person). front ++ drop at people) (sym (with_last list person (take at people) none))
-    ∙ so_far
-
--- where the one before is worse the search goes on
-pub place_before : (list : ListId) (person other : Person) (people : List Person) (at last : ℕ) → at ≡ suc last → at ≤ length people
-    → is_better list person (get_or people last other) ≡ true → IsBefore list person people at → IsBefore list person people last
-place_before list person other people at last next inside worse so_far =
-    let one = get_or people last other in
-    let first : take at people ≡ take last people ++ one ∷ [] = ap (λ (k : ℕ). take k people) next ∙ take-suc people last other (omega arith) in
-    let rest : drop last people ≡ one ∷ drop at people = drop-cons people last other (omega arith) ∙ ap (λ (k : ℕ). one ∷ drop k people) (sym next) in
-    ap (λ (back : List Person). with_person list person (take last people) ++ back) rest
-    ∙ sym (append_assoc (with_person list person (take last people)) (one ∷ []) (drop at people))
-    ∙ ap (λ (front : List Person). front ++ drop at people) (sym (with_before list person one (take last people) [] worse))
-    ∙ ap (λ (front : List Person). with_person list person front ++ drop at people) (sym first)
     ∙ so_far
 
 -- who is at a place is one of the people
@@ -151,7 +137,7 @@ all_needed needed (one ∷ people) [] all set = absurd all
 all_needed needed (one ∷ people) (true ∷ marks) all set = (all.0, all_needed needed people marks all.1 (λ k. set (suc k)))
 all_needed needed (one ∷ people) (false ∷ marks) all set = absurd (let e : false ≡ true = set 0 in cc)
 
--- whoever is not needed is the last one whose mark is not set, or is better
+-- a person who is not needed is the last one whose mark is not set, or is better
 pub last_is_worst : (list : ListId) (needed people : List Person) (marks : List Bool) (at : ℕ) (other : Person) → Pairwise (IsBetter list) people → AllZip (Tells needed) people marks
     → at < length people → IsLastFree marks at → (one : Person) → IsAmong one people → (IsAmong one needed → ⊥) → (one ≡ get_or people at other) ⊎ IsBetter list one (get_or people at other)
 last_is_worst list needed [] marks at other order all inside last one there out = absurd there
@@ -186,7 +172,7 @@ remove-without (one ∷ people) (suc at) other distinct inside =
     let apart : one.id ≢ (get_or people at other).id = λ same. found.2 (same ∙ ap (λ (p : Person). p.id) found.1) in
     ap (λ (rest : List Person). one ∷ rest) (remove-without people at other distinct.1 (omega arith)) ∙ sym (without_later (get_or people at other).id one people apart)
 
--- the marks tell of other needed ones too, where these are the same of the people
+-- the marks show other needed ones too, if these are the same of the people
 pub told_again : (needed again people : List Person) (marks : List Bool) → ((one : Person) → IsAmong one people → IsAmong one needed → IsAmong one again)
     → ((one : Person) → IsAmong one people → IsAmong one again → IsAmong one needed) → AllZip (Tells needed) people marks → AllZip (Tells again) people marks
 told_again needed again [] [] there back all = tt

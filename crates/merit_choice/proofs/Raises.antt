@@ -6,8 +6,8 @@ use Rattle.office_base.specs.Lists.{AnyByRecursion}
 use Rattle.office_base.specs.Placement.{IsHonoured}
 use Rattle.office_base.specs.declared.person.Person.{Person}
 use Rattle.office_base.specs.declared.step.Protections.{Protections}
+use Rattle.office_base.proofs.Lists.{all_weaker}
 use Rattle.placements.specs.Ranks.{AreAmong, AreDistinct}
-use Rattle.placements.proofs.Exchange.{all_weaker}
 use Rattle.placements.proofs.Greatest.{honoured-exists, honoured-one}
 use Rattle.placements.proofs.Ranks.{all_both, any_all, any_among, among_longer, among_again, among_itself, among_front, among_back, among_joined, one_step, monotone, outside, same_people, diminishing, no_more_than_people, are_among}
 use Rattle.merit_choice.specs.Laws.{IsAmong}
@@ -211,7 +211,7 @@ one_over whole person rest before among = among_again whole (person ∷ (rest ++
   passed_over (rest ++ before) person rest before (among_itself (rest ++ before)),
 )
 
--- Of a set that honours as much as all people, at every place as many stand from there on as there are marks set.
+-- In a set that honours as much as all people, at every place as many follow from there on as there are marks set.
 pub later_from_honoured : (protections : Protections) (whole before people : List Person) (marks others : List Bool) (n all : ℕ) → AreRaises protections before people marks
     → length others ≡ length people → AreAmong whole (kept people others ++ before) → IsHonoured protections whole all → all ≡ n + marked marks → IsHonoured protections before n
     → length (kept people others) ≡ marked others → AreNoFewerLater marks others

@@ -30,7 +30,7 @@ use Rattle.merit_choice.proofs.Needed.{among_more}
 
 -- ---- places
 
--- at which place somebody stands
+-- the place at which somebody is
 at_place : (one : Person) (people : List Person) → IsAmong one people → (k : ℕ) × (k < length people) × ((other : Person) → get_or people k other ≡ one)
 at_place one [] there = absurd there
 at_place one (first ∷ people) there = elim there [
@@ -44,7 +44,7 @@ all_at P [] k other all inside = absurd (omega arith)
 all_at P (one ∷ people) zero other all inside = all.0
 all_at P (one ∷ people) (suc k) other all inside = all_at P people k other all.1 (omega arith)
 
--- what holds of each one, told with who it is, holds of each
+-- what holds of each one as one of the people holds of each
 each_of : (P : Person → Type 0) (people : List Person) → ((one : Person) → IsAmong one people → P one) → AllByRecursion P people
 each_of P [] each = tt
 each_of P (first ∷ people) each = (each first (inl refl), each_of P people (λ one there. each one (inr there)))
@@ -56,7 +56,7 @@ of_inserted P [] (suc at) person all = all.0
 of_inserted P (one ∷ people) zero person all = all.0
 of_inserted P (one ∷ people) (suc at) person all = of_inserted P people at person all.1
 
--- who stands before another is better
+-- a person before another is better
 ordered_at : (list : ListId) (people : List Person) (j k : ℕ) (other : Person) → Pairwise (IsBetter list) people → j < k → k < length people
     → IsBetter list (get_or people j other) (get_or people k other)
 ordered_at list [] j k other order less inside = absurd (omega arith)
@@ -80,7 +80,7 @@ after_place list person other (one ∷ people) zero k order since inside = all_a
 after_place list person other (one ∷ people) (suc at) zero order since inside = absurd (omega arith)
 after_place list person other (one ∷ people) (suc at) (suc k) order since inside = after_place list person other people at k order.1 (omega arith) (omega arith)
 
--- a mark that is set tells that the person there is needed
+-- a mark that is set shows that the person there is needed
 needed_at : (needed people : List Person) (marks : List Bool) (k : ℕ) (other : Person) → AllZip (Tells needed) people marks → k < length people → get_or marks k false ≡ true
     → IsAmong (get_or people k other) needed
 needed_at needed [] marks k other all inside set = absurd (omega arith)
@@ -89,7 +89,7 @@ needed_at needed (one ∷ people) (true ∷ marks) zero other all inside set = a
 needed_at needed (one ∷ people) (false ∷ marks) zero other all inside set = absurd (let e : false ≡ true = set in cc)
 needed_at needed (one ∷ people) (mark ∷ marks) (suc k) other all inside set = needed_at needed people marks k other all.1 (omega arith) set
 
--- whoever is needed has it
+-- a person who is needed has a mark
 marked_at : (needed people : List Person) (marks : List Bool) (k : ℕ) (other : Person) → AllZip (Tells needed) people marks → k < length people
     → IsAmong (get_or people k other) needed → get_or marks k false ≡ true
 marked_at needed [] marks k other all inside his = absurd (omega arith)
@@ -125,19 +125,19 @@ pub record ComesAt (list : ListId) (held : List Person) (marks : List Bool) (kep
   pub place : insert held at person ≡ with_person list person held
   pub replaceable : IsReplaceable kept person (Some set)
 
--- all stand in order then
+-- then all are in order
 pub in_order : (list : ListId) (held : List Person) (marks : List Bool) (kept : Kept) (person : Person) (at : ℕ) (set : TraitSet) → ComesAt list held marks kept person at set
     → Pairwise (IsBetter list) (insert held at person)
 in_order list held marks kept person at set comes = subst (Pairwise (IsBetter list)) (sym comes.place) (ranked_with list person held comes.ranked comes.new).in_order
 
--- whoever can be replaced is within the set
+-- a person who can be replaced is within the set
 within_set : (list : ListId) (held : List Person) (marks : List Bool) (kept : Kept) (person : Person) (at : ℕ) (set : TraitSet) → ComesAt list held marks kept person at set
     → (one : Person) → IsAmong one kept.members → CanReplace kept person one ↔ (is_within one.traits set ≡ true)
 within_set list held marks kept person at set comes one his =
     let found = any_all (λ (each : Person). one ≡ each) (λ (each : Person). CanReplace kept person each ↔ (is_within each.traits set ≡ true)) kept.members his comes.replaceable.1 in
     subst (λ (each : Person). CanReplace kept person each ↔ (is_within each.traits set ≡ true)) (sym found.1) found.2
 
--- and stands at a place with a mark
+-- and is at a place with a mark
 stands_within : (list : ListId) (held : List Person) (marks : List Bool) (kept : Kept) (person : Person) (at : ℕ) (set : TraitSet) → ComesAt list held marks kept person at set
     → (one : Person) → IsAmong one kept.members → CanReplace kept person one → (k : ℕ) × IsOneWithin set held marks k × ((other : Person) → get_or held k other ≡ one)
 stands_within list held marks kept person at set comes one his can =

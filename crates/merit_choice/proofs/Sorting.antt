@@ -1,4 +1,4 @@
--- People sorted by their places stand in merit order.
+-- People sorted by their places are in merit order.
 use Rattle.std.proofs.Common.{◌≡◌, ◌≢◌, ◌≤◌, ◌<◌, ◌+◌, ℕ, zero, suc, Bool, true, false, List, [], ◌∷◌, length, get_or, eqb, refl, sym, ap, subst, inl, inr, arith, Option, Some, None}
 use Rattle.std.proofs.lemmas.Bool.{eq-eqb, ne_eqb, cases_eq, both_ways}
 use Rattle.std.proofs.lemmas.List.Sorted.{sum_by-IsPermutation, All-permutation, IsPermutation-sym}
@@ -138,7 +138,7 @@ pub record IsMeritOrder (list : ListId) (people ranked : List Person) : Type 0 w
   pub same : IsPermutation people ranked
   pub in_order : AreRanked list ranked
 
--- people who can be ranked, sorted by their places, stand in merit order
+-- people who can be ranked, sorted by their places, are in merit order
 pub sorted_people : (list : ListId) (people others : List Person) → CanBeRanked list people → IsPermutation people others → IsNonDecreasingBy (merit_in list) others → IsMeritOrder list people others
 sorted_people list people others may same up =
     let placed = all_permuted (λ person. IsSome (number_in list person)) people others same may.placed in

@@ -1,7 +1,7 @@
 -- The laws of the choice of a step.
-use Rattle.std.proofs.Common.{◌≡◌, ◌≢◌, ◌≤◌, ◌-◌, ℕ, Option, Some, None, Bool, List, [], ◌∷◌, length, refl, sym, ap, ◌∙◌, subst, inl, inr, arith}
+use Rattle.std.proofs.Common.{◌≡◌, ◌≢◌, ◌≤◌, ◌-◌, ℕ, Bool, List, [], ◌∷◌, length, refl, sym, ap, ◌∙◌, subst, inl, inr, arith}
 use Rattle.office_base.specs.Lists.{IsSublist, Pairwise}
-use Rattle.office_base.specs.Person.{IsAhead, number_in}
+use Rattle.office_base.specs.Person.{number_in}
 use Rattle.office_base.specs.Placement.{IsHonoured}
 use Rattle.office_base.specs.StepChoice.{AreRanked, IsStep, MayAdmit, IsNoWorse, IsStepChoice}
 use Rattle.office_base.specs.declared.person.ListId.{ListId}
@@ -11,6 +11,7 @@ use Rattle.office_base.specs.declared.step.Protections.{Protections}
 use Rattle.placements.proofs.Sublists.{length-sublist, sublist_again}
 use Rattle.placements.proofs.Greatest.{honoured-exists, honoured-one}
 use Rattle.placements.proofs.Ranks.{pairwise_sublist, any_among, monotone, among_sublist}
+use Rattle.placements.proofs.Merit.{not_both_ahead}
 use Rattle.merit_choice.specs.Laws.{IsAmong, HasMorePeople, OneChoice, ChoiceExists, ChoiceSize, RefusedStaysRefused, NoFewer, LeavingOutRefused, MoreSeats, HonoursAsAll}
 use Rattle.merit_choice.specs.Marks.{marked, kept, filled_up, AreRaises}
 use Rattle.merit_choice.proofs.InMerit.{ranked_part}
@@ -20,12 +21,6 @@ use Rattle.merit_choice.proofs.Raises.{new-from_nobody, raises-exist, raises_few
 use Rattle.merit_choice.proofs.Filled.{best_with, best_with-is_choice, honoured_best_with, length-best_with}
 
 -- ---- one choice
-
--- of two numbers, not each is smaller than the other
-not_both_ahead : (first second : Option ℕ) → IsAhead first second → IsAhead second first → ⊥
-not_both_ahead None second there back = there
-not_both_ahead (Some m) None there back = there
-not_both_ahead (Some m) (Some n) there back = omega arith
 
 -- two lists, neither worse than the other at any place, are one
 no_worse_both_ways : (list : ListId) (first second : List Person) → IsNoWorse list first second → IsNoWorse list second first → first ≡ second
@@ -66,7 +61,7 @@ raises_of step ok = raises-exist step.protections step.people [] (new-from_nobod
 pub choice_exists : ChoiceExists
 choice_exists step ok = let marks = raises_of step ok in (best_with step.seats step.people marks.0, best_with-is_choice step marks.0 ok marks.1)
 
--- the choice told by marks
+-- the choice by marks
 chosen_by : (step : Step) (chosen : List Person) → IsStep step → IsStepChoice step chosen
     → (marks : List Bool) × AreRaises step.protections [] step.people marks × (chosen ≡ best_with step.seats step.people marks)
 chosen_by step chosen ok choice =

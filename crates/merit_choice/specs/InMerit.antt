@@ -1,4 +1,4 @@
--- The laws of people by merit: they are told by who they are alone.
+-- The laws of people by merit: only who the people are matters.
 use Rattle.std.specs.Prelude.{◌≡◌, List, ◌∷◌, length}
 use Rattle.office_base.specs.Lists.{IsSublist}
 pub use Rattle.office_base.specs.Merit.{is_ahead, is_better, with_person, in_merit, CanBeRanked, IsNewTo}
@@ -16,7 +16,7 @@ InMeritRanks = (list : ListId) (people : List Person) → CanBeRanked list peopl
 abbrev pub OneMeritOrder : Type 0
 OneMeritOrder = (list : ListId) (people ranked : List Person) → CanBeRanked list people → AreRanked list ranked → AreAmong people ranked → AreAmong ranked people → ranked ≡ in_merit list people
 
--- the same persons, told in any two orders, are the same people by merit
+-- the same persons, given in any two orders, are the same people by merit
 abbrev pub SameMeritOrder : Type 0
 SameMeritOrder = (list : ListId) (some others : List Person) → CanBeRanked list some → CanBeRanked list others → AreAmong some others → AreAmong others some
     → in_merit list some ≡ in_merit list others
@@ -29,11 +29,11 @@ PartCanBeRanked = (list : ListId) (some all : List Person) → AreDistinct some 
 abbrev pub PartInMerit : Type 0
 PartInMerit = (list : ListId) (some all : List Person) → AreDistinct some → CanBeRanked list all → AreAmong some all → IsSublist (in_merit list some) (in_merit list all)
 
--- people who stand in merit order stay where they are
+-- people in merit order stay where they are
 abbrev pub RankedInMerit : Type 0
 RankedInMerit = (list : ListId) (people : List Person) → AreRanked list people → CanBeRanked list people × (in_merit list people ≡ people)
 
--- where both stand in merit order, persons who are among others are a part of these
+-- if both are in merit order, persons who are among others are a part of these
 abbrev pub RankedPart : Type 0
 RankedPart = (list : ListId) (some all : List Person) → AreRanked list some → AreRanked list all → AreAmong some all → IsSublist some all
 

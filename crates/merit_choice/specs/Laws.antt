@@ -61,22 +61,24 @@ abbrev pub MoreSeats : Type 0
 MoreSeats = (step more : Step) (chosen others : List Person) (person : Person) → HasMoreSeats step more → IsStepChoice step chosen → IsStepChoice more others
     → IsAmong person chosen → IsAmong person others
 
--- nobody is passed over for one who is worse and holds no other trait: whoever is better than one of the chosen and holds each trait of that one is chosen
+-- nobody is passed over for one who is worse and holds no other trait: a person who is better than one of the chosen,
+-- and holds each trait of that one, is chosen
 abbrev pub NobodyPassedOver : Type 0
 NobodyPassedOver = (step : Step) (chosen : List Person) (better worse : Person) → IsStep step → IsStepChoice step chosen → IsAmong better step.people → IsAmong worse chosen
     → IsBetter step.list better worse → ((t : ℕ) → IsTrue (has_trait worse.traits t) → IsTrue (has_trait better.traits t)) → IsAmong better chosen
 
--- the chosen honour as many protections as all who stand would
+-- the chosen honour as many protections as all who compete would
 abbrev pub HonoursAsAll : Type 0
 HonoursAsAll = (step : Step) (chosen : List Person) (m n : ℕ) → IsStep step → IsStepChoice step chosen → IsHonoured step.protections step.people m → IsHonoured step.protections chosen n → m ≡ n
 
--- No envy is justified: whoever is not chosen and is better than one of the chosen could stand in the place of that one only where fewer protections are honoured.
+-- No envy is justified: a person who is not chosen and is better than one of the chosen could take the place of that
+-- one only where fewer protections are honoured.
 abbrev pub NoJustifiedEnvy : Type 0
 NoJustifiedEnvy = (step : Step) (chosen : List Person) (better worse : Person) (m n : ℕ) → IsStep step → IsStepChoice step chosen → IsAmong better step.people → (IsAmong better chosen → ⊥)
     → IsAmong worse chosen → IsBetter step.list better worse → IsHonoured step.protections (better ∷ without worse.id chosen) m → IsHonoured step.protections chosen n → m < n
 
--- By hand: going down the people, whoever raises the number that those marked before honour is marked; the marked, with the best of the others on
--- the seats that are left, are the choice.
+-- By hand: going down the people, mark each person who raises the number that those marked before honour. The marked,
+-- with the best of the others on the seats that are left, are the choice.
 abbrev pub ByHand : Type 0
 ByHand = (step : Step) (marks : List Bool) → IsStep step → AreMarkedByHand step.protections [] step.people marks
     → IsStepChoice step (kept step.people (filled_up marks (step.seats - marked marks)))

@@ -22,7 +22,7 @@ pub record StepKept : Type 0 where
   pub protections : Protections
   pub held : List Person
 
--- Those held stand in merit order, and the seats hold them.
+-- Those held are in merit order, and the seats hold them.
 pub record IsStepKept (state : StepKept) : Type 0 where
   pub list : IsList state.list
   pub ranked : AreRanked state.list state.held
@@ -34,7 +34,8 @@ pub record IsStepKept (state : StepKept) : Type 0 where
 abbrev pub step_with : StepKept → Person → Step
 step_with state person = record { list = state.list; seats = state.seats; protections = state.protections; people = with_person state.list person state.held }
 
--- whoever is left without a seat: nobody where fewer were held than there are seats, else one of those held or the person
+-- who is left without a seat: nobody, if fewer were held than there are seats; otherwise one of those held or the
+-- person
 abbrev pub HandsOn : StepKept → Person → Option Person → StepKept → Type 0
 HandsOn before person None after = (length before.held < before.seats) × (after.held ≡ with_person before.list person before.held)
 HandsOn before person (Some gone) after = (length before.held ≡ before.seats) × IsAmong gone (with_person before.list person before.held)

@@ -4,7 +4,7 @@ use Rattle.office_base.specs.declared.person.Person.{Person}
 use Rattle.office_base.specs.declared.person.TraitSet.{TraitSet}
 use Rattle.placements.specs.Demand.{is_within}
 
--- at this place a person stands whose mark is set and who holds no trait outside the set
+-- at this place is a person whose mark is set and who holds no trait outside the set
 pub record IsOneWithin (set : TraitSet) (people : List Person) (marks : List Bool) (at : ℕ) : Type 0 where
   pub inside : at < length people
   pub marked : slice_index_or marks at false ≡ true

@@ -27,17 +27,20 @@ struct Needed {
     count: u16,
 }
 
-/// The choice of a step: down the merit order whoever raises the number of protections honoured, and the best of the
-/// others on the seats that are left. With it comes the certificate of the admitted.
+/// Returns the choice of a step. Down the merit order, the step admits each person who raises the number of honoured
+/// protections. Then it admits the best of the others to the seats that are left. The certificate of the admitted
+/// comes with the choice.
 ///
-/// The rule is the two-step choice of Sönmez and Yenmez (Econometrica 2022), under which one admitted candidate counts
-/// for at most one protected position.
+/// The rule is the two-step choice of Sönmez and Yenmez (Econometrica 2022): one admitted candidate counts for at
+/// most one protected position.
 pub fn choose(alloc: Global, step: &Step) -> Result<Chosen, OutOfMemory>
     requires { IsStep step.now }
     ensures choice { IfOk result (λ chosen. IsStepChoice step.now chosen.admitted) }
-    ensures certificate { IfOk result (λ chosen. IsCanonical step.now.protections chosen.admitted chosen.cert.pairs) }
+    ensures certificate { IfOk result (λ chosen.
+        IsCanonical step.now.protections chosen.admitted chosen.cert.pairs) }
     // each slot is the number of a trait, and there are no more pairs than seats
-    ensures slots { IfOk result (λ chosen. AllByRecursion (λ pair. pair.slot < 6) chosen.cert.pairs) }
+    ensures slots { IfOk result (λ chosen.
+        AllByRecursion (λ pair. pair.slot < 6) chosen.cert.pairs) }
     ensures few { IfOk result (λ chosen. length chosen.cert.pairs ≤ step.now.seats) }
 {
     let admitted = admit(alloc, step)?;
@@ -63,7 +66,8 @@ fn admit(alloc: Global, step: &Step) -> Result<People, OutOfMemory>
 fn find_needed(alloc: Global, step: &Step) -> Result<Needed, OutOfMemory>
     requires step { IsStep step.now }
     requires few { step.now.seats ≤ 65535 }
-    ensures marks { IfOk result (λ needed. AreRaises step.now.protections [] step.now.people needed.marks) }
+    ensures marks { IfOk result (λ needed.
+        AreRaises step.now.protections [] step.now.people needed.marks) }
     ensures count { IfOk result (λ needed. needed.count ≡ marked needed.marks) }
 {
     let people = step.people.as_slice();
@@ -78,7 +82,7 @@ fn find_needed(alloc: Global, step: &Step) -> Result<Needed, OutOfMemory>
     })
 }
 
-/// Keeps the person in the matching too where that honours one protection more, and tells whether it does.
+/// Keeps the person in the matching too if that honours one protection more. Returns whether it does.
 fn try_join(matching: &mut Matching, person: &Person) -> bool
     requires { MayJoin matching.old person.now }
     ensures { IsJoined matching.old person.now result matching.new }

@@ -11,7 +11,8 @@ ghost use Rattle.merit_choice.specs.Within.{AreNoneWithin, IsLastWithin};
 use office_base::{ListId, Person, TraitSet, better};
 use placements::is_within;
 
-/// The place that a new person has among people in merit order. Whoever comes after all of them costs one look.
+/// Returns the place that a new person has among people in merit order. A person who comes after all of them costs
+/// one look.
 pub(crate) fn place_for(people: &[Person], person: &Person, list: ListId) -> usize
     requires list { IsList list }
     requires ranked { AreRanked list people.now }
@@ -50,7 +51,7 @@ fn place_among(people: &[Person], person: &Person, list: ListId) -> usize
     low
 }
 
-/// Puts a new person at the merit place among people, into room that is there. It takes no memory.
+/// Puts a new person at the merit place among people, into room that is there. Allocates nothing.
 pub fn put_in_order(people: &mut Vec<Person>, person: &Person, list: ListId)
     requires list { IsList list }
     requires ranked { AreRanked list people.old.items }
@@ -107,7 +108,8 @@ pub(crate) fn last_within(
     set: TraitSet,
 ) -> Option<usize>
     requires { length people.now ≡ length marks.now }
-    ensures { MatchOption result (AreNoneWithin set people.now marks.now from) (IsLastWithin set people.now marks.now from) }
+    ensures { MatchOption result (AreNoneWithin set people.now marks.now from)
+        (IsLastWithin set people.now marks.now from) }
 {
     let mut at = people.len();
     while at > from {

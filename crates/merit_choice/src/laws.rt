@@ -37,7 +37,7 @@ pub fn more_seats()
     ensures { MoreSeats }
 {}
 
-/// Whoever is better than one of the chosen and holds each trait of that one is chosen.
+/// States that a person is chosen who is better than one of the chosen and holds each trait of that one.
 pub fn nobody_passed_over()
     ensures { NobodyPassedOver }
 {}
@@ -47,7 +47,8 @@ pub fn honours_as_all()
     ensures { HonoursAsAll }
 {}
 
-/// Whoever is not chosen and is better than one of the chosen could replace that one only by honouring fewer protections.
+/// States that a person who is not chosen, and is better than one of the chosen, could replace that one only by
+/// honouring fewer protections.
 pub fn no_justified_envy()
     ensures { NoJustifiedEnvy }
 {}
@@ -77,7 +78,7 @@ pub fn refused_before()
     ensures { RefusedBefore }
 {}
 
-/// Whoever is held after people came one by one, whatever their order, is chosen from all who came.
+/// States that a person who is held after people came one by one, in whatever order, is chosen from all who came.
 pub fn one_by_one()
     ensures { OneByOne }
 {}
@@ -87,12 +88,12 @@ pub fn in_merit_ranks()
     ensures { InMeritRanks }
 {}
 
-/// Persons stand in merit order in one way alone.
+/// States that persons can be put in merit order in one way alone.
 pub fn one_merit_order()
     ensures { OneMeritOrder }
 {}
 
-/// The order by merit does not depend on the order in which the persons are told.
+/// States that the order by merit does not depend on the order in which the persons are given.
 pub fn same_merit_order()
     ensures { SameMeritOrder }
 {}

@@ -17,7 +17,7 @@ fn merit(person: &Person, list: ListId) -> u32
     person.place(list).number().unwrap_or(0)
 }
 
-/// The people in merit order, the best first, in whatever order they come. It fails for want of memory alone.
+/// Returns the people in merit order, the best first, in whatever order they come. Fails only when memory runs out.
 pub fn in_merit_order(
     alloc: Global,
     people: &[Person],

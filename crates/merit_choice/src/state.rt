@@ -55,7 +55,8 @@ impl StepState {
     ) -> Result<StepState, OutOfMemory>
         requires list { IsList list }
         requires protections { sum protections.counts ≤ seats }
-        ensures { IfOk result (λ state. state ≡ record { list = list; seats = seats; protections = protections; held = [] }) }
+        ensures { IfOk result (λ state.
+            state ≡ record { list = list; seats = seats; protections = protections; held = [] }) }
     {
         let room = usize::from(seats) + 1;
         Ok(StepState {
@@ -67,9 +68,9 @@ impl StepState {
         })
     }
 
-    /// Offers the person to the step, which then holds the choice from those whom it held and the person. So after any
-    /// offers it holds the choice from all who were offered. It takes no memory, and moves at most the seats;
-    /// a person after all whom it holds, who is not needed, costs a few comparisons.
+    /// Offers the person to the step, which then holds the choice from those whom it held and the person. So after
+    /// any offers it holds the choice from all who were offered. Allocates nothing, and moves at most the seats. A
+    /// person after all whom it holds, who is not needed, costs a few comparisons.
     pub fn offer(&mut self, person: &Person) -> Offered
         requires { IsNewTo self.old.list self.old.held person.now }
         // the list, the seats and the protections stay
@@ -88,8 +89,8 @@ impl StepState {
         }
     }
 
-    /// As `offer`, and tells who is left without a seat: nobody where a seat was free, else one of those whom the seats held
-    /// or the person.
+    /// Does the same as `offer`, and returns who is left without a seat: nobody if a seat was free, otherwise one of
+    /// those whom the seats held or the person.
     pub fn hand(&mut self, person: &Person) -> Option<Person>
         requires { IsNewTo self.old.list self.old.held person.now }
         ensures was { IsStepKept self.old }
@@ -140,7 +141,8 @@ fn enter(
     requires ranked { AreRanked list held.old.items }
     requires new { IsNewTo list held.old.items person.now }
     requires within { at ≤ length held.old.items }
-    requires place { insert held.old.items at person.now ≡ with_person list person.now held.old.items }
+    requires place { insert held.old.items at person.now
+        ≡ with_person list person.now held.old.items }
     requires matched { IsMatched list held.old.items marks.old.items matching.old }
     requires room { vec_len held.old < vec_capacity held.old }
     requires marks_room { vec_len marks.old < vec_capacity marks.old }
@@ -162,8 +164,8 @@ fn enter(
     put(marks, at, needed);
 }
 
-/// Keeps a person who comes at this merit place in the matching too, where the protections need the person then, and tells
-/// whether they do. Who is needed no longer loses the mark.
+/// Keeps a person who comes at this merit place in the matching too, if the protections need the person then. Returns
+/// whether they do. A member who is needed no longer loses the mark.
 fn join(
     matching: &mut Matching,
     held: &[Person],
@@ -190,8 +192,9 @@ fn join(
     }
 }
 
-/// Puts the person in the place of the worst of the needed whom the person can replace, where that one is worse, and tells
-/// whether it did. These hold no trait outside the set; whoever is worse stands at the person's merit place or after it.
+/// Puts the person in the place of the worst of the needed whom the person can replace, if that one is worse. Returns
+/// whether it did. The needed whom the person can replace hold no trait outside the set. Anyone worse is at the
+/// person's merit place or after it.
 fn replace(
     matching: &mut Matching,
     held: &[Person],

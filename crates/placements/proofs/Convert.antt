@@ -78,7 +78,7 @@ filled-cons : (slot other : Option ℕ) (slots others : List (Option ℕ)) → s
     → filled (slot ∷ slots) ≡ suc (filled (other ∷ others))
 filled-cons slot other slots others e h = subst (λ (s : Option ℕ). filled (s ∷ slots) ≡ suc (filled (other ∷ others))) (sym e) (filled_both other slots others h)
 
--- the pair of a person who stands in no other pair fills one slot more
+-- the pair of a person who is in no other pair fills one slot more
 filled-one_more : (pair : Pair) (pairs : List Pair) (people : List Person) → AreDistinct people → AnyByRecursion (Fills pair) people
     → slot_of pairs pair.cand ≡ None → filled (slots_of (pair ∷ pairs) people) ≡ suc (filled (slots_of pairs people))
 filled-one_more pair pairs [] apart fills free = absurd fills
@@ -130,7 +130,7 @@ used-no_pairs : (t : ℕ) (people : List Person) → used t (slots_of [] people)
 used-no_pairs t [] = refl
 used-no_pairs t (person ∷ people) = used-no_pairs t people
 
--- without pairs everybody stands nowhere
+-- without pairs everybody is placed nowhere
 MayStand-no_pairs : (people : List Person) → AllZip MayStand people (slots_of [] people)
 MayStand-no_pairs [] = tt
 MayStand-no_pairs (person ∷ people) = (tt, MayStand-no_pairs people)
@@ -143,13 +143,13 @@ used-le-placed_on t people (pair ∷ pairs) apart =
     let rest = used-le-placed_on t people pairs apart in
     omega arith
 
--- each of the people stands on a trait held, where each pair is of one of them
+-- each of the people is placed on a trait held, if each pair is of one of them
 MayStand-slots_of : (people : List Person) (pairs : List Pair) → AreDistinct people → AllByRecursion (λ pair. AnyByRecursion (Fills pair) people) pairs
     → AllZip MayStand people (slots_of pairs people)
 MayStand-slots_of people [] apart held = MayStand-no_pairs people
 MayStand-slots_of people (pair ∷ pairs) apart held = MayStand-one_more pair pairs people apart held.0 (MayStand-slots_of people pairs apart held.1)
 
--- as many slots as pairs, where each pair is of one of the people and nobody stands in two
+-- as many slots as pairs, if each pair is of one of the people and nobody is in two
 filled-slots_of : (people : List Person) (pairs : List Pair) → AreDistinct people → AllByRecursion (λ pair. AnyByRecursion (Fills pair) people) pairs
     → Pairwise (λ a b. a.cand ≢ b.cand) pairs → filled (slots_of pairs people) ≡ length pairs
 filled-slots_of people [] apart held once = filled-no_pairs people
@@ -191,14 +191,14 @@ held-pairs_of (person ∷ people) [] h = tt
 held-pairs_of (person ∷ people) (None ∷ slots) h = fills_later person people (pairs_of people slots) (held-pairs_of people slots h.1)
 held-pairs_of (person ∷ people) (Some t ∷ slots) h = (inl (refl, h.0), fills_later person people (pairs_of people slots) (held-pairs_of people slots h.1))
 
--- nobody stands in two of the pairs of the slots
+-- nobody is in two of the pairs of the slots
 once-pairs_of : (people : List Person) (slots : List (Option ℕ)) → AreDistinct people → Pairwise (λ a b. a.cand ≢ b.cand) (pairs_of people slots)
 once-pairs_of [] slots apart = tt
 once-pairs_of (person ∷ people) [] apart = tt
 once-pairs_of (person ∷ people) (None ∷ slots) apart = once-pairs_of people slots apart.1
 once-pairs_of (person ∷ people) (Some t ∷ slots) apart = (all_cands (λ cand. person.id ≢ cand) people slots apart.0, once-pairs_of people slots apart.1)
 
--- the pairs of the slots stand on no more positions than the slots use
+-- the pairs of the slots are on no more positions than the slots use
 placed_on-le-used : (t : ℕ) (people : List Person) (slots : List (Option ℕ)) → placed_on t (pairs_of people slots) ≤ used t slots
 placed_on-le-used t [] slots = omega arith
 placed_on-le-used t (person ∷ people) [] = omega arith
@@ -238,7 +238,7 @@ slots_of-pairs_of (person ∷ people) (Some t ∷ slots) apart h =
     (slot_of-own pair (pairs_of people slots) person.id refl)
     (slots_of-others pair (pairs_of people slots) people apart.0 ∙ slots_of-pairs_of people slots apart.1 h.1)
 
--- the pairs of the slots stand in the order of the people
+-- the pairs of the slots are in the order of the people
 pub pairs_of-in_order : (people : List Person) (slots : List (Option ℕ))
     → IsSublist (map (λ pair. pair.cand) (pairs_of people slots)) (map (λ person. person.id) people)
 pairs_of-in_order [] slots = refl

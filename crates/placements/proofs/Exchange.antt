@@ -8,10 +8,11 @@ use Rattle.office_base.specs.declared.person.CandId.{CandId}
 use Rattle.office_base.specs.declared.person.Person.{Person}
 use Rattle.office_base.specs.declared.step.Pair.{Pair}
 use Rattle.office_base.specs.declared.step.Protections.{Protections}
+use Rattle.office_base.proofs.Lists.{all_weaker, all_left, all_joined}
 
 -- ---- one element taken out of a list
 
--- x stands in the list, and these are left without it
+-- x is in the list, and these are left without it
 abbrev pub Leaves : {X : Type 0} → X → List X → List X → Type 0
 Leaves x [] rest = ⊥
 Leaves {X} x (y ∷ ys) rest = ((x ≡ y) × (rest ≡ ys)) ⊎ ((others : List X) × (rest ≡ y ∷ others) × Leaves x ys others)
@@ -32,7 +33,7 @@ all_rejoined P x (y ∷ ys) rest h p all = elim h [
   | inr s ↦ let both : AllByRecursion P (y ∷ s.0) = subst (AllByRecursion P) s.1 all in (both.0, all_rejoined P x ys s.0 s.2 p both.1)
 ]
 
--- one more stood there
+-- there was one more
 pub length_leaves : {X : Type 0} (x : X) (xs rest : List X) → Leaves x xs rest → length xs ≡ suc (length rest)
 length_leaves x [] rest h = absurd h
 length_leaves x (y ∷ ys) rest h = elim h [
@@ -63,7 +64,7 @@ pairwise_leaves R both x (y ∷ ys) rest h p = elim h [
 abbrev pub Apart : Pair → Pair → Type 0
 Apart a b = a.cand ≢ b.cand
 
--- 1 where the pair stands on the trait
+-- 1 if the pair is on the trait
 abbrev pub stands_on : ℕ → Pair → ℕ
 stands_on t pair = cond (eqb pair.slot t) 1 0
 
@@ -104,7 +105,7 @@ fewer protections people x xs rest h p = record {
   within = λ t. let a = placed_on_leaves t x xs rest h in let b = p.within t in omega arith;
 }
 
--- a placement with one of its pairs told first
+-- a placement with one of its pairs moved to the front
 pub told_first : (protections : Protections) (people : List Person) (x : Pair) (xs rest : List Pair) → Leaves x xs rest
     → IsPlacement protections people xs → IsPlacement protections people (x ∷ rest)
 told_first protections people x xs rest h p = record {
@@ -129,7 +130,7 @@ joined protections people x xs p held apart room = record {
   ];
 }
 
--- where nobody of the others stands on a trait, nor this one, nobody does
+-- if none of the others is on a trait, nor this one, none is
 none_more : (t : ℕ) (p : Pair) (ps : List Pair) → eqb p.slot t ≡ false → placed_on t ps ≡ 0 → placed_on t (p ∷ ps) ≡ 0
 none_more t p ps other none = let count = stands_other t p other in omega arith
 
@@ -144,7 +145,7 @@ finds_on t (p ∷ ps) = elim (cases_Bool (eqb p.slot t)) [
   ]
 ]
 
--- of two lists, a longer one has a pair on a trait on which more of it stand
+-- of two lists, a longer one has a pair on a trait on which it has more pairs than the other
 pub crowded : (xs ys : List Pair) → length xs < length ys
     → (x : Pair) × ((rest : List Pair) × Leaves x ys rest) × (placed_on x.slot xs < placed_on x.slot ys)
 crowded xs [] less = absurd (omega arith)
@@ -162,11 +163,11 @@ crowded xs (y ∷ ys) less = elim (finds_on y.slot xs) [
 
 -- ---- the exchange law
 
--- the candidate stands in one of the pairs
+-- the candidate is in one of the pairs
 abbrev pub Stands : CandId → List Pair → Type 0
 Stands cand pairs = AnyByRecursion (λ pair. cand ≡ pair.cand) pairs
 
--- each candidate of the first pairs stands in one of the second
+-- each candidate of the first pairs is in one of the second
 abbrev pub AllStand : List Pair → List Pair → Type 0
 AllStand some all = AllByRecursion (λ pair. Stands pair.cand all) some
 
@@ -187,7 +188,7 @@ pub stands_at : (x : Pair) (xs rest : List Pair) → Leaves x xs rest → Stands
 stands_at x [] rest h = absurd h
 stands_at x (y ∷ ys) rest h = elim h [ inl e ↦ inl (ap (λ (p : Pair). p.cand) e.0) | inr s ↦ inr (stands_at x ys s.0 s.2) ]
 
--- who stands somewhere stands there with one more
+-- a candidate who is in some pairs is still there with one pair more
 pub stands_still : (x : Pair) (xs rest : List Pair) → Leaves x xs rest → (cand : CandId) → Stands cand rest → Stands cand xs
 stands_still x [] rest h cand s = absurd h
 stands_still x (y ∷ ys) rest h cand s = elim h [
@@ -195,7 +196,7 @@ stands_still x (y ∷ ys) rest h cand s = elim h [
   | inr d ↦ elim (subst (Stands cand) d.1 s) [ inl here ↦ inl here | inr later ↦ inr (stands_still x ys d.0 d.2 cand later) ]
 ]
 
--- who stands somewhere is the one taken out, or one of those left
+-- a candidate who is in some pairs is that of the pair taken out, or is in one of those left
 pub stands_or : (x : Pair) (xs rest : List Pair) → Leaves x xs rest → (cand : CandId) → Stands cand xs → (cand ≡ x.cand) ⊎ Stands cand rest
 stands_or x [] rest h cand s = absurd h
 stands_or x (y ∷ ys) rest h cand s = elim h [
@@ -212,23 +213,18 @@ stands_or x (y ∷ ys) rest h cand s = elim h [
   ]
 ]
 
--- what holds of all holds of each that stands there, where it speaks of candidates alone
+-- what holds of all holds of each candidate who is there, if it speaks of candidates alone
 pub at_standing : (P : CandId → Type 0) (cand : CandId) (pairs : List Pair) → Stands cand pairs → AllByRecursion (λ pair. P pair.cand) pairs → P cand
 at_standing P cand [] s all = absurd s
 at_standing P cand (pair ∷ pairs) s all = elim s [ inl e ↦ subst P (sym e) all.0 | inr later ↦ at_standing P cand pairs later all.1 ]
 
--- a weaker fact of each element
-pub all_weaker : {X : Type 0} (P Q : X → Type 0) → ((x : X) → P x → Q x) → (xs : List X) → AllByRecursion P xs → AllByRecursion Q xs
-all_weaker P Q f [] all = tt
-all_weaker P Q f (x ∷ xs) all = (f x all.0, all_weaker P Q f xs all.1)
-
--- each of some pairs stands among them
+-- the candidate of each of some pairs is among them
 pub all_stand_same : (pairs : List Pair) → AllStand pairs pairs
 all_stand_same [] = tt
 all_stand_same (pair ∷ pairs) =
     (inl refl, all_weaker (λ p. Stands p.cand pairs) (λ p. Stands p.cand (pair ∷ pairs)) (λ p s. inr s) pairs (all_stand_same pairs))
 
--- One of ys joins xs: it stands nowhere in xs, and some placement has just the candidates of xs and this one.
+-- One of ys joins xs: its candidate is nowhere in xs, and some placement has just the candidates of xs and this one.
 pub record Joins (protections : Protections) (people : List Person) (xs ys : List Pair) : Type 0 where
   pub who : Pair
   pub of : Stands who.cand ys
@@ -243,16 +239,6 @@ pub record Joins (protections : Protections) (people : List Person) (xs ys : Lis
 pub held_at : (protections : Protections) (people : List Person) (x : Pair) (xs rest : List Pair) → Leaves x xs rest
     → IsPlacement protections people xs → AnyByRecursion (Fills x) people
 held_at protections people x xs rest h p = (all_leaves (λ pair. AnyByRecursion (Fills pair) people) x xs rest h p.held).0
-
--- what holds of each element of a list in two parts holds in the first part
-pub all_front : {X : Type 0} (P : X → Type 0) (xs ys : List X) → AllByRecursion P (xs ++ ys) → AllByRecursion P xs
-all_front P [] ys all = tt
-all_front P (x ∷ xs) ys all = (all.0, all_front P xs ys all.1)
-
--- what holds of each element of two lists holds in both joined
-pub all_joined : {X : Type 0} (P : X → Type 0) (xs ys : List X) → AllByRecursion P xs → AllByRecursion P ys → AllByRecursion P (xs ++ ys)
-all_joined P [] ys front back = back
-all_joined P (x ∷ xs) ys front back = (front.0, all_joined P xs ys front.1 back)
 
 -- where a pair takes the place of another of the same candidate, who joins the one joins the other
 pub joins_moved : (protections : Protections) (people : List Person) (x y : Pair) (xs rest ys more : List Pair) → Leaves y xs rest → y.cand ≡ x.cand
@@ -289,7 +275,7 @@ exchange_step protections people both xs ys less px py smaller =
     let room : placed_on x.slot (both ++ xs) < protected protections x.slot =
     (let a = placed_on-append x.slot both xs in let b = placed_on-append x.slot both ys in let c = py.within x.slot in let d = more.2 in omega arith) in
     let held = held_at protections people x (both ++ ys) (both ++ rest) from_ys py in
-    let apart : AllByRecursion (Apart x) both = all_front (Apart x) both rest (pairwise_leaves Apart apart_back x (both ++ ys) (both ++ rest) from_ys py.once).0 in
+    let apart : AllByRecursion (Apart x) both = all_left (Apart x) both rest (pairwise_leaves Apart apart_back x (both ++ ys) (both ++ rest) from_ys py.once).0 in
     elim (finds x.cand xs) [
       | inl found ↦
           let y : Pair = found.0 in

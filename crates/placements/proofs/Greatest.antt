@@ -13,7 +13,7 @@ use Rattle.placements.specs.Ranks.{AreDistinct}
 use Rattle.placements.proofs.Convert.{slots-from_placement, placement-from_slots, length-pairs_of}
 
 -- a trait with a position is one of those counted
-counted_trait : (protections : Protections) (t : ℕ) → 0 < protected protections t → t < length protections.counts
+pub counted_trait : (protections : Protections) (t : ℕ) → 0 < protected protections t → t < length protections.counts
 counted_trait protections t h = ⊎_elim
     (λ (l : t < length protections.counts). l)
     (λ (l : length protections.counts ≤ t). let e = get_or_past protections.counts t 0 l in absurd (omega arith))
@@ -37,7 +37,7 @@ counts_itself t = cond-true (eqb t t) 1 0 (eq-eqb t t refl)
 counts_no_other : (t s : ℕ) → t ≢ s → ◌≡◌ {A = ℕ} (cond (eqb t s) 1 0) 0
 counts_no_other t s h = cond-false (eqb t s) 1 0 (ne_eqb t s h)
 
--- one more of the people, who stands nowhere
+-- one more of the people, who is placed nowhere
 pub AreSlots-nowhere : (protections : Protections) (person : Person) (people : List Person) (slots : List (Option ℕ))
     → AreSlots protections people slots → AreSlots protections (person ∷ people) (None ∷ slots)
 AreSlots-nowhere protections person people slots h = record { held = (tt, h.held); within = h.within }
@@ -47,7 +47,7 @@ pub AreSlots-from_nowhere : (protections : Protections) (person : Person) (peopl
     → AreSlots protections (person ∷ people) (None ∷ slots) → AreSlots protections people slots
 AreSlots-from_nowhere protections person people slots h = record { held = h.held.1; within = h.within }
 
--- one more of the people, who stands on a position that is left
+-- one more of the people, who is placed on a position that is left
 pub AreSlots-somewhere : (protections : Protections) (person : Person) (people : List Person) (t : ℕ) (slots : List (Option ℕ))
     → IsTrue (has_trait person.traits t) → 0 < protected protections t → AreSlots (one_less protections t) people slots
     → AreSlots protections (person ∷ people) (Some t ∷ slots)
@@ -67,7 +67,7 @@ AreSlots-somewhere protections person people t slots holds room h = record {
       (cases_eq s t);
 }
 
--- the person at the front stands on a trait held, whose position is not there for the others
+-- the person at the front is placed on a trait held, whose position is not there for the others
 pub AreSlots-from_somewhere : (protections : Protections) (person : Person) (people : List Person) (t : ℕ) (slots : List (Option ℕ))
     → AreSlots protections (person ∷ people) (Some t ∷ slots)
     → IsTrue (has_trait person.traits t) × (0 < protected protections t) × AreSlots (one_less protections t) people slots
@@ -92,7 +92,7 @@ AreSlots-from_somewhere protections person people t slots h =
       },
     )
 
--- with nobody placed on a trait so far, the first of the people stands nowhere
+-- with nobody placed on a trait so far, the first of the people is placed nowhere
 pub IsGreatestBelow-none : (protections : Protections) (person : Person) (people : List Person) (number : ℕ)
     → IsGreatest protections people number → IsGreatestBelow 0 protections person people number
 IsGreatestBelow-none protections person people number h = record {
@@ -101,7 +101,7 @@ IsGreatestBelow-none protections person people number h = record {
   somewhere = λ t slots l stand. absurd (omega arith);
 }
 
--- a trait that the first of the people may not stand on changes nothing
+-- a trait on which the first of the people may not be placed changes nothing
 pub IsGreatestBelow-passed : (bound : ℕ) (protections : Protections) (person : Person) (people : List Person) (number : ℕ)
     → (IsTrue (has_trait person.traits bound) → 0 < protected protections bound → ⊥)
     → IsGreatestBelow bound protections person people number → IsGreatestBelow (suc bound) protections person people number
@@ -123,7 +123,7 @@ max_either P m n p q = ⊎_elim
     (λ (h : n ≤ m). let e : m ≡ max m n = omega arith in subst P e p)
     (cases_lt m n)
 
--- the first of the people may stand on this trait, and the others on what is left
+-- the first of the people may be placed on this trait, and the others on what is left
 pub IsGreatestBelow-taken : (bound : ℕ) (protections : Protections) (person : Person) (people : List Person) (number others : ℕ)
     → IsTrue (has_trait person.traits bound) → 0 < protected protections bound → IsGreatest (one_less protections bound) people others
     → IsGreatestBelow bound protections person people number → IsGreatestBelow (suc bound) protections person people (max number (suc others))
@@ -223,19 +223,6 @@ IsHonoured-from_greatest protections people number apart h = record {
       omega arith;
 }
 
--- and back
-pub IsGreatest-from_honoured : (protections : Protections) (people : List Person) (number : ℕ) → AreDistinct people
-    → IsHonoured protections people number → IsGreatest protections people number
-IsGreatest-from_honoured protections people number apart h =
-    let slots = slots-from_placement protections people h.reached.0 apart h.reached.1 in
-    record {
-      reached = (slots_of h.reached.0 people, slots.0, slots.1 ∙ h.reached.2);
-      most = λ slots' stand.
-          let le = h.most (pairs_of people slots') (placement-from_slots protections people slots' apart stand) in
-          let e = length-pairs_of people slots' stand.held in
-          omega arith;
-    }
-
 -- the number honoured is there
 pub honoured-exists : (protections : Protections) (people : List Person) → AreDistinct people
     → (number : ℕ) × IsHonoured protections people number
@@ -251,11 +238,3 @@ honoured-one protections people m n h k =
     let em : length h.reached.0 ≡ m = h.reached.2 in
     let en : length k.reached.0 ≡ n = k.reached.2 in
     omega arith
-
--- the number honoured, told by slots
-pub honoured-from_slots : (protections : Protections) (people : List Person) (number : ℕ) → AreDistinct people
-    → ((slots : List (Option ℕ)) × AreSlots protections people slots × (filled slots ≡ number))
-    → ((slots : List (Option ℕ)) → AreSlots protections people slots → filled slots ≤ number)
-    → IsHonoured protections people number
-honoured-from_slots protections people number apart reached most = IsHonoured-from_greatest protections people number apart
-    (record { reached = reached; most = most })

@@ -139,7 +139,7 @@ one_if_small test = elim (cases_Bool test) [
   | inr h ↦ (let e = one_if_false test h in omega arith)
 ]
 
--- whoever asks within one of two sets asks within either, and within both where within each
+-- a person who asks within one of two sets asks within either, and within both if within each
 pub within_left : (traits a b : TraitSet) → is_within traits a ≡ true → is_within traits (either a b) ≡ true
 within_left traits a b h = within_bits traits (either a b)
     (λ i. let one = bits_within traits a h i in let bits = bit_at_or a.0 b.0 i in omega arith)
@@ -178,7 +178,7 @@ pub asking_more : (a b : TraitSet) (people : List Person) → asking a people + 
 asking_more a b [] = omega arith
 asking_more a b (person ∷ people) = let here = asks_more person.traits a b in let deeper = asking_more a b people in omega arith
 
--- ---- where a person can stand
+-- ---- where a person can be placed
 
 -- the set has a trait, does not hold all of the person's, and the people of it and this one fill its positions
 abbrev pub is_full : Protections → TraitSet → List Person → ℕ → TraitSet → Bool

@@ -1,4 +1,4 @@
--- Who holds a trait outside a set: with those who ask within it they are all, so the facts on these tell of them.
+-- Who holds a trait outside a set: with those who ask within it they are all, so the facts on these apply to them.
 use Rattle.std.proofs.Common.{◌≡◌, ◌<◌, ◌≤◌, ◌+◌, ℕ, List, [], ◌∷◌, length, cond, Bool, true, false, refl, inl, inr, arith}
 use Rattle.std.proofs.lemmas.Bool.{cases_Bool}
 use Rattle.office_base.specs.Person.{has_trait}
@@ -62,7 +62,7 @@ positions_one_less protections t set less some = elim (cases_Bool (has_trait set
   | inr has ↦ (let e = one_if_false (has_trait set t) has in let f = positions_same protections t set has in omega arith)
 ]
 
--- whoever holds a trait asks within no set that lacks it
+-- a person who holds a trait asks within no set that lacks it
 pub counted_once : (traits set : TraitSet) (t : ℕ) → has_trait traits t ≡ true → 1 ≤ one_if (has_trait set t) + none_if (is_within traits set)
 counted_once traits set t has = elim (cases_Bool (is_within traits set)) [
   | inl inside ↦ (let e = one_if_true (has_trait set t) (has_within traits set t inside has) in omega arith)

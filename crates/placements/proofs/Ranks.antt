@@ -12,9 +12,10 @@ use Rattle.office_base.specs.declared.person.ListId.{ListId}
 use Rattle.office_base.specs.declared.person.Person.{Person}
 use Rattle.office_base.specs.declared.step.Pair.{Pair}
 use Rattle.office_base.specs.declared.step.Protections.{Protections}
+use Rattle.office_base.proofs.Lists.{all_weaker, all_joined}
 use Rattle.placements.proofs.Sublists.{AllByRecursion-sublist}
 use Rattle.placements.specs.Ranks.{AreDistinct, CanBePlaced, AreAmong}
-use Rattle.placements.proofs.Exchange.{Leaves, Apart, Stands, AllStand, Joins, all_weaker, apart_back, pairwise_leaves, length_leaves, fewer, finds, stands_at, stands_or, stands_still, at_standing, all_front, all_joined, all_stand_same, exchange_pairs}
+use Rattle.placements.proofs.Exchange.{Leaves, Apart, Stands, AllStand, Joins, apart_back, pairwise_leaves, length_leaves, fewer, finds, stands_at, stands_or, stands_still, at_standing, all_stand_same, exchange_pairs}
 
 -- ---- who is among whom
 
@@ -130,7 +131,7 @@ widened protections some all pairs among p = record {
   within = p.within;
 }
 
--- the pair of a person who holds its trait, told with the person
+-- a person who fills the pair, and is one of the people
 filler : (pair : Pair) (people : List Person) → AnyByRecursion (Fills pair) people
     → (person : Person) × Fills pair person × AnyByRecursion (λ other. person ≡ other) people
 filler pair people held = any_all (Fills pair) (λ person. AnyByRecursion (λ other. person ≡ other) people) people held (among_itself people)
@@ -156,7 +157,7 @@ narrowed protections some all pairs distinct among theirs p = record {
         let same : full.0 ≡ person = one_person all distinct full.0 person full.2 wide (sym full.1.0 ∙ own.1) in
         (any_at (Fills pair) person some own.2 (subst (Fills pair) same full.1), both ps their.1 held.1)
 
--- a person with a number of their own stands in no placement of the others
+-- a person with a number of their own is in no placement of the others
 pub nowhere : (protections : Protections) (person : Person) (people : List Person) (pairs : List Pair)
     → AllByRecursion (λ other. person.id ≢ other.id) people → IsPlacement protections people pairs → AllByRecursion (λ (pair : Pair). person.id ≢ pair.cand) pairs
 nowhere protections person people pairs new p =
@@ -254,7 +255,7 @@ outside protections out people all m n among hp ha =
     let less = some_fewer protections out people all ha.reached.0 among ha.reached.1 in
     let most = hp.most less.0 less.1 in omega (arith, ha.reached.2, less.2, most)
 
--- the same people in another order, or told more than once, honour as much
+-- the same people in another order, or repeated, honour as much
 pub same_people : (protections : Protections) (some others : List Person) (n : ℕ) → AreAmong some others → AreAmong others some
     → IsHonoured protections some n → IsHonoured protections others n
 same_people protections some others n there back h = record {
@@ -264,7 +265,7 @@ same_people protections some others n there back h = record {
 
 -- ---- all placed
 
--- who stands in a placement of some people has the number of one of them
+-- a candidate who is in a placement of some people has the number of one of them
 pub ids_at : (people : List Person) (cand : CandId) (pairs : List Pair) → Stands cand pairs
     → AllByRecursion (λ pair. AnyByRecursion (Fills pair) people) pairs → AnyByRecursion (λ one. cand ≡ one.id) people
 ids_at people cand pairs s held =
@@ -329,7 +330,8 @@ exchange protections all some more distinct in_some in_more can_some can_more le
       | inr new ↦ new
     ]
 
--- who stands among some pairs stands among more, where each of those does
+-- if each candidate of some pairs is in others, and each of these is in a third list, then each of the first is in
+-- the third
 pub all_stand_again : (some more all : List Pair) → AllStand some more → AllStand more all → AllStand some all
 all_stand_again some more all first second =
     all_weaker (λ pair. Stands pair.cand more) (λ pair. Stands pair.cand all) (λ pair s. at_standing (λ cand. Stands cand all) pair.cand more s second) some first
@@ -345,7 +347,7 @@ grown protections people (suc n) xs ys more px py =
     let rest = grown protections people n j.after ys (omega arith) j.placed py in
     (rest.0, rest.1, rest.2, all_stand_again xs j.after rest.0 j.all.1 rest.3)
 
--- things with different candidates, each of whom stands in some pair, are no more than the pairs
+-- things with different candidates, each of whom is in some pair, are no more than the pairs
 pub no_more_than_pairs : {X : Type 0} (of : X → CandId) (xs : List X) (pairs : List Pair) → Pairwise (λ a b. of a ≢ of b) xs
     → AllByRecursion (λ x. Stands (of x) pairs) xs → length xs ≤ length pairs
 no_more_than_pairs of [] pairs distinct all = omega arith
@@ -364,7 +366,8 @@ no_more_than_pairs {X} of (x ∷ xs) pairs distinct all = elim (finds (of x) pai
     others p rest leaves same (y ∷ ys) apart stand =
         (elim (stands_or p pairs rest leaves (of y) stand.0) [ inl e ↦ absurd (apart.0 (sym (e ∙ same))) | inr there ↦ there ], others p rest leaves same ys apart.1 stand.1)
 
--- the pairs of a placement that satisfy a decision: they are a placement too, and each candidate who satisfies it stands in one of them
+-- the pairs of a placement that satisfy a decision: they are a placement too, and each candidate who satisfies it is
+-- in one of them
 pub chosen_pairs : (protections : Protections) (people : List Person) (some pairs : List Pair) → IsPlacement protections people pairs
     → (kept : List Pair) × IsPlacement protections people kept × AllStand kept some × ((cand : CandId) → Stands cand some → Stands cand pairs → Stands cand kept)
     × AllStand kept pairs × ((t : ℕ) → placed_on t kept ≤ placed_on t pairs)
@@ -515,7 +518,7 @@ refused protections person chosen people distinct among can h cannot = record {
 
 -- ---- a largest part of the people who can be placed
 
--- those of the people who stand in the pairs
+-- those of the people who are in the pairs
 pub standing_people : (pairs : List Pair) (people : List Person)
     → (kept : List Person) × IsSublist kept people × AllByRecursion (λ (person : Person). Stands person.id pairs) kept
     × ((person : Person) → Stands person.id pairs → AnyByRecursion (λ other. person ≡ other) people → AnyByRecursion (λ other. person ≡ other) kept)
@@ -578,7 +581,7 @@ extension protections some all n distinct among can h =
 
 -- ---- one person more at the end of a list
 
--- the same persons, whether one stands first or last
+-- the same persons, whether one comes first or last
 pub front_among_end : (person : Person) (people : List Person) → AreAmong (person ∷ people) (people ++ person ∷ [])
 front_among_end person people = ((among_back people (person ∷ [])).0, among_front people (person ∷ []))
 
@@ -586,24 +589,7 @@ pub end_among_front : (person : Person) (people : List Person) → AreAmong (peo
 end_among_front person people =
     among_joined people (person ∷ []) (person ∷ people) (among_longer person people people (among_itself people)) (inl refl, tt)
 
--- distinct with one at the end is distinct with this one in front
-pub distinct_front : (person : Person) (people : List Person) → AreDistinct (people ++ person ∷ []) → AreDistinct (person ∷ people)
-distinct_front person [] distinct = (tt, tt)
-distinct_front person (other ∷ people) distinct =
-    let deeper = distinct_front person people distinct.1 in
-    let last = any_all (λ (one : Person). person ≡ one) (λ one. other.id ≢ one.id) (people ++ person ∷ []) (among_back people (person ∷ [])).0 distinct.0 in
-    (((λ e. last.2 (sym e ∙ ap (λ (p : Person). p.id) last.1)), deeper.0), (all_front (λ (one : Person). other.id ≢ one.id) people (person ∷ []) distinct.0, deeper.1))
-
--- a number honoured, whether one person stands first or last
-pub honoured_front : (protections : Protections) (person : Person) (people : List Person) (n : ℕ) → IsHonoured protections (people ++ person ∷ []) n
-    → IsHonoured protections (person ∷ people) n
-honoured_front protections person people n h = same_people protections (people ++ person ∷ []) (person ∷ people) n (end_among_front person people) (front_among_end person people) h
-
-pub honoured_end : (protections : Protections) (person : Person) (people : List Person) (n : ℕ) → IsHonoured protections (person ∷ people) n
-    → IsHonoured protections (people ++ person ∷ []) n
-honoured_end protections person people n h = same_people protections (person ∷ people) (people ++ person ∷ []) n (front_among_end person people) (end_among_front person people) h
-
--- all placed, whether one person stands first or last
+-- all placed, whether one person comes first or last
 pub placed_end : (protections : Protections) (person : Person) (people : List Person) → CanBePlaced protections (person ∷ people) → CanBePlaced protections (people ++ person ∷ [])
 placed_end protections person people can = placed_again protections (person ∷ people) (people ++ person ∷ []) (front_among_end person people)
     (length-append people (person ∷ []) ∙ omega arith) can

@@ -9,6 +9,7 @@ use Rattle.office_base.specs.Person.{IsTraitSet}
 use Rattle.office_base.specs.declared.person.TraitSet.{TraitSet}
 use Rattle.office_base.specs.declared.person.Person.{Person}
 use Rattle.office_base.specs.declared.step.Protections.{Protections}
+use Rattle.office_base.proofs.Lists.{all_push}
 use Rattle.placements.specs.Demand.{is_within, asking, positions}
 use Rattle.placements.specs.Ranks.{AreDistinct, CanBePlaced}
 use Rattle.placements.proofs.Exchange.{Leaves, all_leaves, pairwise_leaves}
@@ -45,11 +46,6 @@ pub asking_push : (set : TraitSet) (people : List Person) (person : Person)
     → asking set (people ++ person ∷ []) ≡ asking set people + one_if (is_within person.traits set)
 asking_push set [] person = omega arith
 asking_push set (other ∷ people) person = let deeper = asking_push set people person in omega arith
-
--- what holds of each and of one more at the end holds of each
-pub all_push : {X : Type 0} (P : X → Type 0) (xs : List X) (y : X) → AllByRecursion P xs → P y → AllByRecursion P (xs ++ y ∷ [])
-all_push P [] y all here = (here, tt)
-all_push P (x ∷ xs) y all here = (all.0, all_push P xs y all.1 here)
 
 -- what holds between each two, and both ways between each and one more at the end, holds between each two
 pub pairwise_push : {X : Type 0} (R : X → X → Type 0) → ((a b : X) → R a b → R b a) → (xs : List X) (y : X) → Pairwise R xs → AllByRecursion (R y) xs → Pairwise R (xs ++ y ∷ [])

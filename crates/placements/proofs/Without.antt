@@ -56,7 +56,7 @@ leaves_member member (person ∷ people) distinct one = elim one [
       | inr deeper ↦ apart others far.1 deeper e
     ]
 
--- what stands at a place is taken out there
+-- what is at a place is taken out there
 pub leaves_at : {X : Type 0} (xs : List X) (i : ℕ) (d : X) → i < length xs → Leaves (get_or xs i d) xs (remove xs i)
 leaves_at [] i d less = absurd (omega arith)
 leaves_at (x ∷ xs) zero d less = inl (refl, refl)
@@ -104,7 +104,7 @@ without_apart cand (person ∷ people) distinct = elim (is_numbered cand person)
       ((λ e. other (sym e)), without_apart cand people distinct.1)
 ]
 
--- whoever has another number is left
+-- a person with another number is left
 pub among_without : (cand : CandId) (person : Person) (people : List Person) → AnyByRecursion (λ other. person ≡ other) people → person.id ≢ cand
     → AnyByRecursion (λ other. person ≡ other) (without cand people)
 among_without cand person [] one other = absurd one
@@ -122,9 +122,3 @@ among_without cand person (first ∷ people) one other = elim (is_numbered cand 
 -- one fewer is left
 pub length_without : (cand : CandId) (people : List Person) → AnyByRecursion (λ member. member.id ≡ cand) people → length people ≡ suc (length (without cand people))
 length_without cand people one = let out = leaves_numbered cand people one in length_leaves out.0 people (without cand people) out.3
-
--- without a number that nobody has, all are left
-pub without_none : (cand : CandId) (people : List Person) → AllByRecursion (λ other. cand ≢ other.id) people → without cand people ≡ people
-without_none cand [] none = refl
-without_none cand (person ∷ people) none =
-    without_later cand person people (λ e. none.0 (sym e)) ∙ ap (λ (l : List Person). person ∷ l) (without_none cand people none.1)

@@ -3,7 +3,7 @@ use Rattle.std.proofs.Common.{◌≡◌, ℕ, zero, suc, List, [], ◌∷◌, So
 use Rattle.std.specs.Prelude.{slice_get}
 use Rattle.std.specs.List.{AllZip}
 
--- what stands at a place of the first list has its mate in the second
+-- what is at a place of the first list has its mate in the second
 pub zip_at : {A B : Type 0} (R : A → B → Type 0) (xs : List A) (ys : List B) (j : ℕ) (x : A) → AllZip R xs ys → slice_get xs j ≡ Some x → (y : B) × (slice_get ys j ≡ Some y) × R x y
 zip_at R [] ys j x all at = absurd (cc)
 zip_at R (z ∷ xs) [] j x all at = absurd all
@@ -25,7 +25,7 @@ zip_length R [] (y ∷ ys) all = absurd all
 zip_length R (x ∷ xs) [] all = absurd all
 zip_length R (x ∷ xs) (y ∷ ys) all = ap suc (zip_length R xs ys all.1)
 
--- what stands at one place of both is related
+-- what is at one place of both is related
 pub zipped : {A B : Type 0} (R : A → B → Type 0) (xs : List A) (ys : List B) (n : ℕ) (x : A) (y : B) → AllZip R xs ys → slice_get xs n ≡ Some x → slice_get ys n ≡ Some y → R x y
 zipped R xs ys n x y all first second =
     let found = zip_at R xs ys n x all first in

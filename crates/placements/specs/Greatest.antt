@@ -14,7 +14,7 @@ pub record IsGreatest (protections : Protections) (people : List Person) (number
   pub reached : (slots : List (Option ℕ)) × AreSlots protections people slots × (filled slots ≡ number)
   pub most : (slots : List (Option ℕ)) → AreSlots protections people slots → filled slots ≤ number
 
--- the same, where the first of the people stands nowhere or on a trait below a bound
+-- the same, where the first of the people is placed nowhere or on a trait below a bound
 pub record IsGreatestBelow (bound : ℕ) (protections : Protections) (person : Person) (people : List Person) (number : ℕ) : Type 0 where
   pub reached : (slots : List (Option ℕ)) × AreSlots protections (person ∷ people) slots × (filled slots ≡ number)
   pub nowhere : (slots : List (Option ℕ)) → AreSlots protections people slots → filled slots ≤ number

@@ -1,5 +1,5 @@
 -- One set held against another, by the numbers that they honour.
-use Rattle.std.proofs.Common.{◌≡◌, ◌<◌, ◌≤◌, ℕ, List, subst, arith, All}
+use Rattle.std.proofs.Common.{◌≡◌, ◌≤◌, ℕ, List, subst, arith, All}
 use Rattle.std.proofs.lemmas.List.Elements.{All-weaker, recursion_from_All}
 use Rattle.office_base.specs.Lists.{IsSublist}
 use Rattle.office_base.specs.Placement.{IsHonoured}
@@ -13,19 +13,6 @@ use Rattle.plain_choice.proofs.EachSublist.{sublists_of-only, sublists_of-each}
 
 module _ (step : Step) (set other : List Person) (number others_number : ℕ)
     (honours : IsHonoured step.protections set number) (other_honours : IsHonoured step.protections other others_number) where
-  -- a set that honours more is as good
-  pub IsAsGood-from_more : others_number < number → IsAsGood step set other
-  IsAsGood-from_more more = record {
-    most = λ m n h k.
-        let em = honoured-one _ _ m others_number h other_honours in
-        let en = honoured-one _ _ n number k honours in
-        omega arith;
-    best = λ m h k.
-        let em = honoured-one _ _ m others_number h other_honours in
-        let en = honoured-one _ _ m number k honours in
-        absurd (omega arith);
-  }
-
   -- a set that honours as many is as good where it is no worse
   pub IsAsGood-from_no_worse : others_number ≡ number → IsNoWorse step.list set other → IsAsGood step set other
   IsAsGood-from_no_worse same no_worse = record {
@@ -44,7 +31,7 @@ module _ (step : Step) (set other : List Person) (number others_number : ℕ)
   pub honours_no_fewer : IsAsGood step set other → others_number ≤ number
   honours_no_fewer good = good.most others_number number other_honours honours
 
--- a set that stands against every set of the people is the choice
+-- a set that holds against every set of the people is the choice
 pub IsStepChoice-from_all : (step : Step) (set : List Person) → MayAdmit step set → All (StandsAgainst step set) (sublists_of step.people) → IsStepChoice step set
 IsStepChoice-from_all step set may all =
     let each = sublists_of-each step.people (StandsAgainst step set) (recursion_from_All (StandsAgainst step set) (sublists_of step.people) all) in
@@ -54,7 +41,7 @@ IsStepChoice-from_all step set may all =
       best = λ other m admitted h k. (each other admitted.people admitted.seats).best m h k;
     }
 
--- the choice stands against every set of the people
+-- the choice holds against every set of the people
 pub stands-from_choice : (step : Step) (set : List Person) → IsStepChoice step set → All (StandsAgainst step set) (sublists_of step.people)
 stands-from_choice step set choice = All-weaker (λ other. IsSublist other step.people) (StandsAgainst step set)
     (λ other people seats.

@@ -1,4 +1,4 @@
--- Whom a step chooses stands as its people do.
+-- Whom a step chooses is in the order of its people.
 use Rattle.std.proofs.Common.{◌≡◌, List, Option, Some, None, sym, subst}
 use Rattle.std.specs.Prelude.{MatchOption}
 use Rattle.office_base.specs.Lists.{IsSublist}

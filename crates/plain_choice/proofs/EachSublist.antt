@@ -1,9 +1,10 @@
 -- `sublists_of` has each sublist, and nothing else.
-use Rattle.std.proofs.Common.{◌≡◌, List, [], ◌∷◌, ◌++◌, map, refl, sym, subst, inl, inr, ⊎_elim, All}
+use Rattle.std.proofs.Common.{◌≡◌, List, [], ◌∷◌, map, refl, sym, subst, inl, inr, ⊎_elim, All}
 use Rattle.std.proofs.lemmas.List.Elements.{All-append, All-map, All-nil, All-cons, All-weaker}
 use Rattle.std.specs.List.{AllByRecursion}
 use Rattle.office_base.specs.Lists.{IsSublist}
 use Rattle.office_base.specs.declared.person.Person.{Person}
+use Rattle.office_base.proofs.Lists.{all_left, all_right}
 use Rattle.plain_choice.specs.Sublists.{sublists_of}
 
 -- with one more in front on both sides it is a sublist still
@@ -19,16 +20,6 @@ sublists_of-only (person ∷ people) =
     All-append P (sublists_of people) (map (λ set. person ∷ set) (sublists_of people))
     (All-weaker (λ set. IsSublist set people) P (λ set h. inl h) (sublists_of people) only)
     (All-map P (λ set. person ∷ set) (sublists_of people) (All-weaker (λ set. IsSublist set people) (λ set. P (person ∷ set)) (sublist-cons person people) (sublists_of people) only))
-
--- what holds of both lists, joined, holds of the first
-all_left : {X : Type 0} (P : X → Type 0) (xs ys : List X) → AllByRecursion P (xs ++ ys) → AllByRecursion P xs
-all_left P [] ys h = tt
-all_left P (x ∷ xs) ys h = (h.0, all_left P xs ys h.1)
-
--- and of the second
-all_right : {X : Type 0} (P : X → Type 0) (xs ys : List X) → AllByRecursion P (xs ++ ys) → AllByRecursion P ys
-all_right P [] ys h = h
-all_right P (x ∷ xs) ys h = all_right P xs ys h.1
 
 -- what holds of each image holds of the element before
 all_before : {X : Type 0} (P : X → Type 0) (f : X → X) (xs : List X) → AllByRecursion P (map f xs) → AllByRecursion (λ x. P (f x)) xs

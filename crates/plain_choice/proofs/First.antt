@@ -1,5 +1,5 @@
 -- The first of the longest placements, person by person.
-use Rattle.std.proofs.Common.{◌≡◌, ◌≢◌, ◌-◌, ◌+◌, ◌≤◌, ◌<◌, ◌⊎◌, ℕ, suc, cond, eqb, List, [], ◌∷◌, ◌++◌, length, get_or, take, drop, Option, Some, None, IsTrue, refl, sym, le_trans, ◌∙◌, ap, subst, ⊎_elim, inl, inr, append_assoc, append-nil, arith}
+use Rattle.std.proofs.Common.{◌≡◌, ◌≢◌, ◌-◌, ◌+◌, ◌≤◌, ◌<◌, ◌⊎◌, ℕ, suc, cond, eqb, List, [], ◌∷◌, ◌++◌, length, get_or, take, drop, Option, Some, None, IsTrue, refl, sym, le_trans, ◌∙◌, ap, subst, ⊎_elim, inl, inr, append_assoc, arith}
 use Rattle.std.proofs.lemmas.Bool.{cases_eq, cases_lt, cases_order, eq-eqb, cond-true}
 use Rattle.std.proofs.lemmas.List.{get_or_past}
 use Rattle.office_base.specs.Certificate.{AreNoLater, IsCanonical, slots_of}
@@ -25,7 +25,7 @@ greatest-one left people m n h k =
     let en : filled k.reached.0 ≡ n = k.reached.2 in
     omega arith
 
--- a trait on which somebody stands has a position
+-- a trait on which somebody is placed has a position
 room-from_slots : (left : Protections) (people : List Person) (t : ℕ) (slots : List (Option ℕ)) → AreSlots left people (Some t ∷ slots) → 0 < protected left t
 room-from_slots left people t slots stand =
     let one : ◌≡◌ {A = ℕ} (cond (eqb t t) 1 0) 1 = cond-true (eqb t t) 1 0 (eq-eqb t t refl) in
@@ -33,7 +33,7 @@ room-from_slots left people t slots stand =
     omega arith
 
 module _ (left : Protections) (person : Person) (others : List Person) (number t : ℕ) (below : StandsOnNoneBelow t left (person ∷ others) number) where
-  -- a trait on which the person may not stand is no better
+  -- a trait on which the person may not be placed is no better
   pub StandsOnNoneBelow-passed : (IsTrue (has_trait person.traits t) → 0 < protected left t → ⊥) → StandsOnNoneBelow (suc t) left (person ∷ others) number
   StandsOnNoneBelow-passed cannot s slots l stand = ⊎_elim
       (λ (e : s ≡ t).
@@ -55,7 +55,7 @@ module _ (left : Protections) (person : Person) (others : List Person) (number t
       (λ (e : s ≢ t). below s slots (omega arith) stand)
       (cases_eq s t)
 
--- with all traits behind, the person stands nowhere
+-- with all traits behind, the person is placed nowhere
 pub StandsNowhere-from_below : (left : Protections) (people : List Person) (number bound : ℕ) → length left.counts ≤ bound → IsGreatest left people number
     → StandsOnNoneBelow bound left people number → StandsNowhere left people
 StandsNowhere-from_below left people number bound all greatest below other t slots h stand = ⊎_elim
@@ -69,20 +69,7 @@ StandsNowhere-from_below left people number bound all greatest below other t slo
     absurd (omega arith))
     (cases_lt t bound)
 
--- nobody fills no slot
-most_nobody : (left : Protections) (others : List (Option ℕ)) → AreSlots left [] others → filled others ≤ 0
-most_nobody left [] stand = omega arith
-most_nobody left (slot ∷ slots) stand = absurd stand.held
-
--- the first placement of nobody
-pub IsFirst-nobody : (left : Protections) → IsFirst left [] []
-IsFirst-nobody left = record {
-  stand = record { held = tt; within = λ t. omega arith };
-  most = most_nobody left;
-  first = λ others stand e. tt;
-}
-
--- the person on the smallest trait stands no later than in other slots with as many on positions
+-- the person on the smallest trait is placed no later than in other slots with as many on positions
 first_somewhere : (left : Protections) (person : Person) (others : List Person) (t : ℕ) (slots : List (Option ℕ)) (smallest : IsFirstStand left (person ∷ others) t)
     → IsFirst (one_less left t) others slots → filled slots ≡ smallest.2.0
     → (other : List (Option ℕ)) → AreSlots left (person ∷ others) other → filled other ≡ suc (filled slots) → AreNoLater (Some t ∷ slots) other
@@ -99,7 +86,7 @@ first_somewhere left person others t slots smallest h same (Some s ∷ other) st
     k)
     (cases_order t s)
 
--- the first person on the smallest trait, and the others as they stand first on what is left
+-- the first person on the smallest trait, and the others as they are placed first on what is left
 pub IsFirst-somewhere : (left : Protections) (person : Person) (others : List Person) (t : ℕ) (slots : List (Option ℕ))
     → IsFirstStand left (person ∷ others) t → IsFirst (one_less left t) others slots → IsFirst left (person ∷ others) (Some t ∷ slots)
 IsFirst-somewhere left person others t slots smallest h =
@@ -113,7 +100,7 @@ IsFirst-somewhere left person others t slots smallest h =
       first = first_somewhere left person others t slots smallest h same;
     }
 
--- where the first person stands nowhere, the others fill as many as all
+-- if the first person is placed nowhere, the others fill as many as all
 others_fill_all : (left : Protections) (person : Person) (others : List Person) (slots : List (Option ℕ)) (number : ℕ) → IsGreatest left (person ∷ others) number
     → StandsNowhere left (person ∷ others) → IsFirst left others slots
     → (other : List (Option ℕ)) → AreSlots left (person ∷ others) other → filled other ≡ number → number ≤ filled slots
@@ -125,7 +112,7 @@ others_fill_all left person others slots number greatest nowhere h (Some t ∷ o
     let fewer = nowhere number t other greatest stand in
     absurd (omega arith)
 
--- the person nowhere stands no later than in other slots with as many on positions
+-- the person nowhere is placed no later than in other slots with as many on positions
 first_nowhere : (left : Protections) (person : Person) (others : List Person) (slots : List (Option ℕ)) (number : ℕ) → IsGreatest left (person ∷ others) number
     → StandsNowhere left (person ∷ others) → IsFirst left others slots → number ≤ filled slots
     → (other : List (Option ℕ)) → AreSlots left (person ∷ others) other → filled other ≡ filled slots → AreNoLater (None ∷ slots) other
@@ -136,7 +123,7 @@ first_nowhere left person others slots number greatest nowhere h enough (Some t 
     let fewer = nowhere number t other greatest stand in
     absurd (omega arith)
 
--- the first person nowhere, and the others as they stand first
+-- the first person nowhere, and the others as they are placed first
 pub IsFirst-nowhere : (left : Protections) (person : Person) (others : List Person) (slots : List (Option ℕ))
     → StandsNowhere left (person ∷ others) → IsFirst left others slots → IsFirst left (person ∷ others) (None ∷ slots)
 IsFirst-nowhere left person others slots nowhere h =
@@ -172,7 +159,7 @@ IsCanonical-from_first left people slots apart h = record {
 abbrev pub HasFirst : Protections → List Person → List Pair → List Pair → Type 0
 HasFirst left people before after = (slots : List (Option ℕ)) × IsFirst left people slots × (after ≡ before ++ pairs_of people slots)
 
--- the first person stands nowhere, so the pairs of the others are those of all
+-- the first person is placed nowhere, so the pairs of the others are those of all
 pub HasFirst-nowhere : (left : Protections) (people : List Person) (before after : List Pair) → 0 < length people → StandsNowhere left people
     → HasFirst left (take (length people - 1) (drop 1 people)) before after → HasFirst left people before after
 HasFirst-nowhere left [] before after some nowhere h = absurd (omega arith)
@@ -182,7 +169,7 @@ HasFirst-nowhere left (person ∷ people) before after some nowhere h =
     let P : List Person → Type 0 = λ l. StandsNowhere left l → HasFirst left l before after in
     subst P (sym e) (λ k. (None ∷ h.0, IsFirst-nowhere left person others h.0 k h.1, h.2)) nowhere
 
--- the first person's pair stands before those of the others on what is left
+-- the first person's pair comes before those of the others on what is left
 pub HasFirst-somewhere : (left rest : Protections) (people : List Person) (d : Person) (t : ℕ) (before between after : List Pair) → 0 < length people
     → IsFirstStand left people t → rest ≡ one_less left t → between ≡ before ++ record { cand = (get_or people 0 d).id; slot = t } ∷ []
     → HasFirst rest (take (length people - 1) (drop 1 people)) between after → HasFirst left people before after
@@ -194,7 +181,3 @@ HasFirst-somewhere left rest people d t before between after some smallest e pus
     let pair : Pair = record { cand = person.id; slot = t } in
     let joined : after ≡ before ++ (pair ∷ pairs_of others h.0) = h.2 ∙ ap (λ (l : List Pair). l ++ pairs_of others h.0) pushed ∙ append_assoc before (pair ∷ []) (pairs_of others h.0) in
     subst P (sym (first_and_rest people d some)) (λ k. (Some t ∷ h.0, IsFirst-somewhere left person others t h.0 k first, joined)) smallest
-
--- the slots of nobody are first, and they have no pairs
-pub HasFirst-nobody : (left : Protections) (pairs : List Pair) → HasFirst left [] pairs pairs
-HasFirst-nobody left pairs = ([], IsFirst-nobody left, sym (append-nil pairs))

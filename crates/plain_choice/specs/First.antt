@@ -1,4 +1,4 @@
--- The first of the longest placements, told by slots, and the trait of the first person there.
+-- The first of the longest placements, as slots, and the trait of the first person there.
 use Rattle.std.specs.Prelude.{◌≡◌, ◌≤◌, ◌<◌, ℕ, suc, List, [], ◌∷◌, Option, Some, IsTrue}
 use Rattle.office_base.specs.Certificate.{AreNoLater}
 use Rattle.office_base.specs.Person.{has_trait}
@@ -18,11 +18,11 @@ pub record IsFirst (left : Protections) (people : List Person) (slots : List (Op
 abbrev pub StandsOnNoneBelow : ℕ → Protections → List Person → ℕ → Type 0
 StandsOnNoneBelow bound left people number = (t : ℕ) (slots : List (Option ℕ)) → t < bound → AreSlots left people (Some t ∷ slots) → suc (filled slots) < number
 
--- in no longest placement the first person stands on a trait
+-- in no longest placement the first person is placed on a trait
 abbrev pub StandsNowhere : Protections → List Person → Type 0
 StandsNowhere left people = (number t : ℕ) (slots : List (Option ℕ)) → IsGreatest left people number → AreSlots left people (Some t ∷ slots) → suc (filled slots) < number
 
--- the smallest trait on which the first person stands in a longest placement
+-- the smallest trait on which the first person is placed in a longest placement
 abbrev pub IsFirstStand : Protections → List Person → ℕ → Type 0
 IsFirstStand left [] t = ⊥
 IsFirstStand left (person ∷ others) t = IsTrue (has_trait person.traits t) × (0 < protected left t)

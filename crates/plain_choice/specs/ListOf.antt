@@ -1,4 +1,4 @@
--- What the list of a step tells.
+-- What the list of a step shows.
 use Rattle.std.specs.Prelude.{◌≡◌, length}
 use Rattle.office_base.specs.Certificate.{IsCanonical}
 use Rattle.office_base.specs.StepChoice.{IsStepChoice}

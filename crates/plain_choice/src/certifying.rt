@@ -12,8 +12,8 @@ use crate::placing::{greatest, left_after};
 use office_base::{OutOfMemory, Pair, Pairs, Person, Protections};
 use std::alloc::Global;
 
-/// The pairs of the first of the longest placements of the people, who stand in merit order. `OutOfMemory` leaves nothing
-/// behind.
+/// Returns the pairs of the first of the longest placements of the people, who are in merit order. `OutOfMemory`
+/// leaves nothing behind.
 pub fn canonical(
     alloc: Global,
     people: &[Person],
@@ -31,7 +31,8 @@ pub fn canonical(
 /// Adds the pairs of the first of the longest placements of the people on what is left.
 fn push_first(pairs: &mut Pairs, people: &[Person], left: Protections) -> Result<(), OutOfMemory>
     requires { AllByRecursion (λ person. IsTraitSet person.traits) people.now }
-    ensures { OnOk result ((slots : _) × IsFirst left people.now slots × (pairs.new ≡ pairs.old ++ pairs_of people.now slots)) }
+    ensures { OnOk result ((slots : _) × IsFirst left people.now slots
+        × (pairs.new ≡ pairs.old ++ pairs_of people.now slots)) }
 {
     let [person, others @ ..] = people else {
         return Ok(());
@@ -48,8 +49,8 @@ fn push_first(pairs: &mut Pairs, people: &[Person], left: Protections) -> Result
     }
 }
 
-/// The smallest trait on which the first person stands in a longest placement, and what is left for the others.
-/// `None` says that the person stands nowhere in each of them.
+/// Returns the smallest trait on which the first person is placed in a longest placement, and what is left for the
+/// others. `None` says that the person is placed nowhere in each of them.
 fn first_stand(people: &[Person], left: Protections) -> Option<(u8, Protections)>
     requires { AllByRecursion (λ person. IsTraitSet person.traits) people.now }
     ensures nowhere { IfNone result (StandsNowhere left people.now) }

@@ -10,8 +10,8 @@ use crate::sublists::{is_same, is_sublist, sublists};
 use office_base::{ListId, OutOfMemory, People, Person, Step, better};
 use std::alloc::Global;
 
-/// Whether the chosen are what the step admits: a set of its people within the seats that stands against every other.
-/// `OutOfMemory` leaves nothing behind.
+/// Returns whether the chosen are what the step admits: a set of its people within the seats that holds against every
+/// other. `OutOfMemory` leaves nothing behind.
 pub fn is_choice(alloc: Global, step: &Step, chosen: &[Person]) -> Result<bool, OutOfMemory>
     requires { IsStep step.now }
     ensures { IfOk result (λ yes. IsTrue yes ↔ IsStepChoice step.now chosen.now) }
@@ -27,7 +27,8 @@ pub fn is_choice(alloc: Global, step: &Step, chosen: &[Person]) -> Result<bool, 
 /// `OutOfMemory` leaves nothing behind.
 pub fn choice(alloc: Global, step: &Step) -> Result<Option<People>, OutOfMemory>
     requires { IsStep step.now }
-    ensures { IfOk result (λ found. MatchOption found ((set : _) → ¬ IsStepChoice step.now set) (λ set. IsStepChoice step.now set)) }
+    ensures { IfOk result (λ found. MatchOption found ((set : _)
+        → ¬ IsStepChoice step.now set) (λ set. IsStepChoice step.now set)) }
 {
     for set in sublists(alloc, step.people.as_slice())? {
         if is_choice(alloc, step, set.as_slice())? {

@@ -15,7 +15,7 @@ use std::alloc::Global;
 pub struct PlainList {
     pub kind: StepKind,
     pub seats: u32,
-    /// How many people stand for the seats.
+    /// How many people compete for the seats.
     pub candidates: usize,
     pub admitted: People,
     pub pairs: Pairs,
@@ -24,7 +24,8 @@ pub struct PlainList {
 /// The list of a step: whom it admits of all sets of its people, and the first of the longest placements of those. `None` says that
 /// this is no step, or that no set is its choice. `OutOfMemory` leaves nothing behind.
 pub fn list_of(alloc: Global, kind: StepKind, step: &Step) -> Result<Option<PlainList>, OutOfMemory>
-    ensures { IfOk result (λ found. MatchOption found (IsStep step.now → (set : List AnyPerson) → ¬ IsStepChoice step.now set) (IsListOf kind step.now)) }
+    ensures { IfOk result (λ found. MatchOption found (IsStep step.now → (set : List AnyPerson)
+        → ¬ IsStepChoice step.now set) (IsListOf kind step.now)) }
 {
     if !is_step(step) {
         return Ok(None);

@@ -8,7 +8,8 @@ ghost use Rattle.placements.specs.Greatest.{one_less, IsGreatest};
 
 use office_base::{Person, Protections};
 
-/// The number of protections that the people honour. It takes no memory, and time that doubles with each person or more.
+/// Returns the number of protections that the people honour. Allocates nothing, and takes time that doubles with each
+/// person or more.
 pub fn honoured(people: &[Person], protections: &Protections) -> usize
     requires distinct { AreDistinct people.now }
     requires traits { AllByRecursion (λ person. IsTraitSet person.traits) people.now }
@@ -18,12 +19,14 @@ pub fn honoured(people: &[Person], protections: &Protections) -> usize
     greatest(people, *protections)
 }
 
-/// What is left once the person stands on a position of the trait, if the person holds the trait and it has one left.
+/// Returns what is left once the person fills a position of the trait, if the person holds the trait and a position
+/// of it is left.
 pub(crate) fn left_after(left: Protections, person: &Person, t: u8) -> Option<Protections>
     requires number { t < 6 }
     requires traits { IsTraitSet person.now.traits }
     ensures stands { IfSome result (λ rest. rest ≡ one_less left t) }
-    ensures exact { IsSome result ↔ (IsTrue (has_trait person.now.traits t) × (0 < protected left t)) }
+    ensures exact { IsSome result
+        ↔ (IsTrue (has_trait person.now.traits t) × (0 < protected left t)) }
 {
     let at = usize::from(t);
     if !person.traits.has(t) || left.counts[at] == 0 {
@@ -34,8 +37,8 @@ pub(crate) fn left_after(left: Protections, person: &Person, t: u8) -> Option<Pr
     Some(rest)
 }
 
-/// The greatest number of the people on positions, where these are left: the first of them stands nowhere, or on a trait
-/// held that has a position, which is not there for the others.
+/// Returns the greatest number of the people on positions, when these positions are left. The first person is placed
+/// nowhere, or on a trait that they hold and that has a position. The others cannot have that position.
 pub(crate) fn greatest(people: &[Person], left: Protections) -> usize
     requires { AllByRecursion (λ person. IsTraitSet person.traits) people.now }
     ensures number { IsGreatest left people.now result }

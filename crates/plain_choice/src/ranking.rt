@@ -32,8 +32,8 @@ fn are_ranked(list: ListId, people: &[Person]) -> bool
 /// Whether the person is better than each of the others, and none of them.
 fn is_ahead_of_all(list: ListId, person: &Person, others: &[Person]) -> bool
     requires { IsList list }
-    ensures { IsTrue result
-        ↔ (AllByRecursion (IsBetter list person.now) others.now × AllByRecursion (λ other. person.now.id ≢ other.id) others.now) }
+    ensures { IsTrue result ↔ (AllByRecursion (IsBetter list person.now) others.now
+        × AllByRecursion (λ other. person.now.id ≢ other.id) others.now) }
 {
     let [other, rest @ ..] = others else {
         return true;

@@ -137,7 +137,7 @@ IsLeastBound-passed protections person people most traits pass least = record {
   met = (least.met.0, least.met.1, (let none = one_or_none (is_within person.traits least.met.0) in omega (arith, least.met.2)));
 }
 
--- it is one less where a person stands on a trait without loss, and was not 0
+-- it is one less, and was not 0, if a person is placed on a trait without loss
 pub IsLeastBound-taken : (protections : Protections) (person : Person) (people : List Person) (most t : ℕ) → length protections.counts ≡ 6 → MayTake protections people most person.traits t
     → IsLeastBound protections (person ∷ people) most → (0 < most) × IsLeastBound (one_less protections t) people (most - 1)
 IsLeastBound-taken protections person people most t six take least =

@@ -1,4 +1,4 @@
--- Two canonical certificates of the same people have the same slots, and the slots along the people tell the pairs.
+-- Two canonical certificates of the same people have the same slots, and the slots along the people decide the pairs.
 use Rattle.std.proofs.Common.{◌≡◌, ◌≢◌, ℕ, List, [], ◌∷◌, length, map, Option, Some, None, refl, sym, ◌∙◌, ap, ap₂, subst, inl, inr, le_antisymm, arith}
 use Rattle.std.specs.List.{AllByRecursion}
 use Rattle.office_base.specs.Certificate.{slot_of, slots_of, IsEarlierSlot, AreNoLater}
@@ -53,7 +53,7 @@ slot_of-later : (cand : CandId) (people : List Person) (pairs : List Pair) → A
 slot_of-later cand people pairs apart order = slot_of-none cand pairs
     (apart-pairs cand pairs (AllByRecursion-sublist (λ (other : CandId). cand ≢ other) _ _ order (apart-cands cand people apart)))
 
--- pairs that stand in the order of distinct people are those of their slots
+-- pairs in the order of distinct people are those of their slots
 pairs_of-slots_of : (people : List Person) (pairs : List Pair) → AreDistinct people
     → IsSublist (map (λ pair. pair.cand) pairs) (map (λ person. person.id) people) → pairs_of people (slots_of pairs people) ≡ pairs
 pairs_of-slots_of [] [] distinct order = refl

@@ -1,4 +1,4 @@
--- How many pairs stand on the positions of a trait.
+-- How many pairs are on the positions of a trait.
 use Rattle.std.proofs.Common.{◌≡◌, ◌≢◌, ℕ, ◌+◌, ◌<◌, ◌≤◌, Bool, true, false, cond, eqb, List, [], ◌∷◌, refl, sym, ⊎_elim, arith}
 use Rattle.std.specs.List.{count_by, AllByRecursion}
 use Rattle.std.proofs.lemmas.Bool.{both_ways, cases_lt, ne_eqb}
@@ -27,7 +27,7 @@ slot-held (person ∷ people) pair traits held = ⊎_elim
     (λ fills. ⊎_elim (λ low. low) (λ high. absurd (both_ways (has_trait person.traits pair.slot) (has_trait-high person.traits pair.slot traits.0 high) fills.1)) (cases_lt pair.slot 6))
     (λ later. slot-held people pair traits.1 later) held
 
--- held pairs stand on no trait from 6 on
+-- held pairs are on no trait from 6 on
 placed_on-high : (people : List Person) (pairs : List Pair) → AllByRecursion (λ person. IsTraitSet person.traits) people → AllByRecursion (λ pair. AnyByRecursion (Fills pair) people) pairs → (t : ℕ) → 6 ≤ t → placed_on t pairs ≡ 0
 placed_on-high people [] traits held t high = refl
 placed_on-high people (pair ∷ pairs) traits held t high =

@@ -1,4 +1,4 @@
--- The steps of the search: what its bounds are told by numbers, before and after a person.
+-- The steps of the search: its bounds by their numbers, before and after a person.
 use Rattle.std.proofs.Common.{◌≡◌, ◌<◌, ◌≤◌, ◌+◌, ◌-◌, ℕ, Bool, true, false, List, ◌∷◌, length, get_or, set, None, MatchBool, ◌∙◌, inr, ⊎_elim, arith}
 use Rattle.std.proofs.lemmas.Bool.{cases_Bool}
 use Rattle.std.proofs.lemmas.List.{get_or-set_same, get_or-set_other}
@@ -19,7 +19,7 @@ use Rattle.slot_cert.specs.declared.canonical.Search.{Search}
 use Rattle.slot_cert.proofs.First.{six-one_less}
 use Rattle.slot_cert.proofs.Least.{bound-one_less, IsLeastBound-passed, IsLeastBound-taken}
 
--- one bound more is told
+-- one bound more is known
 pub bounds_more : (bounds : List ℕ) (protections : Protections) (people : List Person) (i value : ℕ) → i < length bounds
     → ((n : ℕ) → n < i → get_or bounds n 0 ≡ bound (record { 0 = n }) protections people) → value ≡ bound (record { 0 = i }) protections people
     → (n : ℕ) → n < i + 1 → get_or (set bounds i value) n 0 ≡ bound (record { 0 = n }) protections people
@@ -28,7 +28,7 @@ bounds_more bounds protections people i value within before here =
     (λ n l. get_or-set_other bounds i n value 0 (λ e. omega arith) ∙ before n l)
     (get_or-set_same bounds i value 0 within ∙ here)
 
--- the least of the bounds, told by numbers
+-- the least of the bounds, by their numbers
 pub IsLeastBound-numbered : (bounds : List ℕ) (protections : Protections) (people : List Person) (most : ℕ) → AreBounds bounds protections people
     → ((n : ℕ) → n < 64 → most ≤ get_or bounds n 0) → ((n : ℕ) × (n < 64) × (get_or bounds n 0 ≡ most)) → IsLeastBound protections people most
 IsLeastBound-numbered bounds protections people most are below met = record {
@@ -36,7 +36,7 @@ IsLeastBound-numbered bounds protections people most are below met = record {
   met = (record { 0 = met.0 }, met.1, omega (arith, are met.0 met.1, met.2));
 }
 
--- a trait held with a position left may be taken or must be passed, as the bounds tell
+-- a trait held with a position left may be taken or must be passed, as the bounds show
 pub takes_or_passes : (bounds : List ℕ) (room : Protections) (rest : List Person) (most : ℕ) (traits : TraitSet) (t : ℕ) (kept : Bool) → t < 6 → AreBounds bounds room rest
     → has_trait traits t ≡ true → 0 < protected room t
     → MatchBool kept ((n : ℕ) → n < 64 → has_trait (record { 0 = n }) t ≡ true → most ≤ get_or bounds n 0)

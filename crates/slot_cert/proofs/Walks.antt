@@ -33,7 +33,7 @@ Any-take_or_drop P zero xs h = inr h
 Any-take_or_drop P (suc n) [] h = absurd h
 Any-take_or_drop P (suc n) (x ∷ xs) h = ⊎_elim (λ p. inl (inl p)) (λ r. ⊎_elim (λ a. inl (inr a)) (λ b. inr b) (Any-take_or_drop P n xs r)) h
 
--- Nobody left has it, and a search tells it of the first ones: so it tells it of all.
+-- Nobody left has it, and a search decides it for the first ones: so it decides it for all.
 pub Any-else_first : {X : Type 0} (P : X → Type 0) (n : ℕ) (xs : List X) (found : Option ℕ) → (AnyByRecursion P (drop n xs) → ⊥) → MatchOption found (AnyByRecursion P (take n xs) → ⊥) (λ _. AnyByRecursion P (take n xs)) → MatchOption found (AnyByRecursion P xs → ⊥) (λ _. AnyByRecursion P xs)
 Any-else_first P n xs None rest first = λ h. ⊎_elim first rest (Any-take_or_drop P n xs h)
 Any-else_first P n xs (Some at) rest first = Any-from_take P n xs first

@@ -1,5 +1,5 @@
 -- The way down the people: the pairs so far, and what is left.
-use Rattle.std.proofs.Common.{◌≡◌, ◌-◌, ℕ, List, [], ◌∷◌, ◌++◌, length, Option, Some, None, refl, sym, ◌∙◌, subst, append_assoc}
+use Rattle.std.proofs.Common.{◌≡◌, ◌-◌, ℕ, List, [], ◌∷◌, ◌++◌, length, Option, Some, None, sym, ◌∙◌, subst, append_assoc}
 use Rattle.std.proofs.lemmas.List.{append-nil}
 use Rattle.office_base.specs.Certificate.{IsCanonical}
 use Rattle.std.specs.List.{AllByRecursion}
@@ -22,14 +22,6 @@ pub record IsOnTheWay (protections : Protections) (people : List Person) (pairs 
   pub least : IsLeastBound protections people start
   pub way : (slots : List (Option ℕ)) → AreFirstSlots room rest most slots
       → (all : List (Option ℕ)) × AreFirstSlots protections people start all × (pairs_of people all ≡ pairs ++ pairs_of rest slots)
-
--- nobody is placed yet
-pub IsOnTheWay-start : (protections : Protections) (people : List Person) (most : ℕ) → IsLeastBound protections people most → IsOnTheWay protections people [] protections people most
-IsOnTheWay-start protections people most least = record {
-  start = most;
-  least = least;
-  way = λ slots first. (slots, first, refl);
-}
 
 -- the next one is passed over
 pub IsOnTheWay-passed : (protections : Protections) (people : List Person) (pairs : List Pair) (room : Protections) (person : Person) (rest : List Person) (most : ℕ)

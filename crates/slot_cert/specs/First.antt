@@ -1,5 +1,5 @@
--- The first of the longest placements, down the people: each stands on the first trait that leaves as many to be placed
--- as before.
+-- The first of the longest placements, down the people: each is placed on the first trait that leaves as many to be
+-- placed as before.
 use Rattle.std.specs.Prelude.{◌≡◌, ◌<◌, ◌≤◌, ◌-◌, ◌⊎◌, ℕ, true, false, List, [], ◌∷◌, Option, Some, None, IsTrue}
 use Rattle.office_base.specs.Person.{has_trait}
 use Rattle.office_base.specs.Placement.{protected}
@@ -17,7 +17,7 @@ Keeps protections people most t = (set : TraitSet) → set.0 < 64 → has_trait 
 abbrev pub Loses : Protections → List Person → ℕ → ℕ → Type 0
 Loses protections people most t = (set : TraitSet) × (set.0 < 64) × (has_trait set t ≡ true) × (bound set protections people < most)
 
--- a person with these traits stands on this one without loss: it is held, and a position of it is left
+-- a person with these traits can be placed on this one without loss: it is held, and a position of it is left
 pub record MayTake (protections : Protections) (people : List Person) (most : ℕ) (traits : TraitSet) (t : ℕ) : Type 0 where
   pub held : IsTrue (has_trait traits t)
   pub left : 0 < protected protections t
@@ -27,7 +27,7 @@ pub record MayTake (protections : Protections) (people : List Person) (most : �
 abbrev pub MustPass : Protections → List Person → ℕ → TraitSet → ℕ → Type 0
 MustPass protections people most traits t = (has_trait traits t ≡ false) ⊎ ((protected protections t ≡ 0) ⊎ Loses protections people most t)
 
--- the first trait on which a person with these traits stands without loss, or None
+-- the first trait on which a person with these traits can be placed without loss, or None
 abbrev pub IsFirstChoice : Protections → List Person → ℕ → TraitSet → Option ℕ → Type 0
 IsFirstChoice protections people most traits None = (t : ℕ) → t < 6 → MustPass protections people most traits t
 IsFirstChoice protections people most traits (Some t) = (t < 6) × MayTake protections people most traits t × ((s : ℕ) → s < t → MustPass protections people most traits s)

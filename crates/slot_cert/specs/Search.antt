@@ -5,7 +5,7 @@ use Rattle.placements.specs.Greatest.{one_less}
 use Rattle.slot_cert.specs.Bounds.{AreBounds, IsLeastBound}
 use Rattle.slot_cert.specs.declared.canonical.Search.{Search}
 
--- the search stands in front of these people
+-- the search is in front of these people
 pub record IsSearch (search : Search) (people : List Person) : Type 0 where
   pub six : length search.room.counts ≡ 6
   pub bounds : AreBounds search.bounds search.room people

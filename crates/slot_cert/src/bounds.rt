@@ -34,8 +34,10 @@ pub(crate) fn least(bounds: &[usize; 64]) -> usize
 
 /// Takes a person out of the bounds that count the person.
 pub(crate) fn leave(bounds: &mut [usize; 64], traits: TraitSet)
-    requires { (n : ℕ) → n < 64 → (if is_within traits (record { 0 = n }) then 0 else 1) ≤ slice_index bounds.old n }
-    ensures { (n : ℕ) → n < 64 → (if is_within traits (record { 0 = n }) then 0 else 1) + slice_index bounds.new n ≡ slice_index bounds.old n }
+    requires { (n : ℕ) → n < 64
+        → (if is_within traits (record { 0 = n }) then 0 else 1) ≤ slice_index bounds.old n }
+    ensures { (n : ℕ) → n < 64 → (if is_within traits (record { 0 = n }) then 0 else 1)
+        + slice_index bounds.new n ≡ slice_index bounds.old n }
 {
     for n in 0..64 {
         if !is_within(traits, TraitSet(n)) {
@@ -47,8 +49,10 @@ pub(crate) fn leave(bounds: &mut [usize; 64], traits: TraitSet)
 /// Takes a position of a trait out of the bounds that count it.
 pub(crate) fn take(bounds: &mut [usize; 64], t: u8)
     requires trait_number { t < 6 }
-    requires counted { (n : ℕ) → n < 64 → (if has_trait (record { 0 = n }) t then 1 else 0) ≤ slice_index bounds.old n }
-    ensures { (n : ℕ) → n < 64 → (if has_trait (record { 0 = n }) t then 1 else 0) + slice_index bounds.new n ≡ slice_index bounds.old n }
+    requires counted { (n : ℕ) → n < 64
+        → (if has_trait (record { 0 = n }) t then 1 else 0) ≤ slice_index bounds.old n }
+    ensures { (n : ℕ) → n < 64 → (if has_trait (record { 0 = n }) t then 1 else 0)
+        + slice_index bounds.new n ≡ slice_index bounds.old n }
 {
     for n in 0..64 {
         if TraitSet(n).has(t) {
@@ -60,8 +64,9 @@ pub(crate) fn take(bounds: &mut [usize; 64], t: u8)
 /// Whether no set with the trait has a bound below this number.
 pub(crate) fn keeps(bounds: &[usize; 64], most: usize, t: u8) -> bool
     requires { t < 6 }
-    ensures { MatchBool result ((n : ℕ) → n < 64 → has_trait (record { 0 = n }) t ≡ true → most ≤ slice_index bounds.now n)
-        ((n : ℕ) × (n < 64) × (has_trait (record { 0 = n }) t ≡ true) × (slice_index bounds.now n < most)) }
+    ensures { MatchBool result ((n : ℕ) → n < 64 → has_trait (record { 0 = n }) t ≡ true
+        → most ≤ slice_index bounds.now n) ((n : ℕ) × (n < 64)
+        × (has_trait (record { 0 = n }) t ≡ true) × (slice_index bounds.now n < most)) }
 {
     for n in 0..64 {
         if TraitSet(n).has(t) && bounds[usize::from(n)] < most {

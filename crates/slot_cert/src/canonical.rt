@@ -11,8 +11,8 @@ use office_base::{OutOfMemory, Pair, Pairs, Person, Protections, TraitSet};
 use placements::positions;
 use std::alloc::Global;
 
-/// The pairs of the certificate of the admitted, who stand in merit order: the longest placement there is, and of
-/// those the first, where a smaller trait number comes before a larger one and no trait comes last.
+/// Returns the pairs of the certificate of the admitted, who are in merit order: the longest placement there is, and
+/// of those the first, where a smaller trait number comes before a larger one and no trait comes last.
 pub fn canonical_pairs(
     alloc: Global,
     admitted: &[Person],
@@ -72,13 +72,15 @@ impl Search {
         }
     }
 
-    /// Places the next person on the first trait that leaves as many to be placed as before, if there is one, and
-    /// stands in front of those who follow.
+    /// Places the next person on the first trait that leaves as many to be placed as before, if there is one. Then
+    /// the search is in front of those who follow.
     fn place(&mut self, person: &Person) -> Option<u8>
         requires traits { IsTraitSet person.now.traits }
         requires search { (rest : List Person) × IsSearch self.old (person.now ∷ rest) }
-        ensures choice { (rest : List Person) → IsSearch self.old (person.now ∷ rest) → IsFirstChoice self.old.room rest self.old.most person.now.traits result }
-        ensures search { (rest : List Person) → IsSearch self.old (person.now ∷ rest) → IsSearch self.new rest }
+        ensures choice { (rest : List Person) → IsSearch self.old (person.now ∷ rest)
+            → IsFirstChoice self.old.room rest self.old.most person.now.traits result }
+        ensures search { (rest : List Person) → IsSearch self.old (person.now ∷ rest)
+            → IsSearch self.new rest }
         ensures moves { Moves self.old result self.new }
     {
         leave(&mut self.bounds, person.traits);
@@ -91,10 +93,11 @@ impl Search {
         slot
     }
 
-    /// The first trait on which a person with these traits stands without loss to those who follow.
+    /// Returns the first trait on which a person with these traits can be placed without loss to those who follow.
     fn choose(&self, traits: TraitSet) -> Option<u8>
         requires traits { IsTraitSet traits }
-        ensures { (rest : List Person) → AreBounds self.now.bounds self.now.room rest → IsFirstChoice self.now.room rest self.now.most traits result }
+        ensures { (rest : List Person) → AreBounds self.now.bounds self.now.room rest
+            → IsFirstChoice self.now.room rest self.now.most traits result }
     {
         for t in 0..6 {
             if self.may_take(traits, t) {
@@ -104,12 +107,13 @@ impl Search {
         None
     }
 
-    /// Whether a person with these traits stands on this one without loss to those who follow.
+    /// Returns whether a person with these traits can be placed on this trait without loss to those who follow.
     fn may_take(&self, traits: TraitSet, t: u8) -> bool
         requires traits { IsTraitSet traits }
         requires trait_number { t < 6 }
         ensures { (rest : List Person) → AreBounds self.now.bounds self.now.room rest
-            → MatchBool result (MayTake self.now.room rest self.now.most traits t) (MustPass self.now.room rest self.now.most traits t) }
+            → MatchBool result (MayTake self.now.room rest self.now.most traits t)
+            (MustPass self.now.room rest self.now.most traits t) }
     {
         traits.has(t) && self.room.counts[usize::from(t)] > 0 && keeps(&self.bounds, self.most, t)
     }

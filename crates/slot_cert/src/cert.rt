@@ -7,15 +7,15 @@ ghost use Rattle.office_base.specs.Placement.{Fills, IsPlacement, placed_on, pro
 
 use office_base::{Pair, Pairs, Person, Protections, TraitSet};
 
-/// The pairs that a certificate shows: who stands on which protected position.
+/// Holds the pairs that a certificate shows: who fills which protected position.
 #[derive(Debug, Drop)]
 pub struct Cert {
     pub pairs: Pairs,
 }
 
 impl Cert {
-    /// Whether the pairs place some of the admitted on the protected positions. The admitted may be any list of
-    /// persons, and the pairs any pairs: a slot from 6 on is held by nobody. It takes no memory.
+    /// Returns whether the pairs place some of the admitted on the protected positions. The admitted may be any list
+    /// of persons, and the pairs any pairs: nobody holds a slot from 6 on. Allocates nothing.
     pub fn check(&self, protections: &Protections, admitted: &[Person]) -> bool
         requires { AllByRecursion (λ person. IsTraitSet person.traits) admitted.now }
         ensures { IsTrue result ↔ IsPlacement protections.now admitted.now self.now.pairs }
@@ -51,7 +51,8 @@ fn holds(traits: TraitSet, t: u8) -> bool
 fn first_filled(pair: &Pair, people: &[Person]) -> Option<usize>
     requires { AllByRecursion (λ person. IsTraitSet person.traits) people.now }
     ensures within { MatchOption result (Unit {0}) (λ at. at < length people.now) }
-    ensures found { MatchOption result (AnyByRecursion (Fills pair.now) people.now → ⊥) (λ _. AnyByRecursion (Fills pair.now) people.now) }
+    ensures found { MatchOption result (AnyByRecursion (Fills pair.now) people.now
+        → ⊥) (λ _. AnyByRecursion (Fills pair.now) people.now) }
 {
     for (at, person) in people.iter().enumerate() {
         if fills(pair, person) {
@@ -64,7 +65,8 @@ fn first_filled(pair: &Pair, people: &[Person]) -> Option<usize>
 /// Whether each pair is of one of the people, who holds its trait. Pairs in the order of the people take one walk.
 fn are_held(pairs: &[Pair], people: &[Person]) -> bool
     requires { AllByRecursion (λ person. IsTraitSet person.traits) people.now }
-    ensures { IsTrue result ↔ AllByRecursion (λ pair. AnyByRecursion (Fills pair) people.now) pairs.now }
+    ensures { IsTrue result
+        ↔ AllByRecursion (λ pair. AnyByRecursion (Fills pair) people.now) pairs.now }
 {
     let mut next = 0;
     for pair in pairs {
@@ -81,7 +83,8 @@ fn first_filled_from(pair: &Pair, people: &[Person], next: usize) -> Option<usiz
     requires traits { AllByRecursion (λ person. IsTraitSet person.traits) people.now }
     requires within { next ≤ length people.now }
     ensures within { MatchOption result (Unit {0}) (λ at. at < length people.now) }
-    ensures found { MatchOption result (AnyByRecursion (Fills pair.now) people.now → ⊥) (λ _. AnyByRecursion (Fills pair.now) people.now) }
+    ensures found { MatchOption result (AnyByRecursion (Fills pair.now) people.now
+        → ⊥) (λ _. AnyByRecursion (Fills pair.now) people.now) }
 {
     match first_filled(pair, &people[next..]) {
         Some(at) => Some(next + at),
@@ -96,7 +99,7 @@ fn is_alone(pair: &Pair, others: &[Pair]) -> bool
     others.iter().all(|other| other.cand != pair.cand)
 }
 
-/// Whether nobody stands in two of the pairs.
+/// Returns whether nobody is in two of the pairs.
 fn stand_once(pairs: &[Pair]) -> bool
     ensures { IsTrue result ↔ Pairwise (λ a b. a.cand ≢ b.cand) pairs.now }
 {
@@ -108,16 +111,17 @@ fn stand_once(pairs: &[Pair]) -> bool
     true
 }
 
-/// How many of the pairs stand on positions of a trait.
+/// Returns how many of the pairs are on positions of a trait.
 fn count_on(pairs: &[Pair], t: u8) -> usize
     ensures { result ≡ placed_on t pairs.now }
 {
     pairs.iter().filter(|pair| pair.slot == t).count()
 }
 
-/// Whether no trait, of the numbers 0 to 5, stands in more pairs than it has positions.
+/// Returns whether no trait, of the numbers 0 to 5, is in more pairs than it has positions.
 fn are_within(pairs: &[Pair], protections: &Protections) -> bool
-    ensures { IsTrue result ↔ ((t : ℕ) → t < 6 → placed_on t pairs.now ≤ protected protections.now t) }
+    ensures { IsTrue result
+        ↔ ((t : ℕ) → t < 6 → placed_on t pairs.now ≤ protected protections.now t) }
 {
     for t in 0..6 {
         if count_on(pairs, t) > usize::from(protections.counts[usize::from(t)]) {

@@ -1,4 +1,4 @@
-// What holds of certificates themselves, whoever makes them.
+// Laws of certificates themselves, for any maker.
 ghost use Rattle.slot_cert.specs.Laws.{OneCertificate, SlotsAreTraits};
 
 /// People have one canonical certificate at most.

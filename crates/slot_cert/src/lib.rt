@@ -1,9 +1,9 @@
 // Certificates: which protections a list of persons fills.
 //
-// `Cert::check` tells exactly whether pairs place some of the admitted on the protected positions, and
-// `canonical_pairs` writes the one certificate that is shown: the first of the longest placements, down the merit
-// order. Whoever publishes a step or checks one stands on it. It knows of persons, pairs and protections alone,
-// never of seats, of how the admitted were chosen, or of programmes.
+// `Cert::check` returns whether pairs place some of the admitted on the protected positions. `canonical_pairs` writes
+// the one certificate that is shown: the first of the longest placements, down the merit order. Every crate that
+// publishes or checks a step depends on it. It knows of persons, pairs and protections alone. It never knows of
+// seats, of how the admitted were chosen, or of programmes.
 #![tactic(auto)]
 
 mod bounds;

@@ -10,10 +10,10 @@ use Rattle.office_base.specs.declared.person.CandId.{CandId}
 use Rattle.office_base.specs.declared.person.ListId.{ListId}
 use Rattle.office_base.specs.declared.person.Person.{Person}
 use Rattle.office_base.specs.declared.person.TraitSet.{TraitSet}
+use Rattle.office_base.proofs.Lists.{all_push}
 use Rattle.placements.specs.Demand.{is_within}
 use Rattle.placements.specs.Ranks.{without}
 use Rattle.placements.proofs.Without.{length_without}
-use Rattle.placements.proofs.Replace.{all_push}
 use Rattle.placements.proofs.Merit.{ahead_again, not_ahead}
 use Rattle.slot_matching.specs.Members.{IsWorstWithin}
 

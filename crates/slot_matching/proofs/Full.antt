@@ -21,7 +21,7 @@ both_left a b = within_bits (both a b) a (λ i. let bits = bit_at_and a.0 b.0 i 
 pub both_right : (a b : TraitSet) → is_within (both a b) b ≡ true
 both_right a b = within_bits (both a b) b (λ i. let bits = bit_at_and a.0 b.0 i in omega arith)
 
--- the set is told by its number
+-- only the number of the set matters
 same_set : (n : ℕ) (m : ℕ) (traits : TraitSet) → m ≡ n → is_within traits (record { 0 = n }) ≡ true → is_within traits (record { 0 = m }) ≡ true
 same_set n m traits e h = subst (λ (k : ℕ). is_within traits (record { 0 = k }) ≡ true) (sym e) h
 

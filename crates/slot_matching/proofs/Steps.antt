@@ -10,14 +10,15 @@ use Rattle.office_base.specs.Placement.{IsHonoured}
 use Rattle.office_base.specs.declared.person.TraitSet.{TraitSet}
 use Rattle.office_base.specs.declared.person.Person.{Person}
 use Rattle.office_base.specs.declared.step.Protections.{Protections}
+use Rattle.office_base.proofs.Lists.{all_push}
 use Rattle.placements.specs.Demand.{is_within, asking, positions}
 use Rattle.placements.specs.Ranks.{CanBePlaced}
 use Rattle.placements.proofs.Hall.{NoneShort, one_if, one_if_true, one_if_false, placed_where_none_short, none_short_where_placed}
 use Rattle.placements.proofs.Ranks.{no_more_than_people}
-use Rattle.placements.proofs.Replace.{asking_push, all_push, pairwise_push}
+use Rattle.placements.proofs.Replace.{asking_push, pairwise_push}
 use Rattle.slot_matching.specs.Kept.{Kept, with_member, MayJoin, IsKept, IsSpare, IsCounted, all_traits}
 
--- whoever holds some of the six traits asks within all of them
+-- a person who holds some of the six traits asks within all of them
 pub within_all : (traits : TraitSet) → IsTraitSet traits → is_within traits all_traits ≡ true
 within_all traits small = eq-eqb (bit_and traits.0 63) traits.0 (and_mask traits.0 6 ∙ omega arith)
 
@@ -81,7 +82,7 @@ pub all_placed : (kept : Kept) (spare : List ℕ) (size : ℕ) → IsCounted kep
 all_placed kept spare size counted =
     placed_where_none_short kept.protections kept.members counted.distinct counted.traits (none_short kept.protections kept.members spare counted.left)
 
--- what is kept, told without the counts
+-- what is kept, without the counts
 pub kept_where : (kept : Kept) (spare : List ℕ) (size : ℕ) → IsCounted kept spare size → IsKept kept
 kept_where kept spare size counted = record {
   list = counted.list;

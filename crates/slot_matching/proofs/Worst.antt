@@ -49,7 +49,7 @@ cannot_replace kept person member spare size set counted may least is_member out
     (let left = counted.left.left set.0 least.small in let none = least.full in omega (arith, left, none))
     least.holds outside can
 
--- what holds of each of the members holds of each, told with who it is
+-- what holds of each of the members as a member holds of each
 each_member : (P : Person → Type 0) (members : List Person) → ((member : Person) → AnyByRecursion (λ other. member ≡ other) members → P member) → AllByRecursion P members
 each_member P [] each = tt
 each_member P (member ∷ members) each = (each member (inl refl), each_member P members (λ other one. each other (inr one)))
@@ -126,7 +126,7 @@ replace_within kept person spare size set counted may least =
       (λ inside. can_replace kept person member spare size set counted may least is_member inside),
     ))
 
--- What the least full set tells of a person, where there is one.
+-- What the least full set shows of a person, if there is one.
 pub told_by : (kept : Kept) (person : Person) (spare : List ℕ) (size : ℕ) (set : Option TraitSet) → IsCounted kept spare size → MayJoin kept person
     → IsLeastOf 64 spare person.traits set → IsReplaceable kept person set
 told_by kept person spare size None counted may has = can_join kept person spare size counted may has

@@ -21,8 +21,8 @@ IsWorstFor kept person (Some cand) = (worst : Person) × (worst.id ≡ cand) × 
     × CanReplace kept person worst
     × AllByRecursion (λ member. CanReplace kept person member → (member ≡ worst) ⊎ IsBetter kept.list member worst) kept.members
 
--- The person joins the members exactly where the members can all be placed with the person; else they stay as they were, and the worst
--- whom the person can replace is told.
+-- The person joins the members if and only if all members can be placed together with the person. Otherwise the
+-- members stay unchanged, and the answer names the worst whom the person can replace.
 abbrev pub IsAugmented : Kept → Person → Augment → Kept → Type 0
 IsAugmented before person Raised after =
     CanBePlaced before.protections (with_member before person).members × (after ≡ with_member before person)

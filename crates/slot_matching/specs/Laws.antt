@@ -1,5 +1,5 @@
--- Laws of the numbers honoured and of people who can all be placed at once, over the definitions alone. The lists may stand in any order:
--- where one has to have the people of another, each of the other's is among its own.
+-- Laws of the numbers honoured and of people who can all be placed at once, over the definitions alone. The lists may
+-- be in any order: where one must have the people of another, each of the other's is among its own.
 use Rattle.std.specs.Prelude.{◌≡◌, ◌≢◌, ◌≤◌, ◌<◌, ◌+◌, ◌⊎◌, ◌↔◌, ℕ, suc, List, [], ◌∷◌, ◌++◌, length}
 use Rattle.std.specs.List.{AllByRecursion}
 use Rattle.office_base.specs.Lists.{IsAmong, IsSublist}

@@ -15,7 +15,7 @@ IsWorstWithin list set members None = AllByRecursion (λ member. is_within membe
 IsWorstWithin list set members (Some worst) = IsAmong worst members × (is_within worst.traits set ≡ true)
     × AllByRecursion (λ member. is_within member.traits set ≡ true → ¬ IsBetter list worst member) members
 
--- the number of whoever was found
+-- the number of the person who was found, if there is one
 abbrev pub id_of : Option Person → Option CandId
 id_of None = None
 id_of (Some person) = Some person.id

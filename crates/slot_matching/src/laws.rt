@@ -11,7 +11,7 @@ pub fn extension()
     ensures { ExtensionLaw }
 {}
 
-/// The order in which people stand does not matter.
+/// States that the order of the people does not matter.
 pub fn any_order()
     ensures { AnyOrderLaw }
 {}

@@ -56,7 +56,8 @@ impl Matching {
     ) -> Result<Matching, OutOfMemory>
         requires few { sum protections.counts ≤ 65535 }
         requires list { IsList list }
-        ensures { IfOk result (λ matching. matching ≡ record { protections = protections; list = list; members = [] }) }
+        ensures { IfOk result (λ matching.
+            matching ≡ record { protections = protections; list = list; members = [] }) }
     {
         let spare = all_spare(&protections);
         let room = positions(&protections, TraitSet(63));
@@ -72,14 +73,15 @@ impl Matching {
     /// memory, looks at no member, and stops at the first set of traits that shows that they cannot.
     pub fn raises(&self, person: &Person) -> bool
         requires { MayJoin self.now person.now }
-        ensures { IsTrue result ↔ CanBePlaced self.now.protections (with_member self.now person.now).members }
+        ensures { IsTrue result
+            ↔ CanBePlaced self.now.protections (with_member self.now person.now).members }
     {
         has_spare(&self.spare, person.traits)
     }
 
-    /// In whose place the person can be kept, where the members cannot all be placed with the person: in that of each member who
-    /// holds no trait outside this set. None where they can, so that `augment` would answer `Raised`. It takes no memory, and
-    /// looks at no member.
+    /// Returns in whose place the person can be kept, if the members cannot all be placed with the person: in that of
+    /// each member who holds no trait outside this set. `None` if they can, so that `augment` would answer `Raised`.
+    /// Allocates nothing, and looks at no member.
     pub fn replaceable(&self, person: &Person) -> Option<TraitSet>
         requires { MayJoin self.now person.now }
         ensures { IsReplaceable self.now person.now result }
@@ -87,8 +89,8 @@ impl Matching {
         least_full(&self.spare, person.traits)
     }
 
-    /// Keeps the person too, where all members can then still be placed. Whoever stands on a position may be moved to
-    /// another; nobody leaves. Else it tells the worst member whom the person can replace. It takes no memory.
+    /// Keeps the person too, if all members can then still be placed. A member on a position may be moved to another
+    /// position; nobody leaves. Otherwise returns the worst member whom the person can replace. Allocates nothing.
     pub fn augment(&mut self, person: &Person) -> Augment
         requires { MayJoin self.old person.now }
         ensures done { IsAugmented self.old person.now result self.new }
@@ -110,7 +112,8 @@ impl Matching {
     pub fn exchange(&mut self, out: CandId, person: &Person)
         requires may { MayJoin self.old person.now }
         requires member { AnyByRecursion (λ member. member.id ≡ out) self.old.members }
-        requires placed { CanBePlaced self.old.protections (without out self.old.members ++ person.now ∷ []) }
+        requires placed { CanBePlaced self.old.protections
+            (without out self.old.members ++ person.now ∷ []) }
         ensures done { self.new ≡ with_member (without_member self.old out) person.now }
         ensures kept { IsKept self.new }
     {

@@ -10,10 +10,13 @@ ghost use Rattle.office_base.specs.declared.person.Person.{Person};
 use office_base::{CandId, ListId, Person, TraitSet, better};
 use placements::is_within;
 
-/// The place of the first member with this number, counted from 0. Some, since one of the members has it. It takes no memory.
+/// Returns the place of the first member with this number, counted from 0. It is `Some`, since one of the members has
+/// the number. Allocates nothing.
 pub fn place_of(members: &[Person], cand: CandId) -> Option<usize>
     requires { AnyByRecursion (λ member. member.id ≡ cand) members.now }
-    ensures { MatchOption result ⊥ (λ at. (at < length members.now) × (remove members.now at ≡ without cand members.now) × ((d : Person) → (slice_index_or members.now at d).id ≡ cand)) }
+    ensures { MatchOption result ⊥ (λ at. (at < length members.now)
+        × (remove members.now at ≡ without cand members.now)
+        × ((d : Person) → (slice_index_or members.now at d).id ≡ cand)) }
 {
     for (at, member) in members.iter().enumerate() {
         if member.id == cand {
@@ -40,7 +43,8 @@ pub(crate) fn worst_within(members: &[Person], list: ListId, set: TraitSet) -> O
 /// Whether the member is worse than the worst so far, or is the first.
 fn is_next_worst(worst: &Option<Person>, member: &Person, list: ListId) -> bool
     requires { IsList list }
-    ensures { MatchOption worst.now (result ≡ true) (λ other. IsTrue result ↔ IsBetter list other member.now) }
+    ensures { MatchOption worst.now (result ≡ true) (λ other.
+        IsTrue result ↔ IsBetter list other member.now) }
 {
     match worst {
         None => true,
@@ -48,7 +52,7 @@ fn is_next_worst(worst: &Option<Person>, member: &Person, list: ListId) -> bool
     }
 }
 
-/// The number of whoever was found.
+/// Returns the number of the person who was found, if there is one.
 pub(crate) fn id_of(found: Option<Person>) -> Option<CandId>
     ensures { result ≡ id_of found }
 {

@@ -16,7 +16,8 @@ pub(crate) const SETS: u8 = 64;
 pub(crate) fn all_spare(protections: &Protections) -> [u16; 64]
     requires { sum protections.now.counts ≤ 65535 }
     ensures sets { length result ≡ 64 }
-    ensures left { (m : ℕ) → m < 64 → slice_index result m ≡ positions protections.now (record { 0 = m }) }
+    ensures left { (m : ℕ) → m < 64
+        → slice_index result m ≡ positions protections.now (record { 0 = m }) }
 {
     let mut spare = [0; 64];
     for set in 0..SETS {
@@ -93,7 +94,8 @@ pub(crate) fn take_spare(spare: &mut [u16], traits: TraitSet)
     requires sets { length spare.old ≡ 64 }
     requires some { HasSpareBelow 64 spare.old traits }
     ensures sets { length spare.new ≡ 64 }
-    ensures taken { (m : ℕ) → m < 64 → slice_index spare.new m + (if is_within traits (record { 0 = m }) then 1 else 0) ≡ slice_index spare.old m }
+    ensures taken { (m : ℕ) → m < 64 → slice_index spare.new m
+        + (if is_within traits (record { 0 = m }) then 1 else 0) ≡ slice_index spare.old m }
 {
     for set in 0..SETS {
         if is_within(traits, TraitSet(set)) {
@@ -105,9 +107,11 @@ pub(crate) fn take_spare(spare: &mut [u16], traits: TraitSet)
 /// Gives one back to each set that holds these traits.
 pub(crate) fn give_spare(spare: &mut [u16], traits: TraitSet)
     requires sets { length spare.old ≡ 64 }
-    requires room { (m : ℕ) → m < 64 → IsTrue (is_within traits (record { 0 = m })) → slice_index spare.old m < 65535 }
+    requires room { (m : ℕ) → m < 64 → IsTrue (is_within traits (record { 0 = m }))
+        → slice_index spare.old m < 65535 }
     ensures sets { length spare.new ≡ 64 }
-    ensures given { (m : ℕ) → m < 64 → slice_index spare.new m ≡ slice_index spare.old m + (if is_within traits (record { 0 = m }) then 1 else 0) }
+    ensures given { (m : ℕ) → m < 64 → slice_index spare.new m
+        ≡ slice_index spare.old m + (if is_within traits (record { 0 = m }) then 1 else 0) }
 {
     for set in 0..SETS {
         if is_within(traits, TraitSet(set)) {

@@ -4,7 +4,7 @@ use Rattle.merit_choice.proofs.Halves.{before_worse, place_met}
 use Rattle.merit_choice.proofs.Places.{IsBefore, among_at, else_better}
 use Rattle.merit_choice.proofs.held.place_among.Goals as goal
 
--- before one who is worse the person stands among all
+-- before one who is worse the person's place is the place among all
 pub loop-low-preserved : goal.loop-low-preserved
 loop-low-preserved c =
     let list = c.args.list in

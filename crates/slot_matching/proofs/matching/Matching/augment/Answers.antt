@@ -14,7 +14,7 @@ use Rattle.slot_matching.proofs.matching.Matching.augment.Goals as goal
 pub least_full-requires-clause-closed : goal.least_full-requires-clause-closed
 least_full-requires-clause-closed c = closed_spare c.self.inside.protections c.self.inside.members.items c.self.inside.spare c.self.invariant.left
 
--- a set without one to spare shows that the person cannot be placed with the members, and tells whom the person can replace
+-- a set without one to spare shows that the person cannot be placed with the members, and whom the person can replace
 pub returns-in-Some-clause-done : goal.returns-in-Some-clause-done
 returns-in-Some-clause-done c =
     let kept : Kept = record { protections = c.self.inside.protections; list = c.self.inside.list; members = c.self.inside.members.items } in

@@ -9,7 +9,7 @@ use Rattle.slot_matching.proofs.matching.Matching.replaceable.Goals as goal
 pub least_full-requires-clause-closed : goal.least_full-requires-clause-closed
 least_full-requires-clause-closed c = closed_spare c.self.inside.protections c.self.inside.members.items c.self.inside.spare c.self.invariant.left
 
--- the least set with nothing to spare tells whom the person can replace
+-- the least set with nothing to spare shows whom the person can replace
 pub returns : goal.returns
 returns c =
     let kept : Kept = record { protections = c.self.inside.protections; list = c.self.inside.list; members = c.self.inside.members.items } in
