@@ -35,7 +35,7 @@ answer_is_written answers left failed answer result before after broke made caus
     told_is_written (IsTextOf answers left) (status_of answer) result (text_of answer) before after broke (text_of_answer answers left failed answer made cause) told
 
 -- if the sink did not fail, the status is that of the text
-status_is_told : (status result : Status) (text : List ℕ) (before after : Option (List ℕ)) (broke : Type 0) → IsTold status text before after broke result → (broke → ⊥) → result ≡ status
+pub status_is_told : (status result : Status) (text : List ℕ) (before after : Option (List ℕ)) (broke : Type 0) → IsTold status text before after broke result → (broke → ⊥) → result ≡ status
 status_is_told status result text before after broke told held = elim told [ inl whole ↦ whole.0 | inr cut ↦ absurd (held cut.1) ]
 
 -- visible bytes without faults have no fault's line, and visible bytes with a fault have no output

@@ -10,21 +10,24 @@ use office_base::{Sink, Text, write_whole};
 
 /// Writes the line that reports that memory ran out.
 pub fn tell_no_memory<K: Sink>(sink: &mut K) -> Status
-    ensures { Told Status.OutOfMemory memory_line (sink_of K.Sink sink.old) (sink_of K.Sink sink.new) result }
+    ensures { Told Status.OutOfMemory memory_line
+        (sink_of K.Sink sink.old) (sink_of K.Sink sink.new) result }
 {
     write_answer(sink, b"fault: memory\n", Status::OutOfMemory)
 }
 
 /// Writes the line that reports that the keeper failed.
 pub fn tell_keeper_fault<K: Sink>(sink: &mut K) -> Status
-    ensures { Told Status.KeeperFault keeper_line (sink_of K.Sink sink.old) (sink_of K.Sink sink.new) result }
+    ensures { Told Status.KeeperFault keeper_line
+        (sink_of K.Sink sink.old) (sink_of K.Sink sink.new) result }
 {
     write_answer(sink, b"fault: keeper\n", Status::KeeperFault)
 }
 
 /// Writes the answer of a command, or why there is none, and returns its status.
 pub fn finish<K: Sink>(sink: &mut K, answer: Result<Text, Failure>) -> Status
-    ensures { Told (status_of answer) (text_of answer) (sink_of K.Sink sink.old) (sink_of K.Sink sink.new) result }
+    ensures { Told (status_of answer) (text_of answer)
+        (sink_of K.Sink sink.old) (sink_of K.Sink sink.new) result }
 {
     match answer {
         Ok(text) => write_answer(sink, text.as_slice(), Status::Ok),
@@ -34,7 +37,8 @@ pub fn finish<K: Sink>(sink: &mut K, answer: Result<Text, Failure>) -> Status
 
 /// Writes why there is no answer, and returns the status of that.
 pub fn tell_failure<K: Sink>(sink: &mut K, failure: Failure) -> Status
-    ensures { Told (status_of (Err failure)) (text_of (Err failure)) (sink_of K.Sink sink.old) (sink_of K.Sink sink.new) result }
+    ensures { Told (status_of (Err failure)) (text_of (Err failure))
+        (sink_of K.Sink sink.old) (sink_of K.Sink sink.new) result }
 {
     match failure {
         Failure::Bad(line) => write_answer(sink, line.as_slice(), Status::BadInput),

@@ -43,7 +43,8 @@ impl<R: Read> Source for StandardInput<R> {
         ensures blamed { Fails (IsErr result) self.old.faults self.new.faults }
         // what the reader gives is what is read: its end is reported only if nothing is left in it;
         // a failure is one fault more, and takes nothing
-        ensures bytes { ReadConsumes (R.remaining self.old.reader) (R.remaining self.new.reader) result buf.new }
+        ensures bytes { ReadConsumes (R.remaining self.old.reader)
+            (R.remaining self.new.reader) result buf.new }
         ensures raised { OnErr result (self.new.faults ≡ counted self.old.faults) }
     {
         match self.reader.read(buf) {
@@ -91,7 +92,8 @@ impl<W: Write + Drop> StandardOutput<W> {
     pub fn finish(self) -> (W, Result<(), Failed>)
         ensures steady { OnOk result.1 (self.faults ≡ 0) }
         // all that was held follows what the writer had, in order and once
-        ensures whole { OnOk result.1 (Keeps (given_or_held W.contents self) (W.contents result.0)) }
+        ensures whole { OnOk result.1
+            (Keeps (given_or_held W.contents self) (W.contents result.0)) }
         // otherwise a front of it does; if a write failed before, nothing more is passed on
         ensures front { AreFront (W.contents result.0) (given_or_held W.contents self) }
         ensures given_up { 0 < self.faults → result.0 ≡ inner_writer self }
@@ -116,8 +118,10 @@ impl<W: Write + Drop> StandardOutput<W> {
         ensures within { IfOk result (λ n. n ≤ length piece.now) }
         ensures faults { self.new.faults ≡ self.old.faults }
         ensures at_once { self.new.at_once ≡ self.old.at_once }
-        ensures bytes { IfOk result (λ n. Appends (given_or_held W.contents self.old) (given_or_held W.contents self.new) (take n piece.now)) }
-        ensures front { AppendsFront (given_or_held W.contents self.old) (given_or_held W.contents self.new) piece.now }
+        ensures bytes { IfOk result (λ n. Appends (given_or_held W.contents self.old)
+            (given_or_held W.contents self.new) (take n piece.now)) }
+        ensures front { AppendsFront (given_or_held W.contents self.old)
+            (given_or_held W.contents self.new) piece.now }
         ensures seen { OnOk result (self.old.at_once ≡ true → held self.new ≡ []) }
     {
         let count = self.writer.write(piece)?;
@@ -156,7 +160,8 @@ impl<W: Write + Drop> Sink for StandardOutput<W> {
 /// The status says whether it took the whole line.
 pub fn tell_unheld<W: Write>(writer: &mut W) -> Status
     ensures status { (result ≡ status.OutOfMemory) ⊎ (result ≡ status.WriteFault) }
-    ensures bytes { result ≡ status.OutOfMemory → Appends (W.contents writer.old) (W.contents writer.new) memory_line }
+    ensures bytes { result ≡ status.OutOfMemory
+        → Appends (W.contents writer.old) (W.contents writer.new) memory_line }
 {
     match writer.write_all(b"fault: memory\n") {
         Ok(()) => Status::OutOfMemory,

@@ -16,7 +16,8 @@ use step_sheet::{SheetError, SheetFault, SheetKind, fault_text, read_sheet, step
 
 /// Returns the output of `step` for the sheet that the source gives.
 pub fn step_answer<S: Source>(alloc: Global, source: &mut S) -> Result<Text, Failure>
-    ensures { Answer step_answers (source_of S.Source source.old) (source_of S.Source source.new) result }
+    ensures { Answer step_answers (source_of S.Source source.old)
+        (source_of S.Source source.new) result }
 {
     let step = step_input(alloc, source)?;
     Ok(list_of(alloc, &step)?)
@@ -24,7 +25,8 @@ pub fn step_answer<S: Source>(alloc: Global, source: &mut S) -> Result<Text, Fai
 
 /// Reads the input of `step`: the step of the sheet that the source gives.
 fn step_input<S: Source>(alloc: Global, source: &mut S) -> Result<Step, Failure>
-    ensures read { Reads step_answers IsLeftSheet (source_of S.Source source.old) (source_of S.Source source.new) result }
+    ensures read { Reads step_answers IsLeftSheet (source_of S.Source source.old)
+        (source_of S.Source source.new) result }
     ensures sound { IfOk result IsSoundStep }
 {
     match read_whole(alloc, source, MOST_SHEET_BYTES) {
@@ -75,7 +77,8 @@ fn sheet_failure(alloc: Global, fault: &SheetFault) -> Failure
 
 /// Returns the failure that reports too many bytes of a sheet.
 fn too_long(alloc: Global) -> Failure
-    ensures { (bytes : List ℕ) → most_sheet_bytes < length bytes → IsInputFailure step_answers bytes result }
+    ensures { (bytes : List ℕ) → most_sheet_bytes < length bytes
+        → IsInputFailure step_answers bytes result }
 {
     sheet_failure(
         alloc,

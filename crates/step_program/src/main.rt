@@ -1,7 +1,8 @@
 // The program for the command `step` alone, over standard input and output.
 //
-// It is what ./office becomes for that command where the whole program is not proved yet: it stands on few crates, so its proof is short. Its answer is
-// that of the whole program, which stands on the same `step_answer`. Nothing stands on this crate.
+// ./office becomes this program for that command if the whole program is not proved yet. It depends on few crates, so
+// its proof is short. Its answer is that of the whole program, which depends on the same `step_answer`. Nothing
+// depends on this crate.
 #![tactic(auto)]
 
 use command_answers::{Status, finish, tell_no_memory, write_answer};

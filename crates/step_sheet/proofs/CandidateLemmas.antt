@@ -15,12 +15,13 @@ use Rattle.office_base.specs.declared.person.CandId.{CandId}
 use Rattle.office_base.specs.declared.person.Person.{Person}
 use Rattle.office_text.specs.FirstFault.{fault_at, IsFirstFault, IsFaultless}
 use Rattle.office_base.specs.Limits.{most_candidates}
+use Rattle.office_base.proofs.Lists.{all_weaker, all_push}
 use Rattle.step_sheet.specs.declared.fault.SheetFault.{SheetFault}
 use Rattle.step_sheet.specs.declared.fault.SheetKind.{SheetKind}
 use Rattle.step_sheet.specs.Reading.{AreRead}
 use Rattle.step_sheet.specs.Sheet.{cand_of, id_of, ids_of, cand_fault, cand_judge, person_of, persons_at, people_from, IsFaultOfRows}
 
--- A row that stands at n, after the first n and before the others.
+-- A row at n, after the first n and before the others.
 pub take-at : {X : Type 0} (xs : List X) (n : ℕ) (x : X) (rest : List X) → drop n xs ≡ x ∷ rest → take (suc n) xs ≡ take n xs ++ x ∷ []
 take-at [] zero x rest e = absurd cc
 take-at [] (suc n) x rest e = absurd cc
@@ -34,7 +35,7 @@ slice_get-at [] (suc n) x rest e = absurd cc
 slice_get-at (y ∷ xs) zero x rest e = cc
 slice_get-at (y ∷ xs) (suc n) x rest e = slice_get-at xs n x rest e
 
--- The others stand after it.
+-- The others come after it.
 pub drop-at : {X : Type 0} (xs : List X) (n : ℕ) (x : X) (rest : List X) → drop n xs ≡ x ∷ rest → drop (suc n) xs ≡ rest
 drop-at [] zero x rest e = absurd cc
 drop-at [] (suc n) x rest e = absurd cc
@@ -48,7 +49,7 @@ below-at [] (suc n) x rest e = absurd cc
 below-at (y ∷ xs) zero x rest e = omega arith
 below-at (y ∷ xs) (suc n) x rest e = omega (arith, below-at xs n x rest e)
 
--- Where no row stands at n there are n at most.
+-- If there is no row at n, there are n at most.
 pub end-at : {X : Type 0} (xs : List X) (n : ℕ) → drop n xs ≡ [] → length xs ≤ n
 end-at [] n e = omega arith
 end-at (y ∷ xs) zero e = absurd cc
@@ -76,7 +77,7 @@ first_at-read lines people known line rest kind read left fault = record {
   before = read.faultless;
 }
 
--- It is told with the number of its row.
+-- It is reported with the number of its row.
 pub fault-read : (rows : List (List ℕ)) (numbers : List ℕ) (people : List Person) (known : ℕ → Bool) (line : List ℕ) (rest : List (List ℕ)) (fault : SheetFault) (after : List ℕ) → AreRead rows people known → drop (length people) rows ≡ line ∷ rest → drop (length people) numbers ≡ fault.line ∷ after → cand_fault (length people) known (cand_of line) ≡ Some fault.kind → IsFaultOfRows cand_judge rows numbers fault
 fault-read rows numbers people known line rest fault after read left told wrong = record {
   row = length people;
@@ -125,15 +126,6 @@ apart_at place (Some cand) people ids id more none =
 apart_from : (place : ℕ) (lines : List (List ℕ)) (id : CandId) → list_any (λ other. eqb other id.0) (ids_of lines) ≡ false → AllByRecursion (λ (p : Person). p.id ≢ id) (people_from place lines)
 apart_from place [] id none = tt
 apart_from place (line ∷ lines) id none = apart_at place (cand_of line) (people_from (suc place) lines) (ids_of lines) id (apart_from (suc place) lines id) none
-
--- one more at the end
-all_push : {X : Type 0} (P : X → Type 0) (xs : List X) (y : X) → AllByRecursion P xs → P y → AllByRecursion P (xs ++ y ∷ [])
-all_push P [] y all here = (here, tt)
-all_push P (x ∷ xs) y all here = (all.0, all_push P xs y all.1 here)
-
-all_weaker : {X : Type 0} (P Q : X → Type 0) (xs : List X) → ((x : X) → P x → Q x) → AllByRecursion P xs → AllByRecursion Q xs
-all_weaker P Q [] weaker all = tt
-all_weaker P Q (x ∷ xs) weaker all = (weaker x all.0, all_weaker P Q xs weaker all.1)
 
 pairwise_push : {X : Type 0} (R : X → X → Type 0) (xs : List X) (y : X) → Pairwise R xs → AllByRecursion (λ x. R x y) xs → Pairwise R (xs ++ y ∷ [])
 pairwise_push R [] y pairs all = (tt, tt)
@@ -189,11 +181,11 @@ read_more lines people known next line rest cand read left given right few set n
       faultless = λ row below. read_below lines people known line rest read left right row (omega (arith, size));
       ranked = ranked_push people (n + 1) cand read.ranked read.below set apart;
       below = rw size (all_push _ people person
-          (all_weaker _ _ people (λ (p : Person) ahead. ahead_more (number_in (record { 0 = 1 }) p) (n + 1) (suc n + 1) (omega arith) ahead) read.below)
+          (all_weaker _ _ (λ (p : Person) ahead. ahead_more (number_in (record { 0 = 1 }) p) (n + 1) (suc n + 1) (omega arith) ahead) people read.below)
           (omega arith));
     }
 
--- What stands after it is left.
+-- What comes after it is left.
 pub left_more : {X : Type 0} (rows : List X) (people : List Person) (person : Person) (row : X) (rest : List X) → drop (length people) rows ≡ row ∷ rest → drop (length (people ++ person ∷ [])) rows ≡ rest
 left_more rows people person row rest left =
     let size : length (people ++ person ∷ []) ≡ suc (length people) = length_push people person ∙ add-one (length people) in

@@ -13,23 +13,6 @@ use Rattle.step_sheet.specs.declared.fault.SheetKind.{SheetKind}
 use Rattle.step_sheet.specs.Reading.{ArePassed, AreNamed, IsErrorOfRows, IsSeatsFault, protects_next, seats_row_fault}
 use Rattle.step_sheet.specs.Sheet.{filled, numbers_from, texts_of, numbers_of, is_protect, first_fault, seats_of, protect_of, protect_fault, named_with, named_from, none_named, cand_lines, count_of, total, cand_judge, body_judge, sheet_judge, IsFaultOfRows}
 
--- An empty line is no row, and another is one.
-pub filled-empty : (text : List ℕ) (lines : List (List ℕ)) → length text ≡ 0 → filled (text ∷ lines) ≡ filled lines
-filled-empty [] lines e = refl
-filled-empty (byte ∷ text) lines e = absurd (omega arith)
-
-pub filled-some : (text : List ℕ) (lines : List (List ℕ)) → 0 < length text → filled (text ∷ lines) ≡ text ∷ filled lines
-filled-some [] lines some = absurd (omega arith)
-filled-some (byte ∷ text) lines some = refl
-
-pub numbers-empty : (n : ℕ) (text : List ℕ) (lines : List (List ℕ)) → length text ≡ 0 → numbers_from n (text ∷ lines) ≡ numbers_from (n + 1) lines
-numbers-empty n [] lines e = refl
-numbers-empty n (byte ∷ text) lines e = absurd (omega arith)
-
-pub numbers-some : (n : ℕ) (text : List ℕ) (lines : List (List ℕ)) → 0 < length text → numbers_from n (text ∷ lines) ≡ n ∷ numbers_from (n + 1) lines
-numbers-some n [] lines some = absurd (omega arith)
-numbers-some n (byte ∷ text) lines some = refl
-
 -- There is one number more than there are rows.
 numbers_from-length : (n : ℕ) (lines : List (List ℕ)) → length (numbers_from n lines) ≡ suc (length (filled lines))
 numbers_from-length n [] = refl
@@ -148,14 +131,6 @@ pub cands_end_same : (rows : List (List ℕ)) → protects_next rows ≡ false �
 cands_end_same [] other = refl
 cands_end_same (line ∷ rows) other = rw other refl
 
--- Before the first row nothing is named.
-pub named_start : (seats : ℕ) (rows : List (List ℕ)) (numbers : List ℕ) → AreNamed seats rows numbers none_named rows numbers
-named_start seats rows numbers = record {
-  passed = passed_same (body_judge seats none_named) (body_judge seats none_named) rows numbers (λ m. refl);
-  named_same = refl;
-  cands_same = refl;
-}
-
 -- One more row names its trait.
 named_more : (seats : ℕ) (rows : List (List ℕ)) (numbers : List ℕ) (named : List (Option ℕ)) (line : List ℕ) (others : List (List ℕ)) (number : ℕ) (after : List ℕ) (pair : ℕ × ℕ) → AreNamed seats rows numbers named (line ∷ others) (number ∷ after) → is_protect line ≡ true → protect_fault seats named (protect_of line) ≡ None → protect_of line ≡ Some pair → AreNamed seats rows numbers (set named pair.0 (Some pair.1)) others after
 named_more seats rows numbers named line others number after pair so_far protect right given =
@@ -182,7 +157,7 @@ all_named seats rows numbers named others after all other = ap (map count_of) (s
 pub cands_named : (seats : ℕ) (rows : List (List ℕ)) (numbers : List ℕ) (named : List (Option ℕ)) (others : List (List ℕ)) (after : List ℕ) → AreNamed seats rows numbers named others after → protects_next others ≡ false → cand_lines rows ≡ others
 cands_named seats rows numbers named others after all other = all.cands_same ∙ cands_end_same others other
 
--- The seats of a trait that was not named are protected beside the others.
+-- The seats of a trait that was not named are protected in addition to the others.
 pub total-more : (named : List (Option ℕ)) (t n : ℕ) → t < length named → get_or named t None ≡ None → total (set named t (Some n)) ≡ total named + n
 total-more named t n within new =
     let more : sum_by count_of (set named t (Some n)) + count_of (get_or named t None) ≡ sum_by count_of named + n = sum_by-set count_of named t (Some n) None within in
@@ -218,14 +193,6 @@ passed_head first second rows one number numbers seats sheet given = record {
   before = head_before first second rows seats sheet given;
   same = head_after first second rows seats given;
 }
-
--- A fault of the first row is the first one.
-pub fault_first : (lines : List (List ℕ)) (line : List ℕ) (more : List (List ℕ)) (kind : SheetKind) → lines ≡ line ∷ more → first_fault line ≡ Some kind → IsFaultOfRows sheet_judge (texts_of lines) (numbers_of lines) (record { line = 1; kind = kind })
-fault_first lines line more kind e wrong = rw e (record {
-  row = zero;
-  line = refl;
-  first = record { here = wrong; within = omega arith; before = λ m below. absurd (omega arith) };
-})
 
 -- A fault of the second row, or of the end after the first, is the first one of a sheet whose first row is right.
 second_here : (first : List ℕ) (rows : List (List ℕ)) (kind : SheetKind) → seats_row_fault rows ≡ Some kind → fault_at sheet_judge (first ∷ rows) (suc zero) ≡ Some kind

@@ -4,7 +4,6 @@ use Rattle.std.specs.List.{slice_get}
 use Rattle.std.proofs.lemmas.Bool.{cases_lt}
 use Rattle.std.proofs.lemmas.Option.{slice_get-get_or}
 use Rattle.office_base.specs.declared.step.Step.{Step}
-use Rattle.office_text.specs.FirstFault.{IsFaultless}
 use Rattle.office_text.specs.Lines.{lines_of, skip_mark, text_lines, trimmed}
 use Rattle.office_text.proofs.FirstFaultLemmas.{one_answer}
 use Rattle.office_base.specs.Limits.{most_sheet_bytes}
@@ -14,8 +13,8 @@ use Rattle.step_sheet.specs.declared.fault.SheetKind.TheVariants.{TooLong}
 use Rattle.step_sheet.specs.declared.fault.SheetError.{SheetError}
 use Rattle.step_sheet.specs.declared.fault.SheetError.TheVariants.{Bad, OutOfMemory}
 use Rattle.step_sheet.specs.Reading.{HasHead, HasSeats, ArePassed, IsErrorOfRows, rest_rows, rest_numbers}
-use Rattle.step_sheet.specs.Sheet.{IsErrorOf, SheetGives, HasFault, HaveOneReading, body_judge, body_step, first_fault, none_named, numbers_of, row_numbers, rows_of, sheet_judge, step_of, texts_of}
-use Rattle.step_sheet.proofs.RowLemmas.{error_passed, faultless_passed, numbers_of-length, passed_head}
+use Rattle.step_sheet.specs.Sheet.{IsErrorOf, SheetGives, HasFault, HaveOneReading, body_judge, first_fault, none_named, numbers_of, row_numbers, rows_of, sheet_judge, step_of, texts_of}
+use Rattle.step_sheet.proofs.RowLemmas.{error_passed, numbers_of-length, passed_head}
 
 -- The head of a sheet is passed.
 passed : (bytes rest : List ℕ) (seats next : ℕ) → HasHead bytes seats next rest → ArePassed sheet_judge (texts_of (map trimmed (lines_of bytes))) (numbers_of (map trimmed (lines_of bytes))) (body_judge seats none_named) (rest_rows rest) (rest_numbers next rest)
@@ -38,15 +37,6 @@ head_from bytes rest line seats next after e sheet h = record {
 pub error_after : (bytes rest : List ℕ) (seats next : ℕ) (e : SheetError) → length bytes ≤ most_sheet_bytes → HasHead (skip_mark bytes) seats next rest → IsErrorOfRows (body_judge seats none_named) (rest_rows rest) (rest_numbers next rest) e → IsErrorOf bytes e
 error_after bytes rest seats next (Bad fault) short head f = inr (short, error_passed sheet_judge (body_judge seats none_named) (rows_of bytes) (rest_rows rest) (row_numbers bytes) (rest_numbers next rest) (Bad fault) (passed (skip_mark bytes) rest seats next head) f)
 error_after bytes rest seats next OutOfMemory short head f = tt
-
--- Behind the head of a sheet rows without faults make a sheet without faults.
-pub faultless_after : (bytes rest : List ℕ) (seats next : ℕ) → HasHead (skip_mark bytes) seats next rest → IsFaultless (body_judge seats none_named) (rest_rows rest) → IsFaultless sheet_judge (rows_of bytes)
-faultless_after bytes rest seats next head none =
-    faultless_passed sheet_judge (body_judge seats none_named) (rows_of bytes) (rest_rows rest) (row_numbers bytes) (rest_numbers next rest) (passed (skip_mark bytes) rest seats next head) none
-
--- The step of a sheet is that of its seats and the rows after them.
-pub step_after : (bytes rest : List ℕ) (seats next : ℕ) → HasHead (skip_mark bytes) seats next rest → step_of (rows_of bytes) ≡ body_step seats (rest_rows rest)
-step_after bytes rest seats next head = rw (head.rows, head.given) refl
 
 -- Bytes give a step or have a fault.
 some_reading : (bytes : List ℕ) → ((step : Step) × SheetGives bytes step) ⊎ ((fault : SheetFault) × HasFault bytes fault)

@@ -22,6 +22,6 @@ kind_name ProtectionsExceedSeats = codes "ProtectionsExceedSeats"
 kind_name TooMany = codes "TooMany"
 kind_name TooLong = codes "TooLong"
 
--- the line that tells a fault
+-- the line that reports a fault
 abbrev pub fault_output : SheetFault → List ℕ
 fault_output fault = codes "fault: sheet line " ++ decimal fault.line ++ codes " " ++ kind_name fault.kind ++ codes "\n"

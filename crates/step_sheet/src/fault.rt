@@ -12,7 +12,7 @@ use std::fmt;
 pub enum SheetKind {
     /// Line 1 is not `step sheet 1`.
     BadFirstLine,
-    /// A line that may not stand there or has a bad field, or the end of the input where the line of the seats is due.
+    /// A line that may not be there or has a bad field, or the end of the input where the line of the seats is due.
     BadLine,
     /// A line that protects seats for a trait named before.
     RepeatedProtect,

@@ -1,4 +1,4 @@
-// What holds of sheets themselves, whoever reads them.
+// Laws of sheets themselves, for any reader.
 ghost use Rattle.std.specs.Prelude.{ℕ, List};
 ghost use Rattle.office_base.specs.StepChoice.{IsStep};
 ghost use Rattle.office_base.specs.declared.step.Step.{Step as AnyStep};

@@ -1,9 +1,9 @@
 // The step sheet, read from bytes, and the texts of the command on it.
 //
-// The command stands on it. `specs/` says what a sheet gives and which fault is its first, row by row, by a judge
-// that sees the rows before; a row is the first line, or another that is not empty. Reading answers with exactly that
-// step or exactly that fault. It knows of no file and no stream, and it never decides who is admitted: it is told the
-// people and the pairs that it writes.
+// The command depends on it. `specs/` says what a sheet gives and which fault is its first, row by row, by a judge
+// that sees the rows before. A row is the first line, or another line that is not empty. Reading returns exactly that
+// step or exactly that fault. It knows of no file and no stream. It never decides who is admitted: the caller gives
+// it the people and the pairs that it writes.
 #![tactic(auto)]
 
 pub mod fault;

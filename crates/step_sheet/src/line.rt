@@ -58,8 +58,10 @@ pub(crate) fn next_protection(
     ensures small { IfOk result (λ pair. pair.0 < 6) }
     ensures within { IfOk result (λ pair. pair.1 ≤ left) }
     ensures new { IfOk result (λ pair. slice_index_or named.now pair.0 None ≡ None) }
-    ensures right { IfOk result (λ _. protect_fault (total named.now + left) named.now (protect_of line.now) ≡ None) }
-    ensures fault { IfErr result (λ kind. protect_fault (total named.now + left) named.now (protect_of line.now) ≡ Some kind) }
+    ensures right { IfOk result (λ _.
+        protect_fault (total named.now + left) named.now (protect_of line.now) ≡ None) }
+    ensures fault { IfErr result (λ kind.
+        protect_fault (total named.now + left) named.now (protect_of line.now) ≡ Some kind) }
 {
     let Some((t, seats)) = protect_of(line) else {
         return Err(SheetKind::BadLine);
@@ -82,10 +84,12 @@ pub(crate) fn next_candidate(
 ) -> Result<(CandId, TraitSet), SheetKind>
     ensures cand { IfOk result (λ cand. cand_of line.now ≡ Some (cand.0.0, cand.1.0)) }
     ensures set { IfOk result (λ cand. IsTraitSet cand.1) }
-    ensures right { IfOk result (λ _. cand_fault before (contains nat_cmp known.now) (cand_of line.now) ≡ None) }
+    ensures right { IfOk result (λ _.
+        cand_fault before (contains nat_cmp known.now) (cand_of line.now) ≡ None) }
     ensures new { IfOk result (λ cand. contains nat_cmp known.now cand.0.0 ≡ false) }
     ensures few { IfOk result (λ _. before < most_candidates) }
-    ensures fault { IfErr result (λ kind. cand_fault before (contains nat_cmp known.now) (cand_of line.now) ≡ Some kind) }
+    ensures fault { IfErr result (λ kind.
+        cand_fault before (contains nat_cmp known.now) (cand_of line.now) ≡ Some kind) }
 {
     match candidate_of(line) {
         None => Err(SheetKind::BadLine),
@@ -139,7 +143,8 @@ fn candidate_of(line: &[u8]) -> Option<(CandId, TraitSet)>
 
 /// The set of traits after the comma of a candidate's number: none without a comma.
 fn traits_after(rest: Option<&[u8]>) -> Option<TraitSet>
-    ensures value { option_map (λ traits. traits.0) result ≡ traits_in (fields_after (option_copied rest.entry)) }
+    ensures value { option_map (λ traits. traits.0) result
+        ≡ traits_in (fields_after (option_copied rest.entry)) }
     ensures set { IfSome result IsTraitSet }
 {
     let Some(rest) = rest else {

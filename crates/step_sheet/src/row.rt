@@ -13,8 +13,10 @@ pub(crate) fn row_or_end(bytes: &[u8], number: u32) -> (u32, Option<(&[u8], &[u8
     ensures none { IfNone result.1 (rest_rows bytes.now ≡ []) }
     ensures end { IfNone result.1 (rest_numbers number bytes.now ≡ result.0 ∷ []) }
     ensures some { IfSome result.1 (λ row. rest_rows bytes.now ≡ row.0.now ∷ rest_rows row.1.now) }
-    ensures number { IfSome result.1 (λ row. rest_numbers number bytes.now ≡ result.0 ∷ rest_numbers (result.0 + 1) row.1.now) }
-    ensures within { IfSome result.1 (λ row. result.0 + 1 + length row.1.now ≤ number + length bytes.now) }
+    ensures number { IfSome result.1 (λ row.
+        rest_numbers number bytes.now ≡ result.0 ∷ rest_numbers (result.0 + 1) row.1.now) }
+    ensures within { IfSome result.1 (λ row.
+        result.0 + 1 + length row.1.now ≤ number + length bytes.now) }
     ensures shorter { IfSome result.1 (λ row. length row.1.now < length bytes.now) }
 {
     let mut rest = bytes;
@@ -35,8 +37,10 @@ pub(crate) fn next_row(bytes: &[u8], number: u32) -> Option<(u32, &[u8], &[u8])>
     requires { number + length bytes.now < 2 ^ 32 }
     ensures none { IfNone result (rest_rows bytes.now ≡ []) }
     ensures some { IfSome result (λ row. rest_rows bytes.now ≡ row.1.now ∷ rest_rows row.2.now) }
-    ensures number { IfSome result (λ row. rest_numbers number bytes.now ≡ row.0 ∷ rest_numbers (row.0 + 1) row.2.now) }
-    ensures within { IfSome result (λ row. row.0 + 1 + length row.2.now ≤ number + length bytes.now) }
+    ensures number { IfSome result (λ row.
+        rest_numbers number bytes.now ≡ row.0 ∷ rest_numbers (row.0 + 1) row.2.now) }
+    ensures within { IfSome result (λ row.
+        row.0 + 1 + length row.2.now ≤ number + length bytes.now) }
     ensures shorter { IfSome result (λ row. length row.2.now < length bytes.now) }
 {
     match row_or_end(bytes, number) {
@@ -51,8 +55,10 @@ pub(crate) fn next_protect(bytes: &[u8], number: u32) -> Option<(u32, &[u8], &[u
     ensures none { IfNone result (protects_next (rest_rows bytes.now) ≡ false) }
     ensures protect { IfSome result (λ row. is_protect row.1.now ≡ true) }
     ensures some { IfSome result (λ row. rest_rows bytes.now ≡ row.1.now ∷ rest_rows row.2.now) }
-    ensures number { IfSome result (λ row. rest_numbers number bytes.now ≡ row.0 ∷ rest_numbers (row.0 + 1) row.2.now) }
-    ensures within { IfSome result (λ row. row.0 + 1 + length row.2.now ≤ number + length bytes.now) }
+    ensures number { IfSome result (λ row.
+        rest_numbers number bytes.now ≡ row.0 ∷ rest_numbers (row.0 + 1) row.2.now) }
+    ensures within { IfSome result (λ row.
+        row.0 + 1 + length row.2.now ≤ number + length bytes.now) }
     ensures shorter { IfSome result (λ row. length row.2.now < length bytes.now) }
 {
     match next_row(bytes, number) {

@@ -41,7 +41,8 @@ fn head(bytes: &[u8]) -> Result<(u16, u32, &[u8]), SheetFault>
     requires { length bytes.now ≤ most_sheet_bytes }
     ensures head { IfOk result (λ head. HasHead bytes.now head.0 head.1 head.2.now) }
     ensures few { IfOk result (λ head. head.1 + length head.2.now ≤ most_sheet_bytes + 2) }
-    ensures fault { IfErr result (IsFaultOfRows sheet_judge (texts_of (map trimmed (lines_of bytes.now))) (numbers_of (map trimmed (lines_of bytes.now)))) }
+    ensures fault { IfErr result (IsFaultOfRows sheet_judge (texts_of
+        (map trimmed (lines_of bytes.now))) (numbers_of (map trimmed (lines_of bytes.now)))) }
 {
     let Some((line, rest)) = next_text_line(bytes) else {
         return Err(SheetFault {
@@ -61,7 +62,8 @@ fn seats_row(bytes: &[u8], number: u32) -> Result<(u16, u32, &[u8]), SheetFault>
     requires { number + length bytes.now < 2 ^ 32 }
     ensures seats { IfOk result (λ read. HasSeats bytes.now number read.0 read.1 read.2.now) }
     ensures within { IfOk result (λ read. read.1 + length read.2.now ≤ number + length bytes.now) }
-    ensures fault { IfErr result (IsSeatsFault (rest_rows bytes.now) (rest_numbers number bytes.now)) }
+    ensures fault { IfErr result
+        (IsSeatsFault (rest_rows bytes.now) (rest_numbers number bytes.now)) }
 {
     match row_or_end(bytes, number) {
         (at, Some((line, rest))) => match seats_of(line) {
@@ -82,11 +84,13 @@ fn seats_row(bytes: &[u8], number: u32) -> Result<(u16, u32, &[u8]), SheetFault>
 /// is that of the first line of the bytes.
 fn body(alloc: Global, seats: u16, bytes: &[u8], number: u32) -> Result<Step, SheetError>
     requires { number + length bytes.now < 2 ^ 32 }
-    ensures faultless { IfOk result (λ _. IsFaultless (body_judge seats none_named) (rest_rows bytes.now)) }
+    ensures faultless { IfOk result (λ _.
+        IsFaultless (body_judge seats none_named) (rest_rows bytes.now)) }
     ensures value { IfOk result (λ step. step ≡ body_step seats (rest_rows bytes.now)) }
     ensures step { IfOk result IsStep }
     ensures few { IfOk result (λ step. length step.people ≤ most_candidates) }
-    ensures fault { IfErr result (IsErrorOfRows (body_judge seats none_named) (rest_rows bytes.now) (rest_numbers number bytes.now)) }
+    ensures fault { IfErr result (IsErrorOfRows (body_judge seats none_named)
+        (rest_rows bytes.now) (rest_numbers number bytes.now)) }
 {
     match protections(seats, bytes, number) {
         Ok((protections, next, rest)) => Ok(Step {
@@ -107,10 +111,12 @@ fn protections(
     number: u32,
 ) -> Result<(Protections, u32, &[u8]), SheetFault>
     requires { number + length bytes.now < 2 ^ 32 }
-    ensures read { IfOk result (λ read. HasProtections seats bytes.now number read.0.counts read.2.now read.1) }
+    ensures read { IfOk result (λ read.
+        HasProtections seats bytes.now number read.0.counts read.2.now read.1) }
     ensures sum { IfOk result (λ read. sum read.0.counts ≤ seats) }
     ensures within { IfOk result (λ read. read.1 + length read.2.now < 2 ^ 32) }
-    ensures fault { IfErr result (IsFaultOfRows (body_judge seats none_named) (rest_rows bytes.now) (rest_numbers number bytes.now)) }
+    ensures fault { IfErr result (IsFaultOfRows (body_judge seats none_named)
+        (rest_rows bytes.now) (rest_numbers number bytes.now)) }
 {
     let mut named = [None; 6];
     let mut left = seats;
@@ -148,7 +154,8 @@ fn candidates(alloc: Global, bytes: &[u8], number: u32) -> Result<People, SheetE
     ensures people { IfOk result (λ people. people ≡ people_from 1 (rest_rows bytes.now)) }
     ensures ranked { IfOk result (AreRanked (record { 0 = 1 })) }
     ensures few { IfOk result (λ people. length people ≤ most_candidates) }
-    ensures fault { IfErr result (IsErrorOfRows cand_judge (rest_rows bytes.now) (rest_numbers number bytes.now)) }
+    ensures fault { IfErr result
+        (IsErrorOfRows cand_judge (rest_rows bytes.now) (rest_numbers number bytes.now)) }
 {
     let mut people = People::new(alloc);
     let mut known = BTreeSet::new(alloc);

@@ -27,7 +27,7 @@ pub fn step_text(
     Ok(out)
 }
 
-/// The line that tells a fault.
+/// Returns the line that reports a fault.
 pub fn fault_text(alloc: Global, fault: &SheetFault) -> Result<Text, OutOfMemory>
     ensures { IfOk result (λ text. text ≡ fault_output fault.now) }
 {
