@@ -13,6 +13,7 @@ use Rattle.section_rows.specs.Rows.{Row, field}
 use Rattle.section_rows.specs.Steps.{first_of, or_else, unless}
 use Rattle.section_rows.proofs.StepsLemmas.{first_of-other, first_of-push, first_of-same}
 use Rattle.rank_lists.specs.Register.{AreRanks, Ranks, find_person, row_of}
+use Rattle.rank_lists.proofs.MadeLemmas.{above_same}
 use Rattle.seat_matrix.specs.Matrix.{SeatTable}
 use Rattle.choice_lists.specs.Choices.{AreListsOf, AreChoices, AreKept, Entry, IsChoice, Lists, choices, choices_after, is_chosen, list_at, list_of, listed, lists_along, new_candidate, person_of, reading, all_choices}
 use Rattle.choice_lists.specs.Builder.{Keeps, along}
@@ -90,11 +91,7 @@ along-others {X} value entries entry (p ∷ people) all =
     ap (λ (o : Option (List ProgId)). value o ∷ along value entries people) (sym same)
     ∙ ap (λ (xs : List X). value (list_at p.id.0 (entries ++ entry ∷ [])) ∷ xs) (along-others value entries entry people all.1)
 
-above-same : (k m : ℕ) (people : List Person) → k ≡ m → AllByRecursion (λ (p : Person). k < p.id.0) people → AllByRecursion (λ (p : Person). m < p.id.0) people
-above-same k m [] e all = tt
-above-same k m (p ∷ people) e all = (omega (arith, e, all.0), above-same k m people e all.1)
-
--- What goes along with the people after one more entry: what it gives stands at the position of its candidate.
+-- What goes along with the people after one more entry: what it gives is at the position of its candidate.
 pub along_set : {X : Type 0} (value : Option (List ProgId) → X) (entries : List Entry) (entry : Entry) (people : List Person) (at : ℕ) → Rising people → row_of entry.candidate people ≡ Some at
     → list_at entry.candidate entries ≡ None → slice_set (along value entries people) at (value (Some entry.programmes)) ≡ along value (entries ++ entry ∷ []) people
 along_set value entries entry [] at rising e none = cc e
@@ -109,7 +106,7 @@ along_set {X} value entries entry (p ∷ people) at rising e none = by (entry.ca
         let own : list_at p.id.0 (entries ++ entry ∷ []) ≡ Some entry.programmes = ap (λ (k : ℕ). list_at k (entries ++ entry ∷ [])) (sym id) ∙ list_at-same entries entry none in
         ap (λ (n : ℕ). slice_set (along value entries (p ∷ people)) n (value (Some entry.programmes))) (sym here)
         ∙ ap (λ (o : Option (List ProgId)). value o ∷ along value entries people) (sym own)
-        ∙ ap (λ (xs : List X). value (list_at p.id.0 (entries ++ entry ∷ [])) ∷ xs) (along-others value entries entry people (above-same p.id.0 entry.candidate people (sym id) rising.0))
+        ∙ ap (λ (xs : List X). value (list_at p.id.0 (entries ++ entry ∷ [])) ∷ xs) (along-others value entries entry people (above_same p.id.0 entry.candidate people (sym id) rising.0))
     by false same None f more g = cc g
     by false same (Some n) f more g =
         let next : n + 1 ≡ at = cc g in
@@ -347,7 +344,7 @@ tests_none ranks entries row person e f g h =
     let few : nat_lt most_choices (all_choices entries + (length row - 1)) ≡ false = le-ltb most_choices (all_choices entries + (length row - 1)) h in
     candidate_tests ranks entries row person e ∙ (rw (f, short, few) refl)
 
--- No lists, beside a register and a matrix.
+-- No lists, for a register and a matrix.
 pub nothing_kept : (builder : ChoicesBuilder) (count places : ℕ) → AreRanks builder.register.now → count ≡ length builder.register.now.people → places ≡ length builder.matrix.now.programmes
     → builder.lists ≡ replicate count [] → builder.had_row.items ≡ replicate count false → builder.named_last.items ≡ replicate places 0 → length builder.guesses.items ≡ 65536 → builder.total ≡ 0 → Keeps [] builder
 nothing_kept builder count places ranks e f lists had_row named guesses total = record {

@@ -10,9 +10,10 @@ use Rattle.std.proofs.lemmas.Option.{slice_get_within}
 use Rattle.office_base.specs.Limits.{last_id, most_choices, most_row_choices}
 use Rattle.office_base.specs.declared.person.Person.{Person}
 use Rattle.office_base.specs.declared.person.ProgId.{ProgId}
+use Rattle.office_base.proofs.Options.{none_from}
 use Rattle.section_rows.specs.Rows.{Row, field}
 use Rattle.section_rows.specs.Steps.{after, unless}
-use Rattle.section_rows.proofs.StepsLemmas.{after_ok, needs_ok, none_from, unless_ok}
+use Rattle.section_rows.proofs.StepsLemmas.{after_ok, needs_ok, unless_ok}
 use Rattle.rank_lists.specs.Register.{Ranks, find_person, row_of}
 use Rattle.seat_matrix.specs.Matrix.{SeatTable}
 use Rattle.seat_matrix.specs.declared.entry.Home.{Home}
@@ -48,6 +49,7 @@ known ranks person (Some n) e = found_self n ranks.people person e
 
 -- A new candidate is known and new, and there is room for the row.
 pub record IsNew (ranks : Ranks) (entries : List Entry) (row : Row) (person : Person) : Type 0 where
+  pub found : person_of ranks (field row 0) ≡ Some person
   pub known : find_person person.id.0 ranks.people ≡ Some person
   pub fresh : list_at person.id.0 entries ≡ None
   pub short : length row - 1 ≤ most_row_choices
@@ -62,6 +64,7 @@ new_candidate_ok ranks entries row person e =
     let (room, e5) = unless_ok (nat_lt most_choices (all_choices entries + (length row - 1))) TooMany (Ok p) person e4 in
     let same : p ≡ person = cc e5 in
     subst (IsNew ranks entries row) same (record {
+      found = e1;
       known = known ranks p (number_within 1 last_id (field row 0)) e1;
       fresh = none_from (list_at p.id.0 entries) fresh;
       short = ltb-false most_row_choices (length row - 1) short;

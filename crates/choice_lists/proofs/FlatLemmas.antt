@@ -1,5 +1,5 @@
 -- Lists by their ranges in one vector, with one more at the end of the vector.
-use Rattle.std.proofs.Common.{◌≡◌, ◌<◌, ◌-◌, ◌++◌, ◌∷◌, [], ℕ, zero, suc, List, length, take, drop, get_or, refl, ap, ◌∙◌, arith, length-append}
+use Rattle.std.proofs.Common.{◌≡◌, ◌-◌, ◌++◌, ◌∷◌, [], ℕ, zero, suc, List, length, take, drop, refl, ap, ◌∙◌, arith, length-append}
 use Rattle.std.specs.Prelude.{replicate, slice_set}
 use Rattle.std.proofs.Math.Seq.{drop-append_seam, take-length}
 use Rattle.std.proofs.lemmas.List.{drop-append-le, length-drop, take-append-le}
@@ -17,10 +17,6 @@ lists-more {T} items more (range ∷ ranges) within =
     ap (λ (l : List T). l ∷ lists_of (items ++ more) ranges) (part-more items more range within.0)
     ∙ ap (λ (ls : List (List T)). part items range ∷ ls) (lists-more items more ranges within.1)
 
-pub within-more : {T : Type 0} (items more : List T) (ranges : List (ℕ × ℕ)) → AreWithin items ranges → AreWithin (items ++ more) ranges
-within-more items more [] within = tt
-within-more items more (range ∷ ranges) within = ((within.0.0, omega (arith, within.0.1, length-append items more)), within-more items more ranges within.1)
-
 -- the items at the end, from where the others ended
 pub part-last : {T : Type 0} (items more : List T) → part (items ++ more) (length items, length (items ++ more)) ≡ more
 part-last {T} items more =
@@ -29,34 +25,18 @@ part-last {T} items more =
     ∙ ap (λ (n : ℕ). take n more) count
     ∙ take-length more
 
-pub within-last : {T : Type 0} (items more : List T) → IsWithin (items ++ more) (length items, length (items ++ more))
-within-last items more = (omega (arith, length-append items more), omega arith)
-
--- ranges with one changed
-within-set : {T : Type 0} (items : List T) (ranges : List (ℕ × ℕ)) (n : ℕ) (range : ℕ × ℕ) → AreWithin items ranges → IsWithin items range → AreWithin items (slice_set ranges n range)
-within-set items [] n range all one = tt
-within-set items (r ∷ ranges) zero range all one = (one, all.1)
-within-set items (r ∷ ranges) (suc n) range all one = (all.0, within-set items ranges n range all.1 one)
-
+-- lists with one changed
 lists-set : {T : Type 0} (items : List T) (ranges : List (ℕ × ℕ)) (n : ℕ) (range : ℕ × ℕ) → lists_of items (slice_set ranges n range) ≡ slice_set (lists_of items ranges) n (part items range)
 lists-set items [] n range = refl
 lists-set items (r ∷ ranges) zero range = refl
 lists-set {T} items (r ∷ ranges) (suc n) range = ap (λ (ls : List (List T)). part items r ∷ ls) (lists-set items ranges n range)
 
--- ranges with one more
-within-push : {T : Type 0} (items : List T) (ranges : List (ℕ × ℕ)) (range : ℕ × ℕ) → AreWithin items ranges → IsWithin items range → AreWithin items (ranges ++ range ∷ [])
-within-push items [] range all one = (one, tt)
-within-push items (r ∷ ranges) range all one = (all.0, within-push items ranges range all.1 one)
-
+-- lists with one more
 lists-push : {T : Type 0} (items : List T) (ranges : List (ℕ × ℕ)) (range : ℕ × ℕ) → lists_of items (ranges ++ range ∷ []) ≡ lists_of items ranges ++ part items range ∷ []
 lists-push items [] range = refl
 lists-push {T} items (r ∷ ranges) range = ap (λ (ls : List (List T)). part items r ∷ ls) (lists-push items ranges range)
 
 -- A list put in place of another one.
-pub set_within : {T : Type 0} (items more : List T) (ranges : List (ℕ × ℕ)) (n : ℕ) → AreWithin items ranges
-    → AreWithin (items ++ more) (slice_set ranges n (length items, length (items ++ more)))
-set_within items more ranges n within = within-set (items ++ more) ranges n _ (within-more items more ranges within) (within-last items more)
-
 pub set_lists : {T : Type 0} (items more : List T) (ranges : List (ℕ × ℕ)) (n : ℕ) → AreWithin items ranges
     → lists_of (items ++ more) (slice_set ranges n (length items, length (items ++ more))) ≡ slice_set (lists_of items ranges) n more
 set_lists {T} items more ranges n within =
@@ -65,22 +45,12 @@ set_lists {T} items more ranges n within =
     ∙ ap (λ (l : List T). slice_set (lists_of items ranges) n l) (part-last items more)
 
 -- One more list.
-pub push_within : {T : Type 0} (items more : List T) (ranges : List (ℕ × ℕ)) → AreWithin items ranges
-    → AreWithin (items ++ more) (ranges ++ (length items, length (items ++ more)) ∷ [])
-push_within items more ranges within = within-push (items ++ more) ranges _ (within-more items more ranges within) (within-last items more)
-
 pub push_lists : {T : Type 0} (items more : List T) (ranges : List (ℕ × ℕ)) → AreWithin items ranges
     → lists_of (items ++ more) (ranges ++ (length items, length (items ++ more)) ∷ []) ≡ lists_of items ranges ++ more ∷ []
 push_lists {T} items more ranges within =
     lists-push (items ++ more) ranges _
     ∙ ap (λ (ls : List (List T)). ls ++ part (items ++ more) (length items, length (items ++ more)) ∷ []) (lists-more items more ranges within)
     ∙ ap (λ (l : List T). lists_of items ranges ++ l ∷ []) (part-last items more)
-
--- the range of a list lies within
-pub within_at : {T : Type 0} (items : List T) (ranges : List (ℕ × ℕ)) (n : ℕ) (d : ℕ × ℕ) → AreWithin items ranges → n < length ranges → IsWithin items (get_or ranges n d)
-within_at items [] n d all less = absurd (omega arith)
-within_at items (r ∷ ranges) zero d all less = all.0
-within_at items (r ∷ ranges) (suc n) d all less = within_at items ranges n d all.1 (omega arith)
 
 -- no items, in any number of lists
 pub empty_lists : {T : Type 0} (count : ℕ) → lists_of {T = T} [] (replicate count (0, 0)) ≡ replicate count []

@@ -30,7 +30,7 @@ rising_at (id ∷ ids) i zero rising less within = absurd (omega arith)
 rising_at (id ∷ ids) zero (suc j) rising less within = all_at (λ b. id < b) ids j rising.0 (omega arith)
 rising_at (id ∷ ids) (suc i) (suc j) rising less within = rising_at ids i j rising.1 (omega arith) (omega arith)
 
-never_falls : (ids : List ℕ) → Rising ids → (i j : ℕ) → i ≤ j → j < length ids → get_or ids i 0 ≤ get_or ids j 0
+pub never_falls : (ids : List ℕ) → Rising ids → (i j : ℕ) → i ≤ j → j < length ids → get_or ids i 0 ≤ get_or ids j 0
 never_falls ids rising i j le within = elim (cases_order i j) [
   | inl same ↦ omega (arith, ap (λ (k : ℕ). get_or ids k 0) same)
   | inr other ↦ elim other [
@@ -69,12 +69,12 @@ search_found ids lists q (Err at) rising count result =
       ]
     ])))
 
--- Where the id of a candidate stands at a place, the candidate's list stands there.
+-- If the id of a candidate is at a place, the candidate's list is at that place.
 pub found_there : (ids : List ℕ) (lists : List (List ProgId)) (q at : ℕ) → Rising ids → length ids ≡ length lists → at < length ids → get_or ids at 0 ≡ q
     → (at < length lists) × (listed (slice_get lists at) ≡ list_of (lists_along ids lists) q)
 found_there ids lists q at rising count within same = (omega (arith, within, count), ap listed (sym (found_here ids lists q at rising count within same)))
 
--- There are as many candidates as lists, and the lists stand at the same places.
+-- There are as many candidates as lists, and the lists are at the same places.
 pub length_along : (ids : List ℕ) (lists : List (List ProgId)) → length ids ≡ length lists → length (lists_along ids lists) ≡ length lists
 length_along [] [] count = refl
 length_along [] (list ∷ lists) count = absurd (omega (arith, count))

@@ -110,7 +110,7 @@ same_choices seats matrix person chosen (text ∷ texts) e =
 same_candidate : (ranks other : Ranks) (entries : List Entry) (row : Row) → ranks.people ≡ other.people → new_candidate ranks entries row ≡ new_candidate other entries row
 same_candidate ranks other entries row e = ap (λ (people : List Person). new_candidate (record { people = people; holders = ranks.holders }) entries row) e
 
--- a row is read beside the people and the programmes alone
+-- what a row gives depends on the people and the programmes alone
 same_row : (ranks other : Ranks) (seats matrix : SeatTable) (entries : List Entry) (row : Row) → ranks.people ≡ other.people → seats.programmes ≡ matrix.programmes
     → reading ranks seats entries row ≡ reading other matrix entries row
 unfolding reading
@@ -121,11 +121,11 @@ same_row ranks other seats matrix entries row e f =
     by (Ok person) = ap (λ (r : Result (List ProgId) ChoiceKind). after r (entry_of person)) (same_choices seats matrix person [] (drop 1 row) f)
     by (Err kind) = refl
 
--- the same is read beside the same people and programmes
+-- the same people and programmes give the same reading
 same_grammar : (ranks other : Ranks) (seats matrix : SeatTable) → ranks.people ≡ other.people → seats.programmes ≡ matrix.programmes → reading ranks seats ≡ reading other matrix
 same_grammar ranks other seats matrix e f = λ i entries row. same_row ranks other seats matrix entries row e f i
 
--- Rows are read beside the people and the programmes alone.
+-- What rows give depends on the people and the programmes alone.
 pub same_reading : (rows : List Row) → DependOnPeopleAndProgrammes rows
 same_reading rows ranks other seats matrix e f =
     let same = same_grammar ranks other seats matrix e f in

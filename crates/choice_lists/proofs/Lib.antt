@@ -1,5 +1,5 @@
 mod BuilderLemmas
-mod ChoicesLemmas
+pub mod ChoicesLemmas
 mod FlatLemmas
-mod FoundLemmas
+pub mod FoundLemmas
 mod LawsLemmas

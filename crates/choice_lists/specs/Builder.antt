@@ -14,7 +14,7 @@ use Rattle.choice_lists.specs.declared.fault.ChoiceKind.{ChoiceKind}
 abbrev pub along : {X : Type 0} → (Option (List ProgId) → X) → List Entry → List Person → List X
 along value entries people = map (λ person. value (list_at person.id.0 entries)) people
 
--- The builder knows what the entries say, beside its register and its matrix.
+-- The builder knows what the entries say, given its register and its matrix.
 pub record Keeps (entries : List Entry) (builder : ChoicesBuilder) : Type 0 where
   pub ranks : AreRanks builder.register.now
   pub sound : (candidate : ℕ) → IsChoice builder.register.now builder.matrix.now candidate (listed (list_at candidate entries))

@@ -67,13 +67,13 @@ is_ranked_for person (Some held) = is_some (number_in held.1.list person)
 abbrev pub is_ranked : SeatTable → Person → ℕ → Bool
 is_ranked seats person n = is_ranked_for person (slice_get seats.programmes n)
 
--- a programme after those that stand earlier in the row
+-- a programme after those that are earlier in the row
 abbrev pub choice : SeatTable → Person → List ProgId → List ℕ → Result ProgId ChoiceKind
 choice seats person chosen text =
     needs (programme_of seats text) UnknownProgramme
     (λ n. unless (is_chosen n chosen) RepeatedProgramme (unless (not (is_ranked seats person n)) NotRankedThere (Ok (record { 0 = n }))))
 
--- the programmes of some fields, after those that stand earlier in the row
+-- the programmes of some fields, after those that are earlier in the row
 abbrev pub choices : SeatTable → Person → List ProgId → List (List ℕ) → Result (List ProgId) ChoiceKind
 choices seats person chosen [] = Ok chosen
 choices seats person chosen (text ∷ texts) = after (choice seats person chosen text) (λ prog. choices seats person (chosen ++ prog ∷ []) texts)
@@ -94,7 +94,7 @@ reading ranks seats entries row =
 abbrev pub judge : Ranks → SeatTable → Judge Row ChoiceKind
 judge ranks seats = table_judge BadHeader header (reading ranks seats)
 
--- no programme stands twice in a list
+-- no programme is twice in a list
 abbrev pub AreDistinct : List ProgId → Type 0
 AreDistinct progs = Pairwise (λ a b. a.0 ≡ b.0 → ⊥) progs
 
@@ -118,7 +118,7 @@ Lists = List (ℕ × List ProgId)
 abbrev pub list_of : Lists → ℕ → List ProgId
 list_of lists candidate = listed (first_of (λ held. candidate == held.0) (λ held. held.1) lists)
 
--- each list is sound beside the register and the matrix
+-- each list is sound for the register and the matrix
 abbrev pub AreChoices : Ranks → SeatTable → Lists → Type 0
 AreChoices ranks seats lists = (candidate : ℕ) → IsChoice ranks seats candidate (list_of lists candidate)
 
@@ -146,6 +146,6 @@ AreListsOf entries lists = (candidate : ℕ) → list_of lists candidate ≡ lis
 abbrev pub IsRead : Ranks → SeatTable → List Row → Lists → Type 0
 IsRead ranks seats rows lists = IsFaultless (judge ranks seats) rows × AreListsOf (entries_of (reading ranks seats) rows) lists
 
--- the first fault of a body's rows; want of memory tells nothing of them
+-- the first fault of a body's rows; `OutOfMemory` says nothing of them
 abbrev pub IsFault : Ranks → SeatTable → List Row → TableFault ChoiceKind → Type 0
 IsFault ranks seats rows fault = IsTableFault (judge ranks seats) rows fault

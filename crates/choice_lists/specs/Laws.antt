@@ -7,7 +7,7 @@ use Rattle.seat_matrix.specs.Matrix.{SeatTable}
 use Rattle.choice_lists.specs.Choices.{AreChoices, IsFault, IsRead, Lists, list_of}
 use Rattle.choice_lists.specs.declared.fault.ChoiceKind.{ChoiceKind}
 
--- Beside ranks and seats, rows give sound lists or have a fault; never both, and never two that differ.
+-- Given ranks and seats, rows give sound lists or have a fault; never both, and never two that differ.
 pub record HaveOneReading (ranks : Ranks) (seats : SeatTable) (rows : List Row) : Type 0 where
   pub some : ((lists : Lists) × IsRead ranks seats rows lists) ⊎ ((row : ℕ) × (kind : ChoiceKind) × IsFault ranks seats rows (Bad row kind))
   pub apart : (lists : Lists) (row : ℕ) (kind : ChoiceKind) → IsRead ranks seats rows lists → IsFault ranks seats rows (Bad row kind) → ⊥
@@ -15,7 +15,7 @@ pub record HaveOneReading (ranks : Ranks) (seats : SeatTable) (rows : List Row) 
   pub one_fault : (row other : ℕ) (kind next : ChoiceKind) → IsFault ranks seats rows (Bad row kind) → IsFault ranks seats rows (Bad other next) → (row ≡ other) × (kind ≡ next)
   pub sound : (lists : Lists) → IsRead ranks seats rows lists → AreChoices ranks seats lists
 
--- What rows give or have beside ranks and seats, they give or have beside others.
+-- What rows give or have with these ranks and seats, they give or have with the others.
 pub record CarryOver (ranks other : Ranks) (seats matrix : SeatTable) (rows : List Row) : Type 0 where
   pub value : (lists : Lists) → IsRead ranks seats rows lists → IsRead other matrix rows lists
   pub fault : (row : ℕ) (kind : ChoiceKind) → IsFault ranks seats rows (Bad row kind) → IsFault other matrix rows (Bad row kind)

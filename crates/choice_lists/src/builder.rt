@@ -46,7 +46,8 @@ impl<'a> ChoicesBuilder<'a> {
         matrix: &'a Matrix,
     ) -> Result<ChoicesBuilder<'a>, OutOfMemory>
         ensures empty { IfOk result (λ builder. Keeps [] builder) }
-        ensures beside { IfOk result (λ builder. (builder.register.now ≡ register.now) × (builder.matrix.now ≡ matrix.now)) }
+        ensures beside { IfOk result (λ builder. (builder.register.now ≡ register.now)
+            × (builder.matrix.now ≡ matrix.now)) }
     {
         let people = register.people().len();
         let programmes = usize::from(matrix.count());
@@ -66,8 +67,11 @@ impl<'a> ChoicesBuilder<'a> {
     /// its programmes.
     fn new_candidate(&self, row: &Rows<'_>) -> Result<(usize, Person), ChoiceKind>
         requires { (entries : List Entry) × Keeps entries self.now }
-        ensures given { (entries : List Entry) → Keeps entries self.now → MatchResult result (λ found. new_candidate self.now.register.now entries row.now.row ≡ Ok found.1) (λ kind. new_candidate self.now.register.now entries row.now.row ≡ Err kind) }
-        ensures row { IfOk result (λ found. row_of found.1.id.0 self.now.register.now.people ≡ Some found.0) }
+        ensures given { (entries : List Entry) → Keeps entries self.now → MatchResult result
+            (λ found. new_candidate self.now.register.now entries row.now.row ≡ Ok found.1)
+            (λ kind. new_candidate self.now.register.now entries row.now.row ≡ Err kind) }
+        ensures row { IfOk result (λ found.
+            row_of found.1.id.0 self.now.register.now.people ≡ Some found.0) }
     {
         let Some((at, person)) = read_person(self.register, row.field(0)) else {
             return Err(ChoiceKind::UnknownCandidate);
@@ -88,9 +92,12 @@ impl<'a> ChoicesBuilder<'a> {
     /// The choices of all that was put in.
     pub(crate) fn finish(self, alloc: Global) -> Result<Choices, OutOfMemory>
         requires { (entries : List Entry) × Keeps entries self }
-        ensures lists { IfOk result (λ choices. (entries : List Entry) → Keeps entries self.entry → AreListsOf entries choices) }
-        ensures sound { IfOk result (λ choices. AreChoices self.entry.register.now self.entry.matrix.now choices) }
-        ensures aligned { IfOk result (λ choices. map (λ held. held.0) choices ≡ map (λ person. person.id.0) self.entry.register.now.people) }
+        ensures lists { IfOk result (λ choices. (entries : List Entry)
+            → Keeps entries self.entry → AreListsOf entries choices) }
+        ensures sound { IfOk result (λ choices.
+            AreChoices self.entry.register.now self.entry.matrix.now choices) }
+        ensures aligned { IfOk result (λ choices. map (λ held. held.0) choices
+            ≡ map (λ person. person.id.0) self.entry.register.now.people) }
     {
         let ids = ids_of(alloc, self.register.people())?;
         Ok(Choices {
@@ -221,7 +228,8 @@ fn is_ranked(matrix: &Matrix, person: &Person, prog: ProgId) -> bool
     person.place(matrix.list(prog)).number().is_some()
 }
 
-/// The programme that a field names, after those that stand earlier in the row: these are the ones that the person named last.
+/// Returns the programme that a field names, after those that are earlier in the row: these are the ones that the
+/// person named last.
 fn read_choice(
     matrix: &Matrix,
     person: &Person,
@@ -231,7 +239,9 @@ fn read_choice(
 ) -> Result<ProgId, ChoiceKind>
     requires marks { length named_last.now ≡ length matrix.now.programmes }
     requires guesses { length guesses.old ≡ 65536 }
-    ensures given { (progs : List ProgId) → ((n : ℕ) → (slice_index_or named_last.now n 0 == person.now.id.0) ≡ is_chosen n progs) → result ≡ choice matrix.now person.now progs text.now }
+    ensures given { (progs : List ProgId)
+        → ((n : ℕ) → (slice_index_or named_last.now n 0 == person.now.id.0) ≡ is_chosen n progs)
+        → result ≡ choice matrix.now person.now progs text.now }
     ensures known { IfOk result (λ prog. prog.0 < length matrix.now.programmes) }
 {
     let Some(prog) = find_programme(matrix, guesses, text) else {
@@ -259,8 +269,10 @@ fn read_programmes(
     requires marks { length named_last.old ≡ length matrix.now.programmes }
     requires guesses { length guesses.old ≡ 65536 }
     requires apart { (n : ℕ) → (slice_index_or named_last.old n 0 == person.now.id.0) ≡ false }
-    ensures given { IfOk result (λ fault. AreGiven matrix.now person.now row.now.row chosen.new.items fault) }
-    ensures others { OnOk result ((n q : ℕ) → (person.now.id.0 == q) ≡ false → (slice_index_or named_last.old n 0 == q) ≡ false → (slice_index_or named_last.new n 0 == q) ≡ false) }
+    ensures given { IfOk result (λ fault.
+        AreGiven matrix.now person.now row.now.row chosen.new.items fault) }
+    ensures others { OnOk result ((n q : ℕ) → (person.now.id.0 == q) ≡ false → (slice_index_or
+        named_last.old n 0 == q) ≡ false → (slice_index_or named_last.new n 0 == q) ≡ false) }
 {
     chosen.clear();
     let mut at = 1;

@@ -32,25 +32,30 @@ impl Model for Choices {
 }
 
 impl Choices {
-    /// The choices that the body of a section spells beside a register and a matrix, or its first fault by rows. There is one
-    /// list for each candidate of the register, in its order, and the empty one where the candidate has no row.
+    /// Returns the choices that the body of a section spells, given a register and a matrix, or its first fault by
+    /// rows. There is one list for each candidate of the register, in its order. It is empty if the candidate has no
+    /// row.
     pub fn read(
         alloc: Global,
         body: &[u8],
         register: &Register,
         matrix: &Matrix,
     ) -> Result<Choices, ChoiceFault>
-        ensures value { IfOk result (λ choices. IsRead register.now matrix.now (rows_of body.now) choices) }
-        ensures fault { IfErr result (λ fault. IsFault register.now matrix.now (rows_of body.now) fault) }
+        ensures value { IfOk result (λ choices.
+            IsRead register.now matrix.now (rows_of body.now) choices) }
+        ensures fault { IfErr result (λ fault.
+            IsFault register.now matrix.now (rows_of body.now) fault) }
         ensures sound { IfOk result (λ choices. AreChoices register.now matrix.now choices) }
-        ensures aligned { IfOk result (λ choices. map (λ held. held.0) choices ≡ map (λ person. person.id.0) register.now.people) }
+        ensures aligned { IfOk result (λ choices.
+            map (λ held. held.0) choices ≡ map (λ person. person.id.0) register.now.people) }
     {
         let mut builder = ChoicesBuilder::new(alloc, register, matrix)?;
         read_table(alloc, body, &mut builder)?;
         Ok(builder.finish(alloc)?)
     }
 
-    /// The programmes that a candidate wants, the most preferred first; none where the candidate has no row. It takes no memory.
+    /// Returns the programmes that a candidate wants, the most preferred first; none if the candidate has no row.
+    /// Allocates nothing.
     pub fn list(&self, cand: CandId) -> &[ProgId]
         ensures list { result.now ≡ list_of self.now cand.0 }
         ensures distinct { AreDistinct result.now }
@@ -76,7 +81,7 @@ impl Choices {
         }
     }
 
-    /// The list of the candidate at this position of the register, from 0. It takes no memory.
+    /// Returns the list of the candidate at this position of the register, from 0. Allocates nothing.
     pub fn list_at(&self, at: usize) -> &[ProgId]
         requires { at < length self.now }
         ensures { option_map (λ held. held.1) (slice_get self.now at) ≡ Some result.now }

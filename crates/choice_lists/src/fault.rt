@@ -16,7 +16,7 @@ pub enum ChoiceKind {
     RepeatedCandidate = 2,
     /// A field is not the code of a programme of the matrix.
     UnknownProgramme = 3,
-    /// A programme stands earlier in the row.
+    /// A programme is already in the row.
     RepeatedProgramme = 4,
     /// The candidate has no place in the merit list of the programme.
     NotRankedThere = 5,
@@ -60,5 +60,5 @@ impl ChoiceKind {
     }
 }
 
-/// Why choices were not read: their first fault by rows, or want of memory. Nothing is left behind.
+/// Says why choices were not read: their first fault by rows, or memory ran out. Nothing is left behind.
 pub type ChoiceFault = TableFault<ChoiceKind>;

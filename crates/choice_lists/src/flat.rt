@@ -34,7 +34,7 @@ fn part<T>(items: &[T], start: usize, end: usize) -> &[T]
 }
 
 impl<T> FlatLists<T> {
-    /// No lists. It takes no memory.
+    /// Makes an empty list of lists. Allocates nothing.
     pub fn new(alloc: Global) -> FlatLists<T>
         ensures { result ≡ [] }
     {
@@ -51,7 +51,7 @@ impl<T> FlatLists<T> {
         self.ranges.len()
     }
 
-    /// The list of this number, from 0. It takes no memory.
+    /// Returns the list of this number, from 0. Allocates nothing.
     pub fn at(&self, number: usize) -> &[T]
         requires { number < length self.now }
         ensures { slice_get self.now number ≡ Some result.now }

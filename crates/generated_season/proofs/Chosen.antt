@@ -1,4 +1,4 @@
--- The choices that are made up have no fault beside the register and the matrix.
+-- The choices that are made up have no fault, given the register and the matrix.
 use Rattle.std.proofs.Common.{◌≡◌, ◌≤◌, ◌<◌, ◌+◌, ◌-◌, ◌*◌, ◌%◌, ◌==◌, ℕ, zero, suc, Bool, true, false, cond, nat_lt, List, [], ◌∷◌, ◌++◌, Some, None, Ok, length, map, refl, sym, ap, ◌∙◌, append_assoc, arith, inl, inr, if◌then◌else◌}
 use Rattle.std.specs.Prelude.{bytes_eq, codes, is_some, position, slice_get, slice_index_or, slice_index}
 use Rattle.std.specs.Fmt.{decimal}
@@ -38,7 +38,7 @@ pub record HasProgrammes (count : ℕ) (table : SeatTable) : Type 0 where
   pub codes : codes_in table.programmes ≡ map programme_code (range_with_len 0 count)
   pub homes : (p : ℕ) → p < count → find_home (programme_code p) table.programmes ≡ Some (home_made p)
 
--- where a code stands among those of a range
+-- where a code is among those of a range
 position-range : (p a k : ℕ) → a ≤ p → p < a + k → a + position_or_len (bytes_eq (programme_code p)) (map programme_code (range_with_len a k)) ≡ p
 position-range p a zero low high = absurd (omega (arith, low, high))
 position-range p a (suc k) low high = elim (cases_eq a p) [

@@ -15,7 +15,7 @@ use Rattle.std.proofs.Math.ListN.{length-set}
 abbrev pub AreApart : List ℕ → Type 0
 AreApart xs = (i j : ℕ) → i < length xs → j < length xs → get_or xs i 0 ≡ get_or xs j 0 → i ≡ j
 
--- where an element stands that is at this place after an exchange
+-- where an element was that is at this place after an exchange
 record IsFrom (xs : List ℕ) (a b k : ℕ) (from : ℕ) : Type 0 where
   same : get_or (swap xs a b) k 0 ≡ get_or xs from 0
   within : from < length xs
@@ -63,7 +63,7 @@ from xs a b k a-in b-in k-in =
       ]
     ]
 
--- elements that came from one place stand at one place
+-- elements that came from one place are at one place
 one-from : (xs : List ℕ) (a b i j f : ℕ) → IsFrom xs a b i f → IsFrom xs a b j f → i ≡ j
 one-from xs a b i j f x y =
     elim (cases_eq i b) [

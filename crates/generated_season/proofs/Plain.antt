@@ -11,6 +11,7 @@ use Rattle.csv.specs.Reading.{default_config, records_from, records_next, strip_
 use Rattle.csv.specs.declared.parser.State.TheVariants as st
 use Rattle.csv.proofs.RoundTrip.{record-same, start-same}
 use Rattle.section_rows.specs.Rows.{Row, row_before, rows_among, rows_of, without_empty_end}
+use Rattle.section_rows.proofs.RecordLemmas.{none_left}
 
 -- ---- words
 
@@ -123,14 +124,9 @@ row-run ((byte ∷ word) ∷ words) tail is =
     ∙ begin [] (byte ∷ word) (further words ++ tail) is.0
     ∙ rest-run [] (byte ∷ word) words tail is.1
 
-none-run : (n : ℕ) → records_from default_config n st.StartRecord [] ≡ []
-unfolding records_from next_record
-none-run zero = refl
-none-run (suc n) = refl
-
 rows-run : (n : ℕ) (rows : List Row) → length rows ≤ n → AreWordRows rows → records_from default_config n st.StartRecord (text_of rows) ≡ rows
 unfolding records_from
-rows-run n [] within all = none-run n
+rows-run n [] within all = none_left n
 rows-run zero (row ∷ rows) within all = absurd (omega (arith, within))
 rows-run (suc n) (row ∷ rows) within all =
     ap (λ o. records_next (records_from default_config n) o) (row-run row (text_of rows) all.0) ∙ ap (λ (l : List Row). row ∷ l) (rows-run n rows (omega (arith, within)) all.1)

@@ -1,5 +1,5 @@
 -- What the rows of a range of numbers give, one after another.
-use Rattle.std.proofs.Common.{◌≡◌, ◌≤◌, ◌<◌, ◌+◌, ◌*◌, ℕ, zero, suc, Bool, true, false, List, [], ◌∷◌, ◌++◌, Option, Some, None, Ok, length, refl, sym, ap, subst, ◌∙◌, add-one, add-zero, append_assoc, length-append, arith, suc-mul, inl, inr, if◌then◌else◌}
+use Rattle.std.proofs.Common.{◌≡◌, ◌≤◌, ◌<◌, ◌+◌, ℕ, zero, suc, Bool, true, false, List, [], ◌∷◌, ◌++◌, Option, Some, None, Ok, refl, sym, ap, subst, ◌∙◌, add-one, append_assoc, arith, inl, inr, if◌then◌else◌}
 use Rattle.std.specs.List.{flat_map, range_with_len}
 use Rattle.std.proofs.lemmas.Bool.{cases_eq}
 use Rattle.std.proofs.lemmas.List.{append-nil}
@@ -9,6 +9,7 @@ use Rattle.section_rows.specs.Rows.{Row, same_fields}
 use Rattle.section_rows.specs.Steps.{first_of, or_else}
 use Rattle.section_rows.specs.Table.{Reading, entries_of, table_judge}
 use Rattle.section_rows.proofs.TableLemmas.{IsReadTo, read-all, read-header, read-more}
+use Rattle.season_generator.proofs.RowLemmas.{range_next}
 use Rattle.generated_season.proofs.Plain.{AreWordRows, rows-append, text-append, text_of}
 
 -- ---- tables
@@ -29,17 +30,11 @@ reads-append reading before (row ∷ rows) [] more others h k = absurd h
 reads-append reading before (row ∷ rows) (entry ∷ entries) more others h k =
     (h.0, reads-append reading (before ++ entry ∷ []) rows entries more others h.1 (subst (λ b. Reads reading b more others) (sym (append_assoc before (entry ∷ []) entries)) k))
 
-range-next : (a n : ℕ) → range_with_len a (suc n) ≡ range_with_len a n ++ (a + n) ∷ []
-range-next a zero = ap (λ (k : ℕ). k ∷ []) (sym (add-zero a))
-range-next a (suc n) =
-    let e : a + 1 + n ≡ a + suc n = omega arith in
-    ap (λ (l : List ℕ). a ∷ l) (range-next (a + 1) n ∙ ap (λ (k : ℕ). range_with_len (a + 1) n ++ k ∷ []) e)
-
 -- one number more
 pub flat-more : {X : Type 0} (f : ℕ → List X) (a : ℕ) → flat_map f (range_with_len 0 (a + 1)) ≡ flat_map f (range_with_len 0 a) ++ f a
 flat-more {X} f a =
     let zero-before : 0 + a ≡ a = omega arith in
-    ap (λ (n : ℕ). flat_map f (range_with_len 0 n)) (add-one a) ∙ ap (flat_map f) (range-next 0 a) ∙ flat_map-append f (range_with_len 0 a) ((0 + a) ∷ [])
+    ap (λ (n : ℕ). flat_map f (range_with_len 0 n)) (add-one a) ∙ ap (flat_map f) (range_next 0 a) ∙ flat_map-append f (range_with_len 0 a) ((0 + a) ∷ [])
     ∙ ap (λ (l : List X). flat_map f (range_with_len 0 a) ++ l) (append-nil (f (0 + a))) ∙ ap (λ (k : ℕ). flat_map f (range_with_len 0 a) ++ f k) zero-before
 
 -- The rows of a range, where the rows of each number give its entries after those of the numbers before it.
@@ -120,11 +115,3 @@ text-range line rows a zero each = refl
 text-range line rows a (suc k) each =
     ap (λ (l : List ℕ). l ++ flat_map line (range_with_len (a + 1) k)) (each a) ∙ ap (λ (l : List ℕ). text_of (rows a) ++ l) (text-range line rows (a + 1) k each)
     ∙ sym (text-append (rows a) (flat_map rows (range_with_len (a + 1) k)))
-
--- The lines of a range are no longer than so many of the longest one.
-pub length-range : (line : ℕ → List ℕ) (longest a k : ℕ) → ((i : ℕ) → i < a + k → length (line i) ≤ longest) → length (flat_map line (range_with_len a k)) ≤ k * longest
-length-range line longest a zero each = omega arith
-length-range line longest a (suc k) each =
-    let rest = length-range line longest (a + 1) k (λ i less. each i (omega (arith, less))) in
-    let one : suc k * longest ≡ k * longest + longest = suc-mul k longest in
-    omega (arith, each a (omega arith), rest, one, length-append (line a) (flat_map line (range_with_len (a + 1) k)))

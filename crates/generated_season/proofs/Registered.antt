@@ -1,11 +1,10 @@
 -- The register that is made up has no fault, and who is in it.
-use Rattle.std.proofs.Common.{◌≡◌, ◌≤◌, ◌<◌, ◌+◌, ◌*◌, ◌/◌, ◌^◌, ◌==◌, ℕ, zero, suc, Bool, true, false, ◌&&◌, nat_le, List, [], ◌∷◌, ◌++◌, Some, None, Ok, length, drop, refl, sym, ap, ◌∙◌, append_assoc, arith}
+use Rattle.std.proofs.Common.{◌≡◌, ◌≤◌, ◌<◌, ◌+◌, ◌*◌, ◌==◌, ℕ, zero, suc, Bool, true, false, ◌&&◌, nat_le, List, [], ◌∷◌, ◌++◌, Some, None, Ok, length, drop, refl, sym, ap, ◌∙◌, append_assoc, arith}
 use Rattle.std.specs.Prelude.{bytes_eq, codes, slice_index}
 use Rattle.std.specs.Fmt.{decimal}
 use Rattle.std.specs.List.{flat_map, range_with_len}
 use Rattle.std.proofs.lemmas.Bool.{cond-false, cond-true, eq-eqb, false_from_ne_true, lt-leb, ne_eqb, or_from}
 use Rattle.std.proofs.lemmas.List.{append-nil}
-use Rattle.std.proofs.lemmas.Nat.{mod_below}
 use Rattle.std.proofs.lemmas.Slice.Eq.{bytes_eq-Decides}
 use Rattle.office_base.specs.Limits.{last_id, most_candidates}
 use Rattle.office_base.specs.Person.{number_of}
@@ -25,8 +24,9 @@ use Rattle.rank_lists.specs.Register.{any_relaxed, header, holder_at, is_general
 use Rattle.rank_lists.specs.declared.entry.Entry.{Entry}
 use Rattle.rank_lists.specs.declared.fault.RankKind.TheVariants.{BadHeader}
 use Rattle.season_generator.specs.Bundle.{category_name, eight_digits, has_relaxed, lines, place_field, profile_at, profile_of, register_row, register_text, stride_of, traits_name}
-use Rattle.season_generator.specs.Draws.{after, drawn, next}
+use Rattle.season_generator.specs.Draws.{after, drawn}
 use Rattle.season_generator.specs.declared.profile.Profile.{Profile}
+use Rattle.season_generator.proofs.PlaceLemmas.{drawn_below}
 use Rattle.generated_season.proofs.Numbers.{are-digits, common-place, eight-apart, own-token, read-within, relaxed-place, word-append}
 use Rattle.generated_season.proofs.Places.{ArePlaces}
 use Rattle.generated_season.proofs.Plain.{AreWordRows, IsWordRow, is_word, line_of, text_of}
@@ -42,16 +42,12 @@ pub record IsProfile (profile : Profile) : Type 0 where
   pub number : ℕ
   pub stride : profile.stride ≡ stride_of number
 
-drawn-below : (n state : ℕ) → 0 < n → drawn n state < n
-unfolding drawn
-drawn-below n state positive = mod_below (next state / 2 ^ 33) n positive
-
 pub profile-drawn : (state : ℕ) → IsProfile (profile_at state)
 unfolding profile_at
 profile-drawn state = record {
   chance = drawn 10 (after 3 state) == 0;
   relaxed = refl;
-  first = drawn-below 100 (after 4 state) (omega arith);
+  first = drawn_below 100 (after 4 state) (omega arith);
   number = drawn 4 (after 5 state);
   stride = refl;
 }
@@ -277,7 +273,7 @@ registered inverse n state first second most firsts seconds =
 
 -- ---- who is in it
 
--- A candidate is found by the own number.
+-- A candidate is found by the candidate's own number.
 pub person-found : (n state : ℕ) (first second : List ℕ) (i : ℕ) → i < n
     → person_at (i + 1) (entries_to state first second n) ≡ Some (person_made (i + 1) (profile_of state i) (slice_index first i) (slice_index second i))
 person-found n state first second i less =

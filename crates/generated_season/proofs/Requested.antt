@@ -4,7 +4,6 @@ use Rattle.std.specs.Prelude.{bytes_eq, codes}
 use Rattle.std.specs.Fmt.{decimal}
 use Rattle.std.specs.List.{AllByRecursion, flat_map, range_with_len}
 use Rattle.std.proofs.lemmas.Bool.{false_from_ne_true}
-use Rattle.std.proofs.lemmas.List.{append-nil}
 use Rattle.std.proofs.lemmas.Slice.Eq.{bytes_eq-Decides}
 use Rattle.office_base.specs.Limits.{last_id, last_window}
 use Rattle.office_base.specs.declared.asks.Ask.TheVariants.{Answer, Cut}
@@ -21,6 +20,7 @@ use Rattle.season_generator.specs.Draws.{after, drawn}
 use Rattle.generated_season.proofs.Numbers.{are-digits, read-within}
 use Rattle.generated_season.proofs.Plain.{AreWordRows, IsWordRow, is_word, line_of, rows-append, text-append, text_of}
 use Rattle.generated_season.proofs.Ranges.{text-range, words-range}
+use Rattle.generated_season.proofs.Registered.{row-single}
 
 -- ---- the rows of a script
 
@@ -130,17 +130,14 @@ pub record AreRequested (n state : ℕ) (rows : List Row) : Type 0 where
   pub script : List Request
   pub read : script_of rows ≡ Ok script
 
-one-row : (row : Row) (line : List ℕ) → line ≡ line_of row → line ≡ text_of (row ∷ [])
-one-row row line e = e ∙ sym (append-nil (line_of row))
-
 window-text : (n state before : ℕ) → window_rows n (after (n * before) state) (before + 1) ≡ text_of (window_at n state before)
 unfolding window_rows lines
 window-text n state before =
     let from = after (n * before) state in
     let answers = flat_map (answers_at (before + 1) from) (range_with_len 0 n) in
     ap (λ (l : List ℕ). l ++ cut_row (before + 1))
-    (text-range (λ candidate. answer_row (before + 1) (candidate + 1) (choice_name (drawn 20 (after candidate from)))) (answers_at (before + 1) from) 0 n (λ i. one-row (answer_words (before + 1) (i + 1) (choice_name (drawn 20 (after i from)))) _ (answer-line (before + 1) (i + 1) (choice_name (drawn 20 (after i from))))))
-    ∙ ap (λ (l : List ℕ). text_of answers ++ l) (one-row (cut_words (before + 1)) _ (cut-line (before + 1)))
+    (text-range (λ candidate. answer_row (before + 1) (candidate + 1) (choice_name (drawn 20 (after candidate from)))) (answers_at (before + 1) from) 0 n (λ i. row-single (answer_words (before + 1) (i + 1) (choice_name (drawn 20 (after i from)))) _ (answer-line (before + 1) (i + 1) (choice_name (drawn 20 (after i from))))))
+    ∙ ap (λ (l : List ℕ). text_of answers ++ l) (row-single (cut_words (before + 1)) _ (cut-line (before + 1)))
     ∙ sym (text-append answers (cut_words (before + 1) ∷ []))
 
 window-words : (n state before : ℕ) → n ≤ 100000 → before < 6 → AreWordRows (window_at n state before)

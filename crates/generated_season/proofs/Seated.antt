@@ -26,6 +26,7 @@ use Rattle.seat_matrix.specs.declared.entry.Entry.{Entry}
 use Rattle.seat_matrix.specs.declared.entry.Home.{Home}
 use Rattle.seat_matrix.specs.declared.fault.MatrixKind.TheVariants.{BadHeader}
 use Rattle.seat_matrix.specs.declared.seats.Seating.{Seating}
+use Rattle.seat_matrix.proofs.SeatsLemmas.{seats-push}
 use Rattle.season_generator.specs.Bundle.{code_of as programme_code, lines, matrix_row, programme_rows}
 use Rattle.generated_season.proofs.Numbers.{are-digits, digit-byte, digit-plain, not-empty, read-within}
 use Rattle.generated_season.proofs.Plain.{AreWordRows, IsWordRow, is_word, line_of, text_of}
@@ -131,10 +132,6 @@ row-read inverse p step name seats women disabled done entries low early few nam
 settles-more : (o : Option Home) (count other : ℕ) (home : Home) → settles o count home ≡ Ok home → settles (or_else o (Some home)) other home ≡ Ok home
 settles-more None count other home e = rw (bytes-same home.institute, eq-eqb home.list.0 home.list.0 refl) refl
 settles-more (Some known) count other home e = e
-
-seats-push : (seats : ℕ) (entries : List Entry) (entry : Entry) → seats_after seats (entries ++ entry ∷ []) ≡ seats_after seats entries + entry.seating.seats
-seats-push seats [] entry = refl
-seats-push seats (first ∷ entries) entry = seats-push (seats + first.seating.seats) entries entry
 
 at-next : (p : ℕ) (step : StepKind) (seats women disabled done : ℕ) (entries : List Entry) → AreFew seats women disabled → step_number step ≡ done → IsAt p done entries
     → IsAt p (done + 1) (entries ++ entry_made p step seats women disabled ∷ [])
@@ -275,7 +272,7 @@ codes-range size a (suc k) =
     ∙ ap (λ (l : List (List ℕ)). codes_after l rest) (five-codes size a held (none-same a 0 a (omega arith)) ∙ sym (map-range_with_len_more programme_code 0 a a (omega arith)))
     ∙ codes-range size (a + 1) k ∙ ap (λ (n : ℕ). map programme_code (range_with_len 0 n)) (omega arith)
 
--- The programmes that stand before one.
+-- The programmes that come before one.
 pub codes-to : (size p : ℕ) → codes_of (entries_to size p) ≡ map programme_code (range_with_len 0 p)
 codes-to size p = codes-range size 0 p ∙ ap (λ (n : ℕ). map programme_code (range_with_len 0 n)) (omega arith)
 
@@ -332,7 +329,7 @@ seated inverse size count small most =
       entries = reads.1;
     }
 
--- Each programme is where it stands in the first of its rows.
+-- The `Home` of each programme is that of the first of its rows.
 pub home-found : (size count p : ℕ) → p < count → home_at (programme_code p) (entries_to size count) ≡ Some (home_made p)
 home-found size count p low =
     first-found (λ entry. bytes_eq (programme_code p) entry.programme) (λ entry. entry.home) (entries_of_programme size) 0 count p (home_made p) (omega arith) (omega (arith, low))

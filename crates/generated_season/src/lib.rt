@@ -1,6 +1,6 @@
-// What holds of the season that the generator makes up, for whoever reads it.
+// Laws of the season that the generator makes up, for any reader.
 //
-// The command that runs such a season stands on it. It has no code but its laws.
+// The command that runs such a season depends on it. It has no code but its laws.
 #![tactic(auto)]
 
 pub mod laws;

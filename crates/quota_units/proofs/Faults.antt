@@ -1,6 +1,6 @@
 -- Bytes that are not too many come to a plain bundle or have a fault of their own.
 use Rattle.std.proofs.Common.{◌≡◌, ◌<◌, ◌≤◌, ℕ, Bool, true, false, cond, List, [], ◌∷◌, Option, Some, None, Result, Ok, Err, length, take, drop, refl, sym, ap, subst, ◌∙◌, arith}
-use Rattle.std.specs.Prelude.{◌+◌, nat_lt, bytes_eq, codes, if◌then◌else◌, IfErr, IfOk, IsErrOf, MatchBool, OnOk}
+use Rattle.std.specs.Prelude.{◌+◌, nat_lt, bytes_eq, codes, if◌then◌else◌, IfErr, IfOk, IsErrOf, MatchBool}
 use Rattle.std.specs.Str.{IsUtf8, is_utf8}
 use Rattle.std.proofs.lemmas.Bool.{ltb-true}
 use Rattle.std.proofs.lemmas.Str.{IsUtf8-from_is_utf8, is_utf8-from_IsUtf8}
@@ -220,7 +220,3 @@ came_to text = Ok text
 
 pub not-err : {X : Type 0} (fault : UnitFault) → (fault ≡ ReadFault → ⊥) → IsErrOf {T = X} (Err fault) ReadFault → ⊥
 not-err fault other is = other (cc is)
-
-pub on-ok : {X E : Type 0} (r : Result X E) (P Q : Type 0) → (P → Q) → OnOk r P → OnOk r Q
-on-ok (Ok x) P Q to h = to h
-on-ok (Err e) P Q to h = tt

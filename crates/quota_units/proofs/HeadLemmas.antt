@@ -1,11 +1,10 @@
--- Where a bundle begins, and where a wrong line stands before it.
-use Rattle.std.proofs.Common.{◌≡◌, ◌<◌, ◌≤◌, ◌+◌, ◌-◌, ◌==◌, ℕ, zero, suc, Bool, true, false, cond, List, [], ◌∷◌, length, take, drop, Result, Ok, Err, refl, sym, ap, subst, ◌∙◌, add-one, arith}
-use Rattle.std.proofs.lemmas.List.{length-take}
-use Rattle.std.proofs.lemmas.Slice.Eq.{bytes_eq-Decides}
+-- Where a bundle begins, and where a wrong line is before it.
+use Rattle.std.proofs.Common.{◌≡◌, ◌<◌, ◌≤◌, ◌+◌, ◌==◌, ℕ, zero, suc, Bool, true, false, cond, List, [], ◌∷◌, length, take, drop, Result, Ok, Err, refl, sym, ap, subst, ◌∙◌, arith}
 use Rattle.std.specs.Prelude.{◌&&◌, bytes_eq, codes}
-use Rattle.season_file.specs.Bundle.{after_line, breaks, fault_line, line_len, section, skip_empty, title}
+use Rattle.season_file.specs.Bundle.{after_line, fault_line, line_len, section, skip_empty, title}
 use Rattle.section_rows.specs.Steps.{after}
 use Rattle.section_rows.proofs.StepsLemmas.{after_ok}
+use Rattle.season_file.proofs.CuttingLemmas.{drop_one}
 use Rattle.quota_units.specs.Input.{Input, before_bundle, behind, closed_by, cut_before, input_of, with_line}
 use Rattle.quota_units.specs.declared.fault.UnitFault.{UnitFault}
 use Rattle.quota_units.specs.declared.fault.UnitFault.TheVariants.{BadFirstLine, Section}
@@ -18,10 +17,6 @@ before-inside : (bytes : List ℕ) → begins bytes ≡ false → before_bundle 
 before-inside [] e = refl
 before-inside (b ∷ bytes) e = rw e refl
 
-pub before-here : (bytes : List ℕ) → begins bytes ≡ true → before_bundle true bytes ≡ 0
-before-here [] e = refl
-before-here (b ∷ bytes) e = rw e refl
-
 -- A line without LF has no other behind it.
 before-last : (bytes : List ℕ) → line_len bytes ≡ length bytes → before_bundle false bytes ≡ length bytes
 before-last [] e = refl
@@ -30,9 +25,6 @@ before-last (b ∷ bytes) e = by (λ h. before-last bytes h) (b == 10) refl e
     by : (line_len bytes ≡ length bytes → before_bundle false bytes ≡ length bytes) → (test : Bool) → (b == 10) ≡ test → cond test 0 (suc (line_len bytes)) ≡ suc (length bytes) → suc (before_bundle (b == 10) bytes) ≡ suc (length bytes)
     by next true is h = absurd (omega (arith, h))
     by next false is h = rw is (ap suc (next (omega (arith, h))))
-
-drop_one : (n b : ℕ) (bytes : List ℕ) → drop (suc n + 1) (b ∷ bytes) ≡ drop (n + 1) bytes
-drop_one n b bytes = ap (λ (k : ℕ). drop k (b ∷ bytes)) (add-one (suc n)) ∙ ap (λ (k : ℕ). drop k bytes) (sym (add-one n))
 
 -- The next line begins after an LF.
 before-next : (bytes : List ℕ) → line_len bytes < length bytes → before_bundle false bytes ≡ (line_len bytes + 1) + before_bundle true (drop (line_len bytes + 1) bytes)
@@ -48,33 +40,15 @@ before-next (b ∷ bytes) less = by (λ h. before-next bytes h) (b == 10) refl l
             → suc (before_bundle false bytes) ≡ (suc (line_len bytes) + 1) + before_bundle true (drop (suc (line_len bytes) + 1) (b ∷ bytes))
         joined same e = omega (arith, e, ap (before_bundle true) same)
 
--- The line of a fault is told by how many bytes are left.
-pub line-by-length : (text rest other : List ℕ) → length rest ≡ length other → fault_line text rest ≡ fault_line text other
-line-by-length text [] [] e = refl
-line-by-length text [] (b ∷ other) e = absurd (omega (arith, e))
-line-by-length text (a ∷ rest) [] e = absurd (omega (arith, e))
-line-by-length text (a ∷ rest) (b ∷ other) e = ap (λ (n : ℕ). breaks (take (length text - n) text) + 1) e
-
--- A line that is the last one stands before no bundle.
+-- A line that is the last one comes before no bundle.
 pub before-end : (bytes : List ℕ) (end : ℕ) → begins bytes ≡ false → end ≡ line_len bytes → end ≡ length bytes → before_bundle true bytes ≡ end
 before-end bytes end other same whole = omega (arith, before-inside bytes other, before-last bytes (omega (arith, same, whole)), whole)
 
--- A line that begins no bundle stands before it.
+-- A line that begins no bundle comes before it.
 pub before-step : (bytes : List ℕ) (end : ℕ) → begins bytes ≡ false → end ≡ line_len bytes → end < length bytes
     → before_bundle true bytes ≡ (end + 1) + before_bundle true (drop (end + 1) bytes)
 before-step bytes end other same less = subst (λ (n : ℕ). before_bundle true bytes ≡ (n + 1) + before_bundle true (drop (n + 1) bytes)) (sym same)
     (omega (arith, before-inside bytes other, before-next bytes (omega (arith, same, less))))
-
--- Few bytes begin none.
-pub too-short : (bytes : List ℕ) → length bytes < 13 → false ≡ begins bytes
-too-short bytes less = by (begins bytes) refl
-  where
-    by : (b : Bool) → begins bytes ≡ b → false ≡ b
-    by false e = refl
-    by true e =
-        let same : take 13 bytes ≡ codes "office bundle" = (bytes_eq-Decides (take 13 bytes) (codes "office bundle")).0 e in
-        let n : length (take 13 bytes) ≡ 13 = ap length same in
-        absurd (omega (arith, n, less, length-take 13 bytes))
 
 -- ---- what is left is not longer
 

@@ -1,4 +1,4 @@
--- Whoever has a field of a unit in a mapped row lives where it is for.
+-- A candidate with a field of a unit in a mapped row lives in a state that the unit is for.
 use Rattle.std.proofs.Common.{◌≡◌, ◌+◌, ◌-◌, ℕ, Bool, true, false, List, [], ◌∷◌, ◌++◌, Option, Some, None, Ok, length, take, drop, refl, sym, ap, subst, ◌∙◌, if◌then◌else◌, length-append, arith}
 use Rattle.std.specs.Prelude.{◌||◌, bytes_eq, is_some}
 use Rattle.std.specs.Option.{option_and_then}

@@ -1,30 +1,33 @@
--- Whoever has a unit on the list lives where it is for.
-use Rattle.std.proofs.Common.{◌≡◌, ◌+◌, ℕ, zero, suc, Bool, true, false, not, inl, inr, List, [], ◌∷◌, ◌++◌, Option, Some, None, Result, Ok, Err, length, map, drop, refl, sym, ap, subst, ◌∙◌, ◌==◌, if◌then◌else◌, arith}
-use Rattle.std.specs.Prelude.{◌-◌, ◌&&◌, nat_lt, bytes_eq, get_or, is_some, position, slice_get}
+-- A candidate who has a unit on the list lives in a state that the unit is for.
+use Rattle.std.proofs.Common.{◌≡◌, ℕ, zero, suc, Bool, true, false, not, List, [], ◌∷◌, ◌++◌, Option, Some, None, Result, Ok, Err, map, drop, refl, sym, ap, subst, ◌∙◌, ◌==◌, if◌then◌else◌, arith}
+use Rattle.std.specs.Prelude.{◌&&◌, bytes_eq, get_or, position, slice_get}
 use Rattle.std.specs.Option.{option_and_then, option_map}
 use Rattle.std.specs.Fmt.{decimal}
 use Rattle.std.specs.List.{AllByRecursion}
 use Rattle.std.proofs.lemmas.Bool.{eqb-true}
 use Rattle.std.proofs.lemmas.List.Quantifiers.{position-Some}
 use Rattle.std.proofs.lemmas.Slice.Eq.{bytes_eq-Decides}
-use Rattle.office_base.specs.Limits.{last_id, most_choices, most_row_choices}
+use Rattle.office_base.specs.Limits.{last_id}
 use Rattle.office_base.specs.declared.person.Person.{Person}
 use Rattle.office_base.specs.declared.person.ProgId.{ProgId}
 use Rattle.office_base.specs.Codes.{is_code}
 use Rattle.office_text.specs.Number.{AreInverse, is_number, number_within, value_of}
 use Rattle.section_rows.specs.Rows.{Row, field, rows_of}
-use Rattle.section_rows.specs.Steps.{after, needs, unless}
+use Rattle.section_rows.specs.Steps.{after, unless}
 use Rattle.section_rows.specs.Table.{entries_after, entries_of, with_entry}
 use Rattle.section_rows.proofs.StepsLemmas.{after_ok, needs_ok, unless_ok, within_range}
 use Rattle.rank_lists.specs.Register.{Ranks, find_person}
 use Rattle.seat_matrix.specs.Matrix.{SeatTable}
 use Rattle.seat_matrix.specs.declared.entry.Home.{Home}
-use Rattle.choice_lists.specs.Choices.{Entry, all_choices, choice, choices, is_chosen, is_ranked, list_at, listed, new_candidate, person_of, programme_of, reading}
+use Rattle.choice_lists.specs.Choices.{Entry, choice, choices, is_chosen, is_ranked, list_at, listed, new_candidate, person_of, programme_of, reading}
 use Rattle.choice_lists.specs.declared.fault.ChoiceKind.{ChoiceKind}
-use Rattle.choice_lists.specs.declared.fault.ChoiceKind.TheVariants.{UnknownCandidate, RepeatedCandidate, UnknownProgramme, RepeatedProgramme, NotRankedThere, TooLong, TooMany}
+use Rattle.choice_lists.specs.declared.fault.ChoiceKind.TheVariants.{UnknownProgramme, RepeatedProgramme, NotRankedThere}
 use Rattle.quota_units.specs.Homes.{Homes}
 use Rattle.office_base.specs.Lists.{IsAmong}
 use Rattle.office_base.specs.declared.asks.Request.{Request}
+use Rattle.office_base.proofs.Lists.{all_push, all_among}
+use Rattle.rank_lists.proofs.Known.{found_id}
+use Rattle.choice_lists.proofs.ChoicesLemmas.{new_candidate_ok}
 use Rattle.season_file.specs.declared.content.Content.{Content}
 use Rattle.quota_units.specs.Mapping.{mapped_from, mapped_rows}
 use Rattle.quota_units.specs.Reads.{AllLiveRight, MappedGives}
@@ -32,14 +35,6 @@ use Rattle.quota_units.proofs.Living.{from-right}
 use Rattle.quota_units.specs.Living.{AreRight, HasRight, IsRight}
 
 -- ---- texts of candidates and of programmes
-
-found-id : (id : ℕ) (people : List Person) (person : Person) → find_person id people ≡ Some person → person.id.0 ≡ id
-found-id id [] person e = absurd (cc)
-found-id id (p ∷ people) person e = by (found-id id people person) (id == p.id.0) refl e
-  where
-    by : (find_person id people ≡ Some person → person.id.0 ≡ id) → (b : Bool) → (id == p.id.0) ≡ b → (if b then Some p else find_person id people) ≡ Some person → person.id.0 ≡ id
-    by next true is h = let same : p ≡ person = cc in sym (ap (λ (q : Person). q.id.0) same) ∙ sym (eqb-true id p.id.0 is)
-    by next false is h = next h
 
 spelled : (a x y : Bool) (v n : ℕ) → (if a && x && y then Some v else None) ≡ Some n → (if a then Some v else None) ≡ Some n
 spelled true true true v n e = e
@@ -54,7 +49,7 @@ text-is inverse ranks text person e = by (number_within 1 last_id text) refl e
     by None found e = absurd (cc)
     by (Some id) found e =
         let high = (within_range 1 last_id id text found).1 in
-        inverse.written_back text id (omega (arith, high)) (spelled (is_number text) _ _ (value_of text) id found) ∙ sym (ap decimal (found-id id ranks.people person e))
+        inverse.written_back text id (omega (arith, high)) (spelled (is_number text) _ _ (value_of text) id found) ∙ sym (ap decimal (found_id id ranks.people person e))
 
 get-code : (programmes : List (List ℕ × Home)) (n : ℕ) (code : List ℕ) → option_map (λ held. held.0) (slice_get programmes n) ≡ Some code → get_or (map (λ held. held.0) programmes) n [] ≡ code
 get-code [] zero code e = absurd (cc)
@@ -76,10 +71,6 @@ code-is seats text n code e there = by (is_code text) e
 abbrev ok_prog : ProgId → Result ProgId ChoiceKind
 ok_prog prog = Ok prog
 
-all-push : {X : Type 0} (P : X → Type 0) (xs : List X) (x : X) → AllByRecursion P xs → P x → AllByRecursion P (xs ++ x ∷ [])
-all-push P [] x all here = (here, tt)
-all-push P (y ∷ xs) x all here = (all.0, all-push P xs x all.1 here)
-
 progs-right : (units states : Homes) (seats : SeatTable) (person : Person) (candidate : ℕ) (chosen : List ProgId) (texts : Row) (progs : List ProgId) → choices seats person chosen texts ≡ Ok progs
     → AllByRecursion (HasRight seats units states candidate) chosen → AllByRecursion (IsRight units states (decimal candidate)) texts → AllByRecursion (HasRight seats units states candidate) progs
 progs-right units states seats person candidate chosen [] progs e all right = let same : chosen ≡ progs = cc in subst (AllByRecursion (HasRight seats units states candidate)) same all
@@ -90,7 +81,7 @@ progs-right units states seats person candidate chosen (t ∷ texts) progs e all
     let (ranked, made) = unless_ok (not (is_ranked seats person n)) NotRankedThere (Ok (record { 0 = n })) prog more in
     let one : n ≡ prog.0 = number n prog made in
     progs-right units states seats person candidate (chosen ++ prog ∷ []) texts progs next
-    (all-push (HasRight seats units states candidate) chosen prog all
+    (all_push (HasRight seats units states candidate) chosen prog all
     (λ code there. subst (IsRight units states (decimal candidate)) (code-is seats t n code found (ap (λ (k : ℕ). option_map (λ (held : List ℕ × Home). held.0) (slice_get seats.programmes k)) one ∙ there)) right.0)) right.1
   where
     number : (n : ℕ) (prog : ProgId) → ok_prog (record { 0 = n }) ≡ ok_prog prog → n ≡ prog.0
@@ -102,31 +93,12 @@ RightEntry seats units states entry = AllByRecursion (HasRight seats units state
 abbrev wanted : SeatTable → Row → Person → Result Entry ChoiceKind
 wanted seats row person = after (choices seats person [] (drop 1 row)) (λ programmes. Ok (record { candidate = person.id.0; programmes = programmes }))
 
-abbrev candidate_if : List Entry → ℕ → Option Person → Result Person ChoiceKind
-candidate_if entries n o =
-    needs o UnknownCandidate (λ person. unless (is_some (list_at person.id.0 entries)) RepeatedCandidate
-    (unless (nat_lt most_row_choices (n - 1)) TooLong (unless (nat_lt most_choices (all_choices entries + (n - 1))) TooMany (Ok person))))
-
-checked : (entries : List Entry) (n : ℕ) (p person : Person) → candidate_if entries n (Some p) ≡ Ok person → Some p ≡ Some person
-checked entries n p person h =
-    let (a, first) = unless_ok (is_some (list_at p.id.0 entries)) RepeatedCandidate (unless (nat_lt most_row_choices (n - 1)) TooLong (unless (nat_lt most_choices (all_choices entries + (n - 1))) TooMany (Ok p))) person h in
-    let (b, second) = unless_ok (nat_lt most_row_choices (n - 1)) TooLong (unless (nat_lt most_choices (all_choices entries + (n - 1))) TooMany (Ok p)) person first in
-    let (c, third) = unless_ok (nat_lt most_choices (all_choices entries + (n - 1))) TooMany (Ok p) person second in
-    let same : p ≡ person = cc in ap (λ (q : Person). Some q) same
-
-candidate-is : (ranks : Ranks) (entries : List Entry) (row : Row) (person : Person) → new_candidate ranks entries row ≡ Ok person → person_of ranks (field row 0) ≡ Some person
-candidate-is ranks entries row person e = by (person_of ranks (field row 0)) refl e
-  where
-    by : (o : Option Person) → person_of ranks (field row 0) ≡ o → candidate_if entries (length row) o ≡ Ok person → person_of ranks (field row 0) ≡ Some person
-    by None found h = absurd (cc)
-    by (Some p) found h = found ∙ checked entries (length row) p person h
-
 entry-right : AreInverse → (units states : Homes) (ranks : Ranks) (seats : SeatTable) (entries : List Entry) (row : Row) (entry : Entry) → reading ranks seats entries row ≡ Ok entry → AreRight units states row → RightEntry seats units states entry
 unfolding reading
 entry-right inverse units states ranks seats entries row entry e right =
     let (person, here, next) = after_ok (new_candidate ranks entries row) (wanted seats row) entry e in
     let (progs, chosen, made) = after_ok (choices seats person [] (drop 1 row)) (λ programmes. Ok (record { candidate = person.id.0; programmes = programmes })) entry next in
-    let text = text-is inverse ranks (field row 0) person (candidate-is ranks entries row person here) in
+    let text = text-is inverse ranks (field row 0) person (new_candidate_ok ranks entries row person here).found in
     let same : record { candidate = person.id.0; programmes = progs } ≡ entry = cc in
     subst (RightEntry seats units states) same
     (progs-right units states seats person person.id.0 [] (drop 1 row) progs chosen tt (subst (λ (l : List ℕ). AllByRecursion (IsRight units states l) (drop 1 row)) text right))
@@ -139,7 +111,7 @@ entries-right inverse units states ranks seats entries (row ∷ rows) all right 
     entries-right inverse units states ranks seats (with_entry entries (reading ranks seats entries row)) rows (by (reading ranks seats entries row) refl) right.1
   where
     by : (r : Result Entry ChoiceKind) → reading ranks seats entries row ≡ r → AllByRecursion (RightEntry seats units states) (with_entry entries r)
-    by (Ok entry) found = all-push (RightEntry seats units states) entries entry all (entry-right inverse units states ranks seats entries row entry found right.0)
+    by (Ok entry) found = all_push (RightEntry seats units states) entries entry all (entry-right inverse units states ranks seats entries row entry found right.0)
     by (Err kind) found = all
 
 -- The list of a candidate is right.
@@ -157,14 +129,9 @@ list-right units states seats (entry ∷ entries) candidate progs all e = by (li
 
 -- ---- the lists of mapped rows
 
-among-all : {X : Type 0} (P : X → Type 0) (xs : List X) (x : X) → AllByRecursion P xs → IsAmong x xs → P x
-among-all P [] x all here = absurd here
-among-all P (y ∷ xs) x all (inl same) = subst P (sym same) all.0
-among-all P (y ∷ xs) x all (inr here) = among-all P xs x all.1 here
-
 from-listed : (P : ProgId → Type 0) (o : Option (List ProgId)) (prog : ProgId) → ((progs : List ProgId) → o ≡ Some progs → AllByRecursion P progs) → IsAmong prog (listed o) → P prog
 from-listed P None prog all here = absurd here
-from-listed P (Some progs) prog all here = among-all P progs prog (all progs refl) here
+from-listed P (Some progs) prog all here = all_among P progs prog (all progs refl) here
 
 mapped-entries : AreInverse → (units states : Homes) (ranks : Ranks) (seats : SeatTable) (rows mapped : List Row) → mapped_rows units states rows ≡ Ok mapped → AllByRecursion (RightEntry seats units states) (entries_of (reading ranks seats) mapped)
 mapped-entries inverse units states ranks seats [] mapped e = let none : [] ≡ mapped = cc in subst (λ (r : List Row). AllByRecursion (RightEntry seats units states) (entries_of (reading ranks seats) r)) none tt
@@ -174,7 +141,7 @@ mapped-entries inverse units states ranks seats (header ∷ rows) mapped e =
     subst (λ (r : List Row). AllByRecursion (RightEntry seats units states) (entries_of (reading ranks seats) r)) same
     (entries-right inverse units states ranks seats [] more tt (from-right units states 2 rows more rest))
 
--- Whoever has a unit on the list lives where it is for.
+-- A candidate who has a unit on the list lives in a state that the unit is for.
 pub live_right : AreInverse → (units states : Homes) (bundle : List ℕ) (content : Content) (script : List Request) → MappedGives units states bundle content script → AllLiveRight units states content
 live_right inverse units states bundle content script h candidate prog code here there =
     let m = h.1.0 in

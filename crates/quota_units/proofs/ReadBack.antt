@@ -7,6 +7,7 @@ use Rattle.csv.specs.Writing.{default_writer, escaped}
 use Rattle.csv.specs.declared.parser.State.TheVariants as st
 use Rattle.csv.proofs.RoundTrip.{quoted-run}
 use Rattle.section_rows.specs.Rows.{Row, before, row_before, rows_among, rows_of, without_empty_end}
+use Rattle.section_rows.proofs.RecordLemmas.{none_left}
 use Rattle.quota_units.specs.Quoted.{comma_before, doubled, fields_text, in_quotes, row_text, rows_text, spaced, spaced_row}
 
 escaped-same : (f : List ℕ) → escaped default_writer f ≡ doubled f
@@ -48,14 +49,9 @@ pub record IsRow (row : Row) : Type 0 where
 abbrev pub AreRows : List Row → Type 0
 AreRows rows = AllByRecursion IsRow rows
 
-none-run : (n : ℕ) → records_from default_config n st.StartRecord [] ≡ []
-unfolding records_from next_record
-none-run zero = refl
-none-run (suc n) = refl
-
 rows-run : (n : ℕ) (rows : List Row) → length rows ≤ n → AreRows rows → records_from default_config n st.StartRecord (rows_text rows) ≡ rows
 unfolding records_from
-rows-run n [] within all = none-run n
+rows-run n [] within all = none_left n
 rows-run zero (row ∷ rows) within all = absurd (omega (arith, within))
 rows-run (suc n) (row ∷ rows) within all =
     let is = all.0 in

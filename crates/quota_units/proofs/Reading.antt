@@ -19,6 +19,7 @@ use Rattle.season_file.specs.Season.{BundleGives, IsSectionFault, IsText, Sectio
 use Rattle.season_file.specs.declared.content.Content.{Content}
 use Rattle.season_file.specs.declared.fault.SeasonFault.{SeasonFault}
 use Rattle.season_file.specs.declared.fault.SeasonFault.TheVariants.{ReadFault, TooLong, BadFirstLine, Section, BadSeason, Register, Matrix, Choices, NotUtf8, BadRequest, OutOfMemory}
+use Rattle.season_file.proofs.LawsLemmas.{one_ok, not_both}
 use Rattle.quota_units.specs.Quoted.{rows_text, spaced_row}
 use Rattle.quota_units.proofs.ReadBack.{read-are, rows-back, spaced-are}
 use Rattle.quota_units.specs.Homes.{Homes}
@@ -40,12 +41,6 @@ stays-gives : (units states : Homes) (bundle : List ℕ) → ((content : Content
     → ((fault : SeasonFault) → HasFault true bundle fault → (fault ≡ TooLong) ⊎ HasMappedFault units states bundle fault) → (text : List ℕ) → bundle ≡ text → ReadsMapped units states bundle text
 stays-gives units states bundle none fault text same =
     subst (λ (t : List ℕ). ReadsMapped units states bundle t) same (record { gives = λ content script h. absurd (none content script h); fault = fault })
-
-not_both : {X E : Type 0} (r : Result X E) (x : X) (y : E) → r ≡ Ok x → r ≡ Err y → ⊥
-not_both r x y e f = cc
-
-one_ok : {X E : Type 0} (r : Result X E) (x y : X) → r ≡ Ok x → r ≡ Ok y → x ≡ y
-one_ok r x y e f = cc
 
 -- bytes that are no text
 no-text : (units states : Homes) (bundle : List ℕ) → (IsUtf8 bundle → ⊥) → (fault : SeasonFault) → HasFault true bundle fault → (fault ≡ TooLong) ⊎ HasMappedFault units states bundle fault

@@ -26,7 +26,7 @@ use Rattle.quota_units.specs.Quoted.{no_lf, spaced, spaced_row}
 
 -- ---- bytes and texts
 
--- a test that tells LF and space alike tells all alike
+-- a test that treats LF and space alike treats all alike
 byte-spaced : (p : ℕ → Bool) → p 32 ≡ p 10 → (b : ℕ) → p (no_lf b) ≡ p b
 byte-spaced p same b = by (b == 10) refl
   where

@@ -1,6 +1,6 @@
 -- What one more row adds to a table of home states, and that its keys are codes.
 use Rattle.std.proofs.Common.{◌≡◌, ◌<◌, ◌≤◌, ◌+◌, ◌^◌, ℕ, Bool, true, false, cond, List, [], ◌∷◌, ◌++◌, Option, Some, None, length, refl, sym, ap, subst, ◌∙◌, length-append, arith, IsSome}
-use Rattle.std.specs.Prelude.{◌==◌, ◌&&◌, MatchBool, bytes_eq, is_some, nat_le, nat_lt, not, if◌then◌else◌}
+use Rattle.std.specs.Prelude.{◌==◌, ◌&&◌, bytes_eq, is_some, nat_le, nat_lt, not, if◌then◌else◌}
 use Rattle.std.specs.Bool.{one_answer}
 use Rattle.std.specs.Char.{is_ascii_digit}
 use Rattle.std.specs.Cmp.Lexicographic.{slice_cmp}
@@ -84,15 +84,6 @@ candidate-code inverse text e = by (is_number text && nat_le 1 (value_of text) &
         made : 1 ≤ length text → length text ≤ 16 → list_all is_code_byte text ≡ true → is_code text ≡ true
         made some few bytes = grind (arith, some, few, bytes)
 
--- What was read as nothing is no code, and what was read is itself.
-pub no-key : (b : Bool) (x : List ℕ) → None ≡ cond b (Some x) None → b ≡ false
-no-key true x e = cc e
-no-key false x e = refl
-
-pub same-key : (b : Bool) (x y : List ℕ) → Some y ≡ cond b (Some x) None → y ≡ x
-same-key true x y e = cc e
-same-key false x y e = cc e
-
 -- One more is counted, where it is new.
 pub count-step : (old : Option (List ℕ)) (m n : ℕ) (homes : Homes) (home : List ℕ × List ℕ) → old ≡ None → n ≡ m + (if is_some old then 0 else 1) → m ≡ length homes → n ≡ length (homes ++ home ∷ [])
 count-step None m n homes home e f g = omega (arith, f, g, length-append homes (home ∷ []))
@@ -127,7 +118,3 @@ homes-step is_key most homes number next left rows row home e found n =
     ap (homes_from is_key most homes number) e
     ∙ ap (λ (o : Option (List ℕ × List ℕ)). needs o number (λ h. homes_from is_key most (homes ++ h ∷ []) (number + 1) rows)) (sym found)
     ∙ ap (λ (k : ℕ). homes_from is_key most (homes ++ home ∷ []) k rows) (sym n)
-
-pub when-true : (b : Bool) (P Q : Type 0) → b ≡ true → MatchBool b P Q → P
-when-true true P Q e h = h
-when-true false P Q e h = cc e

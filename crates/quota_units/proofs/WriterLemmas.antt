@@ -1,13 +1,12 @@
 -- What the writer of `csv` writes of a row, piece by piece.
-use Rattle.std.proofs.Common.{◌≡◌, ◌≢◌, ◌<◌, ◌≤◌, ◌+◌, ℕ, zero, suc, Bool, true, false, not, List, [], ◌∷◌, ◌++◌, Option, Some, None, length, drop, refl, sym, ap, subst, ◌∙◌, ◌==◌, if◌then◌else◌, append_assoc, add-one, arith, inl, inr}
+use Rattle.std.proofs.Common.{◌≡◌, ◌≢◌, ◌<◌, ◌+◌, ℕ, zero, suc, Bool, false, List, [], ◌∷◌, ◌++◌, Option, Some, None, length, drop, refl, sym, ap, subst, ◌∙◌, ◌==◌, if◌then◌else◌, append_assoc, add-one, arith, inl, inr}
 use Rattle.std.specs.Io.KnownBytes.{Appends}
-use Rattle.std.proofs.lemmas.List.{append-nil}
 use Rattle.std.proofs.lemmas.Bool.{cases_Bool, eqb-true}
-use Rattle.csv.specs.Writing.{escaped, field_text, next_sep, tail_text}
+use Rattle.csv.specs.Writing.{escaped, field_text, next_sep}
 use Rattle.csv.specs.declared.writer.QuoteStyle.TheVariants as style
 use Rattle.csv.specs.declared.writer.WriterBuilder.{WriterBuilder}
 use Rattle.section_rows.specs.Rows.{Row, field}
-use Rattle.quota_units.specs.Quoted.{comma_before, doubled, end_after, fields_text, in_quotes, quoting, spaced, spaced_row}
+use Rattle.quota_units.specs.Quoted.{comma_before, doubled, fields_text, in_quotes, quoting, spaced, spaced_row}
 
 -- a quote is written twice
 pub doubled-same : (f : List ℕ) → escaped quoting f ≡ doubled f
@@ -27,37 +26,17 @@ field-written cfg n at f old new is count writes =
     subst (λ (l : List ℕ). Appends old new (l ++ in_quotes f)) first
     (subst (λ (l : List ℕ). Appends old new (next_sep quoting n ++ l)) (field-same f) (made (λ e. cc e)))
 
--- An end is written as the number of fields says.
-pub end-written : (cfg : WriterBuilder) (n at : ℕ) (wrote : Bool) (old new : Option (List ℕ)) → cfg ≡ quoting → (n == 0) ≡ (at == 0) → wrote ≡ not (at == 0)
-    → Appends old new (tail_text cfg wrote n) → Appends old new (end_after (at == 0))
-end-written cfg n at wrote old new is count shown writes =
-    let made = subst (λ (c : WriterBuilder). Appends old new (tail_text c wrote n)) is writes in
-    subst (λ (l : List ℕ). Appends old new l) (ends (at == 0) refl) made
-  where
-    ends : (b : Bool) → (at == 0) ≡ b → tail_text quoting wrote n ≡ end_after (at == 0)
-    ends true e = rw (shown, count, e) refl
-    ends false e = rw (shown, e) refl
-
 -- Bytes were written, and with these they are all.
 abbrev pub Leaves : Option (List ℕ) → Option (List ℕ) → List ℕ → List ℕ → Type 0
 Leaves None now left all = Unit {0}
 Leaves (Some xs) None left all = ⊥
 Leaves (Some xs) (Some ys) left all = ys ++ left ≡ xs ++ all
 
-pub leaves-init : (old : Option (List ℕ)) (all : List ℕ) → Leaves old old all all
-leaves-init None all = tt
-leaves-init (Some xs) all = refl
-
 pub leaves-next : (old now next : Option (List ℕ)) (piece left all : List ℕ) → Leaves old now (piece ++ left) all → Appends now next piece → Leaves old next left all
 leaves-next None now next piece left all h a = tt
 leaves-next (Some xs) None next piece left all h a = absurd h
 leaves-next (Some xs) (Some ys) None piece left all h a = absurd a
 leaves-next (Some xs) (Some ys) (Some zs) piece left all h a = ap (λ (l : List ℕ). l ++ left) a ∙ append_assoc ys piece left ∙ h
-
-pub leaves-end : (old now : Option (List ℕ)) (all : List ℕ) → Leaves old now [] all → Appends old now all
-leaves-end None now all h = tt
-leaves-end (Some xs) None all h = h
-leaves-end (Some xs) (Some ys) all h = sym (append-nil ys) ∙ h
 
 -- the fields of a row from one of them on
 drop-field : (row : Row) (at : ℕ) → at < length row → drop at (spaced_row row) ≡ spaced (field row at) ∷ drop (suc at) (spaced_row row)
@@ -83,16 +62,3 @@ row-step row at old now next f all less is left wrote =
     let after = leaves-next old now next (comma_before (at == 0) ++ in_quotes (spaced (field row at))) (fields_text false (drop (suc at) (spaced_row row))) all made same in
     subst (λ (b : Bool). Leaves old next (fields_text b (drop (at + 1) (spaced_row row))) all) (sym (later at))
     (subst (λ (n : ℕ). Leaves old next (fields_text false (drop n (spaced_row row))) all) (sym (add-one at)) after)
-
--- All fields are written.
-pub row-end : (row : Row) (at : ℕ) (old now next : Option (List ℕ)) (all : List ℕ) → length row ≤ at → Leaves old now (fields_text (at == 0) (drop at (spaced_row row))) all → Appends now next (end_after (at == 0))
-    → Appends old next all
-row-end row at old now next all more left wrote =
-    let made = subst (λ (l : List ℕ). Leaves old now l all) (ap (fields_text (at == 0)) (drop-none row at more)) left in
-    leaves-end old next all (leaves-next old now next (end_after (at == 0)) [] all (subst (λ (l : List ℕ). Leaves old now l all) (sym (append-nil (end_after (at == 0)))) made) wrote)
-  where
-    drop-none : (row : Row) (at : ℕ) → length row ≤ at → drop at (spaced_row row) ≡ []
-    drop-none [] zero more = refl
-    drop-none [] (suc at) more = refl
-    drop-none (f ∷ row) zero more = absurd (omega (arith, more))
-    drop-none (f ∷ row) (suc at) more = drop-none row at (omega (arith, more))

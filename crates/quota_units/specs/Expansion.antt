@@ -13,8 +13,8 @@ use Rattle.quota_units.specs.Reads.{AllLiveRight, ReadsMapped}
 use Rattle.quota_units.specs.declared.fault.UnitFault.{UnitFault}
 use Rattle.quota_units.specs.declared.fault.UnitFault.TheVariants.{ReadFault, TooLong, OutOfMemory}
 
--- The text is the plain bundle that the bytes come to. It reads as their bundle with every row of its choices mapped, and whoever has a unit
--- on the list lives where it is for.
+-- The text is the plain bundle that the bytes expand to. It reads as their bundle with every row of its choices
+-- mapped. A candidate who has a unit on the list lives in a state that the unit is for.
 pub record IsExpansion (bytes text : List ℕ) : Type 0 where
   pub made : expansion bytes ≡ Ok text
   pub input : Input
@@ -26,7 +26,7 @@ pub record IsExpansion (bytes text : List ℕ) : Type 0 where
   pub reads : ReadsMapped units states input.bundle text
   pub living : (content : Content) (script : List Request) → BundleGives true text content script → AllLiveRight units states content
 
--- the fault of a result, or want of memory, which tells nothing of it
+-- the fault of a result, or `OutOfMemory`, which says nothing of it
 abbrev pub IsFaultOf : {X : Type 0} → Result X UnitFault → UnitFault → Type 0
 IsFaultOf result OutOfMemory = Unit {0}
 IsFaultOf result fault = result ≡ Err fault
@@ -35,7 +35,8 @@ IsFaultOf result fault = result ≡ Err fault
 abbrev pub GaveUnitFault : Option (List ℕ) → Option (List ℕ) → UnitFault → Type 0
 GaveUnitFault before after fault = (bytes : List ℕ) × Took bytes before after × IsAtEnd after × (expansion bytes ≡ Err fault)
 
--- Why a source gives no plain bundle: the fault of its bytes, where it gave all of them; or there are too many. What failed of itself tells nothing of them.
+-- Why a source gives no plain bundle: the fault of its bytes, if it gave all of them; or there are too many.
+-- `ReadFault` and `OutOfMemory` say nothing of them.
 abbrev pub IsUnitFault : Option (List ℕ) → Option (List ℕ) → UnitFault → Type 0
 IsUnitFault before after ReadFault = Unit {0}
 IsUnitFault before after TooLong = TookMore most_bundle_bytes before after

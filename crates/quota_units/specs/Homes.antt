@@ -33,7 +33,7 @@ is_divided text = is_code text && nat_le (length text) 13
 abbrev pub is_candidate : List ℕ → Bool
 is_candidate text = is_some (number_within 1 last_id text)
 
--- a row gives a key that no earlier row has, and its state; nothing else stands in it, and there are not too many
+-- a row gives a key that no earlier row has, and its state; it has nothing else, and there are not too many rows
 abbrev pub new_home : (List ℕ → Bool) → ℕ → Homes → Row → Option (List ℕ × List ℕ)
 new_home is_key most homes row =
     if (length row == 2) && (nat_lt (length homes) most && (is_key (field row 0) && (is_state (field row 1) && not (is_some (home_at (field row 0) homes)))))

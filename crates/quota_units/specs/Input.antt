@@ -19,12 +19,12 @@ pub record Input : Type 0 where
   pub states : List ℕ
   pub bundle : List ℕ
 
--- how many bytes stand before the first line that begins a bundle, where the first byte begins a line or does not
+-- how many bytes come before the first line that begins a bundle, where the first byte begins a line or does not
 abbrev pub before_bundle : Bool → List ℕ → ℕ
 before_bundle begins [] = 0
 before_bundle begins (byte ∷ bytes) = if begins && bytes_eq (take 13 (byte ∷ bytes)) (codes "office bundle") then 0 else suc (before_bundle (byte == 10) bytes)
 
--- what is left of a text that stands before a bundle, with the bundle
+-- what is left of a text before a bundle, with the bundle
 abbrev pub behind : List ℕ → Result (List ℕ × List ℕ) (List ℕ) → Result (List ℕ × List ℕ) (List ℕ)
 behind bundle (Ok cut) = Ok cut
 behind bundle (Err rest) = Err (rest ++ bundle)
@@ -35,13 +35,14 @@ closed_by [] [] input = Err []
 closed_by [] (byte ∷ bundle) input = Ok input
 closed_by (byte ∷ rest) bundle input = Err ((byte ∷ rest) ++ bundle)
 
--- the two sections in their order and the bundle, or what stands from the first wrong line on: nothing, where the bundle is missing
+-- the two sections in their order and the bundle, or what there is from the first wrong line on: nothing, if the
+-- bundle is missing
 abbrev pub cut_before : List ℕ → List ℕ → Result Input (List ℕ)
 cut_before bundle text =
     after (behind bundle (section (codes "[units]") text)) (λ units. after (behind bundle (section (codes "[states]") units.1)) (λ states.
     closed_by states.1 bundle (record { units = units.0; states = states.0; bundle = bundle })))
 
--- a wrong line is told by its number
+-- a wrong line is reported by its number
 abbrev pub with_line : List ℕ → Result Input (List ℕ) → Result Input UnitFault
 with_line text (Ok input) = Ok input
 with_line text (Err rest) = Err (Section (fault_line text rest))
@@ -52,7 +53,7 @@ input_of text =
     then with_line text (cut_before (drop (before_bundle true (after_line text)) (after_line text)) (skip_empty (take (before_bundle true (after_line text)) (after_line text))))
     else Err BadFirstLine
 
--- a wrong row is told by its number
+-- a wrong row is reported by its number
 abbrev pub with_row : {X : Type 0} → (ℕ → UnitFault) → Result X ℕ → Result X UnitFault
 with_row fault (Ok value) = Ok value
 with_row fault (Err row) = Err (fault row)

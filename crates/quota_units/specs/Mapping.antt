@@ -17,7 +17,7 @@ other_end = codes "-OS"
 abbrev pub unit_of : List ℕ → List ℕ → List ℕ → List ℕ
 unit_of code home state = code ++ (if bytes_eq state home then home_end else other_end)
 
--- what stands before the end of a unit's code
+-- what comes before the end of a unit's code
 abbrev pub base_of : List ℕ → Option (List ℕ)
 base_of text =
     if bytes_eq (drop (length text - 3) text) home_end || bytes_eq (drop (length text - 3) text) other_end then Some (take (length text - 3) text) else None

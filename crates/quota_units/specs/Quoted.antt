@@ -25,11 +25,11 @@ doubled (byte ∷ bytes) = if byte == 34 then 34 ∷ byte ∷ doubled bytes else
 abbrev pub in_quotes : List ℕ → List ℕ
 in_quotes field = 34 ∷ (doubled field ++ 34 ∷ [])
 
--- a comma stands before every field but the first
+-- a comma comes before every field but the first
 abbrev pub comma_before : Bool → List ℕ
 comma_before first = if first then [] else 44 ∷ []
 
--- an LF ends a row; two quotes before it stand for the fields of a row that has none
+-- an LF ends a row; two quotes before it represent the fields of a row that has none
 abbrev pub end_after : Bool → List ℕ
 end_after none = if none then 34 ∷ 34 ∷ 10 ∷ [] else 10 ∷ []
 

@@ -31,7 +31,8 @@ abbrev pub MappedGives : Homes → Homes → List ℕ → Content → List Reque
 MappedGives units states bundle content script =
     IsText bundle × ((m : HasMapped units states bundle) × SectionsGive (with_choices m.parts m.body) content × (script_of (request_rows_of m.parts) ≡ Ok script)) × IsClerkApart content
 
--- and so it has this fault first: one of its bytes or its lines, which no row changes, or one of what stands in its sections
+-- and so this is its first fault: one of its bytes or its lines, which no row changes, or one in the contents of its
+-- sections
 abbrev pub HasMappedFault : Homes → Homes → List ℕ → SeasonFault → Type 0
 HasMappedFault units states bundle NotUtf8 = HasFault true bundle NotUtf8
 HasMappedFault units states bundle BadFirstLine = HasFault true bundle BadFirstLine
@@ -43,7 +44,8 @@ pub record ReadsMapped (units states bundle text : _) : Type 0 where
   pub gives : (content : Content) (script : List Request) → BundleGives true text content script → MappedGives units states bundle content script
   pub fault : (fault : SeasonFault) → HasFault true text fault → (fault ≡ TooLong) ⊎ HasMappedFault units states bundle fault
 
--- A candidate with a unit of a divided programme on the list: with the home unit where the candidate is of the home state, and with the other one where of another state.
+-- A candidate with a unit of a divided programme on the list: with the home unit if the candidate is of the home state,
+-- and with the other unit if of another state.
 pub record LivesRight (units states : Homes) (candidate : ℕ) (code : List ℕ) : Type 0 where
   pub home : (base state : List ℕ) → home_at base units ≡ Some state → code ≡ base ++ home_end → home_at (decimal candidate) states ≡ Some state
   pub other : (base state : List ℕ) → home_at base units ≡ Some state → code ≡ base ++ other_end → (own : List ℕ) × (home_at (decimal candidate) states ≡ Some own) × (own ≢ state)

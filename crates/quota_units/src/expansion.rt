@@ -28,9 +28,11 @@ fn read_bytes<S: Source>(alloc: Global, source: &mut S) -> Result<Text, UnitFaul
     ensures ended { IfOk result (λ bytes. IsAtEnd (S.left source.new)) }
     ensures short { IfOk result (λ bytes. length bytes ≤ most_bundle_bytes) }
     ensures fault { IfErr result (λ fault. IsUnread (S.left source.old) (S.left source.new) fault) }
-    ensures cause { IsErrOf result UnitFault.ReadFault → Rose (S.faults source.old) (S.faults source.new) }
+    ensures cause { IsErrOf result UnitFault.ReadFault
+        → Rose (S.faults source.old) (S.faults source.new) }
     ensures count { S.faults source.old ≤ S.faults source.new }
-    ensures steady { ¬ IsErrOf result UnitFault.ReadFault → S.faults source.new ≡ S.faults source.old }
+    ensures steady { ¬ IsErrOf result UnitFault.ReadFault
+        → S.faults source.new ≡ S.faults source.old }
 {
     match read_whole(alloc, source, MOST_BUNDLE_BYTES) {
         Ok(bytes) => Ok(bytes),
@@ -42,8 +44,10 @@ fn read_bytes<S: Source>(alloc: Global, source: &mut S) -> Result<Text, UnitFaul
 
 /// The divided programmes of a body, or the first row that gives none.
 fn read_units(alloc: Global, body: &[u8]) -> Result<HomeTable, UnitFault>
-    ensures value { IfOk result (λ table. (homes : Homes) × (with_row BadUnit (units_of (rows_of body.now)) ≡ Ok homes) × AreAlike homes table) }
-    ensures fault { IfErr result (λ fault. IsFaultOf (with_row BadUnit (units_of (rows_of body.now))) fault) }
+    ensures value { IfOk result (λ table. (homes : Homes)
+        × (with_row BadUnit (units_of (rows_of body.now)) ≡ Ok homes) × AreAlike homes table) }
+    ensures fault { IfErr result (λ fault.
+        IsFaultOf (with_row BadUnit (units_of (rows_of body.now))) fault) }
 {
     match read_homes(alloc, body, Keys::Units) {
         Ok(Ok(table)) => Ok(table),
@@ -54,8 +58,10 @@ fn read_units(alloc: Global, body: &[u8]) -> Result<HomeTable, UnitFault>
 
 /// The states of a body, or the first row that gives none.
 fn read_states(alloc: Global, body: &[u8]) -> Result<HomeTable, UnitFault>
-    ensures value { IfOk result (λ table. (homes : Homes) × (with_row BadState (states_of (rows_of body.now)) ≡ Ok homes) × AreAlike homes table) }
-    ensures fault { IfErr result (λ fault. IsFaultOf (with_row BadState (states_of (rows_of body.now))) fault) }
+    ensures value { IfOk result (λ table. (homes : Homes)
+        × (with_row BadState (states_of (rows_of body.now)) ≡ Ok homes) × AreAlike homes table) }
+    ensures fault { IfErr result (λ fault.
+        IsFaultOf (with_row BadState (states_of (rows_of body.now))) fault) }
 {
     match read_homes(alloc, body, Keys::States) {
         Ok(Ok(table)) => Ok(table),
@@ -81,7 +87,7 @@ fn is_text(bytes: &[u8]) -> bool
     }
 }
 
-/// A text of UTF-8. What is written of UTF-8 is none other, so want of memory is never told here.
+/// Returns the text, which is UTF-8. What is written from UTF-8 is UTF-8, so the error is never returned here.
 fn checked(text: Text) -> Result<Text, OutOfMemory>
     ensures { IfOk result (λ checked. (checked ≡ text) × IsUtf8 text) }
 {
@@ -98,9 +104,19 @@ fn write_bundle(
     bundle: &[u8],
     cut: Pieces<'_>,
 ) -> Result<Text, UnitFault>
-    requires { bundle_of true bundle.now ≡ Ok (record { version = cut.version; season = cut.season.now; register = cut.register.now; matrix = cut.matrix.now; choices = cut.choices.now; requests = cut.requests.now }) }
-    ensures value { IfOk result (λ text. (with_units tables.entry.units.now tables.entry.states.now bundle.now (bundle_of true bundle.now) ≡ Ok text) × IsUtf8 text) }
-    ensures fault { IfErr result (λ fault. IsFaultOf (with_units tables.entry.units.now tables.entry.states.now bundle.now (bundle_of true bundle.now)) fault) }
+    requires { bundle_of true bundle.now
+        ≡ Ok (record {
+          version = cut.version;
+          season = cut.season.now;
+          register = cut.register.now;
+          matrix = cut.matrix.now;
+          choices = cut.choices.now;
+          requests = cut.requests.now;
+        }) }
+    ensures value { IfOk result (λ text. (with_units tables.entry.units.now tables.entry.states.now
+        bundle.now (bundle_of true bundle.now) ≡ Ok text) × IsUtf8 text) }
+    ensures fault { IfErr result (λ fault. IsFaultOf (with_units tables.entry.units.now
+        tables.entry.states.now bundle.now (bundle_of true bundle.now)) fault) }
 {
     let end = bundle
         .len()
@@ -117,8 +133,10 @@ fn write_bundle(
 /// The plain bundle that a bundle with units comes to, or the first fault of its choices. A bundle that is none stays.
 fn expand_bundle(alloc: Global, tables: Tables<'_>, bundle: &[u8]) -> Result<Text, UnitFault>
     requires { length bundle.now ≤ most_bundle_bytes }
-    ensures value { IfOk result (λ text. (expanded tables.entry.units.now tables.entry.states.now bundle.now ≡ Ok text) × (IsUtf8 bundle.now → IsUtf8 text)) }
-    ensures fault { IfErr result (λ fault. IsFaultOf (expanded tables.entry.units.now tables.entry.states.now bundle.now) fault) }
+    ensures value { IfOk result (λ text. (expanded tables.entry.units.now tables.entry.states.now
+        bundle.now ≡ Ok text) × (IsUtf8 bundle.now → IsUtf8 text)) }
+    ensures fault { IfErr result (λ fault.
+        IsFaultOf (expanded tables.entry.units.now tables.entry.states.now bundle.now) fault) }
 {
     if !is_text(bundle) {
         return Ok(copied(alloc, bundle)?);
@@ -150,10 +168,13 @@ fn expand_bytes(alloc: Global, bytes: &[u8]) -> Result<Text, UnitFault>
 /// The plain bundle that the bytes of a source with units come to, or their first fault: `units STORE` runs it as `run STORE` does.
 pub fn expand<S: Source>(alloc: Global, source: &mut S) -> Result<Text, UnitFault>
     ensures text { IfOk result (λ text. GaveText (S.left source.old) (S.left source.new) text) }
-    ensures fault { IfErr result (λ fault. IsUnitFault (S.left source.old) (S.left source.new) fault) }
-    ensures cause { IsErrOf result UnitFault.ReadFault → Rose (S.faults source.old) (S.faults source.new) }
+    ensures fault { IfErr result (λ fault.
+        IsUnitFault (S.left source.old) (S.left source.new) fault) }
+    ensures cause { IsErrOf result UnitFault.ReadFault
+        → Rose (S.faults source.old) (S.faults source.new) }
     ensures count { S.faults source.old ≤ S.faults source.new }
-    ensures steady { ¬ IsErrOf result UnitFault.ReadFault → S.faults source.new ≡ S.faults source.old }
+    ensures steady { ¬ IsErrOf result UnitFault.ReadFault
+        → S.faults source.new ≡ S.faults source.old }
 {
     let bytes = read_bytes(alloc, source)?;
     match expand_bytes(alloc, bytes.as_slice()) {

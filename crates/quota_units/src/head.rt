@@ -1,4 +1,4 @@
-// What stands before the bundle.
+// The part of an input before the bundle.
 ghost use Rattle.std.specs.Prelude.{◌≡◌, ◌≤◌, ◌++◌, ℕ, List, length, MatchResult, Ok, Err, true, bytes_eq, take, codes};
 ghost use Rattle.office_base.specs.Limits.{most_bundle_bytes};
 ghost use Rattle.season_file.specs.Bundle.{fault_line, title};
@@ -25,7 +25,7 @@ fn begins_bundle(bytes: &[u8]) -> bool
     &bytes[..13] == b"office bundle".as_slice()
 }
 
-/// How many bytes stand before the first line that begins a bundle. The first byte begins a line.
+/// Returns how many bytes come before the first line that begins a bundle. The first byte begins a line.
 fn before_bundle(bytes: &[u8]) -> usize
     ensures value { result ≡ before_bundle true bytes.now }
     ensures within { result ≤ length bytes.now }
@@ -44,7 +44,8 @@ fn before_bundle(bytes: &[u8]) -> usize
     count
 }
 
-/// The two sections in their order, with the bundle. Else what stands from the first wrong line on before the bundle.
+/// Returns the two sections in their order, with the bundle. Otherwise returns what there is from the first wrong
+/// line on, before the bundle.
 fn cut_before<'a>(text: &'a [u8], bundle: &'a [u8]) -> Result<Sections<'a>, &'a [u8]>
     ensures { MatchResult result (λ cut. cut_before bundle.now text.now ≡ Ok (record { units = cut.units.now; states = cut.states.now; bundle = cut.bundle.now })) (λ rest. (length rest.now ≤ length text.now) × (cut_before bundle.now text.now ≡ Err (rest.now ++ bundle.now))) }
 {
@@ -80,7 +81,9 @@ fn begins_input(text: &[u8]) -> bool
 /// What an input is cut into, or the fault of its first line or of its sections.
 pub(crate) fn cut_input(text: &[u8]) -> Result<Sections<'_>, UnitFault>
     requires { length text.now ≤ most_bundle_bytes }
-    ensures { MatchResult result (λ cut. input_of text.now ≡ Ok (record { units = cut.units.now; states = cut.states.now; bundle = cut.bundle.now })) (λ fault. input_of text.now ≡ Err fault) }
+    ensures { MatchResult result (λ cut. input_of text.now
+        ≡ Ok (record { units = cut.units.now; states = cut.states.now; bundle = cut.bundle.now }))
+        (λ fault. input_of text.now ≡ Err fault) }
 {
     if !begins_input(text) {
         return Err(UnitFault::BadFirstLine);

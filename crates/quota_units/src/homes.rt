@@ -41,7 +41,7 @@ impl HomeTable {
         }
     }
 
-    /// The state of a key. None exactly where no row has the key. It takes no memory.
+    /// Returns the state of a key. `None` exactly when no row has the key. Allocates nothing.
     pub(crate) fn state(&self, key: &[u8]) -> Option<State>
         ensures { result ≡ home_at key.now self.now }
     {
@@ -53,7 +53,8 @@ impl HomeTable {
     /// What a row gives, where it gives a new key and its state and there is room.
     fn new_home(&self, row: &Rows<'_>, keys: Keys) -> Option<(Code, State)>
         ensures coded { IfSome result (λ home. is_code home.0 ≡ true) }
-        ensures value { (homes : Homes) → AreAlike homes self.now → result ≡ new_home (is_key keys) (most_homes keys) homes row.now.row }
+        ensures value { (homes : Homes) → AreAlike homes self.now
+            → result ≡ new_home (is_key keys) (most_homes keys) homes row.now.row }
     {
         numbers_are_inverse();
         if row.len() != 2 || self.states.len() >= most(keys) || !is_key(keys, row.field(0)) {
@@ -70,7 +71,8 @@ impl HomeTable {
     /// Puts in what a row gave. Where there is no memory for it, the table is of no use any more.
     fn put(&mut self, home: (Code, State)) -> Result<(), OutOfMemory>
         requires { is_code home.0 ≡ true }
-        ensures { OnOk result ((homes : Homes) → AreAlike homes self.old → home_at home.0 homes ≡ None → AreAlike (homes ++ home ∷ []) self.new) }
+        ensures { OnOk result ((homes : Homes) → AreAlike homes self.old
+            → home_at home.0 homes ≡ None → AreAlike (homes ++ home ∷ []) self.new) }
     {
         self.states.insert(home.0, home.1)?;
         Ok(())
@@ -103,7 +105,9 @@ pub(crate) fn read_homes(
     body: &[u8],
     keys: Keys,
 ) -> Result<Result<HomeTable, u32>, OutOfMemory>
-    ensures { IfOk result (λ read. MatchResult read (λ table. (homes : Homes) × (homes_of keys (rows_of body.now) ≡ Ok homes) × AreAlike homes table) (λ row. homes_of keys (rows_of body.now) ≡ Err row)) }
+    ensures { IfOk result (λ read.
+        MatchResult read (λ table. (homes : Homes) × (homes_of keys (rows_of body.now) ≡ Ok homes)
+        × AreAlike homes table) (λ row. homes_of keys (rows_of body.now) ≡ Err row)) }
 {
     let mut rows = Rows::new(alloc, body);
     let mut table = HomeTable::new(alloc);

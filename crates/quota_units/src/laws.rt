@@ -18,26 +18,31 @@ use office_text::laws::numbers_are_inverse;
 
 /// Reading the text is reading the bundle with every row of its choices mapped.
 pub fn reads_mapped()
-    ensures { (units states : Homes) (bundle text : List ℕ) → length bundle ≤ most_bundle_bytes → (IsUtf8 bundle → IsUtf8 text) → expanded units states bundle ≡ Ok text → ReadsMapped units states bundle text }
+    ensures { (units states : Homes) (bundle text : List ℕ) → length bundle ≤ most_bundle_bytes
+        → (IsUtf8 bundle → IsUtf8 text)
+        → expanded units states bundle ≡ Ok text → ReadsMapped units states bundle text }
 {
     read_back();
     season_file::laws::choices_may_be_replaced();
 }
 
-/// In mapped rows a unit stands in the rows of those alone for whom it is.
+/// States that in mapped rows a unit is only in the rows of candidates whom it is for.
 pub fn rows_are_right()
-    ensures { (units states : Homes) (number : ℕ) (rows mapped : List Row) → mapped_from units states number rows ≡ Ok mapped → AllByRecursion (AreRight units states) mapped }
+    ensures { (units states : Homes) (number : ℕ) (rows mapped : List Row) → mapped_from units
+        states number rows ≡ Ok mapped → AllByRecursion (AreRight units states) mapped }
 {}
 
-/// Whoever has a unit on the list lives where it is for.
+/// States that a candidate who has a unit on the list lives in a state that the unit is for.
 pub fn live_right()
-    ensures { (units states : Homes) (bundle : List ℕ) (content : Content) (script : List Request) → MappedGives units states bundle content script → AllLiveRight units states content }
+    ensures { (units states : Homes) (bundle : List ℕ) (content : Content) (script : List Request)
+        → MappedGives units states bundle content script → AllLiveRight units states content }
 {
     numbers_are_inverse();
 }
 
 /// The rows of a body, with spaces for the LFs in their fields, are read from what is written of them, and no section begins in it.
 pub fn read_back()
-    ensures same { (body : List ℕ) → rows_of (rows_text (map spaced_row (rows_of body))) ≡ map spaced_row (rows_of body) }
+    ensures same { (body : List ℕ)
+        → rows_of (rows_text (map spaced_row (rows_of body))) ≡ map spaced_row (rows_of body) }
     ensures whole { (rows : List Row) → IsWhole (rows_text (map spaced_row rows)) }
 {}

@@ -1,9 +1,10 @@
-// Home-state quotas: a bundle with units, and the plain bundle that it comes to.
+// Home-state quotas: a bundle with units, and the plain bundle that it expands to.
 //
-// A programme may be divided into a home unit, for candidates of one state, and a unit for all others. Choice lists name the
-// programme, and each becomes the unit of the candidate's own state. The command `units` stands on it. `specs/Input` says
-// what an input is and comes to, `specs/Mapping` what becomes of a choice, `specs/Reads` how the plain bundle reads, and
-// `specs/Homes` who lives where. It must never know what a seat is given for, or what a season is run for.
+// A programme may be divided into a home unit, for candidates of one state, and a unit for all others. Choice lists
+// name the programme, and each becomes the unit of the candidate's own state. The command `units` depends on it.
+// `specs/Input` says what an input is and expands to, `specs/Mapping` what becomes of a choice, `specs/Reads` how the
+// plain bundle reads, and `specs/Homes` who lives where. It must never know what a seat is given for, or what a
+// season is run for.
 #![tactic(auto)]
 
 mod ending;

@@ -43,7 +43,9 @@ fn end_of(
     number: u32,
     field: &[u8],
 ) -> Result<Ending, UnitFault>
-    ensures { MatchResult result (λ end. mapped_field tables.entry.units.now tables.entry.states.now candidate.now number field.now ≡ Ok (field.now ++ bytes_of end)) (λ fault. mapped_field tables.entry.units.now tables.entry.states.now candidate.now number field.now ≡ Err fault) }
+    ensures { MatchResult result (λ end. mapped_field tables.entry.units.now tables.entry.states.now
+        candidate.now number field.now ≡ Ok (field.now ++ bytes_of end)) (λ fault. mapped_field
+        tables.entry.units.now tables.entry.states.now candidate.now number field.now ≡ Err fault) }
 {
     if is_unit(tables.units, field) {
         return Err(UnitFault::DirectUnit { row: number });
@@ -64,7 +66,9 @@ pub(crate) fn end_at(
     row: &Rows<'_>,
     at: usize,
 ) -> Result<Ending, UnitFault>
-    ensures { MatchResult result (λ end. mapped_at tables.entry.units.now tables.entry.states.now number row.now.row at ≡ Ok (field row.now.row at ++ bytes_of end)) (λ fault. mapped_at tables.entry.units.now tables.entry.states.now number row.now.row at ≡ Err fault) }
+    ensures { MatchResult result (λ end. mapped_at tables.entry.units.now tables.entry.states.now
+        number row.now.row at ≡ Ok (field row.now.row at ++ bytes_of end)) (λ fault. mapped_at
+        tables.entry.units.now tables.entry.states.now number row.now.row at ≡ Err fault) }
 {
     if at == 0 {
         Ok(Ending::Nothing)

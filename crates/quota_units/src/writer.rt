@@ -57,7 +57,8 @@ fn writer_after(bytes: Vec<u8>) -> Writer<Vec<u8>>
 fn write_field(writer: &mut Writer<Vec<u8>>, at: usize, field: &[u8]) -> Result<(), OutOfMemory>
     requires { IsAt at writer.old }
     ensures at { OnOk result (IsAt (at + 1) writer.new) }
-    ensures text { OnOk result (Appends (text_written (λ v. Some v.items) writer.old) (text_written (λ v. Some v.items) writer.new) (comma_before (at == 0) ++ in_quotes field.now)) }
+    ensures text { OnOk result (Appends (text_written (λ v. Some v.items) writer.old) (text_written
+        (λ v. Some v.items) writer.new) (comma_before (at == 0) ++ in_quotes field.now)) }
 {
     match writer.write_field(field) {
         Ok(()) => Ok(()),
@@ -69,7 +70,8 @@ fn write_field(writer: &mut Writer<Vec<u8>>, at: usize, field: &[u8]) -> Result<
 fn end_row(writer: &mut Writer<Vec<u8>>, len: usize) -> Result<(), OutOfMemory>
     requires { IsAt len writer.old }
     ensures at { OnOk result (IsAt 0 writer.new) }
-    ensures text { OnOk result (Appends (text_written (λ v. Some v.items) writer.old) (text_written (λ v. Some v.items) writer.new) (end_after (len == 0))) }
+    ensures text { OnOk result (Appends (text_written (λ v. Some v.items) writer.old)
+        (text_written (λ v. Some v.items) writer.new) (end_after (len == 0))) }
 {
     match writer.end_record() {
         Ok(()) => Ok(()),
@@ -85,7 +87,8 @@ fn write_row(
 ) -> Result<(), OutOfMemory>
     requires { IsAt 0 writer.old }
     ensures at { OnOk result (IsAt 0 writer.new) }
-    ensures text { OnOk result (Appends (text_written (λ v. Some v.items) writer.old) (text_written (λ v. Some v.items) writer.new) (row_text (spaced_row row.now.row))) }
+    ensures text { OnOk result (Appends (text_written (λ v. Some v.items) writer.old)
+        (text_written (λ v. Some v.items) writer.new) (row_text (spaced_row row.now.row))) }
 {
     let mut at = 0;
     'fields: while at < row.len() {
@@ -96,7 +99,7 @@ fn write_row(
     end_row(writer, at)
 }
 
-/// Writes a row of choices with units in the place of divided programmes, or tells its first fault.
+/// Writes a row of choices with units in the place of divided programmes, or returns its first fault.
 fn write_mapped(
     writer: &mut Writer<Vec<u8>>,
     tables: Tables<'_>,
@@ -106,8 +109,11 @@ fn write_mapped(
 ) -> Result<(), UnitFault>
     requires { IsAt 0 writer.old }
     ensures at { OnOk result (IsAt 0 writer.new) }
-    ensures text { OnOk result (WritesRow (text_written (λ v. Some v.items) writer.old) (text_written (λ v. Some v.items) writer.new) (mapped_row tables.entry.units.now tables.entry.states.now number row.now.row)) }
-    ensures fault { IfErr result (λ fault. IsFaultOf (mapped_row tables.entry.units.now tables.entry.states.now number row.now.row) fault) }
+    ensures text { OnOk result (WritesRow (text_written (λ v. Some v.items) writer.old)
+        (text_written (λ v. Some v.items) writer.new)
+        (mapped_row tables.entry.units.now tables.entry.states.now number row.now.row)) }
+    ensures fault { IfErr result (λ fault. IsFaultOf (mapped_row tables.entry.units.now
+        tables.entry.states.now number row.now.row) fault) }
 {
     let mut at = 0;
     'fields: while at < row.len() {
@@ -120,7 +126,8 @@ fn write_mapped(
     Ok(())
 }
 
-/// Writes the rows that are left as rows of choices, of which the first is the second of all, or tells their first fault.
+/// Writes the rows that are left as rows of choices, of which the first is the second of all, or returns their first
+/// fault.
 fn write_choices(
     writer: &mut Writer<Vec<u8>>,
     tables: Tables<'_>,
@@ -128,8 +135,11 @@ fn write_choices(
     buffer: &mut Vec<u8>,
 ) -> Result<(), UnitFault>
     requires { IsAt 0 writer.old }
-    ensures text { OnOk result (WritesRows (text_written (λ v. Some v.items) writer.old) (text_written (λ v. Some v.items) writer.new) (mapped_from tables.entry.units.now tables.entry.states.now 2 rows.old.left)) }
-    ensures fault { IfErr result (λ fault. IsFaultOf (mapped_from tables.entry.units.now tables.entry.states.now 2 rows.old.left) fault) }
+    ensures text { OnOk result (WritesRows (text_written (λ v. Some v.items) writer.old)
+        (text_written (λ v. Some v.items) writer.new)
+        (mapped_from tables.entry.units.now tables.entry.states.now 2 rows.old.left)) }
+    ensures fault { IfErr result (λ fault. IsFaultOf (mapped_from tables.entry.units.now
+        tables.entry.states.now 2 rows.old.left) fault) }
 {
     let mut number: u32 = 2;
     'rows: while rows.advance()? {
@@ -151,7 +161,8 @@ fn write_header(
 ) -> Result<(), OutOfMemory>
     requires { IsAt 0 writer.old }
     ensures at { OnOk result (IsAt 0 writer.new) }
-    ensures text { OnOk result (WritesHeader (text_written (λ v. Some v.items) writer.old) (text_written (λ v. Some v.items) writer.new) rows.old.left rows.new.left) }
+    ensures text { OnOk result (WritesHeader (text_written (λ v. Some v.items) writer.old)
+        (text_written (λ v. Some v.items) writer.new) rows.old.left rows.new.left) }
 {
     if !rows.advance()? {
         return Ok(());
@@ -167,8 +178,11 @@ fn write_all(
     body: &[u8],
 ) -> Result<(), UnitFault>
     requires { IsAt 0 writer.old }
-    ensures text { OnOk result (WritesRows (text_written (λ v. Some v.items) writer.old) (text_written (λ v. Some v.items) writer.new) (mapped_rows tables.entry.units.now tables.entry.states.now (rows_of body.now))) }
-    ensures fault { IfErr result (λ fault. IsFaultOf (mapped_rows tables.entry.units.now tables.entry.states.now (rows_of body.now)) fault) }
+    ensures text { OnOk result (WritesRows (text_written (λ v. Some v.items) writer.old)
+        (text_written (λ v. Some v.items) writer.new)
+        (mapped_rows tables.entry.units.now tables.entry.states.now (rows_of body.now))) }
+    ensures fault { IfErr result (λ fault. IsFaultOf (mapped_rows tables.entry.units.now
+        tables.entry.states.now (rows_of body.now)) fault) }
 {
     let mut rows = Rows::new(alloc, body);
     let mut buffer = Vec::new(alloc);
@@ -176,15 +190,19 @@ fn write_all(
     write_choices(writer, tables, &mut rows, &mut buffer)
 }
 
-/// Writes the choices of a body after these bytes, with units in the place of divided programmes, or tells their first fault.
+/// Writes the choices of a body after these bytes, with units in the place of divided programmes, or returns their
+/// first fault.
 pub(crate) fn write_rows(
     alloc: Global,
     bytes: Vec<u8>,
     tables: Tables<'_>,
     body: &[u8],
 ) -> Result<Vec<u8>, UnitFault>
-    ensures text { IfOk result (λ text. (rows : List Row) × (mapped_rows tables.entry.units.now tables.entry.states.now (rows_of body.now) ≡ Ok rows) × (text.items ≡ bytes.items ++ rows_text (map spaced_row rows))) }
-    ensures fault { IfErr result (λ fault. IsFaultOf (mapped_rows tables.entry.units.now tables.entry.states.now (rows_of body.now)) fault) }
+    ensures text { IfOk result (λ text. (rows : List Row)
+        × (mapped_rows tables.entry.units.now tables.entry.states.now (rows_of body.now) ≡ Ok rows)
+        × (text.items ≡ bytes.items ++ rows_text (map spaced_row rows))) }
+    ensures fault { IfErr result (λ fault. IsFaultOf (mapped_rows tables.entry.units.now
+        tables.entry.states.now (rows_of body.now)) fault) }
 {
     let mut writer = writer_after(bytes);
     write_all(alloc, &mut writer, tables, body)?;

@@ -21,7 +21,7 @@ use Rattle.office_text.specs.Number.{number_within}
 use Rattle.office_text.specs.Traits.{traits_of, read_from, weighted_letters, is_dash}
 use Rattle.section_rows.specs.Rows.{Row, field}
 use Rattle.section_rows.specs.Steps.{after, needs, unless}
-use Rattle.section_rows.proofs.StepsLemmas.{after_ok, flip, nat_at, needs_ok, none_from, number_found, step, unless_ok, within_range}
+use Rattle.section_rows.proofs.StepsLemmas.{after_ok, flip, nat_at, needs_ok, number_found, step, unless_ok, within_range}
 use Rattle.office_base.specs.Person.{number_of}
 use Rattle.rank_lists.specs.Register.{any_relaxed, any_repeats, is_general, is_number, is_taken, place_at, reading, new_id, places_of, new_token, person_at, holder_at, token_of, IsRegistered}
 use Rattle.rank_lists.specs.declared.entry.Entry.{Entry}
@@ -29,6 +29,7 @@ use Rattle.rank_lists.specs.Fields.{category_of, place_of}
 use Rattle.rank_lists.specs.declared.fault.RankKind.{RankKind}
 use Rattle.rank_lists.specs.declared.fault.RankKind.TheVariants.{BadId, RepeatedId, BadCategory, BadTrait, BadPlace, RepeatedPlace, RelaxedGeneral, BadToken, TooMany}
 use Rattle.office_base.specs.declared.person.Category.{Category}
+use Rattle.office_base.proofs.Options.{none_from}
 
 -- the persons by id, with one more
 pub person-step : (entries : List Entry) (entry : Entry) → person_at entry.person.id.0 entries ≡ None → (q : ℕ)
@@ -62,7 +63,7 @@ taken-step entries entry l n place old new here before e =
     ∙ or_comm (is_number n (number_of (place_at entry.person.places l))) (is_taken l n entries)
     ∙ sym (is_taken-push l n entries entry)
 
--- Each person stays under the own id.
+-- Each person stays under the person's own id.
 pub keyed-insert : (k : ℕ) (v : Person) (es : List (ℕ × Person)) → k ≡ v.id.0 → AllByRecursion (λ held. held.0 ≡ held.1.id.0) es → AllByRecursion (λ held. held.0 ≡ held.1.id.0) (insert_entry nat_cmp es k v)
 keyed-insert k v [] e all = (e, tt)
 keyed-insert k v (held ∷ es) e all = by (nat_cmp k held.0) refl (keyed-insert k v es e all.1)

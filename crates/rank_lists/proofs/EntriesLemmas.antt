@@ -1,12 +1,13 @@
 -- What holds of all entries holds with one more that is accepted.
 use Rattle.std.proofs.Common.{◌≡◌, ◌⊎◌, inl, inr, ℕ, zero, suc, Bool, true, false, cond, List, [], ◌∷◌, ◌++◌, Option, Some, None, refl, sym, ap, subst, ◌∙◌, length-append, arith}
-use Rattle.std.specs.Prelude.{◌==◌, ◌||◌, bytes_eq, IsSome}
+use Rattle.std.specs.Prelude.{◌==◌, ◌||◌, bytes_eq}
 use Rattle.std.proofs.lemmas.Bool.{eqb-true, eq-eqb, or_left, or_parts, or_right}
 use Rattle.std.proofs.lemmas.Slice.Eq.{bytes_eq-Decides}
 use Rattle.office_base.specs.Codes.{is_token}
 use Rattle.office_base.specs.Person.{number_of}
 use Rattle.office_base.specs.declared.person.Person.{Person}
 use Rattle.office_base.specs.declared.person.Place.{Place}
+use Rattle.office_base.proofs.Options.{some_value, is_some_from}
 use Rattle.rank_lists.specs.Register.{AreEntries, IsRegistered, any_repeats, holder_at, is_number, is_taken, person_at, place_at, repeats}
 use Rattle.rank_lists.specs.declared.entry.Entry.{Entry}
 use Rattle.section_rows.proofs.StepsLemmas.{found_cases}
@@ -52,14 +53,6 @@ not_taken entries a b c d none list n f =
     at (suc (suc zero)) g q0 q1 q2 q3 = one_free entries 2 n (number_of c) q2 g
     at (suc (suc (suc zero))) g q0 q1 q2 q3 = one_free entries 3 n (number_of d) q3 g
     at (suc (suc (suc (suc l)))) g q0 q1 q2 q3 = cc g
-
-some_value : {X : Type 0} (o : Option X) → IsSome o → (x : X) × (o ≡ Some x)
-some_value None h = cc h
-some_value (Some x) h = (x, refl)
-
-is_some_from : {X : Type 0} (o : Option X) (x : X) → o ≡ Some x → IsSome o
-is_some_from None x e = cc e
-is_some_from (Some y) x e = refl
 
 -- an entry that is accepted has no number of those before it
 apart_step : (entries : List Entry) (entry : Entry) → IsAccepted entries entry → (i list n : ℕ) (a : Person)

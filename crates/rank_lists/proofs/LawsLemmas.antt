@@ -115,7 +115,7 @@ not_found : (id : ℕ) (people : List Person) → Above id people → find_perso
 not_found id [] all = refl
 not_found id (person ∷ people) all = cond-false (id == person.id.0) _ _ (ne_eqb id person.id.0 (λ e. absurd (omega (arith, all.0)))) ∙ not_found id people all.1
 
--- the first one is found by the own id
+-- the first one is found by the first one's own id
 found_first : (person : Person) (people : List Person) → find_person person.id.0 (person ∷ people) ≡ Some person
 found_first person people = cond-true (person.id.0 == person.id.0) _ _ (eq-eqb person.id.0 person.id.0 refl)
 

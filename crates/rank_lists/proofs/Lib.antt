@@ -1,4 +1,5 @@
 mod BuilderLemmas
 mod EntriesLemmas
+pub mod Known
 mod LawsLemmas
-mod MadeLemmas
+pub mod MadeLemmas

@@ -29,7 +29,7 @@ use Rattle.section_rows.proofs.StepsLemmas.{nat_at, number_decides}
 abbrev Rising : List Person → Type 0
 Rising people = Pairwise (λ a b. a.id.0 < b.id.0) people
 
--- each person is kept under the own id
+-- each person is kept under the person's own id
 abbrev Keyed : List (ℕ × Person) → Type 0
 Keyed es = AllByRecursion (λ held. held.0 ≡ held.1.id.0) es
 
@@ -55,7 +55,7 @@ all_above : (k : ℕ) (es : List (ℕ × Person)) → Keyed es → AllByRecursio
 all_above k [] keyed all = tt
 all_above k (e ∷ es) keyed all = (omega (arith, less_from k e.0 all.0, keyed.0), all_above k es keyed.1 all.1)
 
-above_same : (k m : ℕ) (people : List Person) → k ≡ m → AllByRecursion (λ (p : Person). k < p.id.0) people → AllByRecursion (λ (p : Person). m < p.id.0) people
+pub above_same : (k m : ℕ) (people : List Person) → k ≡ m → AllByRecursion (λ (p : Person). k < p.id.0) people → AllByRecursion (λ (p : Person). m < p.id.0) people
 above_same k m [] e all = tt
 above_same k m (p ∷ people) e all = (omega (arith, e, all.0), above_same k m people e all.1)
 
@@ -117,7 +117,7 @@ comparisons_rise people q rising i j d le within =
     ] in
     grind (arith, nat_tests)
 
--- the position of a person is found by the own id
+-- the position of a person is found by the person's own id
 row_here : (people : List Person) (q i : ℕ) (d : Person) → Rising people → i < length people → (get_or people i d).id.0 ≡ q → row_of q people ≡ Some i
 row_here [] q i d rising within e = absurd (omega arith)
 row_here (p ∷ people) q zero d rising within e = cond-true (q == p.id.0) _ _ (eq-eqb q p.id.0 (sym e))
@@ -193,7 +193,7 @@ searched_ids people ids q r rising same within found =
     let here : IsSearchInRange r (length people) = rw (sym (ap length same ∙ length-map people id_of)) within in
     searched people q r rising here (over_ids people q r here rising (rw (sym same) found))
 
--- The position of an id that stands at a place is that place.
+-- The position of an id that is at a place is that place.
 pub id_there : (people : List Person) (ids : List ℕ) (q at : ℕ) → Rising people → ids ≡ map (λ p. p.id.0) people → at < length ids → get_or ids at 0 ≡ q → Some at ≡ row_of q people
 id_there people ids q at rising same within here =
     let size = ap length same ∙ length-map people id_of in

@@ -170,7 +170,7 @@ pub record IsKeptRegister (ids : List ℕ) (ranks : Ranks) : Type 0 where
 abbrev pub IsRead : List Row → Ranks → Type 0
 IsRead rows ranks = IsFaultless judge rows × IsRegister (entries_of reading rows) ranks
 
--- the first fault of a body's rows; want of memory tells nothing of them
+-- the first fault of a body's rows; `OutOfMemory` says nothing of them
 abbrev pub IsFault : List Row → TableFault RankKind → Type 0
 IsFault = IsTableFault judge
 

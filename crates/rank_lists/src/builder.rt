@@ -51,7 +51,8 @@ impl RegisterBuilder {
 
     /// The id of a row, where it is a new one.
     fn new_id(&self, row: &Rows<'_>) -> Result<u32, RankKind>
-        ensures { (entries : List Entry) → Keeps entries self.now → result ≡ new_id entries row.now.row }
+        ensures { (entries : List Entry) → Keeps entries self.now
+            → result ≡ new_id entries row.now.row }
     {
         if self.people.len() >= MOST_CANDIDATES {
             return Err(RankKind::TooMany);
@@ -68,7 +69,8 @@ impl RegisterBuilder {
 
     /// The token that a text spells, where it is a new one.
     fn new_token(&self, text: &[u8]) -> Result<Token, RankKind>
-        ensures { (entries : List Entry) → Keeps entries self.now → result ≡ new_token entries text.now }
+        ensures { (entries : List Entry) → Keeps entries self.now
+            → result ≡ new_token entries text.now }
     {
         let Some(token) = Token::read(text) else {
             return Err(RankKind::BadToken);
@@ -82,7 +84,8 @@ impl RegisterBuilder {
 
     /// Whether the number of one of the places is taken in its list.
     fn any_repeats(&self, places: &[Place; 4]) -> bool
-        ensures { (entries : List Entry) → Keeps entries self.now → result ≡ any_repeats places.now entries }
+        ensures { (entries : List Entry) → Keeps entries self.now
+            → result ≡ any_repeats places.now entries }
     {
         repeats(&self.first, places[0])
             || repeats(&self.second, places[1])
@@ -93,7 +96,8 @@ impl RegisterBuilder {
     /// What a row gives, or the first of its faults.
     #[tactic(auto, unfolding(crate::specs::Register::reading))]
     fn read(&self, row: &Rows<'_>) -> Result<Entry, RankKind>
-        ensures { (entries : List Entry) → Keeps entries self.now → result ≡ reading entries row.now.row }
+        ensures { (entries : List Entry) → Keeps entries self.now
+            → result ≡ reading entries row.now.row }
     {
         let id = self.new_id(row)?;
         let Some(category) = read_category(row.field(1)) else {
@@ -123,7 +127,8 @@ impl RegisterBuilder {
 
     /// Puts in what a row gave. Where there is no memory for it, the builder is of no use any more.
     fn add(&mut self, entry: Entry) -> Result<(), OutOfMemory>
-        ensures { OnOk result ((entries : List Entry) (row : Row) → Keeps entries self.old → reading entries row ≡ Ok entry → Keeps (entries ++ entry ∷ []) self.new) }
+        ensures { OnOk result ((entries : List Entry) (row : Row) → Keeps entries self.old
+            → reading entries row ≡ Ok entry → Keeps (entries ++ entry ∷ []) self.new) }
     {
         let person = entry.person;
         take(&mut self.first, person.places[0])?;
@@ -138,7 +143,8 @@ impl RegisterBuilder {
     /// The register of all that was put in.
     pub(crate) fn finish(self, alloc: Global) -> Result<Register, OutOfMemory>
         requires { (entries : List Entry) × Keeps entries self }
-        ensures { IfOk result (λ register. (entries : List Entry) → Keeps entries self → IsRegister entries register) }
+        ensures { IfOk result (λ register. (entries : List Entry)
+            → Keeps entries self → IsRegister entries register) }
     {
         let RegisterBuilder {
             people,
@@ -221,7 +227,8 @@ fn ids_of(alloc: Global, people: &[Person]) -> Result<Vec<u32>, AllocError>
 
 /// Whether the number of a place is among those taken in its list.
 fn repeats(taken: &BTreeSet<u32>, place: Place) -> bool
-    ensures { (list : ℕ) (entries : List Entry) → ((n : ℕ) → sorted.contains nat_cmp taken.now n ≡ is_taken list n entries) → result ≡ repeats list (number_of place) entries }
+    ensures { (list : ℕ) (entries : List Entry) → ((n : ℕ) → sorted.contains nat_cmp taken.now n
+        ≡ is_taken list n entries) → result ≡ repeats list (number_of place) entries }
 {
     match place.number() {
         Some(number) => taken.contains(&number),
@@ -231,7 +238,8 @@ fn repeats(taken: &BTreeSet<u32>, place: Place) -> bool
 
 /// Takes the number of a place in its list, where it has one.
 fn take(taken: &mut BTreeSet<u32>, place: Place) -> Result<(), OutOfMemory>
-    ensures { OnOk result ((n : ℕ) → sorted.contains nat_cmp taken.new n ≡ (is_number n (number_of place) || sorted.contains nat_cmp taken.old n)) }
+    ensures { OnOk result ((n : ℕ) → sorted.contains nat_cmp taken.new n
+        ≡ (is_number n (number_of place) || sorted.contains nat_cmp taken.old n)) }
 {
     if let Some(number) = place.number() {
         taken.insert(number)?;

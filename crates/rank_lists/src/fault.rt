@@ -11,7 +11,7 @@ pub enum RankKind {
     BadHeader = 1,
     /// The id is no number from 1 to 999,999,999.
     BadId = 2,
-    /// The id stands in an earlier row.
+    /// The id is in an earlier row.
     RepeatedId = 3,
     /// The category is none of GEN, EWS or GEN-EWS, OBC or OBC-NCL, SC, ST.
     BadCategory = 4,
@@ -19,7 +19,7 @@ pub enum RankKind {
     BadTrait = 5,
     /// A place is no place, or there are more than eight fields.
     BadPlace = 6,
-    /// The number of a place stands in the same list of an earlier row.
+    /// The number of a place is in the same list of an earlier row.
     RepeatedPlace = 7,
     /// A candidate of the general category has a relaxed place.
     RelaxedGeneral = 8,
@@ -67,5 +67,5 @@ impl RankKind {
     }
 }
 
-/// Why a register was not read: its first fault by rows, or want of memory. Nothing is left behind.
+/// Says why a register was not read: its first fault by rows, or memory ran out. Nothing is left behind.
 pub type RankFault = TableFault<RankKind>;

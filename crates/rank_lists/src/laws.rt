@@ -1,4 +1,4 @@
-// What holds of registers themselves, whoever reads them.
+// Laws of registers themselves, for any reader.
 ghost use Rattle.std.specs.Prelude.{List};
 ghost use Rattle.section_rows.specs.Rows.{Row};
 ghost use Rattle.rank_lists.specs.Laws.{HaveOneReading};

@@ -13,8 +13,8 @@ use std::alloc::Global;
 use std::collections::BTreeMap;
 use std::marker::Model;
 
-/// The candidates with their places on the merit lists, and who holds which token. The ids stand once more by themselves: a search among them reads few
-/// bytes.
+/// Holds the candidates with their places on the merit lists, and who holds which token. It keeps the ids once more
+/// by themselves: a search among them reads few bytes.
 #[derive(Drop)]
 pub struct Register {
     pub(crate) ids: Vec<u32>,
@@ -56,12 +56,13 @@ impl Register {
         })
     }
 
-    /// The position of the candidate of this id among all, in rising order of id and counted from 0. None exactly where no row
-    /// has the id. It takes no memory.
+    /// Returns the position of the candidate of this id among all, in rising order of id and counted from 0. `None`
+    /// exactly when no row has the id. Allocates nothing.
     pub fn position(&self, id: CandId) -> Option<u32>
         ensures row { result ≡ row_of id.0 self.now.people }
         ensures within { IfSome result (λ at. at < length self.now.people) }
-        ensures person { option_and_then (λ at. slice_get self.now.people at) result ≡ find_person id.0 self.now.people }
+        ensures person { option_and_then (λ at. slice_get self.now.people at) result
+            ≡ find_person id.0 self.now.people }
     {
         if let Some(at) = counted(self.ids.as_slice(), id.0) {
             return Some(at);
@@ -72,7 +73,7 @@ impl Register {
         }
     }
 
-    /// The person of this id. None exactly where no row has the id. It takes no memory.
+    /// Returns the person of this id. `None` exactly when no row has the id. Allocates nothing.
     pub fn person(&self, id: CandId) -> Option<&Person>
         ensures { option_copied result ≡ find_person id.0 self.now.people }
     {
@@ -102,7 +103,8 @@ impl Register {
     /// Whether both candidates are known and the first one is better in the list.
     pub fn before(&self, list: ListId, a: CandId, b: CandId) -> bool
         requires { IsList list }
-        ensures { IsTrue result ↔ IsBefore list (find_person a.0 self.now.people) (find_person b.0 self.now.people) }
+        ensures { IsTrue result
+            ↔ IsBefore list (find_person a.0 self.now.people) (find_person b.0 self.now.people) }
     {
         match (self.person(a), self.person(b)) {
             (Some(first), Some(second)) => better(first, second, list),
@@ -122,7 +124,7 @@ impl Register {
     }
 }
 
-/// The position of an id, where the ids run on from the first one to it without a gap. It takes no memory.
+/// Returns the position of an id, if the ids run on from the first one to it without a gap. Allocates nothing.
 fn counted(ids: &[u32], id: u32) -> Option<u32>
     ensures { IfSome result (λ at. (at < length ids.now) × (slice_index ids.now at ≡ id)) }
 {

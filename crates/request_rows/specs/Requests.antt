@@ -90,11 +90,11 @@ script_from number (row ∷ rows) = needs (request_of row) number (λ request. a
 abbrev pub script_of : List Row → Result (List Request) ℕ
 script_of rows = script_from 1 rows
 
--- the first row that is no request; want of memory tells nothing of the rows
+-- the first row that is no request; `OutOfMemory` says nothing of the rows
 abbrev pub IsScriptFault : List Row → ScriptFault → Type 0
 IsScriptFault rows (BadRequest row) = script_of rows ≡ Err row
 IsScriptFault rows OutOfMemory = Unit {0}
 
--- the row's request stands after those before it
+-- the row's request comes after those before it
 abbrev pub IsPut : List Request → Row → List Request → Type 0
 IsPut before row after = (request : Request) × (request_of row ≡ Some request) × (after ≡ before ++ request ∷ [])

@@ -33,7 +33,8 @@ impl From<OutOfMemory> for ScriptFault {
 
 /// Puts the request that a row is after the others, and says whether it is one.
 fn put(script: &mut Script, row: &Rows<'_>) -> Result<bool, OutOfMemory>
-    ensures { IfOk result (λ put. MatchBool put (IsPut script.old row.now.row script.new) (request_of row.now.row ≡ None)) }
+    ensures { IfOk result (λ put.
+        MatchBool put (IsPut script.old row.now.row script.new) (request_of row.now.row ≡ None)) }
 {
     let Some(request) = read_request(row) else {
         return Ok(false);

@@ -27,7 +27,7 @@ body_len-last (b ∷ bytes) e = by (λ h. body_len-last bytes h) (b == 10) refl 
     by next true is h = absurd (omega (arith, h))
     by next false is h = rw is (ap suc (next (omega (arith, h))))
 
-drop_one : (n b : ℕ) (bytes : List ℕ) → drop (suc n + 1) (b ∷ bytes) ≡ drop (n + 1) bytes
+pub drop_one : (n b : ℕ) (bytes : List ℕ) → drop (suc n + 1) (b ∷ bytes) ≡ drop (n + 1) bytes
 drop_one n b bytes = ap (λ (k : ℕ). drop k (b ∷ bytes)) (add-one (suc n)) ∙ ap (λ (k : ℕ). drop k bytes) (sym (add-one n))
 
 -- The next line begins after an LF.
@@ -48,10 +48,6 @@ body_len-next (b ∷ bytes) less = by (λ h. body_len-next bytes h) (b == 10) re
 body_len-inside : (bytes : List ℕ) → begins_title bytes ≡ false → body_len true bytes ≡ body_len false bytes
 body_len-inside [] other = refl
 body_len-inside (b ∷ bytes) other = rw other refl
-
-pub body_len-here : (bytes : List ℕ) → begins_title bytes ≡ true → body_len true bytes ≡ 0
-body_len-here [] is = refl
-body_len-here (b ∷ bytes) is = rw is refl
 
 -- A line that is the last one is all of a body.
 pub body_len-end : (bytes : List ℕ) (end : ℕ) → begins_title bytes ≡ false → end ≡ line_len bytes → end ≡ length bytes → body_len true bytes ≡ end

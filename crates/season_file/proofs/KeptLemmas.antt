@@ -12,7 +12,7 @@ use Rattle.season_file.specs.Season.{BundleGives, IsText, SectionsGive, request_
 use Rattle.season_file.specs.declared.content.Content.{Content}
 use Rattle.season_file.proofs.SplitLemmas.{IsAgain, IsNext, cut_again, no_requests, without_requests}
 
--- what stands before the last bytes
+-- what comes before the last bytes
 before_last : (front last : List ℕ) → take (length (front ++ last) - length last) (front ++ last) ≡ front
 before_last front last =
     let n : length (front ++ last) - length last ≡ length front = omega (arith, length-append front last) in

@@ -128,13 +128,13 @@ carried : AreLawful → (rows : List Row) (ranks other : rank_grammar.Ranks) (se
 carried laws rows ranks other seats matrix a b = laws.same rows other ranks matrix seats (sym a.people) (sym b.programmes)
 
 -- a result is one value, or one error, and never both
-one_ok : {X E : Type 0} (r : Result X E) (x y : X) → r ≡ Ok x → r ≡ Ok y → x ≡ y
+pub one_ok : {X E : Type 0} (r : Result X E) (x y : X) → r ≡ Ok x → r ≡ Ok y → x ≡ y
 one_ok r x y e f = cc
 
 one_err : {X E : Type 0} (r : Result X E) (x y : E) → r ≡ Err x → r ≡ Err y → x ≡ y
 one_err r x y e f = cc
 
-not_both : {X E : Type 0} (r : Result X E) (x : X) (y : E) → r ≡ Ok x → r ≡ Err y → ⊥
+pub not_both : {X E : Type 0} (r : Result X E) (x : X) (y : E) → r ≡ Ok x → r ≡ Err y → ⊥
 not_both r x y e f = cc
 
 -- who is found is somebody

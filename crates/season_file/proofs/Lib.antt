@@ -1,7 +1,7 @@
-mod CuttingLemmas
+pub mod CuttingLemmas
 mod HeadLemmas
 mod KeptLemmas
-mod LawsLemmas
+pub mod LawsLemmas
 mod ReplaceLemmas
 mod SeasonLemmas
 mod SplitLemmas

@@ -1,4 +1,4 @@
--- Another body may stand in the place of the choices.
+-- Another body may take the place of the choices.
 use Rattle.std.proofs.Common.{◌≡◌, inl, inr, ℕ, Bool, true, cond, List, [], ◌∷◌, ◌++◌, length, take, drop, Option, Some, Result, Ok, Err, refl, sym, ap, subst, ◌∙◌, append_assoc, add-one, arith}
 use Rattle.std.proofs.Math.Seq.{drop-append_seam, take-append_seam}
 use Rattle.std.proofs.lemmas.List.{append-nil, take-append-drop}
@@ -171,7 +171,7 @@ texts version text rest parts e1 e2 e3 =
     ∙ ap (λ (bytes : List ℕ). with_line text (sections true version bytes)) e2
     ∙ ap (λ (r : Result Parts (List ℕ)). with_line text r) e3
 
--- what stands before the sections: another text of sections may stand there
+-- what comes before the sections: another text of sections may follow it
 record IsHead (bytes : List ℕ) (version : ℕ) (rest : List ℕ) : Type 0 where
   front : List ℕ
   whole : bytes ≡ front ++ rest

@@ -1,4 +1,4 @@
--- What stands before the section of the requests is cut as the whole bundle is.
+-- What comes before the section of the requests is cut as the whole bundle is.
 use Rattle.std.proofs.Common.{◌≡◌, ◌+◌, ◌⊎◌, inl, inr, ℕ, zero, suc, Bool, true, false, cond, ◌&&◌, eqb, List, [], ◌∷◌, ◌++◌, length, take, drop, Option, Some, None, Result, Ok, Err, refl, sym, ap, subst, ◌∙◌, append_assoc, add-one}
 use Rattle.std.proofs.Math.Seq.{take-append_seam}
 use Rattle.std.proofs.lemmas.Bool.{and_parts, eqb-true}
@@ -72,7 +72,7 @@ line_split (a ∷ text) x rest e = by (λ h. line_split text x rest h) (eqb a 10
           },
         )
 
--- the title of such a line, and what stands after it
+-- the title of such a line, and what follows it
 pub title-split : (text line rest other : List ℕ) → IsSplit text line rest → title (line ++ 10 ∷ other) ≡ trimmed (drop_cr line)
 title-split text line rest other split = ap (λ (n : ℕ). trimmed (drop_cr (take n (line ++ 10 ∷ other)))) (split.same other) ∙ ap (λ (bytes : List ℕ). trimmed (drop_cr bytes)) (take-append_seam line (10 ∷ other))
 
@@ -354,7 +354,7 @@ pub with_line_ok : (text : List ℕ) (r : Result Parts (List ℕ)) (parts : Part
 with_line_ok text (Ok made) parts e = cc e
 with_line_ok text (Err rest) parts e = absurd cc
 
--- What stands before the requests is cut into the same parts, without requests.
+-- What comes before the requests is cut into the same parts, without requests.
 pub record IsAgain (bytes : List ℕ) (parts : Parts) : Type 0 where
   pub front : List ℕ
   pub whole : bytes ≡ front ++ parts.requests

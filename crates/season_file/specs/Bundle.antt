@@ -15,7 +15,7 @@ pub record Parts : Type 0 where
   pub choices : List ℕ
   pub requests : List ℕ
 
--- how many bytes stand before the first LF
+-- how many bytes come before the first LF
 abbrev pub line_len : List ℕ → ℕ
 line_len [] = 0
 line_len (byte ∷ bytes) = if byte == 10 then 0 else suc (line_len bytes)
@@ -34,16 +34,17 @@ skip_empty [] = []
 skip_empty (a ∷ []) = if a == 10 then [] else if a == 13 then [] else a ∷ []
 skip_empty (a ∷ b ∷ bytes) = if a == 10 then skip_empty (b ∷ bytes) else if a == 13 && b == 10 then skip_empty bytes else a ∷ b ∷ bytes
 
--- how many bytes stand before the next line that begins with `[`, where the first byte begins a line or does not
+-- how many bytes come before the next line that begins with `[`, where the first byte begins a line or does not
 abbrev pub body_len : Bool → List ℕ → ℕ
 body_len begins [] = 0
 body_len begins (byte ∷ bytes) = if begins && byte == 91 then 0 else suc (body_len (byte == 10) bytes)
 
--- the body after a section line, and what stands after the body
+-- the body after a section line, and what follows the body
 abbrev pub body_and_rest : List ℕ → List ℕ × List ℕ
 body_and_rest bytes = (take (body_len true bytes) bytes, drop (body_len true bytes) bytes)
 
--- the body of the section of this name that begins the text, and what stands after it; where another line does, the text
+-- the body of the section of this name that begins the text, and what follows it; if another line begins the text,
+-- the text
 abbrev pub section : List ℕ → List ℕ → Result (List ℕ × List ℕ) (List ℕ)
 section name text = if bytes_eq (title text) name then Ok (body_and_rest (after_line text)) else Err text
 
@@ -52,13 +53,13 @@ abbrev pub closed : List ℕ → List ℕ → Result (List ℕ) (List ℕ)
 closed [] value = Ok value
 closed (byte ∷ bytes) value = Err (byte ∷ bytes)
 
--- What may follow the choices: nothing, or, where requests are read, their section alone. Else what stands from the first wrong
--- line on.
+-- What may follow the choices: nothing or, if requests are read, their section alone. Otherwise what there is from
+-- the first wrong line on.
 abbrev pub last_section : Bool → List ℕ → Result (List ℕ) (List ℕ)
 last_section requests [] = Ok []
 last_section requests (byte ∷ bytes) = if requests then after (section (codes "[requests]") (byte ∷ bytes)) (λ cut. closed cut.1 (byte ∷ bytes)) else Err (byte ∷ bytes)
 
--- the sections in their order, or what stands from the first wrong line on: nothing, where a section is missing
+-- the sections in their order, or what there is from the first wrong line on: nothing, if a section is missing
 abbrev pub sections : Bool → ℕ → List ℕ → Result Parts (List ℕ)
 sections requests version text =
     after (section (codes "[season]") text) (λ season. after (section (codes "[register]") season.1) (λ register.
@@ -82,7 +83,7 @@ abbrev pub fault_line : List ℕ → List ℕ → ℕ
 fault_line text [] = length (lines_of text) + 1
 fault_line text (byte ∷ rest) = breaks (take (length text - length (byte ∷ rest)) text) + 1
 
--- a wrong line is told by its number
+-- a wrong line is reported by its number
 abbrev pub with_line : List ℕ → Result Parts (List ℕ) → Result Parts SeasonFault
 with_line text (Ok parts) = Ok parts
 with_line text (Err rest) = Err (Section (fault_line text rest))
@@ -99,7 +100,7 @@ text_of requests text = needs (version_of (title text)) BadFirstLine (λ version
 abbrev pub bundle_of : Bool → List ℕ → Result Parts SeasonFault
 bundle_of requests bytes = text_of requests (skip_mark bytes)
 
--- what stands in the bytes before the section of the requests
+-- the part of the bytes before the section of the requests
 abbrev pub before_requests : List ℕ → Result Parts SeasonFault → List ℕ
 before_requests bytes (Ok parts) = take (length bytes - length parts.requests) bytes
 before_requests bytes (Err fault) = bytes

@@ -18,7 +18,7 @@ pub record AreSame (content other : Content) : Type 0 where
   pub steps : content.matrix.steps ≡ other.matrix.steps
   pub lists : (candidate : ℕ) → list_of content.choices candidate ≡ list_of other.choices candidate
 
--- a fault of the bytes themselves: want of memory is none
+-- a fault of the bytes themselves: `OutOfMemory` is none
 abbrev pub HasFault : Bool → List ℕ → SeasonFault → Type 0
 HasFault requests bytes OutOfMemory = ⊥
 HasFault requests bytes fault = IsSeasonFault requests bytes fault

@@ -15,8 +15,8 @@ use Rattle.season_file.specs.declared.fault.SeasonFault.TheVariants.{ReadFault, 
 abbrev pub GaveScript : Option (List ℕ) → Option (List ℕ) → List Request → Type 0
 GaveScript before after script = (bytes : List ℕ) × Took bytes before after × IsAtEnd after × IsText bytes × (script_of (rows_of (skip_mark bytes)) ≡ Ok script)
 
--- The fault of a body alone: its bytes are too many or no UTF-8, or a row is no request, in this order; there is no other one.
--- What failed of itself tells nothing of the bytes.
+-- The fault of a body alone: its bytes are too many or no UTF-8, or a row is no request, in this order; there is no
+-- other one. `ReadFault` and `OutOfMemory` say nothing of the bytes.
 abbrev pub IsScriptFault : Option (List ℕ) → Option (List ℕ) → SeasonFault → Type 0
 IsScriptFault before after ReadFault = Unit {0}
 IsScriptFault before after TooLong = TookMore most_bundle_bytes before after

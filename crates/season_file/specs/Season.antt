@@ -29,7 +29,8 @@ pub record IsText (bytes : List ℕ) : Type 0 where
   pub short : length bytes ≤ most_bundle_bytes
   pub utf8 : IsUtf8 bytes
 
--- The sections give this: version, rounds and clerk, a register, a matrix, and choices that are sound beside both.
+-- The sections give this: version, rounds and clerk, a register, a matrix, and choices that are sound for the
+-- register and the matrix.
 pub record SectionsGive (parts : Parts) (content : Content) : Type 0 where
   pub version : content.version ≡ parts.version
   pub head : head_of (rows_of parts.season) ≡ Ok content.head
@@ -42,7 +43,7 @@ pub record SectionsGive (parts : Parts) (content : Content) : Type 0 where
 abbrev pub IsClerkApart : Content → Type 0
 IsClerkApart content = rank_grammar.find_holder content.head.clerk content.register.holders ≡ None
 
--- the choice lists stand along the people of the register
+-- the choice lists are in the order of the people of the register
 abbrev pub AreAligned : Content → Type 0
 AreAligned content = map (λ held. held.0) content.choices ≡ map (λ person. person.id.0) content.register.people
 
@@ -54,7 +55,7 @@ rows_of_requests (byte ∷ section) = rows_of (after_line (byte ∷ section))
 abbrev pub request_rows_of : Parts → List Row
 request_rows_of parts = rows_of_requests parts.requests
 
--- a fault of a section is told as it is, except for want of memory
+-- a fault of a section is reported unchanged, except when memory runs out
 abbrev pub register_error : TableFault RankKind → SeasonFault
 register_error (BadRow row kind) = Register (BadRow row kind)
 register_error NoTableMemory = OutOfMemory
@@ -71,7 +72,7 @@ abbrev pub script_error : ScriptFault → SeasonFault
 script_error (NoRequest row) = BadRequest row
 script_error NoScriptMemory = OutOfMemory
 
--- the first fault of a register, which is not want of memory
+-- the first fault of a register; running out of memory is none
 abbrev pub IsRegisterFault : Parts → TableFault RankKind → Type 0
 IsRegisterFault parts (BadRow row kind) = (head : Head) × (head_of (rows_of parts.season) ≡ Ok head) × rank_grammar.IsFault (rows_of parts.register) (BadRow row kind)
 IsRegisterFault parts NoTableMemory = ⊥
@@ -100,7 +101,7 @@ IsHeadFault parts row =
 abbrev pub IsRequestFault : Parts → ℕ → Type 0
 IsRequestFault parts row = (content : Content) × SectionsGive parts content × IsClerkApart content × (script_of (request_rows_of parts) ≡ Err row)
 
--- the first fault of what stands in the sections; there is no other one, and want of memory tells nothing of them
+-- the first fault in the contents of the sections; there is no other one, and `OutOfMemory` says nothing of them
 abbrev pub IsSectionFault : Parts → SeasonFault → Type 0
 IsSectionFault parts (BadSeason row) = IsHeadFault parts row
 IsSectionFault parts (Register fault) = IsRegisterFault parts fault
@@ -114,8 +115,8 @@ IsSectionFault parts fault = ⊥
 abbrev pub HasSectionFault : Bool → List ℕ → SeasonFault → Type 0
 HasSectionFault requests bytes fault = IsText bytes × ((parts : Parts) × (bundle_of requests bytes ≡ Ok parts) × IsSectionFault parts fault)
 
--- The first fault of a bundle, in this order: too long, no UTF-8, the first line, the sections, and then what stands in them.
--- Want of memory tells nothing of the bytes.
+-- The first fault of a bundle, in this order: too long, no UTF-8, the first line, the sections, and then their
+-- contents. `OutOfMemory` says nothing of the bytes.
 abbrev pub IsSeasonFault : Bool → List ℕ → SeasonFault → Type 0
 IsSeasonFault requests bytes TooLong = most_bundle_bytes < length bytes
 IsSeasonFault requests bytes NotUtf8 = (length bytes ≤ most_bundle_bytes) × (IsUtf8 bytes → ⊥)
@@ -159,7 +160,8 @@ GaveSeason requests before after season script = (bytes : List ℕ) × Took byte
 abbrev pub GaveFault : Bool → Option (List ℕ) → Option (List ℕ) → SeasonFault → Type 0
 GaveFault requests before after fault = (bytes : List ℕ) × Took bytes before after × IsAtEnd after × IsSeasonFault requests bytes fault
 
--- The fault of a source: that of its bytes, where it gave all of them; or there are too many. What failed of itself tells nothing of them.
+-- The fault of a source: that of its bytes, if it gave all of them; or there are too many. `ReadFault` and
+-- `OutOfMemory` say nothing of them.
 abbrev pub IsSourceFault : Bool → Option (List ℕ) → Option (List ℕ) → SeasonFault → Type 0
 IsSourceFault requests before after ReadFault = Unit {0}
 IsSourceFault requests before after TooLong = TookMore most_bundle_bytes before after

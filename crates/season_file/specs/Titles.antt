@@ -23,8 +23,8 @@ pub record IsTitled (name text body rest : List ℕ) : Type 0 where
   pub inside : HasNoTitle body
   pub next : (rest ≡ []) ⊎ ((more : List ℕ) × (rest ≡ 91 ∷ more))
 
--- The bytes are a head, which ends before the first section line, and then the sections, one after another; the section of the
--- requests stands last or is missing.
+-- The bytes are a head, which ends before the first section line, and then the sections, one after another. The
+-- section of the requests is the last or is missing.
 pub record IsCutAtTitles (bytes : List ℕ) (parts : Parts) : Type 0 where
   pub head : List ℕ
   pub first : List ℕ

@@ -28,7 +28,7 @@ pub struct Content {
     pub choices: Choices,
 }
 
-/// What a bundle gives: what its sections give, its requests, and how many bytes stand before their section.
+/// Holds what a bundle gives: what its sections give, its requests, and how many bytes come before their section.
 #[derive(Drop)]
 pub(crate) struct Given {
     pub(crate) content: Content,
@@ -127,7 +127,8 @@ fn read_requests(alloc: Global, section: &[u8]) -> Result<Script, ScriptFault>
 /// What a bundle of UTF-8 gives, or its first fault.
 fn read_bundle(alloc: Global, bytes: &[u8], requests: bool) -> Result<Given, SeasonFault>
     requires { IsText bytes.now }
-    ensures value { IfOk result (λ given. BundleGives requests bytes.now given.content given.script) }
+    ensures value { IfOk result (λ given.
+        BundleGives requests bytes.now given.content given.script) }
     ensures aligned { IfOk result (λ given. AreAligned given.content) }
     ensures end { IfOk result (λ given. take given.end bytes.now ≡ season_text requests bytes.now) }
     ensures fault { IfErr result (λ fault. IsSeasonFault requests bytes.now fault) }
@@ -161,7 +162,8 @@ pub(crate) fn read_content(
     bytes: &[u8],
     requests: bool,
 ) -> Result<Given, SeasonFault>
-    ensures value { IfOk result (λ given. BundleGives requests bytes.now given.content given.script) }
+    ensures value { IfOk result (λ given.
+        BundleGives requests bytes.now given.content given.script) }
     ensures aligned { IfOk result (λ given. AreAligned given.content) }
     ensures end { IfOk result (λ given. take given.end bytes.now ≡ season_text requests bytes.now) }
     ensures fault { IfErr result (λ fault. IsSeasonFault requests bytes.now fault) }
@@ -181,9 +183,11 @@ pub(crate) fn read_bytes<S: Source>(alloc: Global, source: &mut S) -> Result<Tex
     ensures ended { IfOk result (λ bytes. IsAtEnd (S.left source.new)) }
     ensures short { IfOk result (λ bytes. length bytes ≤ most_bundle_bytes) }
     ensures fault { IfErr result (λ fault. IsUnread (S.left source.old) (S.left source.new) fault) }
-    ensures cause { IsErrOf result SeasonFault.ReadFault → Rose (S.faults source.old) (S.faults source.new) }
+    ensures cause { IsErrOf result SeasonFault.ReadFault
+        → Rose (S.faults source.old) (S.faults source.new) }
     ensures count { S.faults source.old ≤ S.faults source.new }
-    ensures steady { ¬ IsErrOf result SeasonFault.ReadFault → S.faults source.new ≡ S.faults source.old }
+    ensures steady { ¬ IsErrOf result SeasonFault.ReadFault
+        → S.faults source.new ≡ S.faults source.old }
 {
     match read_whole(alloc, source, MOST_BUNDLE_BYTES) {
         Ok(bytes) => Ok(bytes),

@@ -22,7 +22,7 @@ pub struct Pieces<'a> {
     pub requests: &'a [u8],
 }
 
-/// How many bytes stand before the first LF.
+/// Returns how many bytes come before the first LF.
 pub fn line_len(bytes: &[u8]) -> usize
     ensures value { result ≡ line_len bytes.now }
     ensures within { result ≤ length bytes.now }
@@ -74,7 +74,7 @@ fn begins_title(bytes: &[u8]) -> bool
     matches!(bytes, [b'[', ..])
 }
 
-/// How many bytes stand before the next line that begins with `[`. The first byte begins a line.
+/// Returns how many bytes come before the next line that begins with `[`. The first byte begins a line.
 fn body_len(bytes: &[u8]) -> usize
     ensures value { result ≡ body_len true bytes.now }
     ensures within { result ≤ length bytes.now }
@@ -93,9 +93,11 @@ fn body_len(bytes: &[u8]) -> usize
     count
 }
 
-/// The body after a section line of this name, and what stands after the body. Where another line begins the text, the text.
+/// Returns the body after a section line of this name, and what follows the body. If another line begins the text,
+/// returns the text.
 pub fn section<'a>(text: &'a [u8], name: &[u8]) -> Result<(&'a [u8], &'a [u8]), &'a [u8]>
-    ensures { MatchResult result (λ cut. section name.now text.now ≡ Ok (cut.0.now, cut.1.now)) (λ rest. section name.now text.now ≡ Err rest.now) }
+    ensures { MatchResult result (λ cut. section name.now text.now ≡ Ok (cut.0.now, cut.1.now))
+        (λ rest. section name.now text.now ≡ Err rest.now) }
 {
     if title(text) != name {
         return Err(text);
@@ -104,10 +106,11 @@ pub fn section<'a>(text: &'a [u8], name: &[u8]) -> Result<(&'a [u8], &'a [u8]), 
     Ok(body.split_at(body_len(body)))
 }
 
-/// What follows the choices: nothing, or, where requests are read, their section alone. Else what stands from the first wrong
-/// line on.
+/// Returns what follows the choices: nothing or, if requests are read, their section alone. Otherwise returns what
+/// there is from the first wrong line on.
 fn last_section(text: &[u8], requests: bool) -> Result<&[u8], &[u8]>
-    ensures { MatchResult result (λ last. last_section requests text.now ≡ Ok last.now) (λ rest. last_section requests text.now ≡ Err rest.now) }
+    ensures { MatchResult result (λ last. last_section requests text.now ≡ Ok last.now)
+        (λ rest. last_section requests text.now ≡ Err rest.now) }
 {
     if text.is_empty() {
         return Ok(text);
@@ -119,7 +122,8 @@ fn last_section(text: &[u8], requests: bool) -> Result<&[u8], &[u8]>
     if rest.is_empty() { Ok(text) } else { Err(rest) }
 }
 
-/// The sections in their order, or what stands from the first wrong line on: nothing, where a section is missing at the end.
+/// Returns the sections in their order, or what there is from the first wrong line on: nothing, if a section is
+/// missing at the end.
 fn cut_sections(text: &[u8], version: u8, requests: bool) -> Result<Pieces<'_>, &[u8]>
     ensures { MatchResult result (λ cut. sections requests version text.now ≡ Ok (record { version = cut.version; season = cut.season.now; register = cut.register.now; matrix = cut.matrix.now; choices = cut.choices.now; requests = cut.requests.now })) (λ rest. sections requests version text.now ≡ Err rest.now) }
 {

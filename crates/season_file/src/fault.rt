@@ -7,7 +7,7 @@ use office_base::OutOfMemory;
 use rank_lists::RankFault;
 use seat_matrix::MatrixFault;
 
-/// Why a season was not read. Nothing is left behind. The faults of a section never are its want of memory.
+/// Says why a season was not read. Nothing is left behind. The fault of a section is never its `OutOfMemory`.
 #[derive(Clone, Copy, Debug, PartialEq, Eq, thiserror::Error)]
 pub enum SeasonFault {
     /// The source failed: its count of faults rose.

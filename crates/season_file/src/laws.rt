@@ -1,4 +1,4 @@
-// What holds of bundles themselves, whoever reads them.
+// Laws of bundles themselves, for any reader.
 ghost use Rattle.std.specs.Prelude.{◌≡◌, ℕ, Bool, true, List, Ok};
 ghost use Rattle.season_file.specs.Bundle.{Parts, bundle_of};
 ghost use Rattle.season_file.specs.Laws.{HaveOneReading};
@@ -19,10 +19,13 @@ pub fn one_reading()
 /// The section lines of a bundle are the lines that begin with `[`, and title lines with the bodies between them give its bytes
 /// back.
 pub fn sections_stand_between_titles()
-    ensures { (requests : Bool) (bytes : List ℕ) (parts : Parts) → bundle_of requests bytes ≡ Ok parts → IsCutAtTitles bytes parts }
+    ensures { (requests : Bool) (bytes : List ℕ) (parts : Parts)
+        → bundle_of requests bytes ≡ Ok parts → IsCutAtTitles bytes parts }
 {}
 
-/// Another body may stand in the place of the choices: the bytes with it are cut into the same parts with that body.
+/// States that another body may take the place of the choices: the bytes with it are cut into the same parts with
+/// that body.
 pub fn choices_may_be_replaced()
-    ensures { (bytes : List ℕ) (parts : Parts) → bundle_of true bytes ≡ Ok parts → IsReplaceable bytes parts }
+    ensures { (bytes : List ℕ) (parts : Parts)
+        → bundle_of true bytes ≡ Ok parts → IsReplaceable bytes parts }
 {}

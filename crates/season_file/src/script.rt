@@ -10,15 +10,20 @@ use office_text::skip_mark;
 pub use request_rows::Script;
 use std::alloc::Global;
 
-/// The requests that the bytes of a source spell up to its end, or their first fault: `ReadFault`, `TooLong`, `NotUtf8`,
-/// `BadRequest` and want of memory are the faults. The bytes are the body of a section of requests, without its section line, and
-/// may be empty. A byte order mark at their start is skipped, and then one more, as at the start of a section's body.
+/// Reads the requests that the bytes of a source spell up to its end, or returns their first fault: `ReadFault`,
+/// `TooLong`, `NotUtf8`, `BadRequest` or `OutOfMemory`. The bytes are the body of a section of requests, without its
+/// section line, and may be empty. A byte order mark at their start is skipped, and then one more, as at the start of
+/// a section's body.
 pub fn read_script<S: Source>(alloc: Global, source: &mut S) -> Result<Script, SeasonFault>
-    ensures value { IfOk result (λ script. GaveScript (S.left source.old) (S.left source.new) script) }
-    ensures fault { IfErr result (λ fault. IsScriptFault (S.left source.old) (S.left source.new) fault) }
-    ensures cause { IsErrOf result SeasonFault.ReadFault → Rose (S.faults source.old) (S.faults source.new) }
+    ensures value { IfOk result (λ script.
+        GaveScript (S.left source.old) (S.left source.new) script) }
+    ensures fault { IfErr result (λ fault.
+        IsScriptFault (S.left source.old) (S.left source.new) fault) }
+    ensures cause { IsErrOf result SeasonFault.ReadFault
+        → Rose (S.faults source.old) (S.faults source.new) }
     ensures count { S.faults source.old ≤ S.faults source.new }
-    ensures steady { ¬ IsErrOf result SeasonFault.ReadFault → S.faults source.new ≡ S.faults source.old }
+    ensures steady { ¬ IsErrOf result SeasonFault.ReadFault
+        → S.faults source.new ≡ S.faults source.old }
 {
     let bytes = read_bytes(alloc, source)?;
     if std::str::from_utf8(bytes.as_slice()).is_err() {

@@ -62,19 +62,24 @@ impl Season {
         source: &mut S,
         requests: bool,
     ) -> Result<(Season, Script), SeasonFault>
-        ensures value { IfOk result (λ read. GaveSeason requests (S.left source.old) (S.left source.new) read.0 read.1) }
+        ensures value { IfOk result (λ read.
+            GaveSeason requests (S.left source.old) (S.left source.new) read.0 read.1) }
         ensures text { IfOk result (λ read. IsSeason read.0.text read.0) }
-        ensures fault { IfErr result (λ fault. IsSourceFault requests (S.left source.old) (S.left source.new) fault) }
-        ensures cause { IsErrOf result SeasonFault.ReadFault → Rose (S.faults source.old) (S.faults source.new) }
+        ensures fault { IfErr result (λ fault.
+            IsSourceFault requests (S.left source.old) (S.left source.new) fault) }
+        ensures cause { IsErrOf result SeasonFault.ReadFault
+            → Rose (S.faults source.old) (S.faults source.new) }
         ensures count { S.faults source.old ≤ S.faults source.new }
-        ensures steady { ¬ IsErrOf result SeasonFault.ReadFault → S.faults source.new ≡ S.faults source.old }
+        ensures steady { ¬ IsErrOf result SeasonFault.ReadFault
+            → S.faults source.new ≡ S.faults source.old }
     {
         let text = read_bytes(alloc, source)?;
         Season::of_text(alloc, text, requests)
     }
 
-    /// The season and the requests of a bundle, as `read` gives them, or its first fault. The text is taken over: the season keeps
-    /// what stands before the section of the requests, and the room behind it is given back. It never answers `ReadFault`.
+    /// Returns the season and the requests of a bundle, as `read` gives them, or its first fault. Consumes the text:
+    /// the season keeps what is before the section of the requests, and the memory after that part is given back.
+    /// Never returns `ReadFault`.
     pub fn of_text(
         alloc: Global,
         text: Text,

@@ -6,7 +6,7 @@ use Rattle.std.proofs.lemmas.List.{drop_more}
 use Rattle.season_generator.specs.Bundle.{lines}
 use Rattle.season_generator.specs.Summary.{round_line, round_lines}
 
-range_next : (a n : ℕ) → range_with_len a (suc n) ≡ range_with_len a n ++ (a + n) ∷ []
+pub range_next : (a n : ℕ) → range_with_len a (suc n) ≡ range_with_len a n ++ (a + n) ∷ []
 range_next a zero = ap (λ k. k ∷ []) (sym (add-zero a))
 range_next a (suc n) =
     let e : a + 1 + n ≡ a + suc n = omega arith in

@@ -44,7 +44,7 @@ has_relaxed St = true
 abbrev pub stride_of : ℕ → ℕ
 stride_of number = if number == 0 then 1 else (if number == 1 then 3 else (if number == 2 then 7 else 9))
 
--- what six draws from this state on tell of a candidate
+-- what six draws from this state on say of a candidate
 unfoldable pub profile_at : ℕ → Profile
 profile_at state = record {
   category = category_of (drawn 20 state);

@@ -22,7 +22,8 @@ pub(crate) fn push_register(
 ) -> Result<(), OutOfMemory>
     requires places { length first.now ≡ length second.now }
     requires bound { length first.now ≤ 100000 }
-    ensures { OnOk result (out.new ≡ out.old ++ register_text (length first.now) draws.state first.now second.now) }
+    ensures { OnOk result
+        (out.new ≡ out.old ++ register_text (length first.now) draws.state first.now second.now) }
 {
     out.extend_from_slice(b"[register]\nid,category,traits,token,m1,m2,m3,m4\n")?;
     push_candidates(out, draws, first, second)
@@ -37,8 +38,9 @@ fn push_candidates(
 ) -> Result<(), OutOfMemory>
     requires places { length first.now ≡ length second.now }
     requires bound { length first.now ≤ 100000 }
-    ensures { OnOk result (out.new ≡ out.old ++ lines (length first.now)
-        (λ candidate. register_row (candidate + 1) (profile_of draws.state candidate) (slice_index first.now candidate) (slice_index second.now candidate))) }
+    ensures { OnOk result (out.new ≡ out.old ++ lines (length first.now) (λ candidate.
+        register_row (candidate + 1) (profile_of draws.state candidate)
+        (slice_index first.now candidate) (slice_index second.now candidate))) }
 {
     for (candidate, place) in first.iter().enumerate() {
         push_candidate(
@@ -61,7 +63,8 @@ fn push_candidate(
     second: u32,
 ) -> Result<(), OutOfMemory>
     requires { id < 100000000 }
-    ensures row { OnOk result (out.new ≡ out.old ++ register_row id (profile_at draws.old.state) first second) }
+    ensures row { OnOk result
+        (out.new ≡ out.old ++ register_row id (profile_at draws.old.state) first second) }
     ensures state { draws.new.state ≡ after 6 draws.old.state }
 {
     let profile = draws.profile();
@@ -106,7 +109,8 @@ pub(crate) fn push_choices(out: &mut Text, draws: &mut Draws, n: u32) -> Result<
 /// Puts the rows of the choices.
 fn push_choosers(out: &mut Text, draws: &mut Draws, n: u32) -> Result<(), OutOfMemory>
     requires { n ≤ 100000 }
-    ensures rows { OnOk result (out.new ≡ out.old ++ lines n (λ candidate. choices_row (candidate + 1) (profile_of draws.old.state candidate))) }
+    ensures rows { OnOk result (out.new ≡ out.old ++ lines n (λ candidate.
+        choices_row (candidate + 1) (profile_of draws.old.state candidate))) }
     ensures state { OnOk result (draws.new.state ≡ after (6 * n) draws.old.state) }
 {
     for candidate in 0..n {
@@ -141,7 +145,8 @@ fn push_chosen(out: &mut Text, id: u32, profile: Profile) -> Result<(), OutOfMem
 fn push_programmes(out: &mut Text, profile: Profile) -> Result<(), OutOfMemory>
     requires first { profile.first < 100 }
     requires stride { profile.stride ≤ 9 }
-    ensures { OnOk result (out.new ≡ out.old ++ lines 40 (λ place. codes "," ++ code_of ((profile.first + place * profile.stride) % 100))) }
+    ensures { OnOk result (out.new ≡ out.old ++ lines 40 (λ place.
+        codes "," ++ code_of ((profile.first + place * profile.stride) % 100))) }
 {
     for place in 0..CHOICES {
         push_programme(out, (profile.first + place * profile.stride) % 100)?;

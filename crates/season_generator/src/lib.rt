@@ -1,8 +1,10 @@
-// Seasons that are made up from a number: a whole season bundle with its requests, and the summary of one that was run.
+// Seasons that are made up from a number: a whole season bundle with its requests, and the summary of one that was
+// run.
 //
-// The command that generates stands on it. `specs/Bundle` says every row as a function of what is drawn for it, and `specs/Draws` what is drawn;
-// the call gives exactly these bytes. What it draws with is a linear congruential generator: the same number gives the same season
-// everywhere, and nothing is promised about chance. It must never know how a season is read, who gets a seat, or of commands.
+// The command that generates depends on it. `specs/Bundle` defines every row as a function of what is drawn for it,
+// and `specs/Draws` defines what is drawn. The call returns exactly these bytes. It draws with a linear congruential
+// generator: the same number gives the same season everywhere, and nothing is promised about chance. It must never
+// know how a season is read, who gets a seat, or of commands.
 #![tactic(auto)]
 
 mod bundle;

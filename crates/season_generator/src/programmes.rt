@@ -54,7 +54,8 @@ fn push_step(
     disabled: u32,
 ) -> Result<(), OutOfMemory>
     requires { programme < 100 }
-    ensures { OnOk result (out.new ≡ out.old ++ matrix_row programme (step_name step) seats women disabled) }
+    ensures { OnOk result
+        (out.new ≡ out.old ++ matrix_row programme (step_name step) seats women disabled) }
 {
     push_code(out, programme)?;
     out.extend_from_slice(b",I")?;

@@ -24,7 +24,8 @@ pub(crate) fn push_requests(out: &mut Text, draws: Draws, n: u32) -> Result<(), 
 /// Puts the rows of the windows after window 0.
 fn push_windows(out: &mut Text, mut draws: Draws, n: u32) -> Result<(), OutOfMemory>
     requires { n ≤ 100000 }
-    ensures { OnOk result (out.new ≡ out.old ++ lines 6 (λ before. window_rows n (after (n * before) draws.state) (before + 1))) }
+    ensures { OnOk result (out.new ≡ out.old
+        ++ lines 6 (λ before. window_rows n (after (n * before) draws.state) (before + 1))) }
 {
     for before in 0..ROUNDS {
         push_window(out, &mut draws, n, before + 1)?;
@@ -46,8 +47,8 @@ fn push_window(out: &mut Text, draws: &mut Draws, n: u32, window: u32) -> Result
 /// Puts an answer of each candidate.
 fn push_answers(out: &mut Text, draws: &mut Draws, n: u32, window: u32) -> Result<(), OutOfMemory>
     requires { n ≤ 100000 }
-    ensures rows { OnOk result (out.new ≡ out.old ++ lines n
-        (λ candidate. answer_row window (candidate + 1) (choice_name (drawn 20 (after candidate draws.old.state))))) }
+    ensures rows { OnOk result (out.new ≡ out.old ++ lines n (λ candidate. answer_row window
+        (candidate + 1) (choice_name (drawn 20 (after candidate draws.old.state))))) }
     ensures state { OnOk result (draws.new.state ≡ after n draws.old.state) }
 {
     for candidate in 0..n {
@@ -58,7 +59,8 @@ fn push_answers(out: &mut Text, draws: &mut Draws, n: u32, window: u32) -> Resul
 
 /// Puts the row of an answer that is drawn.
 fn push_drawn(out: &mut Text, draws: &mut Draws, window: u32, id: u32) -> Result<(), OutOfMemory>
-    ensures row { OnOk result (out.new ≡ out.old ++ answer_row window id (choice_name (drawn 20 draws.old.state))) }
+    ensures row { OnOk result
+        (out.new ≡ out.old ++ answer_row window id (choice_name (drawn 20 draws.old.state))) }
     ensures state { draws.new.state ≡ next draws.old.state }
 {
     let choice = choice_name(draws.draw(20));

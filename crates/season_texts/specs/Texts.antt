@@ -15,7 +15,7 @@ use Rattle.rank_lists.specs.declared.fault.RankKind.{RankKind}
 use Rattle.seat_matrix.specs.declared.fault.MatrixKind.{MatrixKind}
 use Rattle.choice_lists.specs.declared.fault.ChoiceKind.{ChoiceKind}
 
--- how many programmes stand on the choice lists of all candidates together
+-- how many programmes are on the choice lists of all candidates together
 abbrev pub choice_count : Season → ℕ
 choice_count season = sum_by (λ person. length (list_of season.choices person.id.0)) season.register.people
 
@@ -41,7 +41,7 @@ abbrev pub table_line : {Kind : Type 0} → List ℕ → (Kind → List ℕ) →
 table_line name kind_name (BadRow row kind) = row_line name row (kind_name kind)
 table_line name kind_name NoTableMemory = memory_line
 
--- the line that tells a fault
+-- the line that reports a fault
 abbrev pub fault_line : SeasonFault → List ℕ
 fault_line ReadFault = read_line
 fault_line TooLong = codes "fault: bundle TooLong\n"

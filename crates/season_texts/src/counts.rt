@@ -43,7 +43,7 @@ fn line_of_counts(
     Ok(out)
 }
 
-/// How many programmes stand on the choice lists of all candidates together.
+/// Returns how many programmes are on the choice lists of all candidates together.
 fn choice_count(season: &Season) -> u32
     ensures { result ≡ choice_count season.now }
 {

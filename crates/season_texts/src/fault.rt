@@ -1,4 +1,4 @@
-// The line that tells what is wrong with a bundle.
+// The line that reports what is wrong with a bundle.
 ghost use Rattle.std.specs.Prelude.{◌≡◌, IfOk};
 ghost use Rattle.season_texts.specs.Texts.{fault_line, row_line, section_line};
 
@@ -10,7 +10,8 @@ use season_file::SeasonFault;
 use seat_matrix::MatrixFault;
 use std::alloc::Global;
 
-/// The line that tells the fault of a bundle. A source that failed and want of memory have their lines too.
+/// Returns the line that reports the fault of a bundle. A source that failed and memory that ran out have their lines
+/// too.
 pub fn fault_text(alloc: Global, fault: SeasonFault) -> Result<Text, OutOfMemory>
     ensures { IfOk result (λ text. text ≡ fault_line fault) }
 {
@@ -38,7 +39,7 @@ pub fn fault_text(alloc: Global, fault: SeasonFault) -> Result<Text, OutOfMemory
     }
 }
 
-/// A line as it stands.
+/// Returns a line, unchanged.
 fn whole_line(alloc: Global, line: &[u8]) -> Result<Text, OutOfMemory>
     ensures { IfOk result (λ text. text ≡ line.now) }
 {

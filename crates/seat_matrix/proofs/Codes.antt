@@ -1,5 +1,5 @@
 -- The codes of entries are distinct.
-use Rattle.std.proofs.Common.{◌≡◌, ◌<◌, ℕ, zero, suc, Bool, true, false, cond, List, [], ◌∷◌, ◌++◌, Option, Some, None, get_or, length, lt-ltb, refl, sym, ap, ◌∙◌, arith}
+use Rattle.std.proofs.Common.{◌≡◌, ◌<◌, ℕ, zero, suc, Bool, true, false, cond, List, [], ◌∷◌, ◌++◌, Some, get_or, length, lt-ltb, refl, sym, ap, ◌∙◌, arith}
 use Rattle.std.specs.Prelude.{bytes_eq, nat_lt, option_map, position, slice_get}
 use Rattle.std.proofs.lemmas.Bool.{or_parts}
 use Rattle.std.specs.List.{AllByRecursion, list_any, position_or_len}
@@ -12,7 +12,7 @@ use Rattle.seat_matrix.specs.Matrix.{codes_after, codes_in, with_code}
 use Rattle.seat_matrix.specs.declared.entry.Entry.{Entry}
 use Rattle.seat_matrix.specs.declared.entry.Home.{Home}
 
--- no code stands twice among these
+-- no code is listed twice among these
 abbrev pub Distinct : List (List ℕ) → Type 0
 Distinct codes = Pairwise (λ a b. a ≡ b → ⊥) codes
 
@@ -57,7 +57,7 @@ earlier (first ∷ codes) (suc n) zero code distinct e less = by (bytes_eq code 
     by false same = refl
 earlier (first ∷ codes) (suc n) (suc k) code distinct e less = earlier codes n k code distinct.1 e (omega (arith, less))
 
--- The number of a programme is where its code stands first.
+-- The number of a programme is the place where its code comes first.
 pub number_of : (codes : List (List ℕ)) (n : ℕ) (code : List ℕ) → Distinct codes → slice_get codes n ≡ Some code → position (bytes_eq code) codes ≡ Some n
 number_of codes n code distinct e =
     let within : n < length codes = slice_get_within codes n code e in
@@ -67,15 +67,6 @@ number_of codes n code distinct e =
     let less : nat_lt n (length codes) ≡ true = lt-ltb n (length codes) within in
     rw (first, less) refl
 
--- the code of a programme stands among the codes
+-- the code of a programme is among the codes
 pub code_there : (programmes : List (List ℕ × Home)) (prog : ℕ) (code : List ℕ) → option_map (λ (held : List ℕ × Home). held.0) (slice_get programmes prog) ≡ Some code → slice_get (codes_in programmes) prog ≡ Some code
 code_there programmes prog code e = slice_get-map (λ (held : List ℕ × Home). held.0) programmes prog ∙ e
-
--- a code is compared where it stands
-pub compared : (programmes : List (List ℕ × Home)) (prog : ℕ) (code text : List ℕ) → option_map (λ (held : List ℕ × Home). held.0) (slice_get programmes prog) ≡ Some code
-    → option_map (λ (held : List ℕ × Home). bytes_eq held.0 text) (slice_get programmes prog) ≡ Some (bytes_eq code text)
-compared programmes prog code text e = by (slice_get programmes prog) e
-  where
-    by : (o : Option (List ℕ × Home)) → option_map (λ (held : List ℕ × Home). held.0) o ≡ Some code → option_map (λ (held : List ℕ × Home). bytes_eq held.0 text) o ≡ Some (bytes_eq code text)
-    by None f = cc f
-    by (Some held) f = let same : held.0 ≡ code = cc f in ap (λ (c : List ℕ). Some (bytes_eq c text)) same

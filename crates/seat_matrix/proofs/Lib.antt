@@ -1,3 +1,4 @@
 mod Codes
 mod LawsLemmas
-mod SeatsLemmas
+pub mod SeatsLemmas
+pub mod Unprotected

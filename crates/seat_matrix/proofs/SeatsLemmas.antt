@@ -22,8 +22,9 @@ use Rattle.office_text.specs.Number.{number_within}
 use Rattle.office_text.specs.Names.{code_of, step_of}
 use Rattle.section_rows.specs.Rows.{Row, field}
 use Rattle.section_rows.specs.Steps.{after, needs, unless}
-use Rattle.section_rows.proofs.StepsLemmas.{after_ok, flip, found_cases, nat_at, needs_ok, none_from, number_decides, number_found, step, then_found, unless_ok, within_range}
+use Rattle.section_rows.proofs.StepsLemmas.{after_ok, flip, found_cases, nat_at, needs_ok, number_decides, number_found, step, then_found, unless_ok, within_range}
 use Rattle.office_base.specs.StepNumbers.{step_number}
+use Rattle.office_base.proofs.Options.{none_from}
 use Rattle.seat_matrix.specs.Fields.{count_of, protections_of, seating_of}
 use Rattle.seat_matrix.specs.Laws.{OneStepChanges}
 use Rattle.seat_matrix.specs.Matrix.{AreEntries, AreSeats, IsMatrix, SeatTable, all_seats, codes_after, codes_in, codes_of, find_home, first_list, given, home_at, matrix_with, new_row, reading, seating_at, seating_in, seatings_in, seats_after, settles, steps_in, with_code}

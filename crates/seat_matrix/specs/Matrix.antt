@@ -34,7 +34,7 @@ header = codes "programme" ∷ codes "institute" ∷ codes "list" ∷ codes "ste
 abbrev pub seating_at : List ℕ → ℕ → List Entry → Option Seating
 seating_at code step entries = first_of (λ entry. bytes_eq code entry.programme && step == step_number entry.step) (λ entry. entry.seating) entries
 
--- where a programme stands, and its list
+-- the institute of a programme, and its list
 abbrev pub home_at : List ℕ → List Entry → Option Home
 home_at code entries = first_of (λ entry. bytes_eq code entry.programme) (λ entry. entry.home) entries
 
@@ -58,7 +58,7 @@ seats_after seats (entry ∷ entries) = seats_after (seats + entry.seating.seats
 abbrev pub all_seats : List Entry → ℕ
 all_seats entries = seats_after 0 entries
 
--- a programme may be a new one, or stands where it stood and has the list that it had
+-- a programme may be a new one, or it has the same institute and the same list as before
 abbrev pub settles : Option Home → ℕ → Home → Result Home MatrixKind
 settles None count home = unless (nat_le most_programmes count) TooMany (Ok home)
 settles (Some known) count home = unless (not (bytes_eq known.institute home.institute)) TwoInstitutes (unless (not (known.list.0 == home.list.0)) TwoLists (Ok home))
@@ -101,7 +101,7 @@ pub record SeatTable : Type 0 where
   pub programmes : List (List ℕ × Home)
   pub steps : List Seatings
 
--- where a programme stands, and its list
+-- the institute of a programme, and its list
 abbrev pub find_home : List ℕ → List (List ℕ × Home) → Option Home
 find_home code programmes = first_of (λ held. bytes_eq code held.0) (λ held. held.1) programmes
 
@@ -142,7 +142,7 @@ seats_in table prog = record { list = list_in table prog; steps = steps_in table
 abbrev pub seating_in : SeatTable → ℕ → StepKind → Seating
 seating_in table prog step = of_step (steps_in table prog) step
 
--- What holds of every matrix: no code stands twice, and the seats of each programme are sound.
+-- What holds of every matrix: no code is listed twice, and the seats of each programme are sound.
 pub record AreSeats (table : SeatTable) : Type 0 where
   pub codes : Pairwise (λ a b. a ≢ b) (codes_in table.programmes)
   pub few : length table.programmes ≤ most_programmes
@@ -163,6 +163,6 @@ pub record HasSeating (before : SeatTable) (prog : ℕ) (step : StepKind) (seati
 abbrev pub IsRead : List Row → SeatTable → Type 0
 IsRead rows table = IsFaultless judge rows × IsMatrix (entries_of reading rows) table
 
--- the first fault of a body's rows; want of memory tells nothing of them
+-- the first fault of a body's rows; `OutOfMemory` says nothing of them
 abbrev pub IsFault : List Row → TableFault MatrixKind → Type 0
 IsFault = IsTableFault judge

@@ -48,7 +48,8 @@ impl MatrixBuilder {
 
     /// The programme, the institute and the step of a row, where no earlier row has the programme and the step.
     fn new_row(&self, row: &Rows<'_>) -> Result<(Code, Code, StepKind), MatrixKind>
-        ensures { (entries : List Entry) → Keeps entries self.now → result ≡ new_row entries row.now.row }
+        ensures { (entries : List Entry) → Keeps entries self.now
+            → result ≡ new_row entries row.now.row }
     {
         let Some(programme) = Code::read(row.field(0)) else {
             return Err(MatrixKind::BadCode);
@@ -67,7 +68,8 @@ impl MatrixBuilder {
 
     /// The home of a programme, where it is a new programme or has the same home as before.
     fn settles(&self, programme: Code, home: Home) -> Result<Home, MatrixKind>
-        ensures { (entries : List Entry) → Keeps entries self.now → result ≡ settles (home_at programme entries) (length (codes_of entries)) home }
+        ensures { (entries : List Entry) → Keeps entries self.now
+            → result ≡ settles (home_at programme entries) (length (codes_of entries)) home }
     {
         match self.programmes.get(&programme) {
             None => {
@@ -93,7 +95,8 @@ impl MatrixBuilder {
     #[tactic(auto, unfolding(crate::specs::Matrix::reading))]
     fn read(&self, row: &Rows<'_>) -> Result<Entry, MatrixKind>
         requires { self.now.total ≤ most_matrix_seats }
-        ensures { (entries : List Entry) → Keeps entries self.now → result ≡ reading entries row.now.row }
+        ensures { (entries : List Entry) → Keeps entries self.now
+            → result ≡ reading entries row.now.row }
     {
         let (programme, institute, step) = self.new_row(row)?;
         let Some(seating) = read_seating(row) else {
@@ -126,7 +129,8 @@ impl MatrixBuilder {
     /// Puts in what a row gave. Where there is no memory for it, the builder is of no use any more.
     fn add(&mut self, entry: Entry) -> Result<(), OutOfMemory>
         requires { self.old.total ≤ most_matrix_seats }
-        ensures { OnOk result ((entries : List Entry) (row : Row) → Keeps entries self.old → reading entries row ≡ Ok entry → Keeps (entries ++ entry ∷ []) self.new) }
+        ensures { OnOk result ((entries : List Entry) (row : Row) → Keeps entries self.old
+            → reading entries row ≡ Ok entry → Keeps (entries ++ entry ∷ []) self.new) }
     {
         self.steps
             .insert((entry.programme, step_number(entry.step)), entry.seating)?;
@@ -137,7 +141,8 @@ impl MatrixBuilder {
 
     /// What the entries give for a programme in a step.
     fn seating(&self, code: Code, step: StepKind) -> Seating
-        ensures { (entries : List Entry) → Keeps entries self.now → result ≡ given (seating_at code (step_number step) entries) }
+        ensures { (entries : List Entry) → Keeps entries self.now
+            → result ≡ given (seating_at code (step_number step) entries) }
     {
         match self.steps.get(&(code, step_number(step))) {
             Some(seating) => *seating,
@@ -147,7 +152,8 @@ impl MatrixBuilder {
 
     /// What the entries give for the steps of a programme.
     fn seatings(&self, code: Code) -> Seatings
-        ensures { (entries : List Entry) → Keeps entries self.now → result ≡ seatings_in entries code }
+        ensures { (entries : List Entry) → Keeps entries self.now
+            → result ≡ seatings_in entries code }
     {
         Seatings {
             open_step: self.seating(code, StepKind::Open),
@@ -160,7 +166,8 @@ impl MatrixBuilder {
 
     /// What the entries give for each programme, by its number.
     fn all_seatings(&self, alloc: Global) -> Result<Vec<Seatings>, OutOfMemory>
-        ensures { IfOk result (λ steps. (entries : List Entry) → Keeps entries self.now → steps.items ≡ map (seatings_in entries) (codes_of entries)) }
+        ensures { IfOk result (λ steps. (entries : List Entry) → Keeps entries self.now
+            → steps.items ≡ map (seatings_in entries) (codes_of entries)) }
     {
         let mut steps = Vec::new(alloc);
         for number in 0..self.programmes.len() {
@@ -175,7 +182,8 @@ impl MatrixBuilder {
     /// The matrix of all that was put in.
     pub(crate) fn finish(self, alloc: Global) -> Result<Matrix, OutOfMemory>
         requires { (entries : List Entry) × Keeps entries self }
-        ensures { IfOk result (λ matrix. (entries : List Entry) → Keeps entries self → IsMatrix entries matrix) }
+        ensures { IfOk result (λ matrix. (entries : List Entry)
+            → Keeps entries self → IsMatrix entries matrix) }
     {
         let steps = self.all_seatings(alloc)?;
         Ok(Matrix {
@@ -240,8 +248,11 @@ impl TableBuilder for MatrixBuilder {
 
 /// Gives the programme the next number, unless it has one.
 fn settle(programmes: &mut IndexMap<Code, Home>, code: Code, home: Home) -> Result<(), OutOfMemory>
-    ensures keys { OnOk result (index.keys programmes.new ≡ with_code (index.keys programmes.old) code) }
-    ensures homes { OnOk result ((q : List ℕ) → index.get (pointwise nat_eq) programmes.new q ≡ or_else (index.get (pointwise nat_eq) programmes.old q) (if bytes_eq q code then Some home else None)) }
+    ensures keys { OnOk result
+        (index.keys programmes.new ≡ with_code (index.keys programmes.old) code) }
+    ensures homes { OnOk result ((q : List ℕ) → index.get (pointwise nat_eq) programmes.new q
+        ≡ or_else (index.get (pointwise nat_eq) programmes.old q)
+        (if bytes_eq q code then Some home else None)) }
 {
     if !programmes.contains_key(&code) {
         programmes.insert(code, home)?;

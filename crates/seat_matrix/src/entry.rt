@@ -2,7 +2,7 @@
 use crate::seats::Seating;
 use office_base::{Code, ListId, StepKind};
 
-/// The institute at which a programme stands, and the merit list that it uses.
+/// Holds the institute of a programme, and the merit list that the programme uses.
 #[derive(Clone, Copy, Debug)]
 pub struct Home {
     pub institute: Code,

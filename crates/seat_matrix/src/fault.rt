@@ -11,7 +11,7 @@ pub enum MatrixKind {
     BadHeader = 1,
     /// The programme or the institute is no code, or the step is no step.
     BadCode = 2,
-    /// The programme and the step stand in an earlier row.
+    /// The programme and the step are in an earlier row.
     RepeatedRow = 3,
     /// The seats or a protection are no number from 0 to 4,000, or there are more than eleven fields.
     BadNumber = 4,
@@ -63,5 +63,5 @@ impl MatrixKind {
     }
 }
 
-/// Why a matrix was not read: its first fault by rows, or want of memory. Nothing is left behind.
+/// Says why a matrix was not read: its first fault by rows, or memory ran out. Nothing is left behind.
 pub type MatrixFault = TableFault<MatrixKind>;

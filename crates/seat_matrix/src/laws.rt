@@ -1,4 +1,4 @@
-// What holds of matrices themselves, whoever reads them.
+// Laws of matrices themselves, for any reader.
 ghost use Rattle.std.specs.Prelude.{List};
 ghost use Rattle.section_rows.specs.Rows.{Row};
 ghost use Rattle.seat_matrix.specs.Laws.{HaveOneReading, OneStepChanges};

@@ -1,9 +1,10 @@
 // The seat matrix: which seats each programme has in each step, and which of them are protected.
 //
-// The reader of the choices, the season and the programmes' choices stand on it. `specs/` says what a row of the matrix
-// gives or what is wrong with it, after the rows before it; the matrix of a body is what its rows give, and its fault
-// is the first by rows. Programmes are numbered from 0 in the order in which they first appear. Every matrix keeps that no
-// code stands twice and that a step's protections are among its seats; the seats of a step may be changed, without memory. It must never know of candidates, of choices or of rounds.
+// The reader of the choices, the season and the programmes' choices depend on it. `specs/` says what a row of the
+// matrix gives or what is wrong with it, after the rows before it. The matrix of a body is what its rows give, and
+// its fault is the first by rows. Programmes are numbered from 0 in the order in which they first appear. In every
+// matrix no code is listed twice, and a step's protections are among its seats. The seats of a step may be changed;
+// this allocates nothing. It must never know of candidates, choices or rounds.
 #![tactic(auto)]
 
 pub mod builder;

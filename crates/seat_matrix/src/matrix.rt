@@ -57,7 +57,8 @@ impl Matrix {
 
     /// The number of the programme of this code. None exactly where no row has the code.
     pub fn find(&self, code: Code) -> Option<ProgId>
-        ensures { option_map (λ prog. prog.0) result ≡ position (bytes_eq code) (map (λ held. held.0) self.now.programmes) }
+        ensures { option_map (λ prog. prog.0) result
+            ≡ position (bytes_eq code) (map (λ held. held.0) self.now.programmes) }
     {
         match self.programmes.get_index_of(&code) {
             Some(number) => Some(ProgId(number as u16)),
@@ -78,10 +79,12 @@ impl Matrix {
 
     /// Whether there is a programme of this number and a text spells its code. Then the programme is the one of this code.
     pub fn has_code(&self, prog: ProgId, text: &[u8]) -> bool
-        ensures same { prog.0 < length self.now.programmes → option_map (λ held. bytes_eq held.0 text.now) (slice_get self.now.programmes prog.0) ≡ Some result }
+        ensures same { prog.0 < length self.now.programmes → option_map (λ held.
+            bytes_eq held.0 text.now) (slice_get self.now.programmes prog.0) ≡ Some result }
         ensures within { IsTrue result → prog.0 < length self.now.programmes }
         ensures code { IsTrue result → code_of text.now ≡ Some text.now }
-        ensures number { IsTrue result → position (bytes_eq text.now) (map (λ held. held.0) self.now.programmes) ≡ Some prog.0 }
+        ensures number { IsTrue result → position (bytes_eq text.now)
+            (map (λ held. held.0) self.now.programmes) ≡ Some prog.0 }
     {
         if prog.0 >= self.count() {
             return false;
@@ -90,10 +93,11 @@ impl Matrix {
         code.bytes() == text
     }
 
-    /// The institute at which a programme stands.
+    /// Returns the institute of a programme.
     pub fn institute(&self, prog: ProgId) -> Code
         requires { prog.0 < length self.now.programmes }
-        ensures { option_map (λ held. held.1.institute) (slice_get self.now.programmes prog.0) ≡ Some result }
+        ensures { option_map (λ held. held.1.institute) (slice_get self.now.programmes prog.0)
+            ≡ Some result }
     {
         self.home(prog).institute
     }
@@ -101,7 +105,8 @@ impl Matrix {
     /// The merit list that a programme uses.
     pub fn list(&self, prog: ProgId) -> ListId
         requires { prog.0 < length self.now.programmes }
-        ensures list { option_map (λ held. held.1.list) (slice_get self.now.programmes prog.0) ≡ Some result }
+        ensures list { option_map (λ held. held.1.list) (slice_get self.now.programmes prog.0)
+            ≡ Some result }
         ensures number { IsList result }
     {
         self.home(prog).list
@@ -145,21 +150,29 @@ impl Matrix {
         requires step { is_dereserved step ≡ false }
         requires more { (seating_in self.old prog.0 step).seats ≤ seats }
         requires most { seats ≤ most_step_seats }
-        ensures whole { self.new ≡ matrix_with self.old prog.0 step (record { seats = seats; protections = (seating_in self.old prog.0 step).protections }) }
-        ensures seats { HasSeating self.old prog.0 step (record { seats = seats; protections = (seating_in self.old prog.0 step).protections }) self.new }
+        ensures whole { self.new ≡ matrix_with self.old prog.0 step (record {
+          seats = seats;
+          protections = (seating_in self.old prog.0 step).protections;
+        }) }
+        ensures seats { HasSeating self.old prog.0 step (record {
+          seats = seats;
+          protections = (seating_in self.old prog.0 step).protections;
+        }) self.new }
     {
         let protections = self.protections(prog, step);
         self.set(prog, step, seats, protections);
     }
 
-    /// Gives a programme these seats and protections in a step. All else stays. It takes no memory.
+    /// Gives a programme these seats and protections in a step. All else stays. Allocates nothing.
     pub fn set(&mut self, prog: ProgId, step: StepKind, seats: u16, protections: Protections)
         requires programme { prog.0 < length self.old.programmes }
         requires step { is_dereserved step ≡ false }
         requires protections { sum protections.counts ≤ seats }
         requires most { seats ≤ most_step_seats }
-        ensures whole { self.new ≡ matrix_with self.old prog.0 step (record { seats = seats; protections = protections }) }
-        ensures seats { HasSeating self.old prog.0 step (record { seats = seats; protections = protections }) self.new }
+        ensures whole { self.new ≡ matrix_with self.old prog.0 step
+            (record { seats = seats; protections = protections }) }
+        ensures seats { HasSeating self.old prog.0 step
+            (record { seats = seats; protections = protections }) self.new }
     {
         self.steps[usize::from(prog.0)].put(step, Seating { seats, protections });
     }
@@ -173,10 +186,11 @@ impl Matrix {
         Ok(Matrix { programmes, steps })
     }
 
-    /// Where a programme stands, and its list.
+    /// Returns the institute of a programme, and its list.
     fn home(&self, prog: ProgId) -> Home
         requires { prog.0 < length self.now.programmes }
-        ensures home { option_map (λ held. held.1) (slice_get self.now.programmes prog.0) ≡ Some result }
+        ensures home { option_map (λ held. held.1) (slice_get self.now.programmes prog.0)
+            ≡ Some result }
         ensures list { IsList result.list }
     {
         let Some((_, home)) = self.programmes.get_index(usize::from(prog.0)) else {

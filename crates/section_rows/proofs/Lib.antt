@@ -1,4 +1,4 @@
-mod RecordLemmas
+pub mod RecordLemmas
 mod RowsLemmas
 pub mod StepsLemmas
 pub mod TableLemmas

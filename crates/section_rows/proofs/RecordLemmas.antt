@@ -3,9 +3,7 @@ use Rattle.std.proofs.Common.{◌≡◌, ◌≤◌, ◌<◌, ◌-◌, ◌+◌, �
 use Rattle.std.specs.Bool.{MatchBool}
 use Rattle.std.proofs.lemmas.Option.{cond_some}
 use Rattle.csv.specs.Machine.{Read, ends_at_end, field_after, fields_after, is_end, next_record, step}
-use Rattle.csv.specs.Reading.{ReadRecord, ExplainsRead, Reached, default_config, has_failed, reader_state, records_from, records_next, source_of, stops_reader, strip_bom}
-use Rattle.csv.specs.declared.error.ErrorKind.{ErrorKind}
-use Rattle.csv.specs.declared.error.ErrorKind.TheVariants as kind
+use Rattle.csv.specs.Reading.{ReadRecord, Reached, default_config, has_failed, reader_state, records_from, records_next, source_of, strip_bom}
 use Rattle.csv.specs.declared.parser.Config.{Config}
 use Rattle.csv.specs.declared.parser.State.{State}
 use Rattle.csv.specs.declared.parser.State.TheVariants as st
@@ -36,7 +34,7 @@ shorter cfg s fields field (c ∷ rest) q e = by (is_end (step cfg s c).1) refl 
     by false t h more = omega (arith, more (rw t at h))
 
 -- the start of a record at the end of the text has no records
-none_left : (n : ℕ) → records_from default_config n st.StartRecord [] ≡ []
+pub none_left : (n : ℕ) → records_from default_config n st.StartRecord [] ≡ []
 unfolding records_from next_record
 none_left zero = refl
 none_left (suc n) = refl
@@ -118,22 +116,13 @@ left-none a b fields plain r =
 pub left-failed : (a : Reader (Bor (List ℕ))) → has_failed a ≡ true → records_left a ≡ []
 left-failed a e = rw e refl
 
--- A plain reader fails only for good.
-pub stops : (a b : Reader (Bor (List ℕ))) (k : ErrorKind) → IsPlain a → ExplainsRead Bytes a b false k → stops_reader k ≡ true
-stops a b (kind.Io e) plain h = refl
-stops a b (kind.UnequalLengths pos expected len) plain h = cc (plain.flexible, h.0)
-stops a b (kind.Utf8 pos err) plain h = cc h.0
-stops a b kind.OutOfMemory plain h = refl
-stops a b (kind.Serialize why) plain h = absurd h
-stops a b (kind.Deserialize pos err) plain h = absurd h
-
 -- What a plain reader's read says of the records left.
 pub read-tells : (a b : Reader (Bor (List ℕ))) (more : Bool) (fields : Row) → IsPlain a → ReadRecord Bytes a b more fields
     → MatchBool more (records_left a ≡ fields ∷ records_left b) (records_left a ≡ [])
 read-tells a b true fields plain r = left-more a b fields plain r
 read-tells a b false fields plain r = left-none a b fields plain r
 
--- A reader that has failed tells that none is left.
+-- A reader that has failed reports that none is left.
 pub failed-tells : (a b : Reader (Bor (List ℕ))) (more : Bool) (fields : Row) → has_failed a ≡ true → more ≡ false
     → MatchBool more (records_left a ≡ fields ∷ records_left b) (records_left a ≡ [])
 failed-tells a b true fields e f = cc f

@@ -1,10 +1,10 @@
 -- Rows, without the empty fields at their ends.
-use Rattle.std.proofs.Common.{◌≡◌, ◌<◌, ◌≤◌, ℕ, zero, suc, Bool, true, false, List, [], ◌∷◌, ◌++◌, Some, None, length, take, refl, sym, ap, ◌∙◌, sub-one, ◌-◌, arith}
+use Rattle.std.proofs.Common.{◌≡◌, ◌<◌, ◌≤◌, ℕ, zero, suc, Bool, true, false, List, [], ◌∷◌, ◌++◌, Some, None, length, take, refl, ap, ◌∙◌, sub-one, ◌-◌, arith}
 use Rattle.std.proofs.Math.Seq.{take-suc}
 use Rattle.std.specs.Prelude.{◌==◌, ◌&&◌, bytes_eq}
 use Rattle.std.proofs.lemmas.Bool.{eqb-true}
 use Rattle.csv.specs.Records.{field_at}
-use Rattle.section_rows.specs.Rows.{Row, before, row_before, rows_among, same_fields, without_empty_end, field}
+use Rattle.section_rows.specs.Rows.{Row, before, same_fields, without_empty_end, field}
 
 -- what a record has at a place is its field there
 pub field_at-field : (row : Row) (n : ℕ) (f : List ℕ) → field_at row n ≡ Some f → field row n ≡ f
@@ -56,20 +56,7 @@ used-all row (suc n) some within ne = by (field row n) refl
     by [] e = absurd (ne (rw sub-one e))
     by (b ∷ f) e = rw (take-suc row n [] (omega arith), e) (without_empty_end-keeps (take n row) b f)
 
--- A record without fields left is no row.
-pub row-skip : (fields : Row) (records : List Row) (count : ℕ) → count ≡ 0 → take count fields ≡ without_empty_end fields → rows_among (fields ∷ records) ≡ rows_among records
-row-skip fields records count zero_count e =
-    let none : without_empty_end fields ≡ [] = sym e ∙ ap (λ (n : ℕ). take n fields) zero_count in
-    ap (λ (r : Row). row_before r (rows_among records)) none
-
--- A record with fields left is a row.
-pub row-some : (fields : Row) (records : List Row) (count : ℕ) → 0 < count → count ≤ length fields → take count fields ≡ without_empty_end fields
-    → rows_among (fields ∷ records) ≡ take count fields ∷ rows_among records
-row-some [] records count some within e = absurd (omega arith)
-row-some (f ∷ fields) records zero some within e = absurd (omega arith)
-row-some (f ∷ fields) records (suc n) some within e = ap (λ (r : Row). row_before r (rows_among records)) (sym e)
-
--- what is false beside any test is false
+-- what is false is false together with any test
 and-false-right : (a b : Bool) → false ≡ b → false ≡ (a && b)
 and-false-right true b e = e
 and-false-right false b e = refl

@@ -1,6 +1,6 @@
 -- What one more entry changes of what is found, and what a row that is read has passed.
 use Rattle.std.proofs.Common.{◌≡◌, ◌⊎◌, inl, inr, ℕ, Bool, true, false, cond, List, [], ◌∷◌, ◌++◌, Option, Some, None, Result, Ok, Err, refl, sym, ◌∙◌, arith}
-use Rattle.std.specs.Prelude.{◌==◌, ◌&&◌, ◌||◌, ◌<◌, ◌≤◌, is_some, nat_le, nat_lt}
+use Rattle.std.specs.Prelude.{◌==◌, ◌&&◌, ◌||◌, ◌<◌, ◌≤◌, nat_le, nat_lt}
 use Rattle.std.specs.Bool.{Decides, one_answer}
 use Rattle.std.specs.Ordering.{is_eq, nat_cmp, ordering_then}
 use Rattle.std.specs.declared.cmp.Ordering.{Ordering}
@@ -78,10 +78,6 @@ unless_ok false kind rest x e = (refl, e)
 pub after_ok : {A X Kind : Type 0} (r : Result A Kind) (rest : A → Result X Kind) (x : X) → after r rest ≡ Ok x → (a : A) × (r ≡ Ok a) × (rest a ≡ Ok x)
 after_ok (Ok a) rest x e = (a, refl, e)
 after_ok (Err kind) rest x e = cc e
-
-pub none_from : {X : Type 0} (o : Option X) → is_some o ≡ false → o ≡ None
-none_from None e = refl
-none_from (Some x) e = cc e
 
 -- what is found with one more element was found before, or is that element's
 pub found_cases : {X V : Type 0} (test : X → Bool) (value : X → V) (xs : List X) (x : X) (v : V) → first_of test value (xs ++ x ∷ []) ≡ Some v

@@ -20,7 +20,7 @@ records_of state (Some bytes) = records_at state bytes
 abbrev pub records_left : Reader (Bor (List ℕ)) → List Row
 records_left reader = records_of (reader_state reader) (source_of (λ s. Some s.now) reader)
 
--- a reader of records as they stand, of any lengths, without a header of its own
+-- a reader of unchanged records, of any lengths, without a header of its own
 pub record IsPlain (reader : Reader (Bor (List ℕ))) : Type 0 where
   pub config : reader_config reader ≡ default_config
   pub trim : reader_trim reader ≡ trim.None

@@ -44,7 +44,7 @@ abbrev pub table_judge : {Entry Kind : Type 0} → Kind → Row → Reading Entr
 table_judge bad names reading [] row = header_fault bad names row
 table_judge bad names reading (header ∷ rows) row = row_fault reading (entries_after reading [] rows) row
 
--- the first fault of a table's rows, which are counted from 1; want of memory tells nothing of them
+-- the first fault of a table's rows, which are counted from 1; `OutOfMemory` says nothing of them
 abbrev pub IsTableFault : {Kind : Type 0} → Judge Row Kind → List Row → TableFault Kind → Type 0
 IsTableFault judge rows (Bad row kind) = (n : ℕ) × (row ≡ n + 1) × IsFirstFault judge rows n kind
 IsTableFault judge rows OutOfMemory = Unit {0}

@@ -9,11 +9,12 @@ use office_base::OutOfMemory;
 use std::alloc::Global;
 use std::marker::Model;
 
-/// The next record. An error is want of memory, and leaves none.
+/// Reads the next record. An error says that memory ran out, and leaves no record.
 fn read_record(reader: &mut Reader<&[u8]>, raw: &mut ByteRecord) -> Result<bool, OutOfMemory>
     requires { IsReading reader.old }
     ensures reading { IsReading reader.new }
-    ensures more { IfOk result (λ more. MatchBool more (records_left reader.old ≡ fields_of raw.new ∷ records_left reader.new) (records_left reader.old ≡ [])) }
+    ensures more { IfOk result (λ more. MatchBool more (records_left reader.old
+        ≡ fields_of raw.new ∷ records_left reader.new) (records_left reader.old ≡ [])) }
     ensures none { OnErr result (records_left reader.new ≡ []) }
 {
     match reader.read_byte_record(raw) {
@@ -31,7 +32,9 @@ fn want_of_memory(_: Error) -> OutOfMemory {
 fn read_row(reader: &mut Reader<&[u8]>, raw: &mut ByteRecord) -> Result<Option<usize>, OutOfMemory>
     requires { IsReading reader.old }
     ensures reading { IsReading reader.new }
-    ensures some { IfOk result (λ found. IfSome found (λ count. (count ≤ length (fields_of raw.new)) × (rows_among (records_left reader.old) ≡ take count (fields_of raw.new) ∷ rows_among (records_left reader.new)))) }
+    ensures some { IfOk result (λ found. IfSome found (λ count. (count ≤ length (fields_of raw.new))
+        × (rows_among (records_left reader.old)
+        ≡ take count (fields_of raw.new) ∷ rows_among (records_left reader.new)))) }
     ensures end { IfOk result (λ found. IfNone found (rows_among (records_left reader.old) ≡ [])) }
     ensures none { OnErr result (records_left reader.new ≡ []) }
 {
@@ -107,8 +110,10 @@ impl<'a> Rows<'a> {
     /// Goes to the next row, and says whether there is one. At the end the row is empty and none is left, and so it is where
     /// there is no memory for a row.
     pub fn advance(&mut self) -> Result<bool, OutOfMemory>
-        ensures more { IfOk result (λ more. MatchBool more (self.old.left ≡ self.new.row ∷ self.new.left) (self.old.left ≡ [])) }
-        ensures end { IfOk result (λ more. MatchBool more (Unit {0}) (self.new ≡ record { row = []; left = [] })) }
+        ensures more { IfOk result (λ more.
+            MatchBool more (self.old.left ≡ self.new.row ∷ self.new.left) (self.old.left ≡ [])) }
+        ensures end { IfOk result (λ more.
+            MatchBool more (Unit {0}) (self.new ≡ record { row = []; left = [] })) }
         ensures none { OnErr result (self.new ≡ record { row = []; left = [] }) }
     {
         self.fields = 0;

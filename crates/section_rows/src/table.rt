@@ -23,7 +23,7 @@ pub trait TableBuilder {
     /// The fault of a header that is missing or another one.
     ghost bad: { Self.Kind };
 
-    /// What a table is read beside: what the builder looks up for a row.
+    /// What a table is read with: what the builder looks up for a row.
     ghost Beside: { Type 0 };
 
     /// What this builder looks up.
@@ -43,26 +43,30 @@ pub trait TableBuilder {
     fn bad_header() -> Self::Kind
         ensures { result ≡ bad };
 
-    /// Puts in what a row gives, or tells the first of its faults. After a fault, and where there is no memory, the builder is
-    /// of no use any more.
+    /// Puts in what a row gives, or returns the first of its faults. After a fault, or when memory runs out, the
+    /// builder is of no use any more.
     fn put(&mut self, row: &Rows<'_>) -> Result<Option<Self::Kind>, OutOfMemory>
         requires { (entries : List Entry) × keeps self.old entries }
-        ensures put { IfOk result (λ fault. (entries : List Entry) → keeps self.old entries → IsPut (reading (beside self.old) entries row.now.row) entries (keeps self.new) fault) }
+        ensures put { IfOk result (λ fault. (entries : List Entry) → keeps self.old entries → IsPut
+            (reading (beside self.old) entries row.now.row) entries (keeps self.new) fault) }
         ensures beside { OnOk result (beside self.new ≡ beside self.old) };
 }
 
-/// Reads the table that the body of a section spells into an empty builder, or tells the first fault by rows. After a fault
-/// the builder is of no use any more.
+/// Reads the table that the body of a section spells into an empty builder, or returns the first fault by rows. After
+/// a fault the builder is of no use any more.
 pub fn read_table<B: TableBuilder>(
     alloc: Global,
     body: &[u8],
     builder: &mut B,
 ) -> Result<(), TableFault<B::Kind>>
     requires { B.keeps builder.old [] }
-    ensures clean { OnOk result (IsFaultless (table_judge B.bad B.names (B.reading (B.beside builder.old))) (rows_of body.now)) }
-    ensures entries { OnOk result (B.keeps builder.new (entries_of (B.reading (B.beside builder.old)) (rows_of body.now))) }
+    ensures clean { OnOk result (IsFaultless
+        (table_judge B.bad B.names (B.reading (B.beside builder.old))) (rows_of body.now)) }
+    ensures entries { OnOk result
+        (B.keeps builder.new (entries_of (B.reading (B.beside builder.old)) (rows_of body.now))) }
     ensures beside { OnOk result (B.beside builder.new ≡ B.beside builder.old) }
-    ensures fault { IfErr result (λ fault. IsTableFault (table_judge B.bad B.names (B.reading (B.beside builder.old))) (rows_of body.now) fault) }
+    ensures fault { IfErr result (λ fault. IsTableFault (table_judge B.bad B.names
+        (B.reading (B.beside builder.old))) (rows_of body.now) fault) }
 {
     let mut rows = Rows::new(alloc, body);
     if !rows.advance()? || !B::is_header(&rows) {

@@ -1,4 +1,4 @@
--- What a seek leaves, told by the seek; and that it is the same by matrices of the same programmes.
+-- What a seek leaves, by the kind of seek; and that it is the same by matrices of the same programmes.
 use Rattle.std.proofs.Common.{◌≡◌, ◌<◌, ◌+◌, ℕ, zero, suc, Bool, true, false, cond, Option, Some, None, List, [], ◌∷◌, take, slice_get, refl, ap, ◌∙◌, arith}
 use Rattle.std.specs.Prelude.{nat_le, nat_eq, ◌&&◌}
 use Rattle.std.proofs.lemmas.Bool.{lt-leb, le-leb, eq-eqb, ne_eqb}

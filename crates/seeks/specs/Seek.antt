@@ -6,22 +6,23 @@ use Rattle.seat_matrix.specs.declared.entry.Home.{Home}
 use Rattle.seeks.specs.declared.seek.Seek.{Seek}
 use Rattle.seeks.specs.declared.seek.Seek.TheVariants.{Whole, UpTo, Within, Only, Nothing}
 
--- the two stand at one institute
+-- the two are at one institute
 abbrev pub are_together : Option (List ℕ × Home) → Option (List ℕ × Home) → Bool
 are_together None other = false
 are_together (Some held) None = false
 are_together (Some held) (Some other) = bytes_eq held.1.institute other.1.institute
 
--- the two programmes of the matrix stand at one institute
+-- the two programmes of the matrix are at one institute
 abbrev pub same_institute : SeatTable → ℕ → ℕ → Bool
 same_institute table p q = are_together (slice_get table.programmes p) (slice_get table.programmes q)
 
--- the programme at a place of the list, where there is one, stands at the institute of this one
+-- the programme at a place of the list, if there is one, is at the institute of this one
 abbrev pub is_beside : SeatTable → Option ProgId → ProgId → Bool
 is_beside table None prog = false
 is_beside table (Some other) prog = same_institute table other.0 prog.0
 
--- What is left of a list at a place, where a programme stands: all; the places up to k; of those the ones at the institute of place k; place k; nothing.
+-- Whether a seek leaves the programme at a place of a list. Seeks in their order leave: all places; the places up to k;
+-- of those, the ones at the institute of place k; place k alone; nothing.
 abbrev pub is_left : SeatTable → Seek → List ProgId → ℕ → ProgId → Bool
 is_left table Whole progs place prog = true
 is_left table (UpTo k) progs place prog = nat_le place k
@@ -29,7 +30,7 @@ is_left table (Within k) progs place prog = nat_le place k && is_beside table (s
 is_left table (Only k) progs place prog = place == k
 is_left table Nothing progs place prog = false
 
--- what is left of some programmes, which stand in the list from this place on
+-- what is left of some programmes, which are in the list from this place on
 abbrev pub left_from : SeatTable → Seek → List ProgId → ℕ → List ProgId → List ProgId
 left_from table seek progs place [] = []
 left_from table seek progs place (prog ∷ rest) =

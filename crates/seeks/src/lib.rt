@@ -1,7 +1,7 @@
-// What a candidate seeks in a round: which part of the own choice list is effective.
+// What a candidate seeks in a round: which part of their choice list is effective.
 //
-// The rounds, the moves of the office and the answers to why stand on it. It knows a choice list and a seat matrix, and nothing of who has
-// which seat, nor of why somebody seeks less than before.
+// The rounds, the moves of the office and the answers to why depend on it. It knows a choice list and a seat matrix.
+// It knows nothing of who has which seat, nor of why somebody seeks less than before.
 #![tactic(auto)]
 
 pub mod seek;

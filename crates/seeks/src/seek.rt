@@ -13,7 +13,7 @@ pub enum Seek {
     Whole,
     /// The list up to and with the seat.
     UpTo(u16),
-    /// Of the list up to and with the seat, what stands at the seat's institute.
+    /// Of the list up to and with the seat, what is at the seat's institute.
     Within(u16),
     /// The seat alone.
     Only(u16),
@@ -21,7 +21,7 @@ pub enum Seek {
     Nothing,
 }
 
-/// Whether the programme, which stands at this place of the list, is left by the seek. It takes no memory.
+/// Returns whether the seek leaves the programme, which is at this place of the list. Allocates nothing.
 fn is_left(matrix: &Matrix, seek: Seek, list: &[ProgId], place: usize, prog: ProgId) -> bool
     requires within { IsWithinList list.now seek }
     requires below { AreBelow (length matrix.now.programmes) list.now }
@@ -59,7 +59,7 @@ fn push_each(
     Ok(())
 }
 
-/// Puts what a seek leaves of a list after the others. After want of memory a part of it stands there.
+/// Appends what a seek leaves of a list. If memory runs out, a part of it is appended.
 pub fn push_left(
     out: &mut Vec<ProgId>,
     matrix: &Matrix,
@@ -80,7 +80,7 @@ pub fn push_left(
     Ok(())
 }
 
-/// Whether a seek leaves a programme of a list. It takes no memory.
+/// Returns whether a seek leaves a programme of a list. Allocates nothing.
 pub fn is_sought(matrix: &Matrix, seek: Seek, list: &[ProgId], prog: ProgId) -> bool
     requires within { IsWithinList list.now seek }
     requires below { AreBelow (length matrix.now.programmes) list.now }

@@ -1,7 +1,8 @@
 use Rattle.std.proofs.Common.{◌≡◌, ◌∙◌, ◌++◌, [], ◌∷◌, Some}
 use Rattle.section_rows.specs.Rows.{Row}
 use Rattle.quota_units.specs.Homes.{AreAlike, Homes, is_key, most_homes, new_home}
-use Rattle.quota_units.proofs.TableLemmas.{home-fresh, homes-step, when-true}
+use Rattle.quota_units.proofs.TableLemmas.{home-fresh, homes-step}
+use Rattle.quota_units.proofs.Faults.{when-true}
 use Rattle.quota_units.proofs.homes.read_homes.Goals as goal
 
 pub rows-preserved : goal.rows-preserved
