@@ -2,10 +2,12 @@
 use Rattle.std.proofs.Common.{◌≡◌, ◌≤◌, ◌<◌, ◌+◌, ◌⊎◌, inl, inr, ℕ, zero, suc, List, [], ◌∷◌, Option, Some, None, length, slice_set, arith, refl, sym, ap, ◌∙◌, subst}
 use Rattle.std.specs.Prelude.{slice_get, replicate, ◌↔◌}
 use Rattle.std.proofs.lemmas.Bool.{cases_lt}
+use Rattle.std.proofs.lemmas.List.{length-replicate}
 use Rattle.office_base.specs.declared.asks.Seat.{Seat}
 use Rattle.office_base.specs.declared.person.Person.{Person}
 use Rattle.office_base.specs.declared.person.ProgId.{ProgId}
 use Rattle.office_base.specs.declared.step.StepKind.{StepKind}
+use Rattle.office_base.proofs.Lists.{there_is}
 use Rattle.allocations.specs.Course.{AreSeatsOf, AreSettled, IsHeld, IsSettled, IsUnderway, MayTry, places_left, tried}
 use Rattle.allocations.specs.Fair.{IsBest, IsMarket}
 use Rattle.allocations.specs.Market.{Seeker, place_of, seat_at}
@@ -15,20 +17,10 @@ use Rattle.allocations.proofs.Places.{one_place}
 use Rattle.allocations.proofs.Settled.{not_held}
 use Rattle.allocations.proofs.Those.{value_at}
 
--- what stands at each place below the length
-at_place : {X : Type 0} (xs : List X) (i : ℕ) → i < length xs → (x : X) × (slice_get xs i ≡ Some x)
-at_place [] i less = absurd (omega (arith, less))
-at_place (x ∷ xs) zero less = (x, refl)
-at_place (x ∷ xs) (suc i) less = at_place xs i (omega (arith, less))
-
-zeros_at : (n i m : ℕ) → slice_get (replicate n 0) i ≡ Some m → m ≡ 0
+pub zeros_at : (n i m : ℕ) → slice_get (replicate n 0) i ≡ Some m → m ≡ 0
 zeros_at zero i m at = absurd (cc)
 zeros_at (suc n) zero m at = (let same : 0 ≡ m = cc in sym same)
 zeros_at (suc n) (suc i) m at = zeros_at n i m at
-
-length_zeros : (n : ℕ) → length {A = ℕ} (replicate n 0) ≡ n
-length_zeros zero = refl
-length_zeros (suc n) = ap suc (length_zeros n)
 
 module _ (rule : Rule) (MayApply : ℕ → List Person → Type 0) (count : ℕ) (seekers : List Seeker) (market : IsMarket MayApply count seekers) (well : ChoosesWell rule MayApply) where
   -- the programme at a place of a seeker's list
@@ -39,7 +31,7 @@ module _ (rule : Rule) (MayApply : ℕ → List Person → Type 0) (count : ℕ)
 
   there_at : (i k : ℕ) (s : Seeker) → slice_get seekers i ≡ Some s → k < length s.list → There i k s
   there_at i k s there less =
-      let q = at_place s.list k less in
+      let q = there_is s.list k less in
       record { prog = q.0; below = market.below i k s q.0 there q.1; place = market.distinct i k s q.0 there q.1 }
 
   -- a seeker is held or is not
@@ -82,7 +74,7 @@ module _ (rule : Rule) (MayApply : ℕ → List Person → Type 0) (count : ℕ)
   search next zero underway within = inl (λ j n s less there at. absurd (omega (arith, less)))
   search next (suc k) underway within = elim (search next k underway (omega (arith, within))) [
     | inl settled ↦
-        let s = at_place seekers k (omega (arith, within)) in
+        let s = there_is seekers k (omega (arith, within)) in
         let n = value_at seekers next k s.0 underway.full s.1 in
         elim (settled_or_tries next k n.0 s.0 underway s.1 n.1) [
           | inl here ↦ inl (λ j m t less there at. elim (cases_lt j k) [
@@ -200,7 +192,7 @@ module _ (rule : Rule) (MayApply : ℕ → List Person → Type 0) (count : ℕ)
           below = λ i seat has.
               let size = all.full in
               let less = within_of all.seats i (Some seat) has in
-              let s = at_place seekers i (omega (arith, size, less)) in
+              let s = there_is seekers i (omega (arith, size, less)) in
               (all.each i s.0 (Some seat) s.1 has).below seat refl;
           each = λ p i s kind below there.
               let seat = value_at seekers all.seats i s all.full there in
@@ -213,7 +205,7 @@ module _ (rule : Rule) (MayApply : ℕ → List Person → Type 0) (count : ℕ)
   pub best_there : (seats : List (Option Seat)) × IsBest rule count seekers seats
   best_there =
       let next = replicate (length seekers) 0 in
-      let underway = begins rule MayApply count seekers next market well (length_zeros (length seekers)) (λ i n at. zeros_at (length seekers) i n at) in
+      let underway = begins rule MayApply count seekers next market well (length-replicate (length seekers) 0) (λ i n at. zeros_at (length seekers) i n at) in
       let last = over (places_left seekers next) next underway (omega arith) in
       let seats = seats_given last.0 last.1.underway in
       (seats.0, ends_best rule MayApply count seekers last.0 seats.0 market well last.1.underway seats.1 last.1.settled)

@@ -5,10 +5,11 @@ use Rattle.std.proofs.lemmas.Bool.{cases_Bool, eq-eqb, eqb-true, lt-ltb, or_case
 use Rattle.office_base.specs.Lists.{IsAmong, IsSublist}
 use Rattle.office_base.specs.declared.person.Person.{Person}
 use Rattle.office_base.specs.declared.asks.Seat.{Seat}
+use Rattle.placements.proofs.Convert.{same_cand}
 use Rattle.allocations.specs.Market.{Seeker, place_of, rank_of, seat_at, wants, applies, is_of, those, applicants, holders, holders_and}
 use Rattle.allocations.specs.Rule.{Rule, Refuses, IsRefusedBeside, ChoosesWell}
 use Rattle.allocations.specs.Fair.{IsMarket, IsAllocation, IsFair, IsJustified, IsBest}
-use Rattle.allocations.proofs.Those.{those_has, those_same, of_those, same_place, same_id, part, same_values, value_at}
+use Rattle.allocations.proofs.Those.{those_has, those_same, of_those, same_place, part, same_values, value_at}
 use Rattle.allocations.proofs.Places.{same_tests, place_read, one_place, applies_true, applies_means, rank_within, holder_applies, applies_before, seat_same, of_seat, seat_of}
 
 -- a test that only those pass who want the programme leaves some of those who may apply together
@@ -31,7 +32,7 @@ holders_apply p seekers seats allocation =
     let same : x ≡ y = cc in
     subst (λ z. applies p s.list z ≡ true) same (holder_applies p s.list x (allocation.own i s x there at) h))
 
--- in a fair allocation, whoever applies and holds no seat of the programme is refused
+-- in a fair allocation, a person who applies and holds no seat of the programme is refused
 pub outside_refused : (rule : Rule) (count p : ℕ) (seekers : List Seeker) (seats : List (Option Seat)) (some : List Person) → p < count → IsFair rule count seekers seats
     → ((i : ℕ) (s : Seeker) (seat : Option Seat) → slice_get seekers i ≡ Some s → slice_get seats i ≡ Some seat → is_of p seat ≡ true → IsAmong s.person some)
     → (x : Person) → IsAmong x (applicants p seekers seats) → (IsAmong x some → ⊥) → Refuses rule p (applicants p seekers seats) x
@@ -68,7 +69,7 @@ holders_and_apply MayApply count p i seekers seats s seat market allocation ther
         → slice_get seekers i ≡ Some s → slice_get seats i ≡ Some seat → slice_get seekers j ≡ Some t → slice_get seats j ≡ Some x → t.person.id.0 ≡ s.person.id.0
         → applies p s.list seat ≡ true → applies p t.list x ≡ true
     applied_by MayApply count p i j seekers seats s t seat x market there has there' at id applied =
-        let one : i ≡ j = same_place seekers i j s t market.ids there there' (same_id _ _ (sym id)) in
+        let one : i ≡ j = same_place seekers i j s t market.ids there there' (same_cand _ _ (sym id)) in
         let there'' : slice_get seekers i ≡ Some t = subst (λ k. slice_get seekers k ≡ Some t) (sym one) there' in
         let at' : slice_get seats i ≡ Some x = subst (λ k. slice_get seats k ≡ Some x) (sym one) at in
         let seeker : s ≡ t = cc in
@@ -99,7 +100,7 @@ fair_justified rule MayApply count seekers seats market well fair = record {
       (well.without p _ _ may (holders_apply p seekers seats fair.allocation) outside s.person kind).1 ((fair.agrees p i s kind below there).1 has);
 }
 
--- whoever applies and holds no seat of the programme is refused beside those who do, where nobody has a claim
+-- a person who applies and holds no seat of the programme is refused next to those who do, if nobody has a claim
 beside : (rule : Rule) (MayApply : ℕ → List Person → Type 0) (count p : ℕ) (seekers : List Seeker) (seats : List (Option Seat)) → p < count → IsMarket MayApply count seekers
     → IsJustified rule count seekers seats → (x : Person) → IsAmong x (applicants p seekers seats) → (IsAmong x (holders p seekers seats) → ⊥)
     → IsRefusedBeside rule p (holders p seekers seats) (applicants p seekers seats) x
@@ -131,7 +132,7 @@ beside rule MayApply count p seekers seats below market just x among apart =
       });
     }
 
--- whoever holds no seat of the programme is not among those who do
+-- a person who holds no seat of the programme is not among those who do
 no_holder : (MayApply : ℕ → List Person → Type 0) (count p i : ℕ) (seekers : List Seeker) (seats : List (Option Seat)) (s : Seeker) (seat : Option Seat) → IsMarket MayApply count seekers
     → slice_get seekers i ≡ Some s → slice_get seats i ≡ Some seat → is_of p seat ≡ false → IsAmong s.person (holders p seekers seats) → ⊥
 no_holder MayApply count p i seekers seats s seat market there has is_no among =

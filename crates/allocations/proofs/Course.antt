@@ -8,6 +8,7 @@ use Rattle.office_base.specs.declared.person.Person.{Person}
 use Rattle.office_base.specs.declared.person.ProgId.{ProgId}
 use Rattle.office_base.specs.declared.asks.Seat.{Seat}
 use Rattle.office_base.specs.declared.step.StepKind.{StepKind}
+use Rattle.office_base.proofs.Lists.{get_set_other}
 use Rattle.allocations.specs.Market.{Seeker, place_of, rank_of, seat_at, applies, those, applicants}
 use Rattle.allocations.specs.Rule.{Rule, Admits, Refuses, ChoosesWell}
 use Rattle.allocations.specs.Fair.{IsMarket, IsOwn, IsFair, IsBest}
@@ -25,7 +26,7 @@ tried_may rule MayApply count p seekers next market well below full within =
     may_apply rule MayApply count p (λ s n. nat_lt (place_of s.list p) n) seekers next market well below full
     (λ i s n there at h. let e = ltb-true _ _ h in let short = within i n s there at in omega (arith, e, short))
 
--- a seeker who tried a programme, told by the place
+-- a seeker who tried a programme, by the place
 tried_at : (MayApply : ℕ → List Person → Type 0) (count p i n : ℕ) (seekers : List Seeker) (next : List ℕ) (s : Seeker) → IsMarket MayApply count seekers → slice_get seekers i ≡ Some s
     → slice_get next i ≡ Some n → IsAmong s.person (tried p seekers next) → place_of s.list p < n
 tried_at MayApply count p i n seekers next s market there at among =
@@ -64,13 +65,6 @@ pub get_set_same : {X : Type 0} (xs : List X) (i : ℕ) (x y : X) → slice_get 
 get_set_same [] i x y at = absurd (cc)
 get_set_same (z ∷ xs) zero x y at = refl
 get_set_same (z ∷ xs) (suc i) x y at = get_set_same xs i x y at
-
-pub get_set_other : {X : Type 0} (xs : List X) (i j : ℕ) (x : X) → j ≢ i → slice_get (slice_set xs i x) j ≡ slice_get xs j
-get_set_other [] i j x other = refl
-get_set_other (y ∷ xs) zero zero x other = absurd (other refl)
-get_set_other (y ∷ xs) zero (suc j) x other = refl
-get_set_other (y ∷ xs) (suc i) zero x other = refl
-get_set_other (y ∷ xs) (suc i) (suc j) x other = get_set_other xs i j x (λ e. other (ap suc e))
 
 -- the number at a place after one was set: the new one there, else the old one
 pub at_set : (next : List ℕ) (i j m n k : ℕ) → slice_get next i ≡ Some m → slice_get (slice_set next i n) j ≡ Some k → ((j ≡ i) × (k ≡ n)) ⊎ ((j ≢ i) × (slice_get next j ≡ Some k))
@@ -126,7 +120,7 @@ tried_with MayApply count p i n seekers next s market there at place = record {
       ];
 }
 
--- after an offer to one programme, everybody stands where they stood, or one place further
+-- after an offer to one programme, everybody is at the same place as before, or one place further
 bound_set : (rule : Rule) (MayApply : ℕ → List Person → Type 0) (count p i n : ℕ) (seekers : List Seeker) (next : List ℕ) (s : Seeker) → IsUnderway rule count seekers next
     → MayTry rule count seekers next i p n s → (others : List (Option Seat)) (j k : ℕ) (t : Seeker) (seat : Option Seat) → IsFair rule count seekers others
     → slice_get seekers j ≡ Some t → slice_get (slice_set next i (n + 1)) j ≡ Some k → slice_get others j ≡ Some seat → k ≤ rank_of t.list seat + 1
@@ -155,7 +149,7 @@ within_set rule count p i n seekers next s underway try j k t there at =
       | inr h ↦ underway.within j k t there h.1
     ]
 
--- whoever the programme refuses, from those who tried it, has no seat of it in any fair allocation
+-- a person whom the programme refuses, from those who tried it, has no seat of it in any fair allocation
 not_there : (rule : Rule) (MayApply : ℕ → List Person → Type 0) (count p j k : ℕ) (seekers : List Seeker) (next : List ℕ) (t : Seeker) (others : List (Option Seat)) (seat : Option Seat) (kind : StepKind)
     → IsMarket MayApply count seekers → ChoosesWell rule MayApply → p < count → length next ≡ length seekers
     → ((i m : ℕ) (s : Seeker) → slice_get seekers i ≡ Some s → slice_get next i ≡ Some m → m ≤ length s.list)
@@ -176,7 +170,7 @@ not_there rule MayApply count p j k seekers next t others seat kind market well 
     let again = well.fewer p _ _ t.person may some among admitted in
     refused again.0 again.1
 
--- a place that is not that of the own seat is before it, where it is not after it
+-- a place that is not that of the seeker's own seat is before it, if it is not after it
 before_seat : (p n : ℕ) (list : List ProgId) (seat : Option Seat) → place_of list p < length list → n ≡ place_of list p + 1 → n ≤ rank_of list seat + 1
     → ((kind : StepKind) → seat ≡ Some (seat_at p kind) → ⊥) → n ≤ rank_of list seat
 before_seat p n list None less place near apart = (let near' : n ≤ length list + 1 = near in omega (arith, less, place))
@@ -187,7 +181,7 @@ before_seat p n list (Some seat) less place near apart = elim (eqb_tells (place_
   | inr h ↦ (let near' : n ≤ place_of list seat.prog.0 + 1 = near in let other = h.1 in omega (arith, place, near', other))
 ]
 
--- whoever the programme holds or refuses, from those who tried it last
+-- a person whom the programme holds or refuses, from those who tried it last
 held_or_before : (rule : Rule) (MayApply : ℕ → List Person → Type 0) (count p j k : ℕ) (seekers : List Seeker) (next : List ℕ) (t : Seeker) (others : List (Option Seat)) (seat : Option Seat)
     → IsMarket MayApply count seekers → ChoosesWell rule MayApply → p < count → length next ≡ length seekers
     → ((i m : ℕ) (s : Seeker) → slice_get seekers i ≡ Some s → slice_get next i ≡ Some m → m ≤ length s.list)
@@ -204,7 +198,8 @@ held_or_before rule MayApply count p j k seekers next t others seat market well 
           (λ kind e. not_there rule MayApply count p j k seekers next t others seat kind market well below full within bound fair there at (omega (arith, place)) refused (has ∙ ap Some e)))
     ]
 
--- One offer: the seeker at this place, who is not held, tries the next programme of the own list. The course is underway still.
+-- One offer: the seeker at this place, who is not held, tries the next programme of their list. The course is
+-- still underway.
 pub goes_on : (rule : Rule) (MayApply : ℕ → List Person → Type 0) (count p i n : ℕ) (seekers : List Seeker) (next : List ℕ) (s : Seeker) → IsMarket MayApply count seekers
     → ChoosesWell rule MayApply → IsUnderway rule count seekers next → MayTry rule count seekers next i p n s → IsUnderway rule count seekers (slice_set next i (n + 1))
 goes_on rule MayApply count p i n seekers next s market well underway try =
@@ -274,7 +269,7 @@ goes_on rule MayApply count p i n seekers next s market well underway try =
 
 -- ---- the end
 
--- where all are settled, whoever tried a programme applies to it
+-- if all are settled, everyone who tried a programme applies to it
 pub settled_applicants : (rule : Rule) (MayApply : ℕ → List Person → Type 0) (count p : ℕ) (seekers : List Seeker) (next : List ℕ) (seats : List (Option Seat))
     → IsUnderway rule count seekers next → AreSeatsOf rule count seekers next seats
     → ((i n : ℕ) (s : Seeker) → slice_get seekers i ≡ Some s → slice_get next i ≡ Some n → IsSettled rule count seekers next s n)

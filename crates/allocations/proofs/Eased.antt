@@ -38,7 +38,7 @@ cut_at (x ∷ seekers) (y ∷ seats) zero s seat there has =
     ap (λ z. Some (up_to z y)) first ∙ ap (λ z. Some (up_to s z)) second
 cut_at (x ∷ seekers) (y ∷ seats) (suc i) s seat there has = cut_at seekers seats i s seat there has
 
--- what stands on the cut list stands on the list, at the seat or before it
+-- what is on the cut list is on the list, at the seat or before it
 record OnCut (s : Seeker) (seat : Option Seat) (p : ℕ) : Type 0 where
   pub place : place_of (up_to s seat).list p ≡ place_of s.list p
   pub within : place_of s.list p ≤ rank_of s.list seat
@@ -92,7 +92,7 @@ module _ (rule more : Rule) (MayApply : ℕ → List Person → Type 0) (well : 
       let here = cut_at next seats i t.0 seat.0 t.1 seat.1 in
       record { s = s.0; there = s.1; t = t.0; there' = t.1; seat = seat.0; has = seat.1; is_cut = (let same : Some c ≡ Some (up_to t.0 seat.0) = sym at ∙ here in cc) }
 
-  -- whoever stands on a list after stood on it before
+  -- if a programme is on a seeker's list after, that list is the list before
   stood : (i p : ℕ) (s t : Seeker) → slice_get seekers i ≡ Some s → slice_get next i ≡ Some t → place_of t.list p < length t.list → t.list ≡ s.list
   stood i p s t there there' stands = elim (leave.lists i s t there there') [
     | inl same ↦ same
@@ -154,7 +154,7 @@ module _ (rule more : Rule) (MayApply : ℕ → List Person → Type 0) (well : 
   first : (small_seats : List (Option Seat)) × IsBest more count small small_seats
   first = best_there more MayApply count small small_market more_well
 
-  -- whoever has no seat by the cut list had none before, or wants none
+  -- a seeker who has no seat by the cut list had none before, or wants none
   had_none : (i p : ℕ) (c : Seeker) (found : Cut i c) → slice_get small i ≡ Some c → slice_get first.0 i ≡ Some None → place_of found.t.list p < length found.t.list → found.seat ≡ None
   had_none i p c found at none stands = go found.seat found.has found.is_cut
     where
@@ -215,7 +215,7 @@ module _ (rule more : Rule) (MayApply : ℕ → List Person → Type 0) (well : 
           let same : found.t ≡ t = cc in
           subst (λ z. Both first.0 i c z) same (both_of i c found at)
 
-  -- the seat by the cut lists stands at the one before, or ahead of it
+  -- the seat by the cut lists is at the one before, or ahead of it
   no_later : (i : ℕ) (s t : Seeker) (seat x : Option Seat) → slice_get seekers i ≡ Some s → slice_get next i ≡ Some t → t.list ≡ s.list → slice_get seats i ≡ Some seat
       → slice_get first.0 i ≡ Some x → rank_of t.list x ≤ rank_of t.list seat
   no_later i s t None x there there' same has at = rank_within t.list x (whole_fair.allocation.own i t x there' at)

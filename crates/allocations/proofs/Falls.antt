@@ -1,5 +1,5 @@
--- Nobody falls: whoever keeps wanting the programme of the own seat has a seat in every fair allocation of the next round, where the others only narrowed
--- what they want and the rule only grew.
+-- Nobody falls: a seeker who keeps wanting the programme of their seat has a seat in every fair allocation of the
+-- next round, if the others only narrowed what they want and the rule only grew.
 use Rattle.std.proofs.Common.{◌≡◌, ◌≢◌, ◌<◌, ◌≤◌, ◌↔◌, ◌+◌, ◌⊎◌, inl, inr, ℕ, zero, suc, Bool, true, false, List, [], ◌∷◌, Option, Some, None, length, arith, refl, sym, ap, ◌∙◌, subst}
 use Rattle.std.specs.Prelude.{slice_get}
 use Rattle.office_base.specs.Lists.{IsAmong, IsSublist}
@@ -14,7 +14,7 @@ use Rattle.allocations.proofs.Those.{those_has, those_sublist}
 use Rattle.allocations.proofs.Places.{applies_true, applies_means, holder_applies, of_seat}
 use Rattle.allocations.proofs.Claims.{applicants_may}
 
--- whoever applies to a programme in the next round applied to it in the last one
+-- a person who applies to a programme in the next round applied to it in the last one
 later_applicants : (MayApply : ℕ → List Person → Type 0) (count p : ℕ) (seekers next : List Seeker) (seats others : List (Option Seat)) → IsNextMarket seekers seats next
     → length seats ≡ length seekers → length others ≡ length next → IsSublist (applicants p next others) (applicants p seekers seats)
 later_applicants MayApply count p seekers next seats others narrows full full' =
@@ -25,7 +25,7 @@ later_applicants MayApply count p seekers next seats others narrows full full' =
       passes = λ i s t x y there there' at at' h. narrows.narrowed p i t s y there' there at' (applies_means p s.list x h).wants;
     })
 
--- In every fair allocation of the next round, whoever had a seat and still wants its programme has a seat.
+-- In every fair allocation of the next round, a seeker who had a seat and still wants its programme has a seat.
 pub nobody_falls : (rule more : Rule) (MayApply : ℕ → List Person → Type 0) (count p i : ℕ) (seekers next : List Seeker) (seats others : List (Option Seat)) (s t : Seeker) (kind : StepKind)
     → IsMarket MayApply count seekers → ChoosesWell rule MayApply → Grows rule more MayApply → IsFair rule count seekers seats → IsFair more count next others
     → IsNextMarket seekers seats next → p < count → slice_get seekers i ≡ Some s → slice_get next i ≡ Some t → slice_get seats i ≡ Some (Some (seat_at p kind))

@@ -1,4 +1,4 @@
--- Places in a list: what stands there, who applies, and where a seat stands.
+-- Places in a list: what is there, who applies, and where a seat is.
 use Rattle.std.proofs.Common.{◌≡◌, ◌<◌, ◌≤◌, ◌+◌, inl, inr, ℕ, Bool, true, false, List, [], ◌∷◌, Option, Some, None, length, arith, refl, sym, ap, ◌∙◌, subst, nat_lt, ◌==◌, if◌then◌else◌, add-one}
 use Rattle.std.specs.Prelude.{slice_get, nat_le}
 use Rattle.std.proofs.lemmas.Bool.{and_from, and_parts, eq-eqb, eqb-true, le-leb, leb-true, lt-ltb, ltb-true}
@@ -24,7 +24,7 @@ place_cons false q p k qs here later less =
     let P : ℕ → Type 0 = λ n. slice_get (q ∷ qs) n ≡ Some found.0 in
     (found.0, subst P (sym (add-one k)) found.1, found.2)
 
--- the programme stands at its place
+-- the programme is at its place
 pub place_read : (list : List ProgId) (p : ℕ) → place_of list p < length list → (q : ProgId) × (slice_get list (place_of list p) ≡ Some q) × (q.0 ≡ p)
 place_read [] p less = absurd (omega arith)
 place_read (q ∷ qs) p less = place_cons (q.0 == p) q p (place_of qs p) qs (eqb-true q.0 p) (place_read qs p) less
@@ -51,12 +51,12 @@ applies_means p list seat e =
     let parts = and_parts (nat_lt (place_of list p) (length list)) (nat_le (place_of list p) (rank_of list seat)) e in
     record { wants = ltb-true _ _ parts.0; within = leb-true _ _ parts.1 }
 
--- a seat of the own list stands in it
+-- a seat of the seeker's own list is in it
 pub rank_within : (list : List ProgId) (seat : Option Seat) → IsOwn list seat → rank_of list seat ≤ length list
 rank_within list None own = omega arith
 rank_within list (Some seat) own = omega (arith, own)
 
--- whoever holds a seat of a programme applies to it
+-- a person who holds a seat of a programme applies to it
 pub holder_applies : (p : ℕ) (list : List ProgId) (seat : Option Seat) → IsOwn list seat → is_of p seat ≡ true → applies p list seat ≡ true
 holder_applies p list None own holds = absurd (cc)
 holder_applies p list (Some seat) own holds =
@@ -65,7 +65,7 @@ holder_applies p list (Some seat) own holds =
     let place : place_of list seat.prog.0 ≡ place_of list p = ap (λ n. place_of list n) same in
     applies_true p list (Some seat) less (omega (arith, place))
 
--- whoever applies and holds no seat of the programme wants it more than the own seat
+-- a person who applies and holds no seat of the programme wants it more than their seat
 pub applies_before : (p : ℕ) (list : List ProgId) (seat : Option Seat) → Applies p list seat → is_of p seat ≡ false → place_of list p < rank_of list seat
 applies_before p list None applies holds = applies.wants
 applies_before p list (Some seat) applies holds =
@@ -80,7 +80,7 @@ applies_before p list (Some seat) applies holds =
           omega (arith, within, apart))
     ]
 
--- a seat is told by its programme and its step
+-- the programme and the step of a seat decide it
 pub seat_same : (x y : Seat) → x.prog.0 ≡ y.prog.0 → x.step ≡ y.step → x ≡ y
 seat_same x y prog step = ap (λ p. seat_at p x.step) prog ∙ ap (λ k. seat_at y.prog.0 k) step
 

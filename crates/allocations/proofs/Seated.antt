@@ -85,7 +85,7 @@ seated_sum : (n : ℕ) (seekers : List Seeker) (seats : List (Option Seat)) → 
 seated_sum zero seekers seats full = sym (seated_none seats)
 seated_sum (suc n) seekers seats full = let rest = seated_sum n seekers seats full in let here = seated_next n seekers seats full in omega (arith, rest, here)
 
--- whoever has a seat in the first list has one in the second
+-- a seeker who has a seat in the first list has one in the second
 abbrev AreSeated : ℕ → List (Option Seat) → List (Option Seat) → Type 0
 AreSeated n seats others = (i : ℕ) (seat other : Option Seat) → slice_get seats i ≡ Some seat → slice_get others i ≡ Some other → is_below n seat ≡ true → is_below n other ≡ true
 
@@ -144,7 +144,7 @@ holders_admitted rule count p seekers seats below fair = record {
   );
 }
 
--- whoever applies by the best allocation applies by any fair one
+-- a person who applies by the best allocation applies by any fair one
 best_applicants : (rule : Rule) (count p : ℕ) (seekers : List Seeker) (seats others : List (Option Seat)) → IsBest rule count seekers seats → IsFair rule count seekers others
     → IsSublist (applicants p seekers seats) (applicants p seekers others)
 best_applicants rule count p seekers seats others best fair =
@@ -154,7 +154,7 @@ best_applicants rule count p seekers seats others best fair =
     let no_worse = best.best others fair i s seat other there has has' in
     applies_true p s.list other a.wants (omega (arith, a.within, no_worse)))
 
--- a seat of the own list is one of a programme of the market
+-- a seat of the seeker's own list is one of a programme of the market
 own_below : (MayApply : ℕ → List Person → Type 0) (count i : ℕ) (seekers : List Seeker) (seats : List (Option Seat)) (s : Seeker) (seat : Seat) → IsMarket MayApply count seekers
     → IsAllocation seekers seats → slice_get seekers i ≡ Some s → slice_get seats i ≡ Some (Some seat) → seat.prog.0 < count
 own_below MayApply count i seekers seats s seat market allocation there has =
@@ -172,7 +172,7 @@ seeker_at (s ∷ seekers) (x ∷ seats) (suc i) seat full has = seeker_at seeker
 
 module _ (rule : Rule) (MayApply : ℕ → List Person → Type 0) (well : ChoosesWell rule MayApply) (no_fewer : AdmitsNoFewer rule MayApply) (count : ℕ) (seekers : List Seeker)
     (market : IsMarket MayApply count seekers) where
-  -- whoever has a seat in a fair allocation has one in the best
+  -- a seeker who has a seat in a fair allocation has one in the best
   best_seats : (seats others : List (Option Seat)) → IsBest rule count seekers seats → IsFair rule count seekers others → AreSeated count others seats
   best_seats seats others best fair i None seat has has' is_seat = absurd (cc)
   best_seats seats others best fair i (Some other) None has has' is_seat = absurd (
@@ -184,7 +184,7 @@ module _ (rule : Rule) (MayApply : ℕ → List Person → Type 0) (well : Choos
       let s = seeker_at seekers others i (Some other) fair.allocation.full has in
       lt-ltb _ _ (own_below MayApply count i seekers seats s.0 seat market best.fair.allocation s.1 has')
 
-  -- whoever has no seat has none in an allocation that seats no others
+  -- a seeker who has no seat has none in an allocation that seats no others
   none_too : (seats : List (Option Seat)) (i : ℕ) (others : List (Option Seat)) → IsFair rule count seekers seats → length others ≡ length seekers → AreSeated count seats others
       → slice_get others i ≡ Some None → slice_get seats i ≡ Some None
   none_too seats i others fair full each none =

@@ -91,7 +91,7 @@ not_held rule MayApply count p j m seekers next t place short refused held =
 pub not_begun_free : (rule : Rule) (count : ℕ) (seekers : List Seeker) (next : List ℕ) (s : Seeker) (n : ℕ) → n ≡ 0 → IsHeld rule count seekers next s n → ⊥
 not_begun_free rule count seekers next s n none held = (let e = held.2 in omega (arith, e, none))
 
--- whoever has not begun has not begun after an offer of somebody before
+-- a seeker who has not begun has not begun after an offer of somebody before
 pub still_not_begun : (next : List ℕ) (i n first : ℕ) → slice_get next i ≡ Some n → i < first → HaveNotBegun next first → HaveNotBegun (slice_set next i (n + 1)) first
 still_not_begun next i n first old less none = λ j m within at. elim (at_set next i j n (n + 1) m old at) [
   | inl e ↦ absurd (let e' = e.0 in omega (arith, e', less, within))

@@ -3,7 +3,6 @@ use Rattle.std.proofs.Common.{◌≡◌, ◌≢◌, ◌⊎◌, inl, inr, ℕ, ze
 use Rattle.std.specs.Prelude.{slice_get}
 use Rattle.office_base.proofs.Lists.{all-get}
 use Rattle.office_base.specs.Lists.{IsAmong, Pairwise, IsSublist}
-use Rattle.office_base.specs.declared.person.CandId.{CandId}
 use Rattle.office_base.specs.declared.person.Person.{Person}
 use Rattle.placements.proofs.Sublists.{IsSublist-nil}
 use Rattle.allocations.specs.Market.{Seeker, those}
@@ -14,7 +13,7 @@ sublist_if true false x y xs ys same passes h = absurd (let e = passes refl in c
 sublist_if false true x y xs ys same passes h = inl h
 sublist_if false false x y xs ys same passes h = h
 
--- At each place the same person stands in both lists of seekers, and whoever passes the first test passes the second.
+-- At each place both lists of seekers have the same person, and a person who passes the first test passes the second.
 pub record Pass {X Y : Type 0} (f : Seeker → X → Bool) (g : Seeker → Y → Bool) (ss ts : List Seeker) (xs : List X) (ys : List Y) : Type 0 where
   pub seekers : length ts ≡ length ss
   pub values : length ys ≡ length xs
@@ -30,7 +29,7 @@ pass_rest f g s t ss ts x y xs ys h = record {
   passes = λ i. h.passes (suc i);
 }
 
--- whoever passes the first test is, in their order, among those who pass the second
+-- everyone who passes the first test is, in their order, among those who pass the second
 pub those_sublist : {X Y : Type 0} (f : Seeker → X → Bool) (g : Seeker → Y → Bool) (ss ts : List Seeker) (xs : List X) (ys : List Y) → Pass f g ss ts xs ys
     → IsSublist (those f ss xs) (those g ts ys)
 those_sublist f g [] ts xs ys h = IsSublist-nil _
@@ -98,7 +97,7 @@ of_those f (s ∷ ss) (x ∷ xs) person h = elim (of_if (f s x) person s.person 
   | inr later ↦ passing_rest f s ss x xs person (of_those f ss xs person later)
 ]
 
--- each person stands at one place
+-- each person is at one place
 pub same_place : (ss : List Seeker) (i j : ℕ) (s t : Seeker) → Pairwise (λ (a b : Seeker). a.person.id ≢ b.person.id) ss → slice_get ss i ≡ Some s → slice_get ss j ≡ Some t
     → s.person.id ≡ t.person.id → i ≡ j
 same_place [] i j s t distinct there at same = absurd (cc)
@@ -113,14 +112,7 @@ same_place (x ∷ ss) (suc i) zero s t distinct there at same = absurd (
     apart (ap (λ (z : Seeker). z.person.id) first ∙ sym same))
 same_place (x ∷ ss) (suc i) (suc j) s t distinct there at same = ap suc (same_place ss i j s t distinct.1 there at same)
 
--- an id is its number
-pub same_id : (a b : CandId) → a.0 ≡ b.0 → a ≡ b
-same_id a b same = ap number_id same
-  where
-    number_id : ℕ → CandId
-    number_id n = record { 0 = n }
-
--- the same seekers, and two tests over two lists: whoever passes the first passes the second
+-- the same seekers, and two tests over two lists: a seeker who passes the first passes the second
 pub part : {X Y : Type 0} (f : Seeker → X → Bool) (g : Seeker → Y → Bool) (ss : List Seeker) (xs : List X) (ys : List Y) → length ys ≡ length xs
     → ((i : ℕ) (s : Seeker) (x : X) (y : Y) → slice_get ss i ≡ Some s → slice_get xs i ≡ Some x → slice_get ys i ≡ Some y → f s x ≡ true → g s y ≡ true)
     → IsSublist (those f ss xs) (those g ss ys)

@@ -1,4 +1,4 @@
--- No list that is told in place of the own one gives a better seat.
+-- No list that a seeker submits in place of their own gives a better seat.
 use Rattle.std.proofs.Common.{◌≡◌, ◌≢◌, ◌<◌, ◌≤◌, ◌+◌, inl, inr, ℕ, zero, suc, min, Bool, true, false, List, [], ◌∷◌, Option, Some, None, length, slice_set, take, arith, refl, sym, ap, ◌∙◌, subst, ◌==◌, if◌then◌else◌, length-set, length-take}
 use Rattle.std.specs.Prelude.{slice_get}
 use Rattle.std.specs.List.{AllByRecursion}
@@ -8,13 +8,14 @@ use Rattle.office_base.specs.Lists.{IsAmong, IsSublist, Pairwise}
 use Rattle.office_base.specs.declared.asks.Seat.{Seat}
 use Rattle.office_base.specs.declared.person.Person.{Person}
 use Rattle.office_base.specs.declared.person.ProgId.{ProgId}
+use Rattle.office_base.proofs.Lists.{get_set_other}
 use Rattle.allocations.specs.Fair.{IsMarket, IsOwn, IsFair, IsBest}
 use Rattle.allocations.specs.Market.{Seeker, place_of, rank_of, wants, applies, is_of, applicants, wanting}
 use Rattle.allocations.specs.Compared.{TellsAnother, TruthIsBest, AllOfTheFrontIsBest}
 use Rattle.allocations.specs.Rule.{Rule, ChoosesWell, AdmitsNoFewer}
 use Rattle.allocations.proofs.Best.{best_there}
 use Rattle.allocations.proofs.Claims.{applicants_may, outside_refused}
-use Rattle.allocations.proofs.Course.{get_set_same, get_set_other}
+use Rattle.allocations.proofs.Course.{get_set_same}
 use Rattle.allocations.proofs.Places.{applies_true, applies_means, holder_applies, place_read, rank_within}
 use Rattle.allocations.proofs.Seated.{fair_alike}
 use Rattle.allocations.proofs.Those.{those_has, those_sublist, value_at}
@@ -25,7 +26,7 @@ front_step : (b : Bool) (a c n : ℕ) → a ≡ min c n → (if b then 0 else a 
 front_step true a c n e = omega arith
 front_step false a c n e = omega (arith, e)
 
--- a programme stands in the front of a list where it stands in the list, or after it
+-- a programme has the same place in the front of a list as in the list, or comes after the front
 pub front_place : (n : ℕ) (list : List ProgId) (p : ℕ) → place_of (take n list) p ≡ min (place_of list p) n
 front_place zero list p = omega arith
 front_place (suc n) [] p = omega arith
@@ -39,7 +40,7 @@ place_within : (list : List ProgId) (p : ℕ) → place_of list p ≤ length lis
 place_within [] p = omega arith
 place_within (q ∷ list) p = within_step (q.0 == p) _ _ (place_within list p)
 
--- what stands in the front stands in the list
+-- what is in the front is in the list
 record Front (n k : ℕ) (list : List ProgId) (q : ProgId) : Type 0 where
   pub at : slice_get list k ≡ Some q
   pub less : k < n
@@ -65,21 +66,21 @@ one_step : (b : Bool) → (if b then 0 else 0 + 1) < 1 → b ≡ true
 one_step true less = refl
 one_step false less = absurd (omega (arith, less))
 
-alone_wants : (q : ProgId) (p : ℕ) → place_of (q ∷ []) p < 1 → q.0 ≡ p
+pub alone_wants : (q : ProgId) (p : ℕ) → place_of (q ∷ []) p < 1 → q.0 ≡ p
 alone_wants q p less = eqb-true q.0 p (one_step (q.0 == p) less)
 
 alone_at : (b : Bool) → b ≡ true → (if b then 0 else 0 + 1) ≡ 0
 alone_at true e = refl
 alone_at false e = absurd (cc)
 
-alone_place : (q : ProgId) → place_of (q ∷ []) q.0 ≡ 0
+pub alone_place : (q : ProgId) → place_of (q ∷ []) q.0 ≡ 0
 alone_place q = alone_at (q.0 == q.0) (eq-eqb q.0 q.0 refl)
 
-alone_distinct : (x : ProgId) (k : ℕ) (q : ProgId) → slice_get (x ∷ []) k ≡ Some q → place_of (x ∷ []) q.0 ≡ k
+pub alone_distinct : (x : ProgId) (k : ℕ) (q : ProgId) → slice_get (x ∷ []) k ≡ Some q → place_of (x ∷ []) q.0 ≡ k
 alone_distinct x zero q at = let same : x ≡ q = cc in subst (λ (z : ProgId). place_of (x ∷ []) z.0 ≡ 0) same (alone_place x)
 alone_distinct x (suc k) q at = absurd (cc)
 
--- ---- seekers of whom one tells another list
+-- ---- seekers of whom one submits another list
 
 -- the seeker with another list
 abbrev pub with_list : Seeker → List ProgId → Seeker
@@ -130,7 +131,7 @@ at_each P i seekers told s t tells there there' here others j a b at at' = elim 
 
 -- ---- a market that is narrowed
 
--- The same persons seek, by lists of distinct programmes of which each stood in the list before.
+-- The same persons seek, by lists of distinct programmes, each of which was in the list before.
 pub record Narrows (seekers next : List Seeker) : Type 0 where
   pub same : length next ≡ length seekers
   pub persons : (j : ℕ) (s t : Seeker) → slice_get seekers j ≡ Some s → slice_get next j ≡ Some t → s.person ≡ t.person
@@ -222,7 +223,7 @@ module _ (rule : Rule) (MayApply : ℕ → List Person → Type 0) (well : Choos
           let applied = holder_applies p t.0.list seat (own j s t.0 there t.1 seat has) is_seat in
           subst (λ z. IsAmong z (applicants p next seats)) (sym (persons j s t.0 there t.1)) (those_has (λ s seat. applies p s.list seat) next seats j t.0 seat t.1 has applied)
 
--- one seeker tells another list, of distinct programmes of the list before
+-- one seeker submits another list, of distinct programmes of the list before
 one_narrows : (MayApply : ℕ → List Person → Type 0) (count i : ℕ) (seekers next : List Seeker) (s t : Seeker) → IsMarket MayApply count seekers → TellsAnother i seekers next
     → slice_get seekers i ≡ Some s → slice_get next i ≡ Some t → ((k : ℕ) (q : ProgId) → slice_get t.list k ≡ Some q → place_of t.list q.0 ≡ k)
     → ((p : ℕ) → place_of t.list p < length t.list → place_of s.list p < length s.list) → Narrows seekers next
@@ -237,7 +238,8 @@ one_narrows MayApply count i seekers next s t market tells there there' distinct
       at_each (λ j a b. place_of b.list p < length b.list → place_of a.list p < length a.list) i seekers next s t tells there there' (narrowed p) (λ j a at h. h) j a b at at';
 }
 
--- a fair allocation is fair still where one tells another list that holds the own seat, and by which that one applies to no more
+-- a fair allocation is fair still if one seeker submits another list that holds their seat, and by which that seeker
+-- applies to no more
 one_fair : (rule : Rule) (MayApply : ℕ → List Person → Type 0) (count i : ℕ) (seekers next : List Seeker) (seats : List (Option Seat)) (s t : Seeker) (seat : Option Seat)
     → ChoosesWell rule MayApply → IsMarket MayApply count seekers → TellsAnother i seekers next → slice_get seekers i ≡ Some s → slice_get next i ≡ Some t → slice_get seats i ≡ Some seat
     → IsOwn t.list seat → ((p : ℕ) → applies p t.list seat ≡ true → applies p s.list seat ≡ true) → IsFair rule count seekers seats → IsFair rule count next seats
@@ -252,17 +254,18 @@ one_fair rule MayApply count i seekers next seats s t seat well market tells the
     (λ j a at p x has' h. h))
     fair
 
--- ---- no list is better than the own one
+-- ---- no list is better than the seeker's own
 
 module _ (rule : Rule) (MayApply : ℕ → List Person → Type 0) (well : ChoosesWell rule MayApply) (no_fewer : AdmitsNoFewer rule MayApply) (count i : ℕ) (seekers told : List Seeker)
     (seats others : List (Option Seat)) (s : Seeker) (seat : Option Seat) (x : Seat) (market : IsMarket MayApply count seekers) (market' : IsMarket MayApply count told)
     (tells : TellsAnother i seekers told) (best : IsBest rule count seekers seats) (fair : IsFair rule count told others) (there : slice_get seekers i ≡ Some s)
     (has : slice_get seats i ≡ Some seat) (has' : slice_get others i ≡ Some (Some x)) (better : place_of s.list x.prog.0 < rank_of s.list seat) where
-  -- the seat stands on the own list
+  -- the seat is on the seeker's own list
   wanted : place_of s.list x.prog.0 < length s.list
   wanted = let short = rank_within s.list seat (best.fair.allocation.own i s seat there has) in omega (arith, short, better)
 
-  -- the seekers where the one tells its programme alone, and where the one tells the front of the own list that ends with it
+  -- the seekers when the one submits its programme alone, and when the one submits the front of their list that ends
+  -- with it
   abbrev only : List ProgId
   only = x.prog ∷ []
 
@@ -339,7 +342,7 @@ module _ (rule : Rule) (MayApply : ℕ → List Person → Type 0) (well : Choos
       let no_worse : rank_of s.list seat ≤ place_of s.list y.prog.0 = best.best front_seats whole i s seat (Some y) there has at in
       omega (arith, no_worse, better, own, e, size))
 
-  -- whoever has no seat by the front of the list has none by the last programme of it alone
+  -- a seeker who has no seat by the front of the list has none by the last programme of it alone
   none_fair : (front_seats : List (Option Seat)) → IsFair rule count fronted front_seats → slice_get front_seats i ≡ Some None → IsFair rule count alone front_seats
   none_fair front_seats fair' none =
       one_fair rule MayApply count i fronted alone front_seats (with_list s front) (with_list s only) None well front_market
@@ -361,7 +364,7 @@ module _ (rule : Rule) (MayApply : ℕ → List Person → Type 0) (well : Choos
       let none' = (alike.unseated i).0 none in
       cc
 
--- The own list gives the best seat.
+-- The seeker's own list gives the best seat.
 pub truth_is_best : (rule : Rule) (MayApply : ℕ → List Person → Type 0) → ChoosesWell rule MayApply → AdmitsNoFewer rule MayApply → TruthIsBest rule MayApply
 truth_is_best rule MayApply well no_fewer count i seekers told seats others s seat None market market' tells best fair there has has' =
     rank_within s.list seat (best.fair.allocation.own i s seat there has)

@@ -1,4 +1,5 @@
--- Allocations compared: the fair ones of one market, those of two markets that differ in what one seeker tells, and those before and after some leave or seats are added.
+-- Allocations compared: the fair ones of one market, those of two markets that differ in what one seeker submits, and
+-- those before and after some leave or seats are added.
 use Rattle.std.specs.Prelude.{◌≡◌, ◌≢◌, ◌<◌, ◌≤◌, ◌↔◌, ◌⊎◌, ℕ, List, [], Option, Some, None, slice_get, length, take}
 use Rattle.office_base.specs.declared.person.Person.{Person}
 use Rattle.office_base.specs.declared.person.ProgId.{ProgId}
@@ -17,20 +18,22 @@ abbrev pub FairSeatAlike : Rule → (ℕ → List Person → Type 0) → Type 0
 FairSeatAlike rule MayApply = (count : ℕ) (seekers : List Seeker) (seats others : List (Option Seat)) → IsMarket MayApply count seekers
     → IsFair rule count seekers seats → IsFair rule count seekers others → SeatAlike count seekers seats others
 
--- The same persons seek, all by the same lists but the one at this place, who tells another list.
+-- The same persons seek, all by the same lists except the one at this place, who submits another list.
 pub record TellsAnother (i : ℕ) (seekers told : List Seeker) : Type 0 where
   pub same : length told ≡ length seekers
   pub others : (j : ℕ) → j ≢ i → slice_get told j ≡ slice_get seekers j
   pub person : (s t : Seeker) → slice_get seekers i ≡ Some s → slice_get told i ≡ Some t → s.person ≡ t.person
 
--- No list that a seeker tells in place of the own one gives, in any fair allocation, a seat at an earlier place of the own list than the best allocation
--- by the own list gives (Dubins and Freedman 1981; Hatfield and Milgrom 2005 for rules of choice).
+-- No list that a seeker submits in place of their own gives, in any fair allocation, a seat at an earlier place of
+-- their own list than the best allocation by their own list gives (Dubins and Freedman 1981; Hatfield and Milgrom
+-- 2005 for rules of choice).
 abbrev pub TruthIsBest : Rule → (ℕ → List Person → Type 0) → Type 0
 TruthIsBest rule MayApply = (count i : ℕ) (seekers told : List Seeker) (seats others : List (Option Seat)) (s : Seeker) (seat other : Option Seat) → IsMarket MayApply count seekers
     → IsMarket MayApply count told → TellsAnother i seekers told → IsBest rule count seekers seats → IsFair rule count told others
     → slice_get seekers i ≡ Some s → slice_get seats i ≡ Some seat → slice_get others i ≡ Some other → rank_of s.list seat ≤ rank_of s.list other
 
--- Where a seeker may tell the first places of a list alone, nothing that is told of these gives a seat at an earlier place of the list than all of them in their order.
+-- If a seeker may submit only the first places of a list, no list of these places gives a seat at an earlier place of
+-- the list than all of them in their order.
 abbrev pub AllOfTheFrontIsBest : Rule → (ℕ → List Person → Type 0) → Type 0
 AllOfTheFrontIsBest rule MayApply = (count i n : ℕ) (seekers told : List Seeker) (seats others : List (Option Seat)) (s t : Seeker) (list : List ProgId) (seat other : Option Seat)
     → IsMarket MayApply count seekers → IsMarket MayApply count told → TellsAnother i seekers told → IsBest rule count seekers seats → IsFair rule count told others

@@ -1,4 +1,4 @@
--- The course of the applications: each seeker tries the programmes of the own list, one after another.
+-- The course of the applications: each seeker tries the programmes of their list, one after another.
 use Rattle.office_base.specs.Lists.{IsAmong, IsSublist}
 use Rattle.std.specs.Prelude.{◌≡◌, ◌≢◌, ◌<◌, ◌≤◌, ◌+◌, ◌-◌, ◌↔◌, ◌⊎◌, ℕ, suc, List, [], ◌∷◌, Option, Some, None, slice_get, length, nat_lt}
 use Rattle.office_base.specs.declared.person.Person.{Person}
@@ -8,7 +8,7 @@ use Rattle.allocations.specs.Fair.{IsFair}
 use Rattle.allocations.specs.Market.{Seeker, place_of, rank_of, seat_at, those}
 use Rattle.allocations.specs.Rule.{Rule}
 
--- those who tried a programme: it stands on their list before the place that they try next
+-- those who tried a programme: it is on their list before the place that they try next
 abbrev pub tried : ℕ → List Seeker → List ℕ → List Person
 tried p seekers next = those (λ s n. nat_lt (place_of s.list p) n) seekers next
 
@@ -20,7 +20,7 @@ IsHeld rule count seekers next s n = (p : ℕ) × (p < count) × (n ≡ place_of
 pub record IsUnderway (rule : Rule) (count : ℕ) (seekers : List Seeker) (next : List ℕ) : Type 0 where
   pub full : length next ≡ length seekers
   pub within : (i n : ℕ) (s : Seeker) → slice_get seekers i ≡ Some s → slice_get next i ≡ Some n → n ≤ length s.list
-  -- whoever a programme admits, from those who tried it, tried it last
+  -- a person whom a programme admits, from those who tried it, tried it last
   pub last : (p i n : ℕ) (s : Seeker) (kind : StepKind) → p < count → slice_get seekers i ≡ Some s → slice_get next i ≡ Some n
       → rule p (tried p seekers next) s.person kind → n ≡ place_of s.list p + 1
   -- no fair allocation seats anyone before the place tried last, nor there, unless the programme there admits the seeker

@@ -8,19 +8,20 @@ use Rattle.office_base.specs.declared.step.StepKind.{StepKind}
 use Rattle.allocations.specs.Market.{Seeker, place_of, rank_of, seat_at, applies, applicants, holders, holders_and, wanting}
 use Rattle.allocations.specs.Rule.{Rule}
 
--- The seekers of a round over so many programmes: each id stands once, and each list names distinct programmes, where all who want one may apply together.
+-- The seekers of a round over that many programmes. Each id is there once, and each list names distinct programmes.
+-- All who want a programme may apply to it together.
 pub record IsMarket (MayApply : ℕ → List Person → Type 0) (count : ℕ) (seekers : List Seeker) : Type 0 where
   pub ids : Pairwise (λ (a b : Seeker). a.person.id ≢ b.person.id) seekers
   pub below : (i k : ℕ) (s : Seeker) (q : ProgId) → slice_get seekers i ≡ Some s → slice_get s.list k ≡ Some q → q.0 < count
   pub distinct : (i k : ℕ) (s : Seeker) (q : ProgId) → slice_get seekers i ≡ Some s → slice_get s.list k ≡ Some q → place_of s.list q.0 ≡ k
   pub may_apply : (p : ℕ) → p < count → MayApply p (wanting p seekers)
 
--- the seat is one of the own list, or there is none
+-- the seat is one of the seeker's own list, or there is none
 abbrev pub IsOwn : List ProgId → Option Seat → Type 0
 IsOwn list None = Unit {0}
 IsOwn list (Some seat) = place_of list seat.prog.0 < length list
 
--- One entry for each seeker: no seat, or a seat of the own list.
+-- One entry for each seeker: no seat, or a seat of the seeker's own list.
 pub record IsAllocation (seekers : List Seeker) (seats : List (Option Seat)) : Type 0 where
   pub full : length seats ≡ length seekers
   pub own : (i : ℕ) (s : Seeker) (seat : Option Seat) → slice_get seekers i ≡ Some s → slice_get seats i ≡ Some seat → IsOwn s.list seat
@@ -31,7 +32,8 @@ pub record IsFair (rule : Rule) (count : ℕ) (seekers : List Seeker) (seats : L
   pub agrees : (p i : ℕ) (s : Seeker) (kind : StepKind) → p < count → slice_get seekers i ≡ Some s
       → rule p (applicants p seekers seats) s.person kind ↔ (slice_get seats i ≡ Some (Some (seat_at p kind)))
 
--- A justified claim: the seeker at this place wants the programme more than the own seat, or has none, and it admits the seeker beside those who hold it.
+-- A justified claim: the seeker at this place wants the programme more than their seat, or has no seat, and the
+-- programme admits the seeker next to those who hold it.
 pub record HasClaim (rule : Rule) (seekers : List Seeker) (seats : List (Option Seat)) (i p : ℕ) : Type 0 where
   pub s : Seeker
   pub there : slice_get seekers i ≡ Some s

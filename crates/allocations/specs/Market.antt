@@ -10,12 +10,12 @@ pub record Seeker : Type 0 where
   pub person : Person
   pub list : List ProgId
 
--- how far down the list a programme stands, from 0; the length of the list where it does not
+-- how far down the list a programme is, from 0; the length of the list if it is not on the list
 abbrev pub place_of : List ProgId → ℕ → ℕ
 place_of [] p = 0
 place_of (q ∷ qs) p = if q.0 == p then 0 else place_of qs p + 1
 
--- how far down a seat stands; whoever has none stands after the whole list
+-- how far down the list a seat is; the length of the list if there is no seat
 abbrev pub rank_of : List ProgId → Option Seat → ℕ
 rank_of list None = length list
 rank_of list (Some seat) = place_of list seat.prog.0
@@ -37,7 +37,7 @@ abbrev pub is_of : ℕ → Option Seat → Bool
 is_of p None = false
 is_of p (Some seat) = seat.prog.0 == p
 
--- the persons of those seekers who pass a test together with what stands at their place in a second list
+-- the persons of those seekers who pass a test together with the entry at their place in a second list
 abbrev pub those : {X : Type 0} → (Seeker → X → Bool) → List Seeker → List X → List Person
 those test [] xs = []
 those test (s ∷ seekers) [] = []

@@ -24,13 +24,13 @@ pub record IsRefusedBeside (rule : Rule) (p : ℕ) (some all : List Person) (per
   pub there : IsAmong person people
   pub refused : Refuses rule p people person
 
--- What a rule has to be, for the people who may stand before a programme together.
+-- What a rule must be, for the people who may apply to a programme together.
 pub record ChoosesWell (rule : Rule) (MayApply : ℕ → List Person → Type 0) : Type 0 where
-  -- whoever may stand together may stand there without some
+  -- people who may apply together may apply without some of them
   pub part : (p : ℕ) (some all : List Person) → MayApply p all → IsSublist some all → MayApply p some
   -- a programme admits a person or refuses the person
   pub decided : (p : ℕ) (people : List Person) (x : Person) → MayApply p people → Admits rule p people x ⊎ Refuses rule p people x
-  -- it admits those alone who stand before it
+  -- it admits only those who apply
   pub among : (p : ℕ) (people : List Person) (x : Person) (kind : StepKind) → MayApply p people → rule p people x kind → IsAmong x people
   -- under one step
   pub one_step : (p : ℕ) (people : List Person) (x : Person) (kind other : StepKind) → MayApply p people → rule p people x kind → rule p people x other → kind ≡ other
@@ -40,12 +40,12 @@ pub record ChoosesWell (rule : Rule) (MayApply : ℕ → List Person → Type 0)
   pub without : (p : ℕ) (some all : List Person) → MayApply p all → IsSublist some all
       → ((x : Person) → IsAmong x all → (IsAmong x some → ⊥) → Refuses rule p all x)
       → (x : Person) (kind : StepKind) → rule p some x kind ↔ rule p all x kind
-  -- persons who are each refused alone beside some are refused together
+  -- persons who are each refused alone next to some are refused together
   pub together : (p : ℕ) (some all : List Person) → MayApply p all → IsSublist some all
       → ((x : Person) → IsAmong x all → (IsAmong x some → ⊥) → IsRefusedBeside rule p some all x)
       → (x : Person) → IsAmong x all → (IsAmong x some → ⊥) → Refuses rule p all x
 
--- whoever the first rule admits the second admits, perhaps under another step: as where seats were added
+-- a person whom the first rule admits is admitted by the second, perhaps under another step: as when seats were added
 abbrev pub Grows : Rule → Rule → (ℕ → List Person → Type 0) → Type 0
 Grows rule more MayApply = (p : ℕ) (people : List Person) (x : Person) → MayApply p people → Admits rule p people x → Admits more p people x
 

@@ -1,16 +1,14 @@
 -- Only the choice meets the axioms: no single exchange would improve a set that does.
-use Rattle.std.proofs.Common.{◌≡◌, ◌≢◌, ◌≤◌, ◌<◌, inl, inr, ℕ, zero, suc, Bool, List, [], ◌∷◌, length, min, take, arith, refl, sym, ap, ◌∙◌, subst}
-use Rattle.std.specs.Prelude.{◌==◌, if◌then◌else◌}
+use Rattle.std.proofs.Common.{◌≡◌, ◌≢◌, ◌≤◌, ◌<◌, inl, inr, ℕ, zero, suc, List, [], ◌∷◌, length, min, take, arith, refl, sym, ap, ◌∙◌, subst}
 use Rattle.std.specs.List.{AllByRecursion}
-use Rattle.std.proofs.lemmas.Bool.{cases_Bool, cases_lt, eqb-false}
+use Rattle.std.proofs.lemmas.Bool.{cases_lt}
 use Rattle.office_base.specs.Lists.{IsAmong, IsSublist, Pairwise}
 use Rattle.office_base.specs.Merit.{in_merit}
 use Rattle.office_base.specs.Person.{IsBetter, is_common, number_in}
-use Rattle.office_base.specs.Placement.{IsHonoured, IsPlacement, placed_on, protected}
+use Rattle.office_base.specs.Placement.{IsHonoured}
 use Rattle.office_base.specs.StepChoice.{AreRanked, IsStep, IsStepChoice}
 use Rattle.office_base.specs.declared.person.ListId.{ListId}
 use Rattle.office_base.specs.declared.person.Person.{Person}
-use Rattle.office_base.specs.declared.step.Pair.{Pair}
 use Rattle.office_base.specs.declared.step.StepKind.{StepKind}
 use Rattle.office_base.specs.declared.step.StepKind.TheVariants.{Open, Ews as EwsStep, Obc as ObcStep, Sc as ScStep, St as StStep, Dereserved}
 use Rattle.placements.specs.Ranks.{without}
@@ -24,6 +22,7 @@ use Rattle.merit_choice.specs.InMerit.{InMeritRanks, RankedPart}
 use Rattle.merit_choice.proofs.Needed.{apart_of}
 use Rattle.seat_matrix.specs.Seats.{AreProgrammeSeats, no_protections}
 use Rattle.seat_matrix.specs.declared.seats.ProgrammeSeats.{ProgrammeSeats}
+use Rattle.seat_matrix.proofs.Unprotected.{nobody_placed}
 use Rattle.programme_lists.specs.Programme.{Admissions, IsProgrammeChoice, admitted_by, left_over, people_of, unfilled}
 use Rattle.open_then_category.specs.Laws.{whole_step}
 use Rattle.list_audit.specs.Laws.{SingleExchanges}
@@ -58,29 +57,6 @@ one_at_a_step exchanges part step chosen ok may axioms =
     omega (arith, less, more))
 
 -- ---- the last step, which has no protections
-
-no_position : (t : ℕ) → protected no_protections t ≡ 0
-no_position zero = refl
-no_position (suc zero) = refl
-no_position (suc (suc zero)) = refl
-no_position (suc (suc (suc zero))) = refl
-no_position (suc (suc (suc (suc zero)))) = refl
-no_position (suc (suc (suc (suc (suc zero))))) = refl
-no_position (suc (suc (suc (suc (suc (suc t)))))) = refl
-
-abbrev one_where : Bool → ℕ
-one_where test = if test then 1 else 0
-
-stands_once : (pair : Pair) (pairs : List Pair) → 1 ≤ placed_on pair.slot (pair ∷ pairs)
-stands_once pair pairs = elim (cases_Bool (pair.slot == pair.slot)) [
-  | inl same ↦ (let e = ap one_where same in omega (arith, e))
-  | inr other ↦ absurd (eqb-false pair.slot pair.slot other refl)
-]
-
-nobody_placed : (people : List Person) (pairs : List Pair) → IsPlacement no_protections people pairs → length pairs ≡ 0
-nobody_placed people [] placed = refl
-nobody_placed people (pair ∷ pairs) placed =
-    absurd (let few = placed.within pair.slot in let none = no_position pair.slot in let one = stands_once pair pairs in omega (arith, few, none, one))
 
 none_honoured : (people : List Person) → IsHonoured no_protections people 0
 none_honoured people = record {

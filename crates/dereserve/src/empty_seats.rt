@@ -32,7 +32,9 @@ pub fn unfilled(matrix: &Matrix, prog: ProgId, version: u8, held: &[u16; 5]) -> 
     requires programme { prog.0 < length matrix.now.programmes }
     requires version { IsVersion version }
     requires held { AreHeld matrix.now prog.0 held.now }
-    ensures { result ≡ left_unfilled version (seating_in matrix.now prog.0 EwsStep).seats (slice_index_or held.now 1 0) (seating_in matrix.now prog.0 ObcStep).seats (slice_index_or held.now 2 0) }
+    ensures { result ≡ left_unfilled version (seating_in matrix.now prog.0 EwsStep).seats
+        (slice_index_or held.now 1 0)
+        (seating_in matrix.now prog.0 ObcStep).seats (slice_index_or held.now 2 0) }
 {
     let ews = matrix.seats(prog, StepKind::Ews);
     let obc = matrix.seats(prog, StepKind::Obc);

@@ -39,8 +39,8 @@ fn best(alloc: Global, people: &[Person], seats: u32) -> Result<People, OutOfMem
     Ok(best)
 }
 
-/// Who fills de-reserved seats: the best of those with a common place in the list, as many as there are seats or
-/// candidates. The rest, whom no earlier step took, stand in merit order, and so do those who fill the seats.
+/// Returns who fills de-reserved seats: the best of those with a common place in the list, as many as there are seats
+/// or candidates. The rest, whom no earlier step took, are in merit order, and so are those who fill the seats.
 pub fn fill(alloc: Global, rest: &[Person], list: ListId, seats: u32) -> Result<People, OutOfMemory>
     requires list { IsList list }
     requires ranked { AreRanked list rest.now }

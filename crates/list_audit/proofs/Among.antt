@@ -22,7 +22,7 @@ use Rattle.merit_choice.proofs.Needed.{apart_of, needed_honoured}
 use Rattle.merit_choice.proofs.OneByOne.{better_or_worse}
 use Rattle.list_audit.specs.Reckoning.{IsAhead as IsAheadOf, IsFirstAhead, IsReckoned, Reckoned}
 use Rattle.list_audit.specs.Steps.{IsBestOf, OvertakesSome}
-use Rattle.list_audit.proofs.Taken.{among_without, among_without_from}
+use Rattle.programme_lists.proofs.Taken.{among_without, among_without_from}
 
 -- Those named are reckoned, and honour as much as all the people.
 pub record AreSettled (list : ListId) (protections : Protections) (people named : List Person) (kept : Kept) (free : Option Person) : Type 0 where
@@ -60,9 +60,6 @@ module _ (list : ListId) (protections : Protections) (people named : List Person
   members_traits = all_among (λ member. IsTraitSet member.traits) kept.members people members_among s.ranked.traits
 
   -- ---- one who is not named
-
-  IsOther : Person → Type 0
-  IsOther person = IsAmong person people × (IsAmong person named → ⊥)
 
   apart_named : (person : Person) → IsAmong person people → (IsAmong person named → ⊥) → AllByRecursion (λ other. person.id ≢ other.id) named
   apart_named person there gone = apart_of person named people s.ranked.distinct named_among there gone

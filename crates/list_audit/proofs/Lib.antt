@@ -1,7 +1,6 @@
 mod AheadBy
 mod Among
 mod Equal
-mod Leaving
 mod Needing
 mod OneFault
 mod Parts
@@ -9,6 +8,5 @@ mod Reckoning
 mod SingleExchanges
 mod SoundLists
 mod Standing
-mod Taken
 mod Walks
 mod Worst

@@ -1,17 +1,16 @@
 -- The listed come to a matching, the best first: the members are the needed.
-use Rattle.std.proofs.Common.{◌≡◌, ◌≢◌, ◌<◌, ◌+◌, ◌⊎◌, ℕ, suc, Bool, true, false, Option, Some, None, List, [], ◌∷◌, ◌++◌, length, get_or, take, drop, add-one, refl, sym, ap, ◌∙◌, subst, inl, inr, arith}
-use Rattle.std.proofs.lemmas.List.{take-append-drop}
-use Rattle.std.proofs.Math.Seq.{take-suc, drop-cons}
+use Rattle.std.proofs.Common.{◌≡◌, ◌≢◌, ◌<◌, ◌+◌, ◌⊎◌, ℕ, suc, Bool, true, false, Option, Some, None, List, [], ◌∷◌, ◌++◌, length, get_or, take, drop, add-one, refl, sym, subst, inl, inr}
+use Rattle.std.proofs.Math.Seq.{take-suc}
 use Rattle.std.specs.List.{AllByRecursion}
 use Rattle.std.specs.Prelude.{IsSome}
 use Rattle.office_base.specs.Lists.{IsAmong, Pairwise}
-use Rattle.office_base.specs.Person.{IsAhead, IsBetter, IsTraitSet, number_in}
+use Rattle.office_base.specs.Person.{IsBetter, IsTraitSet, number_in}
 use Rattle.office_base.specs.StepChoice.{AreRanked}
 use Rattle.office_base.specs.declared.person.ListId.{ListId}
 use Rattle.office_base.specs.declared.person.Person.{Person}
 use Rattle.office_base.specs.declared.step.Protections.{Protections}
+use Rattle.office_base.proofs.Lists.{all_weaker, all_middle}
 use Rattle.placements.specs.Ranks.{AreAmong, AreDistinct, CanBePlaced}
-use Rattle.placements.proofs.Exchange.{all_weaker}
 use Rattle.placements.proofs.Merit.{ahead_again, not_ahead}
 use Rattle.placements.proofs.Ranks.{all_among, among_again, among_itself, among_longer, any_all, any_append, end_among_front, front_among_end, placed_end, placed_front, widen}
 use Rattle.placements.proofs.Replace.{distinct_push}
@@ -20,6 +19,7 @@ use Rattle.merit_choice.specs.Marks.{IsJoined}
 use Rattle.merit_choice.specs.Needed.{AreNeeded}
 use Rattle.merit_choice.proofs.ByHand.{placed_nobody}
 use Rattle.merit_choice.proofs.Needed.{apart_some, needed_again, needed_joined, needed_kept, nobody_of}
+use Rattle.merit_choice.proofs.Marking.{split_at, ahead_apart}
 use Rattle.list_audit.specs.Reckoning.{IsReckoned, IsWorstFree}
 
 -- ---- the next one
@@ -31,10 +31,6 @@ pub record IsNext (list : ListId) (front : List Person) (person : Person) : Type
   pub distinct : AreDistinct front
   pub apart : AllByRecursion (λ other. person.id ≢ other.id) front
   pub better : AllByRecursion (λ other. IsBetter list other person) front
-
-all_middle : {X : Type 0} (P : X → Type 0) (front : List X) (x : X) (back : List X) → AllByRecursion P (front ++ x ∷ back) → P x
-all_middle P [] x back all = all.0
-all_middle P (y ∷ front) x back all = all_middle P front x back all.1
 
 -- what holds between each two holds between the front and the one in the middle, and in the front
 before_middle : {X : Type 0} (R : X → X → Type 0) (front : List X) (x : X) (back : List X) → Pairwise R (front ++ x ∷ back) → AllByRecursion (λ y. R y x) front
@@ -48,9 +44,6 @@ all_in_front P (y ∷ front) back all = (all.0, all_in_front P front back all.1)
 in_front : {X : Type 0} (R : X → X → Type 0) (front back : List X) → Pairwise R (front ++ back) → Pairwise R front
 in_front R [] back each = tt
 in_front R (y ∷ front) back each = (all_in_front (R y) front back each.0, in_front R front back each.1)
-
-split_at : (people : List Person) (at : ℕ) (other : Person) → at < length people → people ≡ take at people ++ get_or people at other ∷ drop (suc at) people
-split_at people at other inside = sym (take-append-drop at people) ∙ ap (λ (rest : List Person). take at people ++ rest) (drop-cons people at other inside)
 
 next_at : (list : ListId) (people : List Person) (at : ℕ) (other : Person) → AreRanked list people → at < length people → IsNext list (take at people) (get_or people at other)
 next_at list people at other ranked inside =
@@ -68,11 +61,6 @@ next_at list people at other ranked inside =
       better = before_middle (IsBetter list) front person back r.in_order;
     }
 
-ahead_apart : (first second : Option ℕ) → IsAhead first second → second ≢ first
-ahead_apart None second ahead same = ahead
-ahead_apart (Some m) None ahead same = ahead
-ahead_apart (Some m) (Some n) ahead same = absurd (let e : n ≡ m = cc in omega (arith, ahead, e))
-
 -- the next may join
 pub next_joins : (list : ListId) (protections : Protections) (front : List Person) (person : Person) (kept : Kept) (free : Option Person) → IsNext list front person
     → IsReckoned list protections front kept free → MayJoin kept person
@@ -86,7 +74,7 @@ next_joins list protections front person kept free next r = record {
       next.better));
 }
 
--- ---- whoever is not needed
+-- ---- a person who is not needed
 
 -- one of the front and the next
 of_end : (front : List Person) (person other : Person) → IsAmong other (front ++ person ∷ []) → IsAmong other front ⊎ (other ≡ person)

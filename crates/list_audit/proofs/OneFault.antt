@@ -3,14 +3,15 @@ use Rattle.std.proofs.Common.{◌≡◌, ◌<◌, ◌⊎◌, ℕ, zero, suc, Opt
 use Rattle.std.proofs.lemmas.Bool.{cases_lt}
 use Rattle.std.specs.List.{AllByRecursion}
 use Rattle.office_base.specs.Lists.{IsAmong, Pairwise}
-use Rattle.office_base.specs.Person.{IsBetter, number_in}
+use Rattle.office_base.specs.Person.{IsBetter}
 use Rattle.office_base.specs.StepNumbers.{step_number}
 use Rattle.office_base.specs.declared.person.CandId.{CandId}
 use Rattle.office_base.specs.declared.person.ListId.{ListId}
 use Rattle.office_base.specs.declared.person.Person.{Person}
 use Rattle.office_base.specs.declared.step.StepKind.{StepKind}
 use Rattle.office_base.proofs.StepNumbers.{one_number}
-use Rattle.placements.proofs.Merit.{ahead_again, not_ahead}
+use Rattle.office_base.proofs.Lists.{all_middle}
+use Rattle.placements.proofs.Merit.{not_both_better}
 use Rattle.seat_matrix.specs.declared.seats.ProgrammeSeats.{ProgrammeSeats}
 use Rattle.programme_lists.specs.declared.programme.Programme.{Programme}
 use Rattle.list_audit.specs.Clauses.{Audited, AreCandidates, AreRightNumbers, BreaksFirst, IsBestOvertaking, IsCertified, IsFirstBroken, IsFirstOutside, IsRightSize, IsSound, NobodyOvertakes, audited, named_at, people_at}
@@ -20,28 +21,21 @@ use Rattle.list_audit.specs.declared.clause.Clause.TheVariants.{NotSought, Fell,
 
 -- ---- the first who is outside
 
-all_front : {X : Type 0} (P : X → Type 0) (front : List X) (x : X) (back : List X) → AllByRecursion P (front ++ x ∷ back) → P x
-all_front P [] x back all = all.0
-all_front P (y ∷ front) x back all = all_front P front x back all.1
-
--- the last of some stands before the next
+-- the last of some comes before the next
 last_before : (list : ListId) (front : List Person) (last person : Person) (back : List Person) → Pairwise (IsBetter list) ((front ++ last ∷ []) ++ person ∷ back) → IsBetter list last person
 last_before list [] last person back order = order.0.0
 last_before list (one ∷ front) last person back order = last_before list front last person back order.1
-
-never_both : (list : ListId) (a b : Person) → IsBetter list a b → IsBetter list b a → ⊥
-never_both list a b ahead behind = not_ahead (number_in list a) (ahead_again (number_in list a) (number_in list b) (number_in list a) ahead behind)
 
 -- not all are people in merit order where one of those named is outside
 not_candidates : (list : ListId) (people named : List Person) (cand : CandId) → IsFirstOutside list people named cand → AllByRecursion (λ person. IsAmong person people) named → Pairwise (IsBetter list) named → ⊥
 not_candidates list people named cand first among order =
     let split = first.told in
     let there : IsAmong first.person people =
-    all_front (λ person. IsAmong person people) first.before first.person first.after (subst (λ (those : List Person). AllByRecursion (λ person. IsAmong person people) those) split among) in
+    all_middle (λ person. IsAmong person people) first.before first.person first.after (subst (λ (those : List Person). AllByRecursion (λ person. IsAmong person people) those) split among) in
     let bad = first.bad there in
     let ordered : Pairwise (IsBetter list) ((bad.0 ++ bad.1 ∷ []) ++ first.person ∷ first.after) =
     subst (λ (those : List Person). Pairwise (IsBetter list) (those ++ first.person ∷ first.after)) bad.2 (subst (Pairwise (IsBetter list)) split order) in
-    never_both list first.person bad.1 bad.3 (last_before list bad.0 bad.1 first.person first.after ordered)
+    not_both_better list first.person bad.1 bad.3 (last_before list bad.0 bad.1 first.person first.after ordered)
 
 -- of two ways to split a list the first split is at the same one, or before the other or after it
 two_splits : (front other : List Person) (x y : Person) (back rest : List Person) → front ++ x ∷ back ≡ other ++ y ∷ rest
@@ -60,16 +54,16 @@ two_splits (f ∷ front) (o ∷ other) x y back rest e =
       ]
     ]
 
--- whoever stands in front of another who is the first outside is not outside
+-- a person in front of another who is the first outside is not outside
 not_in_front : (list : ListId) (people named : List Person) (one other : CandId) (first : IsFirstOutside list people named one) (second : IsFirstOutside list people named other) (tail : List Person)
     → second.before ≡ first.before ++ first.person ∷ tail → ⊥
 not_in_front list people named one other first second tail is =
     let there : IsAmong first.person people =
-    all_front (λ person. IsAmong person people) first.before first.person tail (subst (λ (those : List Person). AllByRecursion (λ person. IsAmong person people) those) is second.good) in
+    all_middle (λ person. IsAmong person people) first.before first.person tail (subst (λ (those : List Person). AllByRecursion (λ person. IsAmong person people) those) is second.good) in
     let bad = first.bad there in
     let ordered : Pairwise (IsBetter list) ((bad.0 ++ bad.1 ∷ []) ++ first.person ∷ tail) =
     subst (λ (those : List Person). Pairwise (IsBetter list) (those ++ first.person ∷ tail)) bad.2 (subst (Pairwise (IsBetter list)) is second.in_order) in
-    never_both list first.person bad.1 bad.3 (last_before list bad.0 bad.1 first.person tail ordered)
+    not_both_better list first.person bad.1 bad.3 (last_before list bad.0 bad.1 first.person tail ordered)
 
 one_outside : (list : ListId) (people named : List Person) (one other : CandId) → IsFirstOutside list people named one → IsFirstOutside list people named other → one ≡ other
 one_outside list people named one other first second =
@@ -171,7 +165,7 @@ module _ (step : Audited) where
     | inl same ↦ sym first.is ∙ ap (λ (p : Person). p.id) (sym same) ∙ second.is
     | inr ahead ↦ elim (second.best first.person first.overtakes) [
       | inl same ↦ sym first.is ∙ ap (λ (p : Person). p.id) same ∙ second.is
-      | inr behind ↦ absurd (never_both step.seats.list first.person second.person ahead behind)
+      | inr behind ↦ absurd (not_both_better step.seats.list first.person second.person ahead behind)
     ]
   ]
 

@@ -1,7 +1,7 @@
 -- A step of a programme from its parts, and the six steps.
-use Rattle.std.proofs.Common.{◌≡◌, ◌≤◌, ◌<◌, ◌+◌, ◌⊎◌, ℕ, Option, Some, None, List, refl, sym, ap, ◌∙◌, subst, inl, inr, arith}
+use Rattle.std.proofs.Common.{◌≡◌, ◌≤◌, ◌<◌, ◌+◌, ℕ, Option, Some, None, List, refl, sym, ap, ◌∙◌, subst, inl, inr, arith}
 use Rattle.std.proofs.lemmas.Bool.{cases_lt}
-use Rattle.std.specs.Prelude.{length, min, sum}
+use Rattle.std.specs.Prelude.{length, min}
 use Rattle.std.specs.List.{AllByRecursion, filter}
 use Rattle.office_base.specs.Lists.{IsAmong, IsSublist, Pairwise}
 use Rattle.office_base.specs.Merit.{in_merit}
@@ -19,24 +19,23 @@ use Rattle.office_base.proofs.StepNumbers.{one_number}
 use Rattle.placements.proofs.Filters.{filter-sublist}
 use Rattle.placements.proofs.Ranks.{ranked_sublist}
 use Rattle.placements.proofs.Sublists.{sublist_again}
-use Rattle.seat_matrix.specs.Seats.{AreProgrammeSeats, seats_of}
 use Rattle.seat_matrix.specs.declared.seats.ProgrammeSeats.{ProgrammeSeats}
 use Rattle.programme_lists.specs.Programme.{Admissions, is_of, people_of, without}
 use Rattle.programme_lists.specs.declared.programme.Programme.{Programme}
 use Rattle.programme_lists.specs.declared.programme.StepList.{StepList}
 use Rattle.merit_choice.specs.InMerit.{RankedInMerit, RankedPart}
-use Rattle.list_audit.specs.Clauses.{Audited, AreCandidates, AreRightNumbers, BreaksFirst, IsFirstOutside, IsListFault, IsRightSize, IsSound, audited, list_at, list_of, named_at, named_by, people_at, protections_at}
+use Rattle.list_audit.specs.Clauses.{Audited, AreCandidates, AreRightNumbers, BreaksFirst, IsListFault, IsRightSize, IsSound, audited, list_at, list_of, named_at, named_by, people_at, protections_at}
 use Rattle.list_audit.specs.Outside.{IsOutside}
 use Rattle.list_audit.specs.Stand.{left_to, stands_for}
 use Rattle.list_audit.specs.Steps.{BreaksChoice, IsCategoryFault, IsChoiceFault, IsOfCategory, IsStepFault}
 use Rattle.list_audit.specs.declared.clause.Clause.{Clause}
-use Rattle.list_audit.specs.declared.clause.Clause.TheVariants.{NotCandidate, BadCertificate, Overtaken}
-use Rattle.list_audit.proofs.Leaving.{ranked_without}
+use Rattle.list_audit.specs.declared.clause.Clause.TheVariants.{BadCertificate, Overtaken}
+use Rattle.programme_lists.proofs.Walk.{ranked_without}
 use Rattle.list_audit.proofs.SoundLists.{people_part, ranked_among}
 
 -- ---- the people of a step
 
--- the people of a step are those who stand for its seats of those who are left to it
+-- the people of a step are those who compete for its seats, of those who are left to it
 pub people_stand : (list : ListId) (applicants : List Person) (named : Admissions) (kind : StepKind) → people_of list applicants named kind ≡ filter (stands_for list kind) (left_to applicants named kind)
 people_stand list applicants named Open = refl
 people_stand list applicants named Ews = refl
@@ -48,7 +47,7 @@ people_stand list applicants named Dereserved = refl
 pub standing_ranked : (list : ListId) (kind : StepKind) (people some : List Person) → AreRanked list people → some ≡ filter (stands_for list kind) people → AreRanked list some
 standing_ranked list kind people some ranked e = subst (AreRanked list) (sym e) (ranked_sublist list (filter (stands_for list kind) people) people ranked (filter-sublist (stands_for list kind) people))
 
--- whoever is named is a part of the people
+-- those who are named are a part of the people
 pub named_part : RankedPart → (list : ListId) (people named : List Person) → AreRanked list people → AllByRecursion (λ person. IsAmong person people) named → Pairwise (IsBetter list) named
     → IsSublist named people
 named_part law list people named ranked among order = law list named people (ranked_among list people named ranked among order) ranked among
@@ -60,9 +59,6 @@ sound_part law step people e ranked sound =
 -- ---- one step
 
 module _ (step : Audited) (right : AreRightNumbers step) where
-  pub outside_first : (people : List Person) (cand : CandId) → people ≡ people_at step → IsFirstOutside step.seats.list people (named_at step) cand → IsStepFault step (Some (NotCandidate, Some cand))
-  outside_first people cand e first = (right, subst (λ (those : List Person). IsFirstOutside step.seats.list those (named_at step) cand) e first)
-
   pub candidates_of : (people : List Person) → people ≡ people_at step → AllByRecursion (λ person. IsAmong person people) (named_at step) → Pairwise (IsBetter step.seats.list) (named_at step) → AreCandidates step
   candidates_of people e among order = record { people = subst (λ (those : List Person). AllByRecursion (λ person. IsAmong person those) (named_at step)) e among; in_order = order }
 
@@ -99,35 +95,11 @@ among_step step people named shown protections fault e s n p right outside size 
     let listed = subst (λ (l : StepList). IsChoiceFault step.seats.list protections people l fault) s h in
     choice_step step right candidates count people fault e (subst (λ (q : Protections). IsChoiceFault step.seats.list q people (list_at step) fault) p listed)
 
-pub few_protections : (seats : ProgrammeSeats) (kind : StepKind) → AreProgrammeSeats seats → sum (seats_of seats kind).protections.counts ≤ 65535
-few_protections seats kind ok = let both = ok.steps kind in let low = both.protections in let most = both.seats in omega (arith, low, most)
-
 -- ---- the six steps
-
-open_or_later : (kind : StepKind) → step_number kind < 0 → ⊥
-open_or_later kind less = omega (arith, less)
 
 module _ (version : ℕ) (seats : ProgrammeSeats) (people : List Person) (programme : Programme) where
   abbrev Sound : StepKind → Type 0
   Sound kind = IsSound (audited version seats people programme kind)
-
-  pub open_broken : (fault : Clause × Option CandId) → IsStepFault (audited version seats people programme Open) (Some fault) → IsListFault version seats people programme (Some fault)
-  open_broken fault here = record { kind = Open; before = λ other less. absurd (open_or_later other less); here = here }
-
-  one_before : (kind other : StepKind) → IsOfCategory kind → step_number other < step_number kind → (other ≡ Open) ⊎ IsOfCategory other
-  one_before kind Open of less = inl refl
-  one_before kind Ews of less = inr (record { after = omega arith; before = omega arith })
-  one_before kind Obc of less = inr (record { after = omega arith; before = omega arith })
-  one_before kind Sc of less = inr (record { after = omega arith; before = omega arith })
-  one_before kind St of less = inr (record { after = omega arith; before = omega arith })
-  one_before kind Dereserved of less = absurd (let last = of.before in omega (arith, less, last))
-
-  pub category_broken : (fault : Clause × Option CandId) → Sound Open → IsCategoryFault version seats people programme (Some fault) → IsListFault version seats people programme (Some fault)
-  category_broken fault first h = record {
-    kind = h.0;
-    before = λ other less. elim (one_before h.0 other h.1 less) [ inl is ↦ subst Sound (sym is) first | inr of ↦ h.2 other of less ];
-    here = h.3;
-  }
 
   pub before_last : Sound Open → IsCategoryFault version seats people programme None → (other : StepKind) → step_number other < 5 → Sound other
   before_last first each Open less = first

@@ -1,4 +1,4 @@
--- Who overtakes somebody listed, told by those of the listed whom the protections need.
+-- Who overtakes somebody listed, by those of the listed whom the protections need.
 use Rattle.std.proofs.Common.{◌≡◌, ◌≢◌, ◌≤◌, ℕ, List, [], ◌∷◌, length, refl, sym, ap, ◌∙◌, subst, inl, inr, arith}
 use Rattle.std.specs.List.{AllByRecursion}
 use Rattle.office_base.specs.Lists.{IsAmong, IsSublist}
@@ -53,7 +53,7 @@ module _ (list : ListId) (protections : Protections) (people listed needed : Lis
   swapped_among : (worse : Person) → AreAmong (swapped worse) people
   swapped_among worse = (s.stands, among_again (without worse.id listed) listed people (without_among worse.id listed) listed_among)
 
-  -- whoever can be placed with the others has them honour as much
+  -- a person who can be placed with the others has them honour as much
   as_much : (worse : Person) (some : List Person) → AreAmong some (swapped worse) → CanBePlaced protections some → length some ≡ length needed
       → (m n : ℕ) → IsHonoured protections listed m → IsHonoured protections (swapped worse) n → m ≤ n
   as_much worse some within can count m n ours theirs =

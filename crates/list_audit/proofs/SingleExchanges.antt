@@ -1,5 +1,5 @@
 -- Where no single exchange improves those listed, they are the choice.
-use Rattle.std.proofs.Common.{◌≡◌, ◌≢◌, ◌≤◌, ◌<◌, ◌⊎◌, ℕ, suc, true, false, cond, List, [], ◌∷◌, length, refl, sym, ap, ◌∙◌, subst, inl, inr, arith}
+use Rattle.std.proofs.Common.{◌≡◌, ◌≢◌, ◌<◌, ◌⊎◌, ℕ, suc, true, false, cond, List, [], ◌∷◌, length, refl, sym, ap, ◌∙◌, subst, inl, inr, arith}
 use Rattle.std.proofs.lemmas.Bool.{cases_lt}
 use Rattle.std.specs.List.{AllByRecursion}
 use Rattle.office_base.specs.Lists.{IsAmong, IsSublist}
@@ -13,27 +13,16 @@ use Rattle.office_base.specs.declared.person.Person.{Person}
 use Rattle.office_base.specs.declared.step.Step.{Step}
 use Rattle.placements.specs.Ranks.{AreAmong, AreDistinct, without}
 use Rattle.placements.proofs.Greatest.{honoured-exists, honoured-one}
-use Rattle.placements.proofs.Merit.{not_ahead}
+use Rattle.placements.proofs.Merit.{not_ahead, length_with}
 use Rattle.placements.proofs.Ranks.{among_again, among_itself, among_sublist, any_all, are_among, finds_person, monotone, one_person, pairwise_sublist, ranked_sublist, same_people, widen}
-use Rattle.placements.proofs.Sublists.{length-sublist}
 use Rattle.placements.proofs.Without.{among_without, without_among, without_apart, without_first, without_later}
 use Rattle.merit_choice.specs.InMerit.{PartCanBeRanked, RankedInMerit, RankedPart, WithPersonRanks}
 use Rattle.merit_choice.specs.Laws.{ChoiceExists, ChoiceSize, OneTooMany, RefusedStaysRefused, SeatsForAll}
+use Rattle.merit_choice.proofs.InMerit.{whole_sublist}
 use Rattle.list_audit.specs.Exchanges.{Overtakes}
 use Rattle.list_audit.specs.Laws.{SingleExchanges}
 
 -- ---- lists
-
--- a part as long as the whole is the whole
-pub whole_sublist : {X : Type 0} (xs ys : List X) → IsSublist xs ys → length ys ≤ length xs → xs ≡ ys
-whole_sublist xs [] sub count = sub
-whole_sublist xs (y ∷ ys) sub count = elim sub [
-  | inl later ↦ absurd (omega (arith, length-sublist xs ys later))
-  | inr now ↦
-      let size = ap length now.1 in
-      let rest : now.0 ≡ ys = whole_sublist now.0 ys now.2 (omega arith) in
-      now.1 ∙ ap (λ (zs : List _). y ∷ zs) rest
-]
 
 -- one of all the people is listed, or is not
 pub listed_or_not : (all listed : List Person) (one : Person) → AreDistinct all → IsSublist listed all → IsAmong one all → IsAmong one listed ⊎ (IsAmong one listed → ⊥)
@@ -47,15 +36,6 @@ listed_or_not all listed one distinct sub there = elim (finds_person one listed)
 
 -- ---- a person more
 
--- one more
-length_with : (list : ListId) (person : Person) (people : List Person) → length (with_person list person people) ≡ suc (length people)
-length_with list person [] = refl
-length_with list person (other ∷ people) =
-    elim (is_better list person other) as (λ b. length (cond b (person ∷ other ∷ people) (other ∷ with_person list person people)) ≡ suc (length (other ∷ people))) [
-      | true ↦ refl
-      | false ↦ ap suc (length_with list person people)
-    ]
-
 -- without the person all are as before
 without_with : (list : ListId) (person : Person) (people : List Person) → AllByRecursion (λ other. person.id ≢ other.id) people → without person.id (with_person list person people) ≡ people
 without_with list person [] apart = without_first person.id person [] refl
@@ -67,7 +47,7 @@ without_with list person (other ∷ people) apart =
           ∙ ap (λ (those : List Person). other ∷ those) (without_with list person people apart.1)
     ]
 
--- whoever is left without one has another number
+-- a person who is left without one has another number
 left_apart : (cand : CandId) (people : List Person) (one : Person) → AreDistinct people → IsAmong one (without cand people) → one.id ≢ cand
 left_apart cand people one distinct there e =
     let found = any_all (λ (o : Person). one ≡ o) (λ (o : Person). cand ≢ o.id) (without cand people) there (without_apart cand people distinct) in
@@ -106,7 +86,7 @@ module _ (one_too_many : OneTooMany) (refused_stays_refused : RefusedStaysRefuse
       (there, among_sublist listed all sub) in
       record { traits = can.traits.0; placed = can.placed.0; distinct = apart; numbers = can.numbers.0 }
 
-  -- whoever is not listed is not chosen: among the listed and this one alone the choice is the listed
+  -- a person who is not listed is not chosen: among the listed and this one alone the choice is the listed
   not_chosen : (step : Step) (listed chosen : List Person) (n : ℕ) (one : Person) → IsStep step → IsSublist listed step.people → length listed ≡ step.seats
       → IsHonoured step.protections listed n → IsHonoured step.protections step.people n
       → ((person worse : Person) → Overtakes step.list step.protections step.people listed person worse → ⊥)

@@ -1,12 +1,11 @@
 -- Lists of a programme that break no clause name its choice.
 use Rattle.std.proofs.Common.{◌≡◌, ◌≢◌, ◌≤◌, ◌+◌, ◌-◌, ℕ, zero, suc, Bool, true, false, List, [], ◌∷◌, length, take, refl, sym, ap, ◌∙◌, subst, inl, inr, arith, ◌==◌, if◌then◌else◌}
-use Rattle.std.proofs.lemmas.Bool.{cases_Bool, eqb-false}
 use Rattle.std.specs.Prelude.{min}
 use Rattle.std.specs.List.{AllByRecursion}
 use Rattle.office_base.specs.Lists.{IsAmong, IsSublist, Pairwise}
 use Rattle.office_base.specs.Merit.{in_merit}
 use Rattle.office_base.specs.Person.{IsBetter, is_common, number_in}
-use Rattle.office_base.specs.Placement.{IsHonoured, IsPlacement, placed_on, protected}
+use Rattle.office_base.specs.Placement.{IsHonoured, IsPlacement}
 use Rattle.office_base.specs.StepChoice.{AreRanked, IsStep, IsStepChoice}
 use Rattle.office_base.specs.declared.person.ListId.{ListId}
 use Rattle.office_base.specs.declared.person.Person.{Person}
@@ -21,12 +20,13 @@ use Rattle.placements.proofs.Filters.{filter-sublist}
 use Rattle.placements.proofs.Merit.{not_ahead}
 use Rattle.placements.proofs.Ranks.{all_among, among_sublist, any_all, one_person, ranked_sublist, widen, widened}
 use Rattle.placements.proofs.Sublists.{sublist_again}
-use Rattle.seat_matrix.specs.Seats.{AreProgrammeSeats, no_protections, seats_of}
+use Rattle.seat_matrix.specs.Seats.{AreProgrammeSeats, seats_of}
 use Rattle.seat_matrix.specs.declared.seats.ProgrammeSeats.{ProgrammeSeats}
 use Rattle.programme_lists.specs.Chosen.{AreApplicants}
 use Rattle.programme_lists.specs.Programme.{Admissions, is_of, left_over, people_of, step_of, unfilled, without}
 use Rattle.programme_lists.specs.declared.programme.Programme.{Programme}
 use Rattle.merit_choice.specs.InMerit.{InMeritRanks, RankedPart}
+use Rattle.seat_matrix.proofs.Unprotected.{none_honoured}
 use Rattle.list_audit.specs.Clauses.{IsSound, audited, list_of, named_by}
 use Rattle.list_audit.specs.Laws.{SingleExchanges, SoundListsAreTheChoice}
 
@@ -53,7 +53,7 @@ people_part list applicants named Sc = sublist_again _ _ applicants (filter-subl
 people_part list applicants named St = sublist_again _ _ applicants (filter-sublist (is_of StMember) (without applicants named.open_step)) (left_part applicants named.open_step)
 people_part list applicants named Dereserved = sublist_again _ _ applicants (filter-sublist (is_common list) (left_over applicants named)) (over_part applicants named)
 
--- ---- whoever is named
+-- ---- a person who is named
 
 -- people in merit order among distinct people are distinct
 apart_in_order : (list : ListId) (people : List Person) (one : Person) (others : List Person) → AreDistinct people → IsAmong one people → AreAmong others people
@@ -124,33 +124,6 @@ best_named list (one ∷ people) named (suc n) ranked sub count none = elim sub 
         let far = any_all (λ (o : Person). one ≡ o) (λ (o : Person). one.id ≢ o.id) people (widen one (other ∷ named) people (among_sublist (other ∷ named) people sub) there) ranked.distinct.0 in
         far.2 (ap (λ (p : Person). p.id) far.1) in
         none one other (inl refl) gone (inl refl) (subst (IsBetter list one) (sym better.1) better.2)
-
--- without protections nobody can be placed
-no_position : (t : ℕ) → protected no_protections t ≡ 0
-no_position zero = refl
-no_position (suc zero) = refl
-no_position (suc (suc zero)) = refl
-no_position (suc (suc (suc zero))) = refl
-no_position (suc (suc (suc (suc zero)))) = refl
-no_position (suc (suc (suc (suc (suc zero))))) = refl
-no_position (suc (suc (suc (suc (suc (suc t)))))) = refl
-
-abbrev one_where : Bool → ℕ
-one_where test = if test then 1 else 0
-
-stands_once : (pair : Pair) (pairs : List Pair) → 1 ≤ placed_on pair.slot (pair ∷ pairs)
-stands_once pair pairs = elim (cases_Bool (pair.slot == pair.slot)) [
-  | inl same ↦ (let e = ap one_where same in omega (arith, e))
-  | inr other ↦ absurd (eqb-false pair.slot pair.slot other refl)
-]
-
-nobody_placed : (people : List Person) (pairs : List Pair) → IsPlacement no_protections people pairs → length pairs ≡ 0
-nobody_placed people [] placed = refl
-nobody_placed people (pair ∷ pairs) placed =
-    absurd (let few = placed.within pair.slot in let none = no_position pair.slot in let one = stands_once pair pairs in omega (arith, few, none, one))
-
-pub none_honoured : (people : List Person) (n : ℕ) → IsHonoured no_protections people n → n ≡ 0
-none_honoured people n h = sym h.reached.2 ∙ nobody_placed people h.reached.0 h.reached.1
 
 -- ---- the seats of the last step
 

@@ -9,19 +9,20 @@ use Rattle.office_base.specs.Person.{IsBetter}
 use Rattle.office_base.specs.StepChoice.{AreRanked}
 use Rattle.office_base.specs.declared.person.ListId.{ListId}
 use Rattle.office_base.specs.declared.person.Person.{Person}
+use Rattle.office_base.proofs.Lists.{all_weaker, all_push}
 use Rattle.placements.specs.Ranks.{AreDistinct}
 use Rattle.list_audit.specs.Clauses.{IsFirstOutside}
 use Rattle.list_audit.proofs.Walks.{split_at_place}
 
--- the person stands at a place before this one
+-- the person is at a place before this one
 abbrev pub StandsBefore : List Person → ℕ → Person → Type 0
 StandsBefore people next person = (k : ℕ) × (k < next) × (slice_get people k ≡ Some person)
 
--- whoever was named last stands just before this place
+-- the person who was named last is just before this place
 abbrev pub IsLast : List Person → ℕ → List Person → Type 0
 IsLast people next front = ((front ≡ []) × (next ≡ 0)) ⊎ ((rest : List Person) × (last : Person) × (k : ℕ) × (front ≡ rest ++ last ∷ []) × (next ≡ suc k) × (slice_get people k ≡ Some last))
 
--- Those named so far stand among the people, in their order, before this place.
+-- Those named so far are among the people, in their order, before this place.
 pub record AreFound (list : ListId) (people : List Person) (next : ℕ) (front : List Person) : Type 0 where
   pub within : next ≤ length people
   pub stand : AllByRecursion (StandsBefore people next) front
@@ -60,35 +61,24 @@ better_at list (one ∷ people) j zero a b order at at' less = absurd (omega (ar
 better_at list (one ∷ people) zero (suc k) a b order at at' less = let same : one ≡ a = cc in subst (λ (p : Person). IsBetter list p b) same (all_got (IsBetter list one) people k b order.0 at')
 better_at list (one ∷ people) (suc j) (suc k) a b order at at' less = better_at list people j k a b order.1 at at' (omega (arith, less))
 
-all_end : {X : Type 0} (P : X → Type 0) (xs : List X) (x : X) → AllByRecursion P xs → P x → AllByRecursion P (xs ++ x ∷ [])
-all_end P [] x all one = (one, tt)
-all_end P (y ∷ xs) x all one = (all.0, all_end P xs x all.1 one)
-
 pair_end : {X : Type 0} (R : X → X → Type 0) (xs : List X) (x : X) → Pairwise R xs → AllByRecursion (λ y. R y x) xs → Pairwise R (xs ++ x ∷ [])
 pair_end R [] x each all = (tt, tt)
-pair_end R (y ∷ xs) x each all = (all_end (R y) xs x each.0 all.0, pair_end R xs x each.1 all.1)
-
-all_map : {X : Type 0} (P Q : X → Type 0) → ((x : X) → P x → Q x) → (xs : List X) → AllByRecursion P xs → AllByRecursion Q xs
-all_map P Q f [] all = tt
-all_map P Q f (x ∷ xs) all = (f x all.0, all_map P Q f xs all.1)
+pair_end R (y ∷ xs) x each all = (all_push (R y) xs x each.0 all.0, pair_end R xs x each.1 all.1)
 
 -- ---- the next who is named
-
-pub found_nobody : (list : ListId) (people : List Person) → AreFound list people 0 []
-found_nobody list people = record { within = omega arith; stand = tt; in_order = tt; last = inl (refl, refl) }
 
 found_next : (list : ListId) (people front : List Person) (next at : ℕ) (person : Person) → AreRanked list people → AreFound list people next front → next ≤ at → at < length people
     → slice_get people at ≡ Some person → AreFound list people (at + 1) (front ++ person ∷ [])
 found_next list people front next at person ranked f far inside here = record {
   within = omega (arith, inside);
-  stand = all_end (StandsBefore people (at + 1)) front person
-      (all_map (StandsBefore people next) (StandsBefore people (at + 1)) (λ p s. (s.0, (let less = s.1 in omega (arith, less, far)), s.2)) front f.stand) (at, omega arith, here);
+  stand = all_push (StandsBefore people (at + 1)) front person
+      (all_weaker (StandsBefore people next) (StandsBefore people (at + 1)) (λ p s. (s.0, (let less = s.1 in omega (arith, less, far)), s.2)) front f.stand) (at, omega arith, here);
   in_order = pair_end (IsBetter list) front person f.in_order
-      (all_map (StandsBefore people next) (λ p. IsBetter list p person) (λ p s. better_at list people s.0 at p person ranked.in_order s.2 here (let less = s.1 in omega (arith, less, far))) front f.stand);
+      (all_weaker (StandsBefore people next) (λ p. IsBetter list p person) (λ p s. better_at list people s.0 at p person ranked.in_order s.2 here (let less = s.1 in omega (arith, less, far))) front f.stand);
   last = inr (front, person, at, refl, omega arith, here);
 }
 
--- whoever is found no more is none of the people, or better than the one before
+-- a person who is found no more is none of the people, or better than the one before
 outside_next : (list : ListId) (people front back : List Person) (next : ℕ) (person : Person) → AreRanked list people → AreDistinct (front ++ person ∷ back) → AreFound list people next front
     → (IsAmong person (drop next people) → ⊥) → IsFirstOutside list people (front ++ person ∷ back) person.id
 outside_next list people front back next person ranked distinct f gone = record {
@@ -97,7 +87,7 @@ outside_next list people front back next person ranked distinct f gone = record 
   after = back;
   told = refl;
   is = refl;
-  good = all_map (StandsBefore people next) (λ p. IsAmong p people) (λ p s. at_among people s.0 p s.2) front f.stand;
+  good = all_weaker (StandsBefore people next) (λ p. IsAmong p people) (λ p s. at_among people s.0 p s.2) front f.stand;
   in_order = f.in_order;
   bad = λ there.
       let place = among_at people person there in
@@ -141,4 +131,4 @@ outside_at list people named i next other ranked distinct less f gone =
     (outside_next list people (take i named) (drop (suc i) named) next (get_or named i other) ranked (subst AreDistinct split distinct) f gone)
 
 pub all_found : (list : ListId) (people named : List Person) (next : ℕ) → AreFound list people next named → AllByRecursion (λ person. IsAmong person people) named × Pairwise (IsBetter list) named
-all_found list people named next f = (all_map (StandsBefore people next) (λ p. IsAmong p people) (λ p s. at_among people s.0 p s.2) named f.stand, f.in_order)
+all_found list people named next f = (all_weaker (StandsBefore people next) (λ p. IsAmong p people) (λ p s. at_among people s.0 p s.2) named f.stand, f.in_order)

@@ -1,50 +1,20 @@
 -- The worst of members who hold no trait outside a set.
-use Rattle.std.proofs.Common.{◌≡◌, ◌≢◌, ◌≤◌, ◌<◌, ◌+◌, ◌%◌, ◌⊎◌, ℕ, true, false, Option, Some, None, List, [], ◌∷◌, ◌++◌, length, get_or, take, add-one, eqb, sym, ap, ◌∙◌, subst, inl, inr, arith}
+use Rattle.std.proofs.Common.{◌≡◌, ◌≢◌, ◌<◌, ◌+◌, ◌%◌, ◌⊎◌, ℕ, true, false, Option, None, List, [], ◌∷◌, ◌++◌, length, get_or, take, add-one, eqb, sym, ap, ◌∙◌, subst, inl, inr, arith}
 use Rattle.std.proofs.lemmas.Bool.{both_ways, cases_lt}
 use Rattle.std.proofs.lemmas.List.{get_or-set_other, get_or-set_same}
 use Rattle.std.proofs.lemmas.Nat.{and_assoc, and_comm, and_mask}
 use Rattle.std.proofs.Math.ListN.{set}
 use Rattle.std.proofs.Math.Seq.{take-suc}
-use Rattle.std.specs.Prelude.{◌↔◌, IsSome, bit_and}
+use Rattle.std.specs.Prelude.{◌↔◌, bit_and}
 use Rattle.std.specs.List.{AllByRecursion}
 use Rattle.office_base.specs.Lists.{AnyByRecursion}
-use Rattle.office_base.specs.Person.{IsAhead, IsBetter, IsTraitSet, number_in}
+use Rattle.office_base.specs.Person.{IsBetter, IsTraitSet}
 use Rattle.office_base.specs.declared.person.ListId.{ListId}
 use Rattle.office_base.specs.declared.person.Person.{Person}
 use Rattle.office_base.specs.declared.person.TraitSet.{TraitSet}
 use Rattle.placements.specs.Demand.{is_within}
-use Rattle.placements.proofs.Merit.{ahead_again}
 use Rattle.placements.proofs.Ranks.{any_append}
 use Rattle.list_audit.specs.Reckoning.{IsBetterThan, IsWorstWithin}
-
--- ---- the worse one of two
-
-not_before : (m n k : Option ℕ) → IsSome n → (IsAhead n m → ⊥) → IsAhead k m → IsAhead k n
-not_before (Some m) (Some n) (Some k) some behind ahead = elim (cases m n) [ inl less ↦ omega (arith, less, ahead) | inr far ↦ absurd (behind far) ]
-  where
-    cases : (a b : ℕ) → (a ≤ b) ⊎ (b < a)
-    cases a b = grind arith
-not_before None n (Some k) some behind ahead = absurd ahead
-not_before (Some m) None (Some k) some behind ahead = absurd (let e : false ≡ true = some in cc)
-not_before m n None some behind ahead = absurd ahead
-
--- the first stays where the second is better
-pub first_worse : (list : ListId) (person other member : Person) → IsBetter list member other → IsBetter list person other ↔ (IsBetter list person other ⊎ IsBetter list person member)
-first_worse list person other member better = (
-  (λ h. inl h),
-  (λ h. elim h [ inl first ↦ first | inr second ↦ ahead_again (number_in list person) (number_in list member) (number_in list other) second better ]),
-)
-
--- the second comes where it is not better
-pub second_worse : (list : ListId) (person other member : Person) → IsSome (number_in list member) → (IsBetter list member other → ⊥)
-    → IsBetter list person member ↔ (IsBetter list person other ⊎ IsBetter list person member)
-second_worse list person other member placed behind = (
-  (λ h. inr h),
-  (λ h. elim h [ inl first ↦ not_before (number_in list other) (number_in list member) (number_in list person) placed behind first | inr second ↦ second ]),
-)
-
-pub only_one : (list : ListId) (person member : Person) → IsBetter list person member ↔ (⊥ ⊎ IsBetter list person member)
-only_one list person member = ((λ h. inr h), (λ h. elim h [ inl none ↦ absurd none | inr second ↦ second ]))
 
 -- ---- the next member
 

@@ -52,7 +52,7 @@ pub record Audited : Type 0 where
   pub programme : Programme
   pub kind : StepKind
 
--- a step of a programme, with these people, told in any order
+-- a step of a programme, with these people, in any order
 abbrev pub audited : ℕ → ProgrammeSeats → List Person → Programme → StepKind → Audited
 audited version seats people programme kind = record { version = version; seats = seats; applicants = in_merit seats.list people; programme = programme; kind = kind }
 
@@ -88,12 +88,12 @@ HasSeats version seats named Dereserved n = n + seats_held version named ≡ sea
 
 -- ---- the clauses
 
--- the numbers told are those of the step after the lists before it
+-- the published numbers are those of the step after the lists before it
 pub record AreRightNumbers (step : Audited) : Type 0 where
   pub seats : HasSeats step.version step.seats (named_by step.programme) step.kind (list_at step).seats
   pub candidates : (list_at step).candidates ≡ length (people_at step)
 
--- whoever is named is one of the step's people, and they stand in merit order
+-- everyone named is one of the step's people, and they are in merit order
 pub record AreCandidates (step : Audited) : Type 0 where
   pub people : AllByRecursion (λ person. IsAmong person (people_at step)) (named_at step)
   pub in_order : Pairwise (IsBetter step.seats.list) (named_at step)

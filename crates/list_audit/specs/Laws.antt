@@ -15,8 +15,8 @@ use Rattle.list_audit.specs.Clauses.{IsListFault, IsSound, audited, named_by}
 use Rattle.list_audit.specs.Exchanges.{Overtakes}
 use Rattle.list_audit.specs.declared.clause.Clause.{Clause}
 
--- Those listed stand among the people in merit order, fill the seats as far as people go, and honour as much as all of them. Where nobody overtakes one of
--- them, they are the choice of the step.
+-- Those listed are some of the people in merit order, fill the seats as far as people go, and honour as much as all
+-- of them. If nobody overtakes one of them, they are the choice of the step.
 abbrev pub SingleExchanges : Type 0
 SingleExchanges = (step : Step) (listed : List Person) (n : ℕ) → IsStep step → IsSublist listed step.people → length listed ≡ min step.seats (length step.people)
     → IsHonoured step.protections listed n → IsHonoured step.protections step.people n

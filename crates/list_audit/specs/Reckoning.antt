@@ -1,4 +1,4 @@
--- Who overtakes somebody listed, told by those of the listed whom the protections need.
+-- Who overtakes somebody listed, by those of the listed whom the protections need.
 use Rattle.std.specs.Prelude.{◌≡◌, ◌<◌, ◌⊎◌, ◌↔◌, ℕ, List, ◌∷◌, ◌++◌, Option, Some, None, length, slice_index_or, true}
 use Rattle.std.specs.List.{AllByRecursion}
 use Rattle.office_base.specs.declared.person.CandId.{CandId}
@@ -22,7 +22,8 @@ IsAhead list protections listed needed person =
     ((free : Person) × IsAmong free listed × (IsAmong free needed → ⊥) × IsBetter list person free)
     ⊎ ((worse : Person) × IsAmong worse needed × IsBetter list person worse × CanBePlaced protections (person ∷ without worse.id needed))
 
--- Where all people honour no more than those listed, whoever is not listed overtakes one of them exactly where the person is ahead so.
+-- If all people honour no more than those listed, a person who is not listed overtakes one of them exactly when
+-- `IsAhead` holds for the person.
 abbrev pub Reckoned : Type 0
 Reckoned = (list : ListId) (protections : Protections) (people listed needed : List Person) (person : Person) → AreRanked list people → IsSublist listed people
     → AreNeeded list protections listed needed → IsHonoured protections people (length needed) → IsAmong person people → (IsAmong person listed → ⊥)
@@ -34,7 +35,7 @@ IsWorstFree list listed needed None = (person : Person) → IsAmong person liste
 IsWorstFree list listed needed (Some free) = IsAmong free listed × (IsAmong free needed → ⊥)
     × ((other : Person) → IsAmong other listed → (IsAmong other needed → ⊥) → (other ≡ free) ⊎ IsBetter list other free)
 
--- The matching has the needed of those listed, and beside it stands the worst of the others.
+-- The matching has the needed of those listed, and `free` is the worst of the others.
 pub record IsReckoned (list : ListId) (protections : Protections) (listed : List Person) (kept : Kept) (free : Option Person) : Type 0 where
   pub same_list : kept.list ≡ list
   pub same_protections : kept.protections ≡ protections
@@ -46,7 +47,8 @@ abbrev pub IsBetterThan : ListId → Person → Option Person → Type 0
 IsBetterThan list person None = ⊥
 IsBetterThan list person (Some other) = IsBetter list person other
 
--- The worst of the members who hold no trait outside the set: whoever is better than this one is better than one of them, and the other way round.
+-- The worst of the members who hold no trait outside the set. A person is better than this one if and only if the
+-- person is better than one of them.
 abbrev pub IsWorstWithin : ListId → TraitSet → List Person → Option Person → Type 0
 IsWorstWithin list set members worst =
     (person : Person) → IsBetterThan list person worst ↔ AnyByRecursion (λ member. (is_within member.traits set ≡ true) × IsBetter list person member) members

@@ -1,4 +1,4 @@
--- Who stands for the seats of a step, of those whom the steps before left.
+-- Who competes for the seats of a step, of those whom the steps before left.
 use Rattle.std.specs.Prelude.{List, Bool}
 use Rattle.office_base.specs.Person.{is_common}
 use Rattle.office_base.specs.declared.person.Category.TheVariants.{Ews as EwsMember, Obc as ObcMember, Sc as ScMember, St as StMember}

@@ -30,7 +30,8 @@ fn is_better_than(person: &Person, list: ListId, other: &Option<Person>) -> bool
 fn worse_of(worst: Option<Person>, member: &Person, list: ListId) -> Option<Person>
     requires list { IsList list }
     requires placed { IsSome (number_in list member.now) }
-    ensures { (person : AnyPerson) → IsBetterThan list person result ↔ (IsBetterThan list person worst ⊎ IsBetter list person member.now) }
+    ensures { (person : AnyPerson) → IsBetterThan list person result
+        ↔ (IsBetterThan list person worst ⊎ IsBetter list person member.now) }
 {
     match worst {
         Some(other) => {
@@ -83,8 +84,10 @@ fn replaces_worse(
     requires worst { AreWorst list needed.now.members worst.now }
     requires traits { AllByRecursion (λ member. IsTraitSet member.traits) needed.now.members }
     requires may { MayJoin needed.now person.now }
-    requires cannot { ¬ CanBePlaced needed.now.protections (with_member needed.now person.now).members }
-    ensures { IsTrue result ↔ AnyByRecursion (λ member. CanReplace needed.now person.now member × IsBetter list person.now member) needed.now.members }
+    requires cannot { ¬ CanBePlaced needed.now.protections
+        (with_member needed.now person.now).members }
+    ensures { IsTrue result ↔ AnyByRecursion (λ member. CanReplace needed.now person.now member
+        × IsBetter list person.now member) needed.now.members }
 {
     match needed.replaceable(person) {
         Some(set) => is_better_than(person, list, &worst[usize::from(set.0 & 63)]),
@@ -101,11 +104,14 @@ fn is_ahead(
 ) -> bool
     requires list { IsList list }
     requires worst { AreWorst list reckoning.now.needed.members worst.now }
-    requires traits { AllByRecursion (λ member. IsTraitSet member.traits) reckoning.now.needed.members }
+    requires traits { AllByRecursion (λ member. IsTraitSet member.traits)
+        reckoning.now.needed.members }
     requires may { MayJoin reckoning.now.needed person.now }
-    requires cannot { ¬ CanBePlaced reckoning.now.needed.protections (with_member reckoning.now.needed person.now).members }
-    ensures { (listed : List AnyPerson) → IsReckoned list reckoning.now.needed.protections listed reckoning.now.needed reckoning.now.free
-        → IsTrue result ↔ IsAhead list reckoning.now.needed.protections listed reckoning.now.needed.members person.now }
+    requires cannot { ¬ CanBePlaced reckoning.now.needed.protections
+        (with_member reckoning.now.needed person.now).members }
+    ensures { (listed : List AnyPerson) → IsReckoned list reckoning.now.needed.protections
+        listed reckoning.now.needed reckoning.now.free → IsTrue result ↔ IsAhead list
+        reckoning.now.needed.protections listed reckoning.now.needed.members person.now }
 {
     is_better_than(person, list, &reckoning.free)
         || replaces_worse(&reckoning.needed, worst, list, person)
@@ -115,12 +121,16 @@ fn is_ahead(
 /// traits, and then looks at no member.
 pub(crate) fn first_ahead(reckoning: &Reckoning, list: ListId, people: &[Person]) -> Option<CandId>
     requires list { IsList list }
-    requires placed { AllByRecursion (λ member. IsSome (number_in list member)) reckoning.now.needed.members }
-    requires traits { AllByRecursion (λ member. IsTraitSet member.traits) reckoning.now.needed.members }
+    requires placed { AllByRecursion (λ member. IsSome (number_in list member))
+        reckoning.now.needed.members }
+    requires traits { AllByRecursion (λ member. IsTraitSet member.traits)
+        reckoning.now.needed.members }
     requires may { AllByRecursion (λ person. MayJoin reckoning.now.needed person) people.now }
-    requires cannot { AllByRecursion (λ person. ¬ CanBePlaced reckoning.now.needed.protections (with_member reckoning.now.needed person).members) people.now }
-    ensures { (listed : List AnyPerson) → IsReckoned list reckoning.now.needed.protections listed reckoning.now.needed reckoning.now.free
-        → IsFirstAhead list reckoning.now.needed.protections listed reckoning.now.needed.members people.now result }
+    requires cannot { AllByRecursion (λ person. ¬ CanBePlaced reckoning.now.needed.protections
+        (with_member reckoning.now.needed person).members) people.now }
+    ensures { (listed : List AnyPerson) → IsReckoned list reckoning.now.needed.protections
+        listed reckoning.now.needed reckoning.now.free → IsFirstAhead list
+        reckoning.now.needed.protections listed reckoning.now.needed.members people.now result }
 {
     let worst = worst_by_sets(reckoning.needed.members(), list);
     for person in people {

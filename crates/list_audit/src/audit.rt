@@ -61,7 +61,8 @@ fn category_fault(
     requires seats { AreProgrammeSeats seats.now }
     requires ranked { AreRanked seats.now.list rest.now }
     requires once { (kind : AnyKind) → AreDistinct (list_of programme.now kind).admitted }
-    ensures { IfOk result (λ fault. (applicants : List AnyPerson) → rest.now ≡ without (in_merit seats.now.list applicants) (named_by programme.now).open_step
+    ensures { IfOk result (λ fault. (applicants : List AnyPerson)
+        → rest.now ≡ without (in_merit seats.now.list applicants) (named_by programme.now).open_step
         → IsCategoryFault version seats.now applicants programme.now fault) }
 {
     for number in 1..5 {
@@ -84,11 +85,16 @@ fn last_fault(
     requires seats { AreProgrammeSeats seats.now }
     requires ranked { AreRanked seats.now.list rest.now }
     requires once { AreDistinct (list_of programme.now DereservedStep).admitted }
-    requires ews { IsSublist (list_of programme.now EwsStep).admitted (filter (is_of EwsMember) rest.now) }
-    requires obc { IsSublist (list_of programme.now ObcStep).admitted (filter (is_of ObcMember) rest.now) }
-    requires sc { IsSublist (list_of programme.now ScStep).admitted (filter (is_of ScMember) rest.now) }
-    requires st { IsSublist (list_of programme.now StStep).admitted (filter (is_of StMember) rest.now) }
-    ensures { IfOk result (λ fault. (applicants : List AnyPerson) → rest.now ≡ without (in_merit seats.now.list applicants) (named_by programme.now).open_step
+    requires ews { IsSublist (list_of programme.now EwsStep).admitted
+        (filter (is_of EwsMember) rest.now) }
+    requires obc { IsSublist (list_of programme.now ObcStep).admitted
+        (filter (is_of ObcMember) rest.now) }
+    requires sc { IsSublist (list_of programme.now ScStep).admitted
+        (filter (is_of ScMember) rest.now) }
+    requires st { IsSublist (list_of programme.now StStep).admitted
+        (filter (is_of StMember) rest.now) }
+    ensures { IfOk result (λ fault. (applicants : List AnyPerson)
+        → rest.now ≡ without (in_merit seats.now.list applicants) (named_by programme.now).open_step
         → IsStepFault (audited version seats.now applicants programme.now DereservedStep) fault) }
 {
     let left = left_over(
@@ -109,7 +115,7 @@ fn last_fault(
     )
 }
 
-/// The first clause that the lists break, from applicants who stand in merit order.
+/// Returns the first clause that the lists break, from applicants in merit order.
 fn fault_in_order(
     alloc: Global,
     version: u8,
@@ -120,7 +126,8 @@ fn fault_in_order(
     requires seats { AreProgrammeSeats seats.now }
     requires ranked { AreRanked seats.now.list ranked.now }
     requires once { (kind : AnyKind) → AreDistinct (list_of programme.now kind).admitted }
-    ensures { IfOk result (λ fault. (applicants : List AnyPerson) → ranked.now ≡ in_merit seats.now.list applicants → IsListFault version seats.now applicants programme.now fault) }
+    ensures { IfOk result (λ fault. (applicants : List AnyPerson) → ranked.now ≡ in_merit
+        seats.now.list applicants → IsListFault version seats.now applicants programme.now fault) }
 {
     ranked_in_merit();
     ranked_part();
@@ -134,9 +141,11 @@ fn fault_in_order(
     last_fault(alloc, version, seats, programme, rest.as_slice())
 }
 
-/// The first clause that the lists of a programme break, from its applicants in any order: steps in their order, and in each the numbers, the people, the
-/// size, the certificate and that nobody is overtaken. The candidate is the one whom the clause names: the first who is no person of the step or stands out of
-/// order, or the best who overtakes somebody. None exactly where no clause is broken. The version is that of the bundle. It fails for want of memory alone.
+/// Returns the first clause that the lists of a programme break, from its applicants in any order, or `None` exactly
+/// when they break no clause. The steps come in their order. In each come the numbers, the people, the size, the
+/// certificate, and that nobody is overtaken. The candidate is the one whom the clause names: the first who is no
+/// person of the step or is out of order, or the best who overtakes somebody. The version is that of the bundle.
+/// Fails only when memory runs out.
 pub fn list_fault(
     alloc: Global,
     matrix: &Matrix,
@@ -149,7 +158,8 @@ pub fn list_fault(
     requires version { IsVersion version }
     requires applicants { AreApplicants (list_in matrix.now prog.0) applicants.now }
     requires once { (kind : AnyKind) → AreDistinct (list_of programme.now kind).admitted }
-    ensures { IfOk result (λ fault. IsListFault version (seats_in matrix.now prog.0) applicants.now programme.now fault) }
+    ensures { IfOk result (λ fault.
+        IsListFault version (seats_in matrix.now prog.0) applicants.now programme.now fault) }
 {
     let seats = matrix.programme(prog);
     let ranked = in_merit_order(alloc, applicants, seats.list)?;

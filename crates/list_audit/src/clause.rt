@@ -15,7 +15,7 @@ pub enum Clause {
     Unlisted,
     /// The seats or the number of candidates of a step are wrong.
     WrongNumbers,
-    /// One of those listed is not one of the step's people, or stands out of order.
+    /// One of those listed is not one of the step's people, or is out of order.
     NotCandidate,
     /// Not as many are listed as there are seats or candidates.
     WrongSize,

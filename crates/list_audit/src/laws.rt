@@ -17,8 +17,8 @@ pub fn single_exchanges()
     merit_choice::laws::part_can_be_ranked();
 }
 
-/// Whoever is not listed overtakes one of those listed exactly where the person is better than one who is not needed, or can take the place of one of the
-/// needed who is worse.
+/// States that a person who is not listed overtakes one of those listed exactly when the person is better than one
+/// who is not needed, or can take the place of one of the needed who is worse.
 pub fn reckoned()
     ensures { Reckoned }
 {}

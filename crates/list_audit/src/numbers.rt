@@ -1,4 +1,4 @@
-// The numbers that a list tells: its seats and its candidates.
+// The numbers that a list shows: its seats and its candidates.
 ghost use Rattle.std.specs.Prelude.{◌≡◌, ◌↔◌, ◌+◌, IsTrue, length};
 ghost use Rattle.office_base.specs.declared.step.StepKind.TheVariants.{Dereserved as DereservedStep};
 ghost use Rattle.seat_matrix.specs.Seats.{AreProgrammeSeats};
@@ -35,9 +35,10 @@ fn seats_shared(version: u8, seats: &ProgrammeSeats) -> u128
     }
 }
 
-/// The seats that the last list tells, with the persons whom the lists of those categories name.
+/// Returns the seats that the last list shows, with the persons whom the lists of those categories name.
 fn seats_told(version: u8, programme: &Programme) -> u128
-    ensures { result ≡ (list_of programme.now DereservedStep).seats + seats_held version (named_by programme.now) }
+    ensures { result ≡ (list_of programme.now DereservedStep).seats
+        + seats_held version (named_by programme.now) }
 {
     let told = u128::from(list_of(programme, StepKind::Dereserved).seats);
     let held = told + named_in(programme, StepKind::Obc) as u128;
@@ -48,7 +49,7 @@ fn seats_told(version: u8, programme: &Programme) -> u128
     }
 }
 
-/// Whether the list of a step tells as many seats as the step has.
+/// Returns whether the list of a step shows as many seats as the step has.
 pub(crate) fn has_seats(
     version: u8,
     seats: &ProgrammeSeats,
@@ -56,7 +57,8 @@ pub(crate) fn has_seats(
     kind: StepKind,
 ) -> bool
     requires { AreProgrammeSeats seats.now }
-    ensures { IsTrue result ↔ HasSeats version seats.now (named_by programme.now) kind (list_of programme.now kind).seats }
+    ensures { IsTrue result ↔ HasSeats version seats.now
+        (named_by programme.now) kind (list_of programme.now kind).seats }
 {
     let own = u32::from(seats.of(kind).seats);
     let told = list_of(programme, kind).seats;

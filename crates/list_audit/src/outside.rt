@@ -1,4 +1,4 @@
-// Who is named and is not one of the people, or stands out of order.
+// Who is named and is not one of the people, or is out of order.
 ghost use Rattle.std.specs.Prelude.{◌≡◌, ◌≤◌, ◌<◌, MatchOption, Some, drop, length, slice_get};
 ghost use Rattle.office_base.specs.Lists.{IsAmong};
 ghost use Rattle.office_base.specs.StepChoice.{AreRanked};
@@ -8,11 +8,11 @@ ghost use Rattle.list_audit.specs.Outside.{IsOutside};
 use crate::same::same_person;
 use office_base::{CandId, ListId, Person};
 
-/// The first place from this one on at which the person stands.
+/// Returns the first place from this one on at which the person is.
 fn place_from(people: &[Person], from: usize, person: &Person) -> Option<usize>
     requires { from ≤ length people.now }
-    ensures { MatchOption result (IsAmong person.now (drop from people.now) → ⊥)
-        (λ at. (from ≤ at) × (at < length people.now) × (slice_get people.now at ≡ Some person.now)) }
+    ensures { MatchOption result (IsAmong person.now (drop from people.now) → ⊥) (λ at. (from ≤ at)
+        × (at < length people.now) × (slice_get people.now at ≡ Some person.now)) }
 {
     for at in from..people.len() {
         if same_person(person, &people[at]) {
@@ -22,7 +22,8 @@ fn place_from(people: &[Person], from: usize, person: &Person) -> Option<usize>
     None
 }
 
-/// The first of those named who is not one of the people, in all that is told of a person, or is better than the one named before. It walks both once.
+/// Returns the first of those named who is not one of the people, with all fields equal, or is better than the one
+/// named before. Walks through both lists once.
 pub(crate) fn first_outside(list: ListId, people: &[Person], named: &[Person]) -> Option<CandId>
     requires ranked { AreRanked list people.now }
     requires once { AreDistinct named.now }

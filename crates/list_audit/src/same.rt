@@ -1,4 +1,4 @@
-// Whether two persons are one in all that is told of them.
+// Whether two persons are equal in all fields.
 ghost use Rattle.std.specs.Prelude.{◌≡◌, ◌↔◌, IsTrue};
 
 use office_base::{Category, Person, Place};

@@ -1,4 +1,4 @@
-// Who stands for the seats of a step, of those whom the steps before left.
+// Who competes for the seats of a step, of those whom the steps before left.
 ghost use Rattle.std.specs.Prelude.{◌≡◌, List, IfOk};
 ghost use Rattle.std.specs.List.{filter};
 ghost use Rattle.office_base.specs.Lists.{IsSublist};
@@ -47,7 +47,7 @@ pub(crate) fn standing(
     Ok(some)
 }
 
-/// The people without those taken, who stand among them in the same order. It walks both lists once.
+/// Returns the people without those taken, who are among them in the same order. Walks through both lists once.
 pub(crate) fn without(
     alloc: Global,
     people: &[Person],
@@ -83,7 +83,8 @@ pub(crate) fn left_over(
     requires obc { IsSublist obc.now (filter (is_of Obc) rest.now) }
     requires sc { IsSublist sc.now (filter (is_of Sc) rest.now) }
     requires st { IsSublist st.now (filter (is_of St) rest.now) }
-    ensures { IfOk result (λ left. left ≡ without (without (without (without rest.now ews.now) obc.now) sc.now) st.now) }
+    ensures { IfOk result (λ left.
+        left ≡ without (without (without (without rest.now ews.now) obc.now) sc.now) st.now) }
 {
     let no_ews = without(alloc, rest, ews)?;
     let no_obc = without(alloc, no_ews.as_slice(), obc)?;

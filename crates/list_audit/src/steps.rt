@@ -40,7 +40,8 @@ fn certifies(
     requires few { sum protections.now.counts ≤ 65535 }
     requires ranked { AreRanked list people.now }
     requires traits { AllByRecursion (λ person. IsTraitSet person.traits) named.now }
-    ensures { IfOk result (λ holds. IsTrue holds ↔ Certifies protections.now people.now named.now cert.now.pairs) }
+    ensures { IfOk result (λ holds.
+        IsTrue holds ↔ Certifies protections.now people.now named.now cert.now.pairs) }
 {
     if !cert.check(protections, named) {
         return Ok(false);
@@ -61,7 +62,8 @@ fn best_overtaking(
     requires few { sum protections.now.counts ≤ 65535 }
     requires ranked { AreRanked list people.now }
     requires part { IsSublist named.now people.now }
-    requires most { (n : ℕ) × IsHonoured protections.now named.now n × IsHonoured protections.now people.now n }
+    requires most { (n : ℕ) × IsHonoured protections.now named.now n
+        × IsHonoured protections.now people.now n }
     ensures { IfOk result (λ cand. IsBestOf list protections.now people.now named.now cand) }
 {
     reckoned();
@@ -94,7 +96,7 @@ fn choice_fault(
     }
 }
 
-/// Whether the list of a step tells its seats and the number of its people.
+/// Returns whether the list of a step shows its seats and the number of its people.
 fn are_right_numbers(
     version: u8,
     seats: &ProgrammeSeats,
@@ -103,8 +105,9 @@ fn are_right_numbers(
     people: &[Person],
 ) -> bool
     requires { AreProgrammeSeats seats.now }
-    ensures { (applicants : List AnyPerson) → people.now ≡ people_at (audited version seats.now applicants programme.now kind)
-        → IsTrue result ↔ AreRightNumbers (audited version seats.now applicants programme.now kind) }
+    ensures { (applicants : List AnyPerson) → people.now
+        ≡ people_at (audited version seats.now applicants programme.now kind) → IsTrue result
+        ↔ AreRightNumbers (audited version seats.now applicants programme.now kind) }
 {
     has_seats(version, seats, programme, kind)
         && list_of(programme, kind).candidates as usize == people.len()
@@ -122,7 +125,8 @@ fn fault_among(
     requires seats { AreProgrammeSeats seats.now }
     requires ranked { AreRanked seats.now.list people.now }
     requires once { AreDistinct (list_of programme.now kind).admitted }
-    ensures { IfOk result (λ fault. (applicants : List AnyPerson) → people.now ≡ people_at (audited version seats.now applicants programme.now kind)
+    ensures { IfOk result (λ fault. (applicants : List AnyPerson)
+        → people.now ≡ people_at (audited version seats.now applicants programme.now kind)
         → IsStepFault (audited version seats.now applicants programme.now kind) fault) }
 {
     let shown = list_of(programme, kind);
@@ -158,7 +162,8 @@ pub(crate) fn step_fault(
     requires seats { AreProgrammeSeats seats.now }
     requires ranked { AreRanked seats.now.list rest.now }
     requires once { AreDistinct (list_of programme.now kind).admitted }
-    ensures { IfOk result (λ fault. (applicants : List AnyPerson) → rest.now ≡ left_to (in_merit seats.now.list applicants) (named_by programme.now) kind
+    ensures { IfOk result (λ fault. (applicants : List AnyPerson)
+        → rest.now ≡ left_to (in_merit seats.now.list applicants) (named_by programme.now) kind
         → IsStepFault (audited version seats.now applicants programme.now kind) fault) }
 {
     let people = standing(alloc, rest, seats.list, kind)?;

@@ -5,8 +5,6 @@ use Rattle.office_base.specs.StepChoice.{AreRanked, IsStepChoice}
 use Rattle.office_base.specs.declared.person.ListId.{ListId}
 use Rattle.office_base.specs.declared.person.Person.{Person}
 use Rattle.office_base.specs.declared.step.StepKind.TheVariants.{Open}
-use Rattle.placements.proofs.Sublists.{length-sublist}
-use Rattle.placements.proofs.Filters.{filter-sublist}
 use Rattle.programme_lists.specs.Listing.{Shows, ShowsChoice}
 use Rattle.office_base.specs.Person.{is_common}
 use Rattle.programme_lists.specs.Programme.{Admissions, without, step_with}
@@ -15,7 +13,8 @@ use Rattle.programme_lists.specs.declared.programme.StepList.{StepList}
 use Rattle.seat_matrix.specs.declared.seats.ProgrammeSeats.{ProgrammeSeats}
 use Rattle.open_then_category.specs.Stepwise.{AreCategorySteps, ShowsLast, empty_after, left_by}
 use Rattle.open_then_category.specs.declared.choice.CategorySteps.{CategorySteps}
-use Rattle.open_then_category.proofs.Walk.{ranked_without}
+use Rattle.programme_lists.proofs.Walk.{ranked_without}
+use Rattle.programme_lists.proofs.Taken.{length-without}
 
 -- those whom four steps left of the rest
 abbrev pub left_of : List Person → List Person → List Person → List Person → List Person → List Person
@@ -25,10 +24,6 @@ left_of rest ews obc sc st = without (without (without (without rest ews) obc) s
 pub ranked_left : (list : ListId) (rest ews obc sc st : List Person) → AreRanked list rest → AreRanked list (left_of rest ews obc sc st)
 ranked_left list rest ews obc sc st ranked =
     ranked_without list (without (without (without rest ews) obc) sc) st (ranked_without list (without (without rest ews) obc) sc (ranked_without list (without rest ews) obc (ranked_without list rest ews ranked)))
-
--- people are no more without some of them
-pub length-without : (people taken : List Person) → length (without people taken) ≤ length people
-length-without people taken = length-sublist (without people taken) people (filter-sublist _ people)
 
 -- and they are no more than the rest
 pub length-left_of : (rest ews obc sc st : List Person) → length (left_of rest ews obc sc st) ≤ length rest

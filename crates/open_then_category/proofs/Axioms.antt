@@ -1,18 +1,15 @@
 -- A programme's choice meets the axioms of Sönmez and Yenmez.
-use Rattle.std.proofs.Common.{◌≡◌, ◌≢◌, ◌≤◌, ◌<◌, ℕ, zero, suc, Bool, true, List, [], ◌∷◌, length, take, refl, sym, ap, ◌∙◌, subst, inl, inr, arith}
-use Rattle.std.specs.Prelude.{◌==◌, if◌then◌else◌}
-use Rattle.std.proofs.lemmas.Bool.{cases_Bool, eqb-false}
+use Rattle.std.proofs.Common.{◌≡◌, ◌≢◌, ◌≤◌, ◌<◌, ℕ, zero, suc, true, List, [], ◌∷◌, length, take, refl, sym, ap, subst, inl, inr, arith}
 use Rattle.std.specs.List.{filter}
 use Rattle.office_base.specs.Lists.{IsAmong, IsSublist}
 use Rattle.office_base.specs.Person.{IsBetter, is_common}
-use Rattle.office_base.specs.Placement.{IsHonoured, IsPlacement, placed_on, protected}
 use Rattle.office_base.specs.StepChoice.{AreRanked, IsNoWorse, IsStep, IsStepChoice}
 use Rattle.office_base.specs.declared.person.ListId.{ListId}
 use Rattle.office_base.specs.declared.person.Person.{Person}
-use Rattle.office_base.specs.declared.step.Pair.{Pair}
 use Rattle.office_base.specs.declared.step.Step.{Step}
 use Rattle.office_base.specs.declared.step.StepKind.{StepKind}
 use Rattle.office_base.specs.declared.step.StepKind.TheVariants.{Open, Ews as EwsStep, Obc as ObcStep, Sc as ScStep, St as StStep, Dereserved}
+use Rattle.office_base.proofs.Lists.{length_take_most}
 use Rattle.placements.proofs.Filters.{among_filter_from}
 use Rattle.placements.proofs.Greatest.{honoured-exists}
 use Rattle.placements.proofs.Ranks.{monotone, among_itself, among_sublist, any_all, ranked_sublist, widen}
@@ -20,41 +17,16 @@ use Rattle.placements.proofs.Sublists.{IsSublist-tail, IsSublist-take}
 use Rattle.seat_matrix.specs.Seats.{AreProgrammeSeats, no_protections, seats_of}
 use Rattle.seat_matrix.specs.declared.seats.ProgrammeSeats.{ProgrammeSeats}
 use Rattle.seat_matrix.specs.declared.seats.Seating.{Seating}
+use Rattle.seat_matrix.proofs.Unprotected.{none_honoured}
 use Rattle.programme_lists.specs.Programme.{Admissions, IsProgrammeChoice, admitted_by, people_of, step_with, unfilled}
 use Rattle.open_then_category.specs.Laws.{ChoicesMeetAxioms, IsOverAndAbove, MeetsStepAxioms, OpenComesFirst, whole_step}
 use Rattle.open_then_category.specs.StepLaws.{AreLawful}
 use Rattle.open_then_category.proofs.Last.{all_chosen}
 use Rattle.open_then_category.proofs.Once.{ranked_one_step}
 use Rattle.open_then_category.proofs.ProgrammeLaws.{all_among, filtered_step, last_sublist, rest_of}
-use Rattle.open_then_category.proofs.Walk.{ranked_without}
+use Rattle.programme_lists.proofs.Walk.{ranked_without}
 
 -- ---- without protections the best are the choice
-
-no_position : (t : ℕ) → protected no_protections t ≡ 0
-no_position zero = refl
-no_position (suc zero) = refl
-no_position (suc (suc zero)) = refl
-no_position (suc (suc (suc zero))) = refl
-no_position (suc (suc (suc (suc zero)))) = refl
-no_position (suc (suc (suc (suc (suc zero))))) = refl
-no_position (suc (suc (suc (suc (suc (suc t)))))) = refl
-
-abbrev one_where : Bool → ℕ
-one_where test = if test then 1 else 0
-
-stands_once : (pair : Pair) (pairs : List Pair) → 1 ≤ placed_on pair.slot (pair ∷ pairs)
-stands_once pair pairs = elim (cases_Bool (pair.slot == pair.slot)) [
-  | inl same ↦ (let e = ap one_where same in omega (arith, e))
-  | inr other ↦ absurd (eqb-false pair.slot pair.slot other refl)
-]
-
-nobody_placed : (people : List Person) (pairs : List Pair) → IsPlacement no_protections people pairs → length pairs ≡ 0
-nobody_placed people [] placed = refl
-nobody_placed people (pair ∷ pairs) placed =
-    absurd (let few = placed.within pair.slot in let none = no_position pair.slot in let one = stands_once pair pairs in omega (arith, few, none, one))
-
-none_honoured : (people : List Person) (n : ℕ) → IsHonoured no_protections people n → n ≡ 0
-none_honoured people n h = sym h.reached.2 ∙ nobody_placed people h.reached.0 h.reached.1
 
 -- the best are the same or better at every merit place
 best_no_worse : (list : ListId) (n : ℕ) (people others : List Person) → AreRanked list people → IsSublist others people → length others ≤ n → IsNoWorse list (take n people) others
@@ -73,14 +45,9 @@ best_no_worse list (suc n) (person ∷ people) (other ∷ others) ranked sub few
           (inl (sym first), best_no_worse list n people others rest (subst (λ (l : List Person). IsSublist l people) (sym later) takes.2) (omega (arith, few)))
     ]
 
-taken_few : (n : ℕ) (people : List Person) → length (take n people) ≤ n
-taken_few zero people = omega arith
-taken_few (suc n) [] = omega arith
-taken_few (suc n) (person ∷ people) = (let rest = taken_few n people in omega (arith, rest))
-
 best_chosen : (list : ListId) (n : ℕ) (people : List Person) → AreRanked list people → IsStepChoice (record { list = list; seats = n; protections = no_protections; people = people }) (take n people)
 best_chosen list n people ranked = record {
-  may = record { people = IsSublist-take n people; seats = taken_few n people };
+  may = record { people = IsSublist-take n people; seats = length_take_most n people };
   most = λ other m k may theirs ours. (let none = none_honoured other m theirs in omega (arith, none));
   best = λ other m may theirs ours. best_no_worse list n people other ranked may.people may.seats;
 }

@@ -23,7 +23,7 @@ use Rattle.open_then_category.specs.StepLaws.{AreLawful}
 use Rattle.open_then_category.specs.Tried.{HaveCome, common_taken, one_if}
 use Rattle.open_then_category.specs.declared.kept_lists.Tried.{Tried}
 use Rattle.open_then_category.proofs.ProgrammeLaws.{last_sublist, rest_of}
-use Rattle.open_then_category.proofs.Walk.{members_sublist, minus, minus_is_without, not_taken, obc_there, ranked_without, sc_there, st_there}
+use Rattle.programme_lists.proofs.Walk.{members_sublist, minus, minus_is_without, not_taken, obc_there, ranked_without, sc_there, st_there}
 
 -- how many of the people pass the test
 abbrev pub passed : (Person → Bool) → List Person → ℕ
@@ -91,7 +91,7 @@ passed_without test people taken distinct sub =
 
 -- ---- the steps of a programme
 
--- How many stand for the seats of each step, by how many came.
+-- How many compete for the seats of each step, by how many came.
 pub record Counts (list : ListId) (people : List Person) (admissions : Admissions) : Type 0 where
   pub common : length (people_of list (in_merit list people) admissions Open) ≡ passed (is_common list) people
   pub ews : length (people_of list (in_merit list people) admissions EwsStep) + passed (is_of Ews) admissions.open_step ≡ passed (is_of Ews) people
@@ -99,7 +99,7 @@ pub record Counts (list : ListId) (people : List Person) (admissions : Admission
   pub sc : length (people_of list (in_merit list people) admissions ScStep) + passed (is_of Sc) admissions.open_step ≡ passed (is_of Sc) people
   pub st : length (people_of list (in_merit list people) admissions StStep) + passed (is_of St) admissions.open_step ≡ passed (is_of St) people
   pub last : length (people_of list (in_merit list people) admissions Dereserved) + common_taken list admissions ≡ passed (is_common list) people
-  -- and each step's persons stand in merit order
+  -- and each step's persons are in merit order
   pub ranked : (kind : StepKind) → AreRanked list (admitted_by admissions kind)
 
 pub counts : (version : ℕ) (seats : ProgrammeSeats) (people : List Person) (admissions : Admissions) → AreRanked seats.list (in_merit seats.list people)

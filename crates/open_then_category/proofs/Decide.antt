@@ -8,7 +8,7 @@ use Rattle.office_base.specs.declared.person.Place.{Place}
 use Rattle.office_base.specs.declared.person.Place.TheVariants.{Absent, Common, Relaxed}
 use Rattle.programme_lists.specs.Programme.{is_same}
 use Rattle.programme_lists.proofs.Categories.{same_itself}
-use Rattle.open_then_category.proofs.Walk.{same_category}
+use Rattle.programme_lists.proofs.Walk.{same_category}
 
 -- a statement holds or does not
 abbrev pub Decided : Type 0 → Type 0

@@ -1,4 +1,4 @@
--- From more people a programme admits no fewer, told by the lists of those who are admitted.
+-- From more people a programme admits no fewer, by the lists of those who are admitted.
 use Rattle.std.proofs.Common.{◌≡◌, ◌≢◌, ◌≤◌, ℕ, List, [], ◌∷◌, length, refl, sym, arith, length-append}
 use Rattle.std.specs.List.{AllByRecursion}
 use Rattle.office_base.specs.declared.person.Person.{Person}

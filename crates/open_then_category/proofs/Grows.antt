@@ -20,8 +20,9 @@ use Rattle.seat_matrix.specs.declared.seats.Seating.{Seating}
 use Rattle.seat_matrix.specs.declared.seats.Seatings.{Seatings}
 use Rattle.programme_lists.specs.Chosen.{IsAdmitted}
 use Rattle.programme_lists.specs.Programme.{Admissions, admitted_by, is_of, without, left_over, people_of, step_with, unfilled, IsProgrammeChoice}
+use Rattle.programme_lists.proofs.Taken.{among_without_from}
 use Rattle.open_then_category.proofs.Decide.{is_among_or_not}
-use Rattle.open_then_category.proofs.Lists.{among_best, without_mono, among_without_from}
+use Rattle.open_then_category.proofs.Lists.{among_best, without_mono}
 use Rattle.open_then_category.proofs.ProgrammeLaws.{Stage, all_among, among_left, chosen_among, chosen_passes, filtered_step, is_left, last_sublist, rest_of, stage_refused, without_among}
 use Rattle.open_then_category.specs.StepLaws.{AreLawful}
 

@@ -30,9 +30,9 @@ use Rattle.open_then_category.proofs.Once.{in_everybody}
 use Rattle.open_then_category.proofs.Passing.{Joins, key_apart, new_to, passes, starts, without_joins}
 use Rattle.open_then_category.proofs.ProgrammeLaws.{last_sublist, rest_of}
 use Rattle.open_then_category.proofs.SetLaws as sets
-use Rattle.open_then_category.proofs.Walk.{members_sublist, obc_there, sc_there, st_there}
+use Rattle.programme_lists.proofs.Walk.{members_sublist, obc_there, sc_there, st_there}
 
--- what a step does in its turn: whoever goes on, and those it holds
+-- what a step does in its turn: who continues, and those it holds
 abbrev pub Out : ProgrammeSeats → (Person → Bool) → StepKind → List Person → Option Person → Type 0
 Out seats test kind held coming = (leaver : Option Person) × (after : List Person) × IsOffer test (step_kept seats kind held) coming leaver after
 
@@ -45,7 +45,7 @@ new_people seats before person = in_merit seats.list (person ∷ everybody befor
 
 module _ (laws : AreLawful) (version : ℕ) (seats : ProgrammeSeats) (before : Admissions) (person : Person) (may : AreApplicants seats.list (person ∷ everybody before))
     (choice : ChoosesFrom version seats (everybody before) before) where
-  -- whoever joins people is new to those of them whom a step holds
+  -- a person who joins people is new to those of them whom a step holds
   newcomer : (old new held : List Person) (coming : Option Person) → Joins seats.list old new coming → IsSublist held old → (other : Person) → coming ≡ Some other → IsNewTo seats.list held other
   newcomer old new held coming j sub other e =
       let within = among_sublist held old sub in
@@ -100,7 +100,7 @@ module _ (laws : AreLawful) (version : ℕ) (seats : ProgrammeSeats) (before : A
   j5 a b c d e = left_after_step (is_of St) StStep (without (without (without (rest_of (old_people seats before) before) before.ews) before.obc) before.sc)
       (without (without (without (without (new_people seats before person) a.1) b.1) c.1) d.1) before.st d.0 (j4 a b c d) (st_sub (j1 a).ranked.distinct) e
 
-  -- whoever comes to a step is new to it
+  -- a person who comes to a step is new to it
   pub new_open : IsNewTo seats.list before.open_step person
   new_open = newcomer (old_people seats before) (new_people seats before person) before.open_step (Some person) j0 open_sub person refl
 
@@ -161,7 +161,7 @@ module _ (laws : AreLawful) (version : ℕ) (seats : ProgrammeSeats) (before : A
       falls_by_one (version == 2) (seats_of seats EwsStep).seats (length before.ews) (length b.1) (seats_of seats ObcStep).seats (length before.obc) (length c.1)
       (count a.0) (count b.0) (count c.0) (count e.0) (length before.dereserved) s1 s2 z0 z1 z2 z24 choice.ews.may.seats ews_few choice.obc.may.seats obc_few held_last
 
--- whoever chooses from some people chooses from those admitted
+-- a choice from some people is a choice from those admitted
 pub settled : AreLawful → (version : ℕ) (seats : ProgrammeSeats) (all : List Person) (after : Admissions) → IsVersion version → AreProgrammeSeats seats → AreApplicants seats.list all → ChoosesFrom version seats all after
     → IsProgrammeKept (record { version = version; seats = seats; admissions = after })
 settled laws version seats all after is_version ok may choice =

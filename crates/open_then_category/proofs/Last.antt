@@ -1,4 +1,4 @@
--- De-reservation comes last: a step with an empty seat has admitted everybody who stands for it.
+-- De-reservation comes last: a step with an empty seat has admitted everybody who competes for it.
 use Rattle.std.proofs.Common.{◌≡◌, ◌≢◌, ◌⊎◌, ◌≤◌, ◌<◌, ◌+◌, ◌-◌, ℕ, zero, suc, Bool, true, false, List, [], ◌∷◌, length, take, refl, sym, ap, ◌∙◌, subst, inl, inr, arith}
 use Rattle.std.specs.Prelude.{◌==◌, if◌then◌else◌}
 use Rattle.std.proofs.lemmas.Bool.{eqb-true}
@@ -20,9 +20,11 @@ use Rattle.seat_matrix.specs.declared.seats.ProgrammeSeats.{ProgrammeSeats}
 use Rattle.programme_lists.specs.Programme.{Admissions, IsProgrammeChoice, is_of, is_same, step_with, unfilled}
 use Rattle.open_then_category.specs.Laws.{AreAllAdmitted, DereservationComesLast, HasEmptySeat, NoSeatStaysEmpty}
 use Rattle.open_then_category.specs.StepLaws.{AreLawful}
-use Rattle.open_then_category.proofs.Lists.{among_or_not, among_without_from}
+use Rattle.open_then_category.proofs.Lists.{among_or_not}
 use Rattle.open_then_category.proofs.ProgrammeLaws.{all_among, filtered_step, rest_of}
-use Rattle.open_then_category.proofs.Walk.{ranked_without}
+use Rattle.programme_lists.proofs.Walk.{ranked_without}
+use Rattle.programme_lists.proofs.Taken.{among_without_from}
+use Rattle.programme_lists.proofs.Categories.{same_itself}
 
 -- a sublist that is no shorter is the whole list
 pub whole_sublist : (some all : List Person) → IsSublist some all → length all ≤ length some → some ≡ all
@@ -39,13 +41,6 @@ pub all_chosen : AreLawful → (step : Step) (chosen : List Person) → IsStep s
 all_chosen laws step chosen ok choice empty =
     let size = laws.choice_size step chosen ok choice in
     whole_sublist chosen step.people choice.may.people (omega (arith, size, empty))
-
-same_itself : (category : Category) → is_same category category ≡ true
-same_itself Gen = refl
-same_itself Ews = refl
-same_itself Obc = refl
-same_itself Sc = refl
-same_itself St = refl
 
 -- the step of a category with an empty seat admits all its members whom the open one did not take
 category_served : AreLawful → (version : ℕ) (seats : ProgrammeSeats) (applicants : List Person) (admissions : Admissions) (kind : StepKind) (category : Category) (chosen : List Person)

@@ -3,7 +3,7 @@ use Rattle.std.proofs.Common.{◌≡◌, ◌≤◌, ◌-◌, ◌+◌, ◌⊎◌,
 use Rattle.std.specs.Prelude.{◌==◌, MatchOption, slice_get}
 use Rattle.std.proofs.lemmas.List.{length-take}
 use Rattle.office_base.specs.Lists.{AnyByRecursion, IsAmong}
-use Rattle.office_base.specs.Merit.{in_merit, is_better, with_person}
+use Rattle.office_base.specs.Merit.{in_merit, with_person}
 use Rattle.office_base.specs.Person.{is_common}
 use Rattle.office_base.specs.declared.person.Category.TheVariants.{Ews, Obc, Sc, St}
 use Rattle.office_base.specs.declared.person.ListId.{ListId}
@@ -14,6 +14,7 @@ use Rattle.placements.proofs.Sublists.{length-sublist}
 use Rattle.placements.specs.Ranks.{AreAmong, AreDistinct}
 use Rattle.placements.proofs.Ranks.{among_again, are_among, widen}
 use Rattle.placements.proofs.Without.{length_without}
+use Rattle.placements.proofs.Merit.{length_with}
 use Rattle.seat_matrix.specs.Seats.{seats_of}
 use Rattle.seat_matrix.specs.declared.seats.ProgrammeSeats.{ProgrammeSeats}
 use Rattle.seat_matrix.specs.declared.seats.Seating.{Seating}
@@ -31,14 +32,6 @@ abbrev pub count : Option Person → ℕ
 count None = 0
 count (Some person) = 1
 
-pub length_with : (list : ListId) (person : Person) (people : List Person) → length (with_person list person people) ≡ suc (length people)
-length_with list person [] = refl
-length_with list person (other ∷ people) =
-    elim (is_better list person other) as (λ b. length (cond b (person ∷ other ∷ people) (other ∷ with_person list person people)) ≡ suc (suc (length people))) [
-      | true ↦ refl
-      | false ↦ ap suc (length_with list person people)
-    ]
-
 pub has_number : (person : Person) (people : List Person) → IsAmong person people → AnyByRecursion (λ (member : Person). member.id ≡ person.id) people
 has_number person [] there = absurd there
 has_number person (other ∷ people) there = elim there [ inl here ↦ inl (ap (λ (p : Person). p.id) (sym here)) | inr later ↦ inr (has_number person people later) ]
@@ -50,7 +43,7 @@ handed_size list before person (Some leaver) after hands =
     let whole = length_without leaver.id (with_person list person before) (has_number leaver (with_person list person before) hands.0) in
     omega (arith, size, whole, length_with list person before)
 
--- those held and whoever goes are as many as those held before and whoever comes
+-- those held and the one who goes are as many as those held before and the one who comes
 pub offered_size : (test : Person → Bool) (list : ListId) (seats : Seating) (before : List Person) (coming leaver : Option Person) (after : List Person)
     → IsOffer test (step_at list seats before) coming leaver after → length after + count leaver ≡ length before + count coming
 offered_size test list seats before coming leaver after p = by (joining test coming) refl p
@@ -105,7 +98,7 @@ record Last (before : List Person) (coming leaver : Option Person) (after : List
   back : (person : Person) → leaver ≡ Some person → IsAmong person before ⊎ (coming ≡ Some person)
   sizes : length after + count leaver ≡ length before + count coming
 
--- the same of whoever goes and of those held, told otherwise
+-- the same of the one who goes and of those held, by other names
 told : (before : List Person) (coming leaver other : Option Person) (after people : List Person) → leaver ≡ other → after ≡ people → Last before coming other people → Last before coming leaver after
 told before coming leaver other after people goes held last = subst (λ (o : Option Person). Last before coming o after) (sym goes) (subst (Last before coming other) (sym held) last)
 

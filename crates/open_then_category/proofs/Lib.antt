@@ -12,6 +12,5 @@ mod Once
 mod Passing
 mod RankedWords
 mod SetLaws
-mod Walk
 pub mod Lists
 pub mod ProgrammeLaws

@@ -1,4 +1,4 @@
--- A person comes down the steps of a programme, told by what each step keeps and what it does in its turn.
+-- A person comes down the steps of a programme, by what each step keeps and what it does in its turn.
 use Rattle.std.proofs.Common.{◌≡◌, ◌≤◌, ◌+◌, ℕ, Bool, List, ◌∷◌, Option, Some, length, sym, ap, ◌∙◌, subst}
 use Rattle.office_base.specs.Lists.{IsAmong}
 use Rattle.office_base.specs.Merit.{IsNewTo}
@@ -20,7 +20,7 @@ use Rattle.open_then_category.specs.StepLaws.{AreLawful}
 use Rattle.open_then_category.proofs.Leaving.{count}
 use Rattle.open_then_category.proofs.Keeping.{Out, few_last, new_ews, new_last, new_obc, new_open, new_sc, new_st, settled}
 
--- what a step does in its turn with whoever comes: whom it hands on, and those it holds then
+-- what a step does in its turn with the person who comes: whom it hands on, and those it holds then
 abbrev pub Turn : (Person → Bool) → StepKept → Option Person → Type 0
 Turn test step coming = (leaver : Option Person) × (after : List Person) × IsOffer test step coming leaver after
 
@@ -53,7 +53,7 @@ module _ (laws : AreLawful) (state now : ProgrammeKept) (person : Person) (o e b
   abbrev by_st : (coming : Option Person) → Turn (is_of St) t coming → Out state.seats (is_of St) StStep state.admissions.st coming
   by_st coming a = turn_of state.seats StStep state.admissions.st (is_of St) t coming kept.of_st a
 
-  -- whoever comes to a step is new to it
+  -- a person who comes to a step is new to it
   pub to_open : IsNewTo o.list o.held person
   to_open = subst (λ (k : StepKept). IsNewTo k.list k.held person) (sym kept.of_open) (new_open laws state.version state.seats state.admissions person may_come kept.kept.choice)
 
@@ -122,7 +122,7 @@ module _ (laws : AreLawful) (state now : ProgrammeKept) (person : Person) (o e b
                 pub settles : OffersKeepChoices → IsProgrammeKept (record { version = state.version; seats = state.seats; admissions = after })
                 settles law = settled laws state.version state.seats (person ∷ everybody state.admissions) after kept.kept.is_version kept.kept.are_seats may_come (chosen law)
 
-                -- whoever is left without a seat
+                -- who is left without a seat
                 pub leaves : OffersLeaveOne → LeavesOut state.admissions person out after
                 leaves law = law state.version state.seats state.admissions after person kept.kept.are_seats may_come kept.kept.choice offered
 

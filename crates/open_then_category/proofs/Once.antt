@@ -1,21 +1,19 @@
 -- Each person is admitted once, under one step.
 use Rattle.std.proofs.Common.{◌≡◌, ◌≢◌, ◌<◌, ℕ, Bool, List, [], ◌∷◌, ◌++◌, take, refl, sym, ◌∙◌, subst, inl, inr}
 use Rattle.std.specs.List.{AllByRecursion, AllZip, filter}
-use Rattle.office_base.specs.Lists.{AnyByRecursion, IsAmong, IsSublist}
+use Rattle.office_base.specs.Lists.{IsAmong, IsSublist}
 use Rattle.office_base.specs.Person.{IsTraitSet, is_common}
-use Rattle.office_base.specs.Placement.{Fills}
 use Rattle.office_base.specs.StepChoice.{AreRanked, IsStepChoice}
 use Rattle.office_base.specs.declared.person.Category.{Category}
 use Rattle.office_base.specs.declared.person.Category.TheVariants.{Ews, Obc, Sc, St}
 use Rattle.office_base.specs.declared.person.Person.{Person}
-use Rattle.office_base.specs.declared.step.Pair.{Pair}
 use Rattle.office_base.specs.declared.step.StepKind.{StepKind}
 use Rattle.office_base.specs.declared.step.StepKind.TheVariants.{Open, Ews as EwsStep, Obc as ObcStep, Sc as ScStep, St as StStep, Dereserved}
 use Rattle.placements.proofs.Sublists.{IsSublist-same, IsSublist-take}
 use Rattle.placements.specs.Ranks.{AreAmong, AreDistinct}
-use Rattle.placements.proofs.Hall.{small_trait}
-use Rattle.placements.proofs.Ranks.{among_again, among_back, among_front, among_itself, among_joined, among_sublist, any_all, any_among, any_append, one_person, pairwise_sublist, all_among}
+use Rattle.placements.proofs.Ranks.{among_again, among_back, among_front, among_itself, among_joined, among_sublist, any_among, any_append, one_person, pairwise_sublist, all_among}
 use Rattle.placements.proofs.Filters.{filter-sublist, among_filter}
+use Rattle.placements.proofs.Slots.{small_slots}
 use Rattle.seat_matrix.specs.Seats.{seats_of}
 use Rattle.seat_matrix.specs.declared.seats.ProgrammeSeats.{ProgrammeSeats}
 use Rattle.programme_lists.specs.Chosen.{everybody}
@@ -23,9 +21,9 @@ use Rattle.programme_lists.specs.Listing.{ShowsChoice, ShowsStep}
 use Rattle.programme_lists.specs.Programme.{Admissions, IsProgrammeChoice, admitted_by, is_of, left_over, people_of, unfilled}
 use Rattle.programme_lists.specs.declared.programme.Programme.{Programme}
 use Rattle.programme_lists.specs.declared.programme.StepList.{StepList}
-use Rattle.open_then_category.proofs.Lists.{among_without}
 use Rattle.open_then_category.proofs.ProgrammeLaws.{IsLeft, chosen_passes, is_left, last_sublist, rest_of}
-use Rattle.open_then_category.proofs.Walk.{same_category}
+use Rattle.programme_lists.proofs.Walk.{same_category}
+use Rattle.programme_lists.proofs.Taken.{among_without}
 
 -- who is admitted by the open step is admitted by no category
 open_apart : (seats : ProgrammeSeats) (kind : StepKind) (category : Category) (people chosen : List Person) (admissions : Admissions) (person : Person)
@@ -96,7 +94,7 @@ ranked_one_step version seats people admissions person Dereserved Dereserved cho
 
 -- ---- everybody
 
--- whoever is apart from all is apart by number
+-- a person who is apart from all is apart by number
 pub all_apart : (all : List Person) (person : Person) (people : List Person) → AreDistinct all → IsAmong person all → AreAmong people all → (IsAmong person people → ⊥)
     → AllByRecursion (λ other. person.id ≢ other.id) people
 all_apart all person [] distinct here within gone = tt
@@ -236,14 +234,6 @@ from_everybody admissions person here =
 
 -- ---- slots
 
--- the slots of pairs that people fill are traits
-pairs_small : (people : List Person) (pairs : List Pair) → AllByRecursion (λ person. IsTraitSet person.traits) people → AllByRecursion (λ pair. AnyByRecursion (Fills pair) people) pairs
-    → AllByRecursion (λ pair. pair.slot < 6) pairs
-pairs_small people [] traits held = tt
-pairs_small people (pair ∷ pairs) traits held =
-    let found = any_all (Fills pair) (λ person. IsTraitSet person.traits) people held.0 traits in
-    (small_trait found.0.traits pair.slot found.2 found.1.1, pairs_small people pairs traits held.1)
-
 -- what follows of the second from each pair holds of all the second
 all_second : {X Y : Type 0} (R : X → Y → Type 0) (P : Y → Type 0) → ((x : X) (y : Y) → R x y → P y) → (xs : List X) (ys : List Y) → AllZip R xs ys → AllByRecursion P ys
 all_second R P go [] [] all = tt
@@ -256,6 +246,6 @@ pub ranked_slots : (version : ℕ) (seats : ProgrammeSeats) (people : List Perso
     → AllByRecursion (λ (list : StepList). AllByRecursion (λ pair. pair.slot < 6) list.cert.pairs) programme.steps
 ranked_slots version seats people programme ranked shown =
     all_second (ShowsStep version seats people shown.0) (λ (list : StepList). AllByRecursion (λ pair. pair.slot < 6) list.cert.pairs)
-    (λ kind list shows. pairs_small (admitted_by shown.0 kind) list.cert.pairs
+    (λ kind list shows. small_slots (admitted_by shown.0 kind) list.cert.pairs
     (all_among (λ person. IsTraitSet person.traits) (admitted_by shown.0 kind) people (each_sound version seats people shown.0 kind ranked.distinct shown.1).within ranked.traits) shows.certificate.placement.held)
     (Open ∷ EwsStep ∷ ObcStep ∷ ScStep ∷ StStep ∷ Dereserved ∷ []) programme.steps shown.2

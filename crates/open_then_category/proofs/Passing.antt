@@ -1,4 +1,5 @@
--- A person comes to the steps in their order: what each of them then holds is the choice from its people with whoever came to it.
+-- A person comes to the steps in their order: what each of them then holds is the choice from its people with the
+-- person who came to it.
 use Rattle.std.proofs.Common.{◌≡◌, ◌≢◌, ◌⊎◌, ℕ, Bool, true, false, cond, List, [], ◌∷◌, Option, Some, None, take, refl, sym, ap, ◌∙◌, subst, inl, inr}
 use Rattle.std.proofs.lemmas.Bool.{cases_Bool, cond-true, cond-false}
 use Rattle.std.specs.List.{AllByRecursion, filter}
@@ -29,12 +30,12 @@ use Rattle.programme_lists.specs.Programme.{Admissions, IsProgrammeChoice, admit
 use Rattle.open_then_category.specs.State.{HoldsAllBut, IsLastOffer, IsOffer, IsOffered, OffersKeepChoices, joining}
 use Rattle.open_then_category.specs.StepLaws.{AreLawful}
 use Rattle.open_then_category.proofs.Decide.{is_among_or_not}
-use Rattle.open_then_category.proofs.Lists.{among_without, among_without_from}
 use Rattle.open_then_category.proofs.Once.{from_everybody}
 use Rattle.open_then_category.proofs.ProgrammeLaws.{is_left, last_sublist, rest_of}
-use Rattle.open_then_category.proofs.Walk.{members_sublist, obc_there, ranked_without, same_category, sc_there, st_there}
+use Rattle.programme_lists.proofs.Walk.{members_sublist, obc_there, ranked_without, same_category, sc_there, st_there}
+use Rattle.programme_lists.proofs.Taken.{among_without, among_without_from}
 
--- ---- whoever joins
+-- ---- a person who joins
 
 pub joining_some : (test : Person → Bool) (coming : Option Person) (person : Person) → joining test coming ≡ Some person → (coming ≡ Some person) × (test person ≡ true)
 joining_some test None person e = cc e
@@ -87,7 +88,7 @@ keys_apart key all person [] pairs here within leaver = tt
 keys_apart key all person (other ∷ some) pairs here within leaver =
     (key_apart key all person other pairs here within.0 (λ same. leaver (inl same)), keys_apart key all person some pairs here within.1 (λ later. leaver (inr later)))
 
--- the second people are the first with whoever comes
+-- the second people are the first with the person who comes
 pub record Joins (list : ListId) (before after : List Person) (coming : Option Person) : Type 0 where
   pub ranked : AreRanked list before
   pub more_ranked : AreRanked list after
@@ -96,13 +97,13 @@ pub record Joins (list : ListId) (before after : List Person) (coming : Option P
   pub nobody_else : (person : Person) → IsAmong person after → IsAmong person before ⊎ (coming ≡ Some person)
   pub fresh : (person : Person) → coming ≡ Some person → IsAmong person before → ⊥
 
--- those held and whoever comes are those held after and whoever goes
+-- those held and the person who comes are those held after and the person who goes
 pub record Passes (before : List Person) (coming leaver : Option Person) (after : List Person) : Type 0 where
   pub stay : (person : Person) → IsAmong person before ⊎ (coming ≡ Some person) → IsAmong person after ⊎ (leaver ≡ Some person)
   pub back : (person : Person) → IsAmong person after ⊎ (leaver ≡ Some person) → IsAmong person before ⊎ (coming ≡ Some person)
   pub out : (person : Person) → leaver ≡ Some person → IsAmong person after → ⊥
 
--- those who pass a test, joined by whoever comes and passes it
+-- those who pass a test, joined by the person who comes and passes it
 filter_joins : (list : ListId) (test : Person → Bool) (before after : List Person) (coming : Option Person) → Joins list before after coming → Joins list (filter test before) (filter test after) (joining test coming)
 filter_joins list test before after coming j = record {
   ranked = ranked_sublist list (filter test before) before j.ranked (filter-sublist test before);
@@ -120,7 +121,7 @@ filter_joins list test before after coming j = record {
   fresh = λ person e here. j.fresh person (joining_some test coming person e).0 (among_filter test person before here).0;
 }
 
--- the people who are left, joined by whoever goes
+-- the people who are left, joined by the person who goes
 pub without_joins : (list : ListId) (before after old new : List Person) (coming leaver : Option Person) → Joins list before after coming → AreAmong old before → Passes old coming leaver new
     → Joins list (without before old) (without after new) leaver
 without_joins list before after old new coming leaver j within p =
@@ -154,12 +155,12 @@ without_joins list before after old new coming leaver j within p =
           elim (p.back person (inr e)) [ inl held ↦ found.1 held | inr came ↦ j.fresh person came found.0 ];
     }
 
--- the choice of a step after whoever came
+-- the choice of a step after a person came
 abbrev ChosenWith : ListId → Seating → List Person → Option Person → List Person → Type 0
 ChosenWith list seats old None new = new ≡ old
 ChosenWith list seats old (Some person) new = IsStepChoice (step_with list seats (with_person list person old)) new
 
--- the people with whoever joins them
+-- the people with the person who joins them
 abbrev pub entered : ListId → List Person → Option Person → List Person
 entered list people None = people
 entered list people (Some person) = with_person list person people
@@ -175,7 +176,7 @@ Stays old coming leaver new = (leaver ≡ coming) × (new ≡ old)
 abbrev pub Takes : ListId → Seating → List Person → Option Person → List Person → Person → Type 0
 Takes list seats old leaver new person = IsStepChoice (step_with list seats (with_person list person old)) new × HoldsAllBut leaver (with_person list person old) new
 
--- what a step holds after whoever came to it
+-- what a step holds after a person came to it
 offered_choice : (test : Person → Bool) (list : ListId) (seats : Seating) (old : List Person) (coming leaver : Option Person) (new : List Person)
     → IsOffer test (step_at list seats old) coming leaver new → ChosenWith list seats old (joining test coming) new
 offered_choice test list seats old coming leaver new p = by (joining test coming) p
@@ -184,7 +185,7 @@ offered_choice test list seats old coming leaver new p = by (joining test coming
     by None h = h.1
     by (Some person) h = h.0
 
--- whom the de-reserved step holds after whoever came to it
+-- whom the de-reserved step holds after a person came to it
 last_best : (list : ListId) (n : ℕ) (old : List Person) (coming leaver : Option Person) (new : List Person)
     → IsLastOffer list n old coming leaver new → new ≡ take n (entered list old (joining (is_common list) coming))
 last_best list n old coming leaver new p = by (joining (is_common list) coming) p
@@ -212,7 +213,7 @@ module _ (laws : AreLawful) where
       let can = laws.ranked_in_merit list some one in
       sym can.1 ∙ sym (laws.one_merit_order list some others can.0 two part back)
 
-  -- whoever joins people is new to those of them
+  -- a person who joins people is new to those of them
   pub new_to : (list : ListId) (all some : List Person) (person : Person) → AreRanked list all → AreAmong some all → IsAmong person all → (IsAmong person some → ⊥) → IsNewTo list some person
   new_to list all some person ranked within here leaver =
       let can = (laws.ranked_in_merit list all ranked).0 in
@@ -225,7 +226,7 @@ module _ (laws : AreLawful) where
         numbers = keys_apart (number_in list) all person some can.numbers here within leaver;
       }
 
-  -- those held and whoever came are those held after and whoever left
+  -- those held and the person who came are those held after and the person who left
   handed_passes : (list : ListId) (seats : Seating) (all old new : List Person) (person : Person) (leaver : Option Person) → AreRanked list all → AreRanked list old → AreAmong old all → IsAmong person all
       → (IsAmong person old → ⊥) → HoldsAllBut leaver (with_person list person old) new → Passes old (Some person) leaver new
   handed_passes list seats all old new person None ranked old_ranked within here free hands =
@@ -265,7 +266,7 @@ module _ (laws : AreLawful) where
             );
       }
 
-  -- and so it is of each step, whoever comes
+  -- and this holds for each step, for any person who comes
   pub passes : (test : Person → Bool) (list : ListId) (seats : Seating) (before after old new : List Person) (coming leaver : Option Person) → Joins list before after coming → AreAmong old before → AreRanked list old
       → IsOffer test (step_at list seats old) coming leaver new → Passes old coming leaver new
   passes test list seats before after old new coming leaver j within old_ranked p = by (joining test coming) refl p
@@ -282,7 +283,7 @@ module _ (laws : AreLawful) where
           (handed_passes list seats after old new person leaver j.more_ranked old_ranked (among_again old before after within j.part) (j.here person came)
           (λ held. j.fresh person came (widen person old before within held)) h.1)
 
-  -- the choice from those held and whoever comes is that from all the people
+  -- the choice from those held and the person who comes is that from all the people
   joined_choice : (list : ListId) (seats : Seating) (before after old new : List Person) (coming : Option Person) → IsList list → IsSeated seats → Joins list before after coming
       → IsStepChoice (step_with list seats before) old → ChosenWith list seats old coming new → IsStepChoice (step_with list seats after) new
   joined_choice list seats before after old new None is_list seated j choice same =
@@ -313,7 +314,7 @@ module _ (laws : AreLawful) where
       ]) in
       subst (IsStepChoice (step_with list seats after)) (sym same) whole.1
 
-  -- whoever joins people who are ranked, put in at the merit place
+  -- the person who joins people who are ranked, put in at the merit place
   joined_people : (list : ListId) (before after : List Person) (coming : Option Person) → Joins list before after coming → after ≡ entered list before coming
   joined_people list before after None j =
       sym (ranked_same list before after j.ranked j.more_ranked j.part (are_among after before (λ person here. elim (j.nobody_else person here) [ inl there ↦ there | inr came ↦ cc came ])))
@@ -328,7 +329,7 @@ module _ (laws : AreLawful) where
         | inr there ↦ widen other before after j.part there
       ]))
 
-  -- ---- whoever a category leaves out is none of another category
+  -- ---- a person whom a category leaves out is in no other category
 
   joining_later : (one other : Category) (list : ListId) (seats : Seating) (people old new : List Person) (coming leaver : Option Person) → (one ≡ other → ⊥) → IsSublist old (filter (is_of one) people)
       → Passes old coming leaver new → IsOffer (is_of one) (step_at list seats old) coming leaver new → joining (is_of other) leaver ≡ joining (is_of other) coming
@@ -421,7 +422,7 @@ module _ (laws : AreLawful) where
         last = rest4;
       }
 
-  -- whoever comes to the de-reserved step joins those it has
+  -- a person who comes to the de-reserved step joins those it has
   pub last_joins : (version : ℕ) (seats : ProgrammeSeats) (people more : List Person) (before after : Admissions) (person : Person) → Joins seats.list people more (Some person)
       → AreAmong people (everybody before) → IsProgrammeChoice version seats people before → (offered : IsOffered version seats before person after) → Course version seats people more before after person offered
       → Joins seats.list before.dereserved (entered seats.list before.dereserved (joining (is_common seats.list) offered.left_by_st)) (joining (is_common seats.list) offered.left_by_st)

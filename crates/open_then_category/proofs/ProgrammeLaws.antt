@@ -1,4 +1,5 @@
--- The laws of the choice of a programme from applicants who stand in merit order, step by step from those of the choice of a step.
+-- The laws of the choice of a programme from applicants in merit order, step by step from those of the choice of a
+-- step.
 use Rattle.std.proofs.Common.{◌≡◌, ◌≤◌, ◌-◌, ◌+◌, ℕ, Bool, true, false, cond, List, take, length, refl, sym, ap, ◌∙◌, subst, inl, inr, min, arith}
 use Rattle.std.specs.Prelude.{◌==◌}
 use Rattle.std.proofs.lemmas.List.{length-take}
@@ -22,9 +23,10 @@ use Rattle.seat_matrix.specs.declared.seats.ProgrammeSeats.{ProgrammeSeats}
 use Rattle.seat_matrix.specs.declared.seats.Seating.{Seating}
 use Rattle.programme_lists.specs.Chosen.{IsRefused}
 use Rattle.programme_lists.specs.Programme.{Admissions, admitted_by, is_of, without, left_over, people_of, step_with, unfilled, IsProgrammeChoice}
-use Rattle.open_then_category.proofs.Lists.{among_without, among_without_from, without_mono, among_or_not, among_best, best_of_some}
+use Rattle.programme_lists.proofs.Taken.{among_without, among_without_from}
+use Rattle.open_then_category.proofs.Lists.{without_mono, among_or_not, among_best, best_of_some}
 use Rattle.open_then_category.specs.StepLaws.{AreLawful}
-use Rattle.open_then_category.proofs.RankedWords.{RankedOneProgrammeChoice, RankedProgrammeChoiceExists, RankedFromMore, RankedRefusedFromMore, RankedUnfilledFalls, RankedNoFewerAdmitted, RankedLeavingOutTheRefused, RankedEachRefusedAllRefused}
+use Rattle.open_then_category.proofs.RankedWords.{RankedOneProgrammeChoice, RankedProgrammeChoiceExists, RankedFromMore, RankedRefusedFromMore, RankedUnfilledFalls, RankedNoFewerAdmitted, RankedLeavingOutTheRefused}
 
 -- ---- one step
 
@@ -456,11 +458,3 @@ module _ (laws : AreLawful) where
         dereserved = best;
       } in
       (admissions, record { open_step = first.1; ews = ews.1; obc = obc.1; sc = sc.1; st = st.1; dereserved = refl {a = best} })
-
-  pub each_refused_all_refused : RankedEachRefusedAllRefused
-  each_refused_all_refused version seats kept all before after h alone =
-      let refused = λ (person : Person) (here : IsAmong person all) (gone : IsAmong person kept → ⊥).
-      let a = alone person here gone in
-      refused_from_more version seats a.people all a.admissions after person
-      (record { are_seats = h.are_seats; ranked = h.ranked; part = a.within; choice = a.choice; more_choice = h.more_choice }) a.there a.refused in
-      (refused, leaving_out_the_refused version seats kept all before after h refused)

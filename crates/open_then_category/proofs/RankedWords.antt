@@ -1,4 +1,4 @@
--- The laws of the choice of a programme from applicants who stand in merit order.
+-- The laws of the choice of a programme from applicants in merit order.
 use Rattle.std.proofs.Common.{◌≡◌, ◌≤◌, ℕ, List}
 use Rattle.office_base.specs.Lists.{IsAmong, IsSublist}
 use Rattle.office_base.specs.StepChoice.{AreRanked}
@@ -47,20 +47,3 @@ abbrev pub RankedLeavingOutTheRefused : Type 0
 RankedLeavingOutTheRefused = (version : ℕ) (seats : ProgrammeSeats) (some all : List Person) (before after : Admissions)
     → RankedFromMore version seats some all before after
     → ((person : Person) → IsAmong person all → (IsAmong person some → ⊥) → IsRefused after person) → before ≡ after
-
--- the person stands among some of the applicants, with those who are in any case there and maybe others, and is refused from them
-pub record IsRankedRefusedAlone (version : ℕ) (seats : ProgrammeSeats) (kept all : List Person) (person : Person) : Type 0 where
-  pub people : List Person
-  pub with_kept : IsSublist kept people
-  pub within : IsSublist people all
-  pub there : IsAmong person people
-  pub admissions : Admissions
-  pub choice : IsProgrammeChoice version seats people admissions
-  pub refused : IsRefused admissions person
-
--- where each of some persons alone is refused when added to others, all of them are refused when added together, and the choice stays
-abbrev pub RankedEachRefusedAllRefused : Type 0
-RankedEachRefusedAllRefused = (version : ℕ) (seats : ProgrammeSeats) (kept all : List Person) (before after : Admissions)
-    → RankedFromMore version seats kept all before after
-    → ((person : Person) → IsAmong person all → (IsAmong person kept → ⊥) → IsRankedRefusedAlone version seats kept all person)
-    → ((person : Person) → IsAmong person all → (IsAmong person kept → ⊥) → IsRefused after person) × (before ≡ after)

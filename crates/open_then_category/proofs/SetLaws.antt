@@ -1,4 +1,4 @@
--- The laws of the choice of a programme from people told in any order.
+-- The laws of the choice of a programme from people in any order.
 use Rattle.std.proofs.Common.{◌≡◌, ◌⊎◌, ℕ, List, ◌∷◌, refl, sym, subst, inl, inr}
 use Rattle.office_base.specs.Lists.{IsAmong}
 use Rattle.office_base.specs.Merit.{in_merit}

@@ -1,4 +1,4 @@
--- The laws of the choice of a programme, as statements over its definition. The people are told in any order.
+-- The laws of the choice of a programme, as statements over its definition. The people come in any order.
 use Rattle.std.specs.Prelude.{◌≡◌, ◌≢◌, ◌⊎◌, ◌≤◌, ◌<◌, ◌+◌, ◌∷◌, ℕ, List, length, true}
 use Rattle.std.specs.List.{AllByRecursion, filter}
 use Rattle.office_base.specs.Lists.{IsAmong}
@@ -65,7 +65,8 @@ LeavingOutTheRefused = (version : ℕ) (seats : ProgrammeSeats) (some all : List
     → ChoosesFromMore version seats some all before after
     → ((person : Person) → IsAmong person all → (IsAmong person some → ⊥) → IsRefused after person) → before ≡ after
 
--- the person stands among some of the people, with those who are in any case there and maybe others, and is refused from them
+-- the person is among some of the people, with those who are in any case there and maybe others, and is refused from
+-- them
 pub record IsRefusedAlone (version : ℕ) (seats : ProgrammeSeats) (kept all : List Person) (person : Person) : Type 0 where
   pub people : List Person
   pub distinct : AreDistinct people
@@ -98,7 +99,8 @@ abbrev pub SlotsAreTraits : Type 0
 SlotsAreTraits = (version : ℕ) (seats : ProgrammeSeats) (people : List Person) (programme : Programme) → AreProgrammeSeats seats → AreApplicants seats.list people
     → ShowsFrom version seats people programme → AllByRecursion (λ list. AllByRecursion (λ pair. pair.slot < 6) list.cert.pairs) programme.steps
 
--- where steps have more seats, with all protections as before, whoever was admitted from the same people is still admitted, perhaps under another step
+-- where steps have more seats, with the same protections, everyone who was admitted from the same people is still
+-- admitted, perhaps under another step
 abbrev pub MoreSeatsKeepAll : Type 0
 MoreSeatsKeepAll = (version : ℕ) (seats more : ProgrammeSeats) (people : List Person) (before after : Admissions) (person : Person) → AreProgrammeSeats seats → AreProgrammeSeats more
     → HaveMoreSeats seats more → AreApplicants seats.list people → ChoosesFrom version seats people before → ChoosesFrom version more people after
@@ -134,7 +136,7 @@ GrowsWithSeats = (version : ℕ) (seats more : ℕ → ProgrammeSeats) → ((p :
 
 -- ---- de-reservation comes last
 
--- the step that has the seats of a category; whoever is of none has the open ones alone
+-- the step that has the seats of a category; a person of none has the open ones alone
 abbrev pub own_step : Category → StepKind
 own_step Gen = Open
 own_step Ews = EwsStep
@@ -179,18 +181,20 @@ whole_step version seats applicants admissions kind =
 -- What is asked of the choice of the seats of one kind (Sönmez and Yenmez, Econometrica 2022: non-wastefulness, maximal accommodation of horizontal
 -- protections, no justified envy).
 pub record MeetsStepAxioms (step : Step) (chosen : List Person) : Type 0 where
-  -- a seat stays empty only where everybody who stands for it is chosen
+  -- a seat stays empty only if everybody who competes for it is chosen
   pub non_wasteful : length chosen < step.seats → (person : Person) → IsAmong person step.people → IsAmong person chosen
-  -- no set within the seats, of those who stand for them, honours more protections
+  -- no set within the seats, of those who compete for them, honours more protections
   pub greatest : (other : List Person) (m n : ℕ) → MayAdmit step other → IsHonoured step.protections other m → IsHonoured step.protections chosen n → m ≤ n
-  -- and not even all who stand for them would honour more, were there seats for all
+  -- and not even all who compete for them would honour more, were there seats for all
   pub as_all : (m n : ℕ) → IsHonoured step.protections step.people m → IsHonoured step.protections chosen n → m ≡ n
-  -- whoever stands for the seats, is not chosen and is better than one of the chosen could stand in that one's place only where fewer protections are honoured
+  -- a person who competes for the seats, is not chosen and is better than one of the chosen could take that one's
+  -- place only where fewer protections are honoured
   pub no_justified_envy : (better worse : Person) (m n : ℕ) → IsAmong better step.people → (IsAmong better chosen → ⊥) → IsAmong worse chosen → IsBetter step.list better worse
       → IsHonoured step.protections (better ∷ without worse.id chosen) m → IsHonoured step.protections chosen n → m < n
 
--- Whoever could have an open seat takes no other (there: compliance with vertical protections). Where another step admits a person with a
--- common place, all open seats are taken, in the place of somebody worse there fewer protections would be honoured, and in addition to those there no more.
+-- A person who could have an open seat takes no other (there: compliance with vertical protections). If another step
+-- admits a person with a common place, all open seats are taken. In the place of somebody worse there, the person
+-- would make the step honour fewer protections. In addition to those there, the person would make it honour no more.
 pub record IsOverAndAbove (seats : ProgrammeSeats) (admissions : Admissions) (person : Person) : Type 0 where
   pub full : length admissions.open_step ≡ (seats_of seats Open).seats
   pub no_place : (worse : Person) (m n : ℕ) → IsAmong worse admissions.open_step → IsBetter seats.list person worse

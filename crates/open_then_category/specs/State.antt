@@ -51,7 +51,8 @@ pub record IsStateKept (state : ProgrammeKept) (open_step ews obc sc st : StepKe
   pub of_st : st ≡ step_kept state.seats StStep state.admissions.st
   pub room : (seats_of state.seats EwsStep).seats + (seats_of state.seats ObcStep).seats < size
 
--- Whoever is left without a seat after a person came: nobody, so that all are held, or one of those held or the person, and all others are held.
+-- Who is left without a seat after a person came: nobody, so that all are held, or one of those held or the person,
+-- and all others are held.
 abbrev pub LeavesOut : Admissions → Person → Option Person → Admissions → Type 0
 LeavesOut before person None after = (other : Person) → IsAmong other (everybody after) ↔ IsAmong other (person ∷ everybody before)
 LeavesOut before person (Some gone) after = IsAmong gone (person ∷ everybody before)
@@ -66,7 +67,7 @@ IsAnswered before person Refused after = after ≡ before
 
 -- ---- within
 
--- whoever comes, where it passes the test
+-- the person who comes, if the person passes the test
 abbrev pub joining : (Person → Bool) → Option Person → Option Person
 joining test None = None
 joining test (Some person) = if test person then Some person else None
@@ -76,20 +77,22 @@ abbrev pub HoldsAllBut : Option Person → List Person → List Person → Type 
 HoldsAllBut None people held = held ≡ people
 HoldsAllBut (Some gone) people held = IsAmong gone people × (held ≡ without gone.id people)
 
--- a step is offered whoever comes: one of its people joins, and the one left out goes on; anybody else goes on
+-- a step is offered the person who comes: one of its people joins, and the one left out continues; anybody else
+-- continues
 abbrev pub IsOffer : (Person → Bool) → StepKept → Option Person → Option Person → List Person → Type 0
 IsOffer test step come gone after =
     MatchOption (joining test come) ((gone ≡ come) × (after ≡ step.held))
     (λ person. IsStepChoice (step_with step person) after × HoldsAllBut gone (with_person step.list person step.held) after)
 
--- the de-reserved step keeps the best on its seats: the next one is left out, or whoever comes and has no common place
+-- the de-reserved step keeps the best on its seats: the next one is left out, or the person who comes and has no
+-- common place
 abbrev pub IsLastOffer : ListId → ℕ → List Person → Option Person → Option Person → List Person → Type 0
 IsLastOffer list seats before come gone after =
     MatchOption (joining (is_common list) come) ((gone ≡ option_or come (slice_get before seats)) × (after ≡ take seats before))
     (λ person. (gone ≡ slice_get (with_person list person before) seats) × (after ≡ take seats (with_person list person before)))
 
--- A person comes to the steps in their order: whoever one leaves out goes on to the next. The de-reserved step comes last, with the seats that are left
--- to it now, and whoever it leaves out is left without a seat.
+-- A person comes to the steps in their order: the one whom a step leaves out continues to the next. The de-reserved
+-- step comes last, with the seats that are left to it now. The one whom it leaves out is left without a seat.
 pub record IsOffered (version : ℕ) (seats : ProgrammeSeats) (before : Admissions) (person : Person) (after : Admissions) : Type 0 where
   pub left_by_open : Option Person
   pub left_by_ews : Option Person

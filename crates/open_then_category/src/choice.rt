@@ -44,8 +44,10 @@ fn step_list(
 ) -> Result<StepList, OutOfMemory>
     requires step { IsStep (step_with list seats.now people) }
     requires few { length people ≤ 4294967295 }
-    ensures choice { IfOk result (λ shown. IsStepChoice (step_with list seats.now people) shown.admitted) }
-    ensures shows { IfOk result (λ shown. Shows kind seats.now.seats seats.now.protections people shown.admitted shown) }
+    ensures choice { IfOk result (λ shown.
+        IsStepChoice (step_with list seats.now people) shown.admitted) }
+    ensures shows { IfOk result (λ shown.
+        Shows kind seats.now.seats seats.now.protections people shown.admitted shown) }
 {
     let step = Step {
         list,
@@ -72,8 +74,11 @@ fn open_step(
     requires seats { AreProgrammeSeats seats.now }
     requires ranked { AreRanked seats.now.list applicants.now }
     requires few { length applicants.now ≤ 4294967295 }
-    ensures choice { IfOk result (λ shown. IsStepChoice (step_with seats.now.list (seats_of seats.now OpenStep) (filter (is_common seats.now.list) applicants.now)) shown.admitted) }
-    ensures shows { IfOk result (λ shown. Shows OpenStep (seats_of seats.now OpenStep).seats (seats_of seats.now OpenStep).protections (filter (is_common seats.now.list) applicants.now) shown.admitted shown) }
+    ensures choice { IfOk result (λ shown. IsStepChoice (step_with seats.now.list (seats_of
+        seats.now OpenStep) (filter (is_common seats.now.list) applicants.now)) shown.admitted) }
+    ensures shows { IfOk result (λ shown.
+        Shows OpenStep (seats_of seats.now OpenStep).seats (seats_of seats.now OpenStep).protections
+        (filter (is_common seats.now.list) applicants.now) shown.admitted shown) }
 {
     let step_seats = seats.of(StepKind::Open);
     let people = commons(alloc, applicants, seats.list)?;
@@ -91,8 +96,10 @@ fn category_step(
     requires seats { AreProgrammeSeats seats.now }
     requires ranked { AreRanked seats.now.list rest.now }
     requires few { length rest.now ≤ 4294967295 }
-    ensures choice { IfOk result (λ shown. IsStepChoice (step_with seats.now.list (seats_of seats.now kind) (filter (is_of category) rest.now)) shown.admitted) }
-    ensures shows { IfOk result (λ shown. Shows kind (seats_of seats.now kind).seats (seats_of seats.now kind).protections (filter (is_of category) rest.now) shown.admitted shown) }
+    ensures choice { IfOk result (λ shown. IsStepChoice (step_with seats.now.list
+        (seats_of seats.now kind) (filter (is_of category) rest.now)) shown.admitted) }
+    ensures shows { IfOk result (λ shown. Shows kind (seats_of seats.now kind).seats (seats_of
+        seats.now kind).protections (filter (is_of category) rest.now) shown.admitted shown) }
 {
     let step_seats = seats.of(kind);
     let people = members(alloc, rest, category)?;
@@ -109,7 +116,8 @@ fn dereserved_step(
     requires list { IsList list }
     requires ranked { AreRanked list left.now }
     requires few { length left.now ≤ 4294967295 }
-    ensures { IfOk result (λ shown. Shows DereservedStep seats no_protections (filter (is_common list) left.now) (take seats (filter (is_common list) left.now)) shown) }
+    ensures { IfOk result (λ shown. Shows DereservedStep seats no_protections
+        (filter (is_common list) left.now) (take seats (filter (is_common list) left.now)) shown) }
 {
     let people = commons(alloc, left, list)?;
     let admitted = fill(alloc, left, list, seats)?;
@@ -196,7 +204,7 @@ fn last_step(
     dereserved_step(alloc, seats.list, empty, left.as_slice())
 }
 
-/// The choice of a programme from those whom its open step left, who stand in merit order.
+/// Returns the choice of a programme from those whom its open step left, who are in merit order.
 fn choose_from_rest(
     alloc: Global,
     version: u8,
@@ -221,8 +229,8 @@ fn choose_from_rest(
     })
 }
 
-/// The choice of a programme from applicants who stand in merit order, the best first. Each step is walked through a few
-/// times from its people's first to its last, beside its choice and its certificate.
+/// Returns the choice of a programme from applicants in merit order, the best first. Walks through the people of each
+/// step a few times, from the first to the last, in addition to the step's choice and certificate.
 fn choose_in_order(
     alloc: Global,
     version: u8,
@@ -254,7 +262,8 @@ pub fn programme_choice(
     requires programme { prog.0 < length matrix.now.programmes }
     requires version { IsVersion version }
     requires applicants { AreApplicants (list_in matrix.now prog.0) applicants.now }
-    ensures { IfOk result (λ programme. ShowsFrom version (seats_in matrix.now prog.0) applicants.now programme) }
+    ensures { IfOk result (λ programme.
+        ShowsFrom version (seats_in matrix.now prog.0) applicants.now programme) }
 {
     // no memory holds so many persons
     if applicants.len() > u32::MAX as usize {

@@ -101,7 +101,7 @@ fn count_members(people: &[Person], category: Category) -> u32
     count
 }
 
-/// The list of a step that admits these persons, who stand in merit order, from so many people.
+/// Returns the list of a step that admits these persons, who are in merit order, from that many people.
 fn list_of(
     alloc: Global,
     kind: StepKind,
@@ -112,7 +112,8 @@ fn list_of(
 ) -> Result<StepList, OutOfMemory>
     requires distinct { AreDistinct admitted.now }
     requires traits { AllByRecursion (λ person. IsTraitSet person.traits) admitted.now }
-    ensures { IfOk result (λ list. (people : List AnyPerson) → length people ≡ candidates → Shows kind seats protections.now people admitted.now list) }
+    ensures { IfOk result (λ list. (people : List AnyPerson) → length people ≡ candidates
+        → Shows kind seats protections.now people admitted.now list) }
 {
     let pairs = canonical_pairs(alloc, admitted, protections)?;
     let mut persons = People::with_capacity(alloc, admitted.len())?;
@@ -126,12 +127,14 @@ fn list_of(
     })
 }
 
-/// The list of the open step: all with a common place who came stood for its seats.
+/// Returns the list of the open step: all with a common place who came competed for its seats.
 fn open_list(alloc: Global, state: &ProgrammeState, came: u32) -> Result<StepList, OutOfMemory>
     requires distinct { AreDistinct state.now.admissions.open_step }
-    requires traits { AllByRecursion (λ person. IsTraitSet person.traits) state.now.admissions.open_step }
+    requires traits { AllByRecursion (λ person. IsTraitSet person.traits)
+        state.now.admissions.open_step }
     ensures { IfOk result (λ list. (people : List AnyPerson) → length people ≡ came
-        → Shows OpenStep (seats_of state.now.seats OpenStep).seats (seats_of state.now.seats OpenStep).protections people state.now.admissions.open_step list) }
+        → Shows OpenStep (seats_of state.now.seats OpenStep).seats (seats_of state.now.seats
+        OpenStep).protections people state.now.admissions.open_step list) }
 {
     let seats = state.programme_seats().of(StepKind::Open);
     list_of(
@@ -144,7 +147,8 @@ fn open_list(alloc: Global, state: &ProgrammeState, came: u32) -> Result<StepLis
     )
 }
 
-/// The list of a category's step: of the members who came, those whom the open step did not take stood for its seats.
+/// Returns the list of a category's step: of the members who came, those whom the open step did not take competed for
+/// its seats.
 fn category_list(
     alloc: Global,
     state: &ProgrammeState,
@@ -153,7 +157,8 @@ fn category_list(
     came: u32,
 ) -> Result<StepList, OutOfMemory>
     requires distinct { AreDistinct (admitted_by state.now.admissions kind) }
-    requires traits { AllByRecursion (λ person. IsTraitSet person.traits) (admitted_by state.now.admissions kind) }
+    requires traits { AllByRecursion (λ person. IsTraitSet person.traits)
+        (admitted_by state.now.admissions kind) }
     requires few { length (filter (is_of category) state.now.admissions.open_step) ≤ came }
     ensures { IfOk result (λ list. (people : List AnyPerson) → length people + length (filter (is_of category) state.now.admissions.open_step) ≡ came
         → Shows kind (seats_of state.now.seats kind).seats (seats_of state.now.seats kind).protections people (admitted_by state.now.admissions kind) list) }
@@ -182,11 +187,12 @@ fn count_taken(state: &ProgrammeState) -> u32
         + count_common(state.admitted(StepKind::St), list)
 }
 
-/// The list of the de-reserved step: of those with a common place who came, those whom no step before took stood for the
-/// seats that categories left empty.
+/// Returns the list of the de-reserved step: of those with a common place who came, those whom no step before took
+/// competed for the seats that categories left empty.
 fn last_list(alloc: Global, state: &ProgrammeState, came: u32) -> Result<StepList, OutOfMemory>
     requires distinct { AreDistinct state.now.admissions.dereserved }
-    requires traits { AllByRecursion (λ person. IsTraitSet person.traits) state.now.admissions.dereserved }
+    requires traits { AllByRecursion (λ person. IsTraitSet person.traits)
+        state.now.admissions.dereserved }
     requires few { common_taken state.now.seats.list state.now.admissions ≤ came }
     ensures { IfOk result (λ list. (people : List AnyPerson) → length people + common_taken state.now.seats.list state.now.admissions ≡ came
         → Shows DereservedStep (unfilled state.now.version state.now.seats state.now.admissions) no_protections people state.now.admissions.dereserved list) }
@@ -212,16 +218,17 @@ fn last_list(alloc: Global, state: &ProgrammeState, came: u32) -> Result<StepLis
     )
 }
 
-/// The six lists of a programme that keeps the choice from all who came, by how many came: the very lists of
-/// `programme_choice` from these people, made without going through them again. The only error is want of memory; it leaves
-/// nothing.
+/// Returns the six lists of a programme that keeps the choice from all who came, by how many came. They are the very
+/// lists of `programme_choice` from these people, made without going through them again. The only error is that
+/// memory runs out; it leaves nothing.
 pub fn lists_of(
     alloc: Global,
     state: &ProgrammeState,
     tried: &Tried,
 ) -> Result<Programme, OutOfMemory>
     requires { (people : List AnyPerson) × HaveCome state.now tried.now people }
-    ensures { IfOk result (λ programme. (people : List AnyPerson) → HaveCome state.now tried.now people → ShowsFrom state.now.version state.now.seats people programme) }
+    ensures { IfOk result (λ programme. (people : List AnyPerson) → HaveCome state.now
+        tried.now people → ShowsFrom state.now.version state.now.seats people programme) }
 {
     step_laws();
     let first = open_list(alloc, state, tried.common)?;

@@ -96,8 +96,8 @@ pub fn slots_are_traits()
     step_laws();
 }
 
-/// Where steps have more seats, with all protections as before, whoever was admitted from the same people is still
-/// admitted, perhaps under another step.
+/// States that where steps have more seats, with the same protections, everyone who was admitted from the same people
+/// is still admitted, perhaps under another step.
 pub fn more_seats_keep_all()
     ensures { MoreSeatsKeepAll }
 {

@@ -59,7 +59,11 @@ impl ProgrammeState {
     ) -> Result<ProgrammeState, OutOfMemory>
         requires programme { prog.0 < length matrix.now.programmes }
         requires version { IsVersion version }
-        ensures { IfOk result (λ state. state ≡ record { version = version; seats = seats_in matrix.now prog.0; admissions = nobody }) }
+        ensures { IfOk result (λ state. state ≡ record {
+          version = version;
+          seats = seats_in matrix.now prog.0;
+          admissions = nobody;
+        }) }
     {
         step_laws();
         let seats = matrix.programme(prog);
@@ -79,13 +83,14 @@ impl ProgrammeState {
         })
     }
 
-    /// Offers the person to the programme, which then admits the choice from those whom it admitted and the person. So after
-    /// any offers it admits the choice from all who were offered. It takes no memory, and counts one step.
+    /// Offers the person to the programme, which then admits the choice from those whom it admitted and the person.
+    /// So after any offers it admits the choice from all who were offered. Allocates nothing, and counts one step.
     pub fn offer<L: Ledger>(&mut self, person: &Person, steps: &mut Steps<L>) -> Offered
         requires { AreApplicants self.old.seats.list (person.now ∷ everybody self.old.admissions) }
         // the version and the seats stay
         ensures stays { self.new ≡ record self.old { admissions = self.new.admissions } }
-        ensures choice { ChoosesFrom self.old.version self.old.seats (person.now ∷ everybody self.old.admissions) self.new.admissions }
+        ensures choice { ChoosesFrom self.old.version self.old.seats
+            (person.now ∷ everybody self.old.admissions) self.new.admissions }
         ensures all { (some all : List AnyPerson) → AreDistinct some → AreApplicants self.old.seats.list all → IsWith person.now some all → (IsAmong person.now some → ⊥)
             → ChoosesFrom self.old.version self.old.seats some self.old.admissions → ChoosesFrom self.old.version self.old.seats all self.new.admissions }
         ensures answer { IsAnswered self.old person.now result self.new }
@@ -121,7 +126,7 @@ impl ProgrammeState {
         }
     }
 
-    /// Those whom a step admits, in merit order. It takes no memory.
+    /// Returns those whom a step admits, in merit order. Allocates nothing.
     pub fn admitted(&self, kind: StepKind) -> &[Person]
         ensures { result.now ≡ admitted_by self.now.admissions kind }
     {
@@ -163,7 +168,13 @@ pub(crate) struct CategoryStates {
 /// The steps of the categories of a programme, which hold nobody.
 fn category_states(alloc: Global, seats: &ProgrammeSeats) -> Result<CategoryStates, OutOfMemory>
     requires { AreProgrammeSeats seats.now }
-    ensures { IfOk result (λ states. states ≡ record { ews = step_kept seats.now EwsStep []; obc = step_kept seats.now ObcStep []; sc = step_kept seats.now ScStep []; st = step_kept seats.now StStep [] }) }
+    ensures { IfOk result (λ states. states
+        ≡ record {
+          ews = step_kept seats.now EwsStep [];
+          obc = step_kept seats.now ObcStep [];
+          sc = step_kept seats.now ScStep [];
+          st = step_kept seats.now StStep [];
+        }) }
 {
     Ok(CategoryStates {
         ews: step_state(alloc, seats, StepKind::Ews)?,
@@ -195,7 +206,7 @@ fn held_by(step: &StepState) -> u16
     step.admitted().len() as u16
 }
 
-/// Hands the person to a step for those with a common place, and tells who goes on to the next one.
+/// Hands the person to a step for those with a common place. Returns who continues to the next step.
 fn hand_common(step: &mut StepState, list: ListId, person: &Person) -> Option<Person>
     requires list { IsList list }
     requires new { IsNewTo step.old.list step.old.held person.now }
@@ -208,9 +219,11 @@ fn hand_common(step: &mut StepState, list: ListId, person: &Person) -> Option<Pe
     step.hand(person)
 }
 
-/// Hands whoever comes to the step of a category, where it is a member, and tells who goes on to the next one.
+/// Offers the person who comes to the step of a category, if the person is a member. Returns who continues to the
+/// next step.
 fn hand_member(step: &mut StepState, category: Category, coming: Option<Person>) -> Option<Person>
-    requires { (person : AnyPerson) → coming ≡ Some person → IsNewTo step.old.list step.old.held person }
+    requires { (person : AnyPerson) → coming ≡ Some person
+        → IsNewTo step.old.list step.old.held person }
     ensures stays { step.new ≡ record step.old { held = step.new.held } }
     ensures offered { IsOffer (is_of category) step.old coming result step.new.held }
 {
@@ -223,8 +236,8 @@ fn hand_member(step: &mut StepState, category: Category, coming: Option<Person>)
     step.hand(&person)
 }
 
-/// Keeps the best on the seats, with whoever comes and has a common place, and tells who is left without a seat: one too
-/// many at most.
+/// Keeps the best on the seats, including the person who comes if that person has a common place. Returns who is left
+/// without a seat: at most one person.
 fn keep_best(
     people: &mut Vec<Person>,
     list: ListId,
@@ -233,7 +246,8 @@ fn keep_best(
 ) -> Option<Person>
     requires list { IsList list }
     requires ranked { AreRanked list people.old.items }
-    requires new { (person : AnyPerson) → coming ≡ Some person → IsNewTo list people.old.items person }
+    requires new { (person : AnyPerson) → coming ≡ Some person
+        → IsNewTo list people.old.items person }
     requires room { vec_len people.old < vec_capacity people.old }
     requires few { length people.old.items ≤ seats + 1 }
     requires free { (person : AnyPerson) → coming ≡ Some person → length people.old.items ≤ seats }

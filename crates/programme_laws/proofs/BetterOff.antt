@@ -1,7 +1,6 @@
 -- An applicant who is better off stays admitted: by the step that admitted the person, or by an earlier one.
-use Rattle.std.proofs.Common.{◌≡◌, ◌≢◌, ◌≤◌, ◌⊎◌, inl, inr, ℕ, zero, suc, Bool, true, false, List, [], ◌∷◌, length, take, arith, refl, sym, ap, ◌∙◌, subst, not}
+use Rattle.std.proofs.Common.{◌≡◌, ◌≢◌, ◌⊎◌, inl, inr, ℕ, zero, suc, Bool, true, false, List, [], ◌∷◌, length, take, arith, refl, sym, ap, ◌∙◌, subst, not}
 use Rattle.std.specs.List.{filter}
-use Rattle.std.proofs.lemmas.List.{length-take}
 use Rattle.office_base.specs.Lists.{IsAmong, IsSublist, Pairwise}
 use Rattle.office_base.specs.Merit.{in_merit}
 use Rattle.office_base.specs.Person.{IsAhead, IsBetter, is_common, number_in}
@@ -12,6 +11,7 @@ use Rattle.office_base.specs.declared.person.ListId.{ListId}
 use Rattle.office_base.specs.declared.person.Person.{Person}
 use Rattle.office_base.specs.declared.step.StepKind.{StepKind}
 use Rattle.office_base.specs.declared.step.StepKind.TheVariants.{Open, Ews as EwsStep, Obc as ObcStep, Sc as ScStep, St as StStep, Dereserved}
+use Rattle.office_base.proofs.Lists.{length_take_most}
 use Rattle.placements.specs.Ranks.{AreAmong, AreDistinct}
 use Rattle.placements.specs.Ranks as ranks
 use Rattle.placements.proofs.Filters.{among_filter, among_filter_from, filter-sublist}
@@ -76,9 +76,6 @@ taken_ahead list (suc n) (x ∷ people) one other order here there gone = elim t
   ]
 ]
 
-few_taken : (n : ℕ) (people : List Person) → length (take n people) ≤ n
-few_taken n people = (let size = length-take n people in omega (arith, size))
-
 module _ (list : ListId) (n : ℕ) (people others : List Person) (ranked : AreRanked list people) (ranked' : AreRanked list others) (before after : Person)
     (replaced : AreReplaced before after people others) (same : IsTheSame list before after) where
   ahead_before : (one : Person) → IsBetter list one after → IsBetter list one before
@@ -106,7 +103,7 @@ module _ (list : ListId) (n : ℕ) (people others : List Person) (ranked : AreRa
         (sublist_again _ _ _ (without_sublist before.id (take n people)) (IsSublist-take n people))) within in
         let short = length-sublist (take n others) (ranks.without before.id (take n people)) part in
         let one_more = length_without before.id (take n people) (any_at (λ member. member.id ≡ before.id) before (take n people) here refl) in
-        let few = few_taken n people in
+        let few = length_take_most n people in
         omega (arith, full, short, one_more, few))
   ]
 

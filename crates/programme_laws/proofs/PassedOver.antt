@@ -6,7 +6,6 @@ use Rattle.office_base.specs.Lists.{IsAmong, IsSublist, Pairwise}
 use Rattle.office_base.specs.Merit.{in_merit}
 use Rattle.office_base.specs.Person.{IsBetter, is_common, number_in}
 use Rattle.office_base.specs.StepChoice.{AreRanked, IsStep, IsStepChoice}
-use Rattle.office_base.specs.declared.person.CandId.{CandId}
 use Rattle.office_base.specs.declared.person.Category.{Category}
 use Rattle.office_base.specs.declared.person.Category.TheVariants.{Ews, Obc, Sc, St}
 use Rattle.office_base.specs.declared.person.ListId.{ListId}
@@ -18,6 +17,7 @@ use Rattle.placements.proofs.Filters.{among_filter_from, filter-sublist}
 use Rattle.placements.proofs.Merit.{ahead_again, not_ahead}
 use Rattle.placements.proofs.Ranks.{among_sublist, any_all, one_person, ranked_sublist, widen}
 use Rattle.placements.proofs.Sublists.{sublist_again}
+use Rattle.placements.proofs.Convert.{same_cand}
 use Rattle.merit_choice.specs.InMerit.{InMeritRanks}
 use Rattle.merit_choice.specs.Laws.{NobodyPassedOver}
 use Rattle.seat_matrix.specs.Seats.{AreProgrammeSeats}
@@ -29,17 +29,11 @@ use Rattle.programme_laws.specs.Laws.{HoldsEachTraitOf, MayStandFor, NobodyIsPas
 
 -- ---- whom a step left
 
-same_id : (a b : CandId) → a.0 ≡ b.0 → a ≡ b
-same_id a b same = ap number_id same
-  where
-    number_id : ℕ → CandId
-    number_id n = record { 0 = n }
-
 -- a person who is taken has the id of one of those taken
 taken_is : (taken : List Person) (person : Person) → is_taken taken person ≡ true → (other : Person) × IsAmong other taken × (other.id ≡ person.id)
 taken_is [] person e = absurd (cc)
 taken_is (other ∷ taken) person e = elim (or_cases (other.id.0 == person.id.0) (is_taken taken person) e) [
-  | inl same ↦ (other, inl refl, same_id _ _ (eqb-true _ _ same))
+  | inl same ↦ (other, inl refl, same_cand _ _ (eqb-true _ _ same))
   | inr later ↦ let rest = taken_is taken person later in (rest.0, inr rest.1, rest.2)
 ]
 
@@ -94,7 +88,7 @@ module _ (passes : NobodyPassedOver) (version : ℕ) (seats : ProgrammeSeats) (a
   open_within : AreAmong admissions.open_step applicants
   open_within = among_sublist _ _ (sublist_again _ _ _ choice.open_step.may.people (filter-sublist (is_common seats.list) applicants))
 
-  -- a member is admitted by the open step, or stands for the seats of the category
+  -- a member is admitted by the open step, or competes for the seats of the category
   member_stands : (category : Category) (person : Person) → IsAmong person applicants → person.category ≡ category
       → IsAmong person admissions.open_step ⊎ IsAmong person (filter (is_of category) (without applicants admissions.open_step))
   member_stands category person there is = elim (taken_or_left applicants applicants admissions.open_step person ranked.distinct open_within there there) [

@@ -14,12 +14,13 @@ use Rattle.office_base.specs.declared.step.Pair.{Pair}
 use Rattle.office_base.specs.declared.step.Protections.{Protections}
 use Rattle.office_base.specs.declared.step.Step.{Step}
 use Rattle.placements.specs.Ranks.{AreAmong, AreDistinct, without}
-use Rattle.placements.proofs.Exchange.{Leaves, all_weaker}
+use Rattle.placements.proofs.Exchange.{Leaves}
 use Rattle.placements.proofs.Greatest.{honoured-exists}
 use Rattle.placements.proofs.Ranks.{among_again, among_sublist, any_all, any_at, are_among, pairwise_sublist, ranked_sublist, same_cand, widen}
 use Rattle.placements.proofs.Sublists.{sublist_again}
 use Rattle.placements.proofs.Without.{among_without, leaves_member, length_without, pairwise_without, without_among, without_apart, without_sublist}
 use Rattle.std.proofs.lemmas.Bool.{cases_Bool, cond-false, cond-true}
+use Rattle.office_base.proofs.Lists.{all_weaker}
 use Rattle.merit_choice.specs.Laws.{ChoiceExists, LeavingOutRefused}
 use Rattle.merit_choice.proofs.InMerit.{length-with_person, part_can_be_ranked, ranked_can, ranked_part, ranked_same, ranked_with, with_among, among_with}
 use Rattle.programme_laws.specs.Laws.{HoldsEachTraitOf}

@@ -12,7 +12,8 @@ use Rattle.programme_lists.specs.Programme.{Admissions, admitted_by}
 use Rattle.seat_matrix.specs.Seats.{AreProgrammeSeats}
 use Rattle.seat_matrix.specs.declared.seats.ProgrammeSeats.{ProgrammeSeats}
 
--- The person may stand for a step: for open and de-reserved seats with a common place in the list, for the seats of a category as one of its members.
+-- The person may compete for a step: for open and de-reserved seats with a common place in the list, for the seats of
+-- a category as one of its members.
 abbrev pub MayStandFor : ListId → StepKind → Person → Type 0
 MayStandFor list Open person = is_common list person ≡ true
 MayStandFor list EwsStep person = person.category ≡ Ews
@@ -25,8 +26,8 @@ MayStandFor list Dereserved person = is_common list person ≡ true
 abbrev pub HoldsEachTraitOf : Person → Person → Type 0
 HoldsEachTraitOf person other = (t : ℕ) → IsTrue (has_trait other.traits t) → IsTrue (has_trait person.traits t)
 
--- Of two applicants, the better one may stand for the step that admits the worse one, and holds each trait that the worse one holds. Then the programme admits
--- the better one too, under this step or another.
+-- Of two applicants, the better one may compete for the step that admits the worse one, and holds each trait that the
+-- worse one holds. Then the programme admits the better one too, under this step or another.
 abbrev pub NobodyIsPassedOver : Type 0
 NobodyIsPassedOver = (version : ℕ) (seats : ProgrammeSeats) (people : List Person) (admissions : Admissions) (better worse : Person) (step : StepKind) → AreProgrammeSeats seats
     → AreApplicants seats.list people → ChoosesFrom version seats people admissions → IsAmong better people → IsAmong worse (admitted_by admissions step)

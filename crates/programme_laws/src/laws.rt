@@ -1,7 +1,8 @@
 // The laws of a programme's choice, for those who apply. Each is the contract of a function that does nothing.
 ghost use Rattle.programme_laws.specs.Laws.{BeingBetterOffNeverHurts, NobodyIsPassedOver};
 
-/// A programme passes nobody over for somebody who is worse, holds no other trait, and has a seat for which the better one may stand.
+/// States that a programme passes nobody over for somebody who is worse, holds no other trait, and has a seat for
+/// which the better one may compete.
 pub fn nobody_is_passed_over()
     ensures { NobodyIsPassedOver }
 {

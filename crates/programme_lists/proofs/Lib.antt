@@ -1,2 +1,5 @@
 pub mod Categories
+pub mod Seats
 mod SixSteps
+pub mod Taken
+pub mod Walk

@@ -1,4 +1,4 @@
--- The choice of a programme from people in whatever order they are told.
+-- The choice of a programme from people in any order.
 use Rattle.std.specs.Prelude.{◌≡◌, ◌⊎◌, ◌++◌, ◌+◌, ℕ, List, length}
 use Rattle.office_base.specs.Lists.{IsAmong}
 use Rattle.office_base.specs.Merit.{CanBeRanked, in_merit}

@@ -39,7 +39,7 @@ abbrev pub ShowsSteps : ℕ → ProgrammeSeats → List Person → Admissions �
 ShowsSteps version seats applicants admissions programme =
     AllZip (ShowsStep version seats applicants admissions) (Open ∷ Ews ∷ Obc ∷ Sc ∷ St ∷ Dereserved ∷ []) programme.steps
 
--- The programme shows its choice from these applicants, who stand in merit order.
+-- The programme shows its choice from these applicants, who are in merit order.
 abbrev pub ShowsChoice : ℕ → ProgrammeSeats → List Person → Programme → Type 0
 ShowsChoice version seats applicants programme =
     (admissions : Admissions) × IsProgrammeChoice version seats applicants admissions × ShowsSteps version seats applicants admissions programme

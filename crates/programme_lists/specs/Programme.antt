@@ -79,7 +79,7 @@ people_of list applicants admissions Dereserved = filter (is_common list) (left_
 abbrev pub unfilled : ℕ → ProgrammeSeats → Admissions → ℕ
 unfilled version seats admissions = left_unfilled version (seats_of seats EwsStep).seats (length admissions.ews) (seats_of seats ObcStep).seats (length admissions.obc)
 
--- one list of a programme, with the people who stand for the seats
+-- one list of a programme, with the people who compete for the seats
 abbrev pub step_with : ListId → Seating → List Person → Step
 step_with list seats people = record { list = list; seats = seats.seats; protections = seats.protections; people = people }
 
@@ -87,7 +87,8 @@ step_with list seats people = record { list = list; seats = seats.seats; protect
 abbrev pub step_of : ProgrammeSeats → List Person → Admissions → StepKind → Step
 step_of seats applicants admissions kind = step_with seats.list (seats_of seats kind) (people_of seats.list applicants admissions kind)
 
--- The admissions are the choice of the programme, by the version of the bundle, from its applicants, who stand in merit order.
+-- The admissions are the choice of the programme, by the version of the bundle, from its applicants, who are in merit
+-- order.
 pub record IsProgrammeChoice (version : ℕ) (seats : ProgrammeSeats) (applicants : List Person) (admissions : Admissions) : Type 0 where
   pub open_step : IsStepChoice (step_of seats applicants admissions Open) admissions.open_step
   pub ews : IsStepChoice (step_of seats applicants admissions EwsStep) admissions.ews

@@ -5,8 +5,8 @@ use office_base::{OutOfMemory, People, StepKind};
 use slot_cert::Cert;
 use std::alloc::Global;
 
-/// One step of a programme, as it is shown: its seats, the number of people who stood for them, the persons admitted in
-/// merit order, and what shows which protections they fill.
+/// Holds one step of a programme, as it is shown: its seats, the number of people who competed for them, the persons
+/// admitted in merit order, and what shows which protections they fill.
 #[derive(Debug, Drop)]
 pub struct StepList {
     pub kind: StepKind,

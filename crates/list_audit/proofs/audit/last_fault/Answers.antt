@@ -1,6 +1,6 @@
 use Rattle.std.proofs.Common.{◌∙◌, subst, sym}
 use Rattle.office_base.specs.StepChoice.{AreRanked}
-use Rattle.list_audit.proofs.Leaving.{ranked_over}
+use Rattle.programme_lists.proofs.Walk.{ranked_over}
 use Rattle.list_audit.proofs.audit.last_fault.Goals as goal
 
 pub step_fault-requires-clause-ranked : goal.step_fault-requires-clause-ranked

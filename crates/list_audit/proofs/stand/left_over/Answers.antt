@@ -4,7 +4,7 @@ use Rattle.office_base.specs.StepChoice.{AreRanked}
 use Rattle.office_base.specs.declared.person.Category.TheVariants.{Ews}
 use Rattle.office_base.specs.declared.person.Person.{Person}
 use Rattle.programme_lists.specs.Programme.{without}
-use Rattle.list_audit.proofs.Leaving.{members_sublist, ranked_without, obc_there, sc_there, st_there}
+use Rattle.programme_lists.proofs.Walk.{members_sublist, ranked_without, obc_there, sc_there, st_there}
 use Rattle.list_audit.proofs.stand.left_over.Goals as goal
 
 pub without-requires-clause-taken : goal.without-requires-clause-taken

@@ -1,6 +1,6 @@
 use Rattle.std.proofs.Common.{arith}
 use Rattle.std.proofs.lemmas.Grind.{common_steps}
-use Rattle.list_audit.proofs.Leaving.{minus_is_without}
+use Rattle.programme_lists.proofs.Walk.{minus_is_without}
 use Rattle.list_audit.proofs.stand.without.Goals as goal
 
 pub returns : goal.returns

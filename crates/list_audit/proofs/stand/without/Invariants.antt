@@ -1,5 +1,5 @@
 use Rattle.std.proofs.Common.{◌≡◌, ◌≤◌, ◌++◌, length, drop}
-use Rattle.list_audit.proofs.Leaving.{minus}
+use Rattle.programme_lists.proofs.Walk.{minus}
 use Rattle.list_audit.proofs.stand.without.Given as goal
 
 abbrev pub invariant-loop-person : goal.invariant-loop-person

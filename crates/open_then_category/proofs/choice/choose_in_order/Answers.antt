@@ -7,8 +7,8 @@ use Rattle.office_base.specs.declared.person.Person.{Person}
 use Rattle.placements.proofs.Sublists.{sublist_again}
 use Rattle.placements.proofs.Filters.{filter-sublist}
 use Rattle.programme_lists.specs.Programme.{without}
-use Rattle.open_then_category.proofs.Assemble.{length-without}
-use Rattle.open_then_category.proofs.Walk.{ranked_without}
+use Rattle.programme_lists.proofs.Walk.{ranked_without}
+use Rattle.programme_lists.proofs.Taken.{length-without}
 use Rattle.open_then_category.proofs.choice.choose_in_order.Goals as goal
 
 pub without-requires-clause-taken : goal.without-requires-clause-taken

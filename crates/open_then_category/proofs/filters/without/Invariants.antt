@@ -1,5 +1,5 @@
 use Rattle.std.proofs.Common.{◌≡◌, ◌≤◌, ◌++◌, length, drop}
-use Rattle.open_then_category.proofs.Walk.{minus}
+use Rattle.programme_lists.proofs.Walk.{minus}
 use Rattle.open_then_category.proofs.filters.without.Given as goal
 
 abbrev pub invariant-loop-person : goal.invariant-loop-person

@@ -1,5 +1,5 @@
 use Rattle.std.proofs.Common.{ap, length, arith}
-use Rattle.open_then_category.proofs.Leaving.{length_with}
+use Rattle.placements.proofs.Merit.{length_with}
 use Rattle.open_then_category.proofs.state.keep_best.Goals as goal
 
 pub drop_last-requires-2 : goal.drop_last-requires-2

@@ -1,15 +1,14 @@
 -- Who is taken from people, and who is left.
-use Rattle.std.proofs.Common.{◌≡◌, ℕ, true, false, not, List, [], ◌∷◌, eqb, refl, sym, ap, subst, inl, inr}
+use Rattle.std.proofs.Common.{◌≡◌, ◌≤◌, ℕ, true, false, not, List, [], ◌∷◌, length, eqb, refl, sym, ap, subst, inl, inr}
 use Rattle.std.proofs.lemmas.Bool.{eqb-true, eq-eqb, or_left, or_right, or_cases, not-true, not_from_false, false_from_ne_true, both_ways}
 use Rattle.office_base.specs.Lists.{AnyByRecursion, IsAmong}
 use Rattle.office_base.specs.declared.person.CandId.{CandId}
 use Rattle.office_base.specs.declared.person.Person.{Person}
 use Rattle.placements.specs.Ranks.{AreAmong, AreDistinct}
 use Rattle.placements.proofs.Ranks.{any_all, any_among, among_itself, one_person}
-use Rattle.placements.proofs.Filters.{among_filter, among_filter_from}
+use Rattle.placements.proofs.Filters.{among_filter, among_filter_from, filter-sublist}
+use Rattle.placements.proofs.Sublists.{length-sublist}
 use Rattle.programme_lists.specs.Programme.{is_taken, without}
-
--- ---- who is taken
 
 -- who is one of those taken is taken
 pub taken_from : (x : Person) (taken : List Person) → IsAmong x taken → is_taken taken x ≡ true
@@ -48,3 +47,7 @@ among_without_from all people taken x distinct within taken_within here free =
     let wide = any_among (λ one. x ≡ one) people all within here in
     among_filter_from (λ person. not (is_taken taken person)) x people here
     (not_from_false (is_taken taken x) (false_from_ne_true (is_taken taken x) (λ holds. free (taken_among all taken x distinct taken_within wide holds))))
+
+-- People are no more without some of them.
+pub length-without : (people taken : List Person) → length (without people taken) ≤ length people
+length-without people taken = length-sublist (without people taken) people (filter-sublist _ people)

@@ -2,7 +2,7 @@
 use Rattle.std.proofs.Common.{◌≡◌, ◌≢◌, ◌||◌, Bool, true, false, not, cond, List, [], ◌∷◌, eqb, refl, sym, ap, ◌∙◌, subst, inl, inr}
 use Rattle.std.proofs.lemmas.Bool.{cond-true, cond-false, cond_both, eq-eqb, ne_eqb, or_left, or_parts, both_ways, not_from_true, not_from_false, false_from_ne_true}
 use Rattle.std.specs.List.{filter, AllByRecursion}
-use Rattle.office_base.specs.Lists.{IsSublist}
+use Rattle.office_base.specs.Lists.{IsAmong, IsSublist}
 use Rattle.office_base.specs.declared.person.Category.{Category}
 use Rattle.office_base.specs.declared.person.Category.TheVariants.{Gen, Ews, Obc, Sc, St}
 use Rattle.office_base.specs.StepChoice.{AreRanked}
@@ -13,11 +13,10 @@ use Rattle.placements.specs.Ranks.{AreAmong, AreDistinct}
 use Rattle.placements.proofs.Convert.{same_cand}
 use Rattle.placements.proofs.Ranks.{any_all, any_among, among_again, among_sublist, ranked_sublist}
 use Rattle.placements.proofs.Filters.{filter-sublist, among_filter}
-use Rattle.merit_choice.specs.Laws.{IsAmong}
 use Rattle.programme_lists.specs.Programme.{is_taken, is_same, is_of, without}
-use Rattle.open_then_category.proofs.Lists.{taken_number, taken_among}
+use Rattle.programme_lists.proofs.Taken.{taken_number, taken_among}
 
--- the people who are left where those taken stand in the order of the people
+-- the people who are left when those taken are in the order of the people
 abbrev pub minus : List Person → List Person → List Person
 minus [] taken = []
 minus (person ∷ people) [] = person ∷ minus people []
@@ -144,3 +143,9 @@ st_there rest ews obc sc st distinct of_ews of_obc of_sc of_st =
     members_still_there St Sc rest (without (without rest ews) obc) st sc distinct (λ same. cc) of_st of_sc
     (members_still_there St Obc rest (without rest ews) st obc distinct (λ same. cc) of_st of_obc
     (members_still_there St Ews rest rest st ews distinct (λ same. cc) of_st of_ews (members_sublist St st rest of_st)))
+
+-- whom all categories left of ranked people are ranked
+pub ranked_over : (list : ListId) (rest ews obc sc st : List Person) → AreRanked list rest → AreRanked list (without (without (without (without rest ews) obc) sc) st)
+ranked_over list rest ews obc sc st ranked =
+    ranked_without list (without (without (without rest ews) obc) sc) st
+    (ranked_without list (without (without rest ews) obc) sc (ranked_without list (without rest ews) obc (ranked_without list rest ews ranked)))
