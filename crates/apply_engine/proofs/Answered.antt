@@ -4,6 +4,7 @@ use Rattle.std.specs.Prelude.{slice_get}
 use Rattle.office_base.specs.Lists.{IsAmong}
 use Rattle.office_base.specs.declared.person.CandId.{CandId}
 use Rattle.office_base.specs.declared.person.Person.{Person}
+use Rattle.office_base.proofs.Lists.{get_set_other}
 use Rattle.placements.specs.Ranks.{AreAmong}
 use Rattle.placements.proofs.Ranks.{any_all, among_itself}
 use Rattle.merit_choice.specs.declared.state.Offered.{Offered}
@@ -11,7 +12,7 @@ use Rattle.merit_choice.specs.declared.state.Offered.TheVariants.{Taken, Displac
 use Rattle.allocations.specs.Course.{IsUnderway, MayTry, tried}
 use Rattle.allocations.specs.Market.{Seeker, place_of}
 use Rattle.allocations.specs.Rule.{Admits, Refuses}
-use Rattle.allocations.proofs.Course.{get_set_same, goes_on, get_set_other}
+use Rattle.allocations.proofs.Course.{get_set_same, goes_on}
 use Rattle.allocations.proofs.Settled.{not_held, settled_displaced, settled_refused, settled_taken}
 use Rattle.allocations.proofs.Those.{of_those, same_place}
 use Rattle.open_then_category.specs.State.{IsAnswered, ProgrammeKept}
@@ -108,14 +109,14 @@ was_held set next states cur p n s old person o admitted =
       rule_shows set.version set.table p (tried p (seekers_in set) next) old.admissions person admitted.0 o.set_is.laws o.set_is.seats o.try.below f.may (before_choice set next states cur p n s old o) admitted.1,
     )
 
--- whoever is held after the offer is admitted
+-- a person who is held after the offer is admitted
 is_admitted : (set : Setting) (next : List ℕ) (states : List ProgrammeKept) (cur p n : ℕ) (s : Seeker) (old new : ProgrammeKept) (result : Offered) (person : Person)
     → Given set next states cur p n s old new result → IsAmong person (everybody new.admissions)
     → Admits (rule_of set.version set.table) p (tried p (seekers_in set) (slice_set next cur (n + 1))) person
 is_admitted set next states cur p n s old new result person g there =
     shown_admits set.version set.table p (tried p (seekers_in set) (slice_set next cur (n + 1))) new.admissions person (after_choice set next states cur p n s old new result g) (there_is_admitted new.admissions person there)
 
--- whoever is not held after the offer is refused
+-- a person who is not held after the offer is refused
 is_refused : (set : Setting) (next : List ℕ) (states : List ProgrammeKept) (cur p n : ℕ) (s : Seeker) (old new : ProgrammeKept) (result : Offered) (person : Person)
     → Given set next states cur p n s old new result → (IsAmong person (everybody new.admissions) → ⊥)
     → Refuses (rule_of set.version set.table) p (tried p (seekers_in set) (slice_set next cur (n + 1))) person
@@ -161,7 +162,7 @@ leaves_refused set next states cur p n s old new g =
           (subst (λ people. IsAmong t.person people) (sym same) (was_held set next states cur p n s old t.person o admitted)));
     }
 
--- the one who left, told by the place
+-- the one who left, by the place
 pub record Gone (set : Setting) (next : List ℕ) (cur p n : ℕ) (cand : CandId) : Type 0 where
   pub out : ℕ
   pub row : row_of cand.0 set.people ≡ Some out

@@ -6,15 +6,15 @@ use Rattle.std.proofs.lemmas.Option.{slice_get-get_or, get_or_from_slice_get}
 use Rattle.office_base.specs.Limits.{most_candidates}
 use Rattle.office_base.specs.declared.person.Person.{Person}
 use Rattle.office_base.specs.declared.person.ProgId.{ProgId}
+use Rattle.office_base.proofs.Lists.{there_is}
 use Rattle.allocations.specs.Course.{HaveNotBegun, places_left}
 use Rattle.allocations.proofs.Settled.{not_begun_free, still_not_begun}
 use Rattle.allocations.proofs.Those.{value_at}
 use Rattle.open_then_category.specs.State.{ProgrammeKept}
 use Rattle.rounds.specs.Rule.{rule_of}
-use Rattle.apply_engine.specs.Engine.{AreSettledBefore, HasApplied, IsFree, IsGoing, IsNextToPropose, IsSet, IsSettledBut, Leaves, MayPropose, Setting, seekers_in}
+use Rattle.apply_engine.specs.Engine.{AreSettledBefore, HasApplied, IsFree, IsGoing, IsNextToPropose, IsSet, IsSettledBut, Leaves, Setting, seekers_in}
 use Rattle.apply_engine.proofs.Making.{standing}
 use Rattle.apply_engine.proofs.Setting.{length_with, seeker_at}
-use Rattle.round_laws.proofs.People.{there_is}
 
 -- what is so at each turn of the inner loop
 pub record IsOn (over : Setting) (people : List Person) (lists : List (List ProgId)) (before next : List ℕ) (states : List ProgrammeKept) (first cur steps_before steps : ℕ) : Type 0 where
@@ -47,17 +47,6 @@ begins_on over people lists next states first steps b =
       not_begun = λ j m far at. r.not_begun j m (omega (arith, far)) at;
       cost = refl;
     }
-
-pub may_propose_on : (over : Setting) (people : List Person) (lists : List (List ProgId)) (before next : List ℕ) (states : List ProgrammeKept) (first cur steps_before steps : ℕ) (list : List ProgId)
-    → IsOn over people lists before next states first cur steps_before steps → slice_get lists cur ≡ Some list → slice_index next cur < length list → MayPropose over people lists next states cur
-may_propose_on over people lists before next states first cur steps_before steps list h there less = record {
-  people_is = h.people_is;
-  lists_is = h.lists_is;
-  set_is = h.set_is;
-  going = h.going;
-  free = h.free;
-  more = λ other there'. let same : list ≡ other = cc in subst (λ l. slice_index next cur < length l) same less;
-}
 
 pub standing_on : (over : Setting) (people : List Person) (lists : List (List ProgId)) (before next : List ℕ) (states : List ProgrammeKept) (first cur steps_before steps : ℕ)
     → IsOn over people lists before next states first cur steps_before steps → (cur < length lists) × (cur < length next) × (cur < most_candidates)
@@ -119,7 +108,7 @@ ends_free over people lists before next after states states' first cur steps_bef
   cost = (let a = h.cost in let b = o.left in let d = o.cost in omega (arith, a, b, d));
 }
 
--- whoever is free has come to the end of the own list
+-- a candidate who is free has come to the end of their list
 pub ends_list : (over : Setting) (people : List Person) (lists : List (List ProgId)) (before next : List ℕ) (states : List ProgrammeKept) (first cur steps_before steps : ℕ) (list : List ProgId)
     → IsOn over people lists before next states first cur steps_before steps → slice_get lists cur ≡ Some list → length list ≤ slice_index next cur
     → HasApplied over before next states (first + 1) steps_before steps

@@ -1,4 +1,4 @@
--- How many applications were made: in the end everybody has tried the own list down to the own seat, or the whole of it.
+-- How many applications were made: in the end everybody has tried their list down to their seat, or the whole of it.
 use Rattle.std.proofs.Common.{◌≡◌, ◌≤◌, ◌+◌, inl, inr, ℕ, suc, List, [], ◌∷◌, Option, Some, None, length, arith, refl}
 use Rattle.std.specs.Prelude.{slice_get, sum}
 use Rattle.std.proofs.lemmas.List.Sums.{sum_by-cons}
@@ -23,7 +23,7 @@ tried_and_left (s ∷ seekers) (n ∷ next) full within =
     let rest = tried_and_left seekers next (omega (arith, full)) (λ i. within (suc i)) in
     omega (arith, first, rest, more)
 
--- where each seeker tried the list down to the own seat, as many places were tried as there are applications
+-- if each seeker tried the list down to their seat, as many places were tried as there are applications
 pub tried_down : (seekers : List Seeker) (next : List ℕ) (seats : List (Option Seat)) → length next ≡ length seekers → length seats ≡ length seekers
     → ((i n : ℕ) (s : Seeker) (seat : Option Seat) → slice_get seekers i ≡ Some s → slice_get next i ≡ Some n → slice_get seats i ≡ Some seat → n ≡ own_applications s.list seat)
     → sum next ≡ applications seekers seats
@@ -37,7 +37,7 @@ tried_down (s ∷ seekers) (n ∷ next) (seat ∷ seats) full full' each =
     let rest = tried_down seekers next seats (omega (arith, full)) (omega (arith, full')) (λ i. each (suc i)) in
     omega (arith, first, rest, more)
 
--- whoever is settled tried the list down to the own seat
+-- a seeker who is settled tried the list down to their seat
 settled_down : (rule : Rule) (count i n : ℕ) (seekers : List Seeker) (next : List ℕ) (seats : List (Option Seat)) (s : Seeker) (seat : Option Seat)
     → IsUnderway rule count seekers next → AreSeatsOf rule count seekers next seats → slice_get seekers i ≡ Some s → slice_get next i ≡ Some n → slice_get seats i ≡ Some seat
     → IsSettled rule count seekers next s n → n ≡ own_applications s.list seat

@@ -1,8 +1,9 @@
 -- The applications begin with nobody admitted, and end.
-use Rattle.std.proofs.Common.{◌≡◌, ◌<◌, ◌≤◌, ◌+◌, ◌++◌, inl, ℕ, zero, suc, List, [], ◌∷◌, Some, length, arith, refl, sym, ap, ◌∙◌, subst, nat_lt}
+use Rattle.std.proofs.Common.{◌≡◌, ◌<◌, ◌≤◌, ◌+◌, ◌++◌, inl, ℕ, List, [], ◌∷◌, Some, length, arith, refl, sym, ap, ◌∙◌, subst, nat_lt}
 use Rattle.std.specs.Prelude.{slice_get, replicate, sum}
 use Rattle.std.proofs.lemmas.Bool.{ltb-true}
 use Rattle.std.proofs.lemmas.Option.{slice_get_within}
+use Rattle.std.proofs.lemmas.List.{length-replicate}
 use Rattle.office_base.specs.Lists.{IsAmong}
 use Rattle.office_base.specs.declared.person.Person.{Person}
 use Rattle.office_base.specs.declared.person.ProgId.{ProgId}
@@ -17,19 +18,11 @@ use Rattle.programme_lists.specs.Chosen.{ChoosesFrom, everybody}
 use Rattle.programme_lists.specs.Programme.{Admissions}
 use Rattle.rounds.specs.Rule.{MayApplyIn, rule_of}
 use Rattle.seat_matrix.specs.Matrix.{SeatTable, seats_in}
+use Rattle.allocations.proofs.Best.{zeros_at}
 use Rattle.apply_engine.specs.Engine.{AreBegun, AreSettledBefore, AreTallied, AreUntried, Enters, HasApplied, HasRun, IsSet, IsSettledTo, Setting, seekers_in}
 use Rattle.apply_engine.proofs.Counting.{tried_and_left}
 use Rattle.apply_engine.proofs.Setting.{chooses_well, length_with}
 use Rattle.apply_engine.proofs.Tallies.{untried}
-
-zeros_at : (n i m : ℕ) → slice_get (replicate n 0) i ≡ Some m → m ≡ 0
-zeros_at zero i m at = absurd (cc)
-zeros_at (suc n) zero m at = (let same : 0 ≡ m = cc in sym same)
-zeros_at (suc n) (suc i) m at = zeros_at n i m at
-
-length_zeros : (n : ℕ) → length {A = ℕ} (replicate n 0) ≡ n
-length_zeros zero = refl
-length_zeros (suc n) = ap suc (length_zeros n)
 
 -- a list of which nobody is one is empty
 none_of : {X : Type 0} (xs : List X) → ((x : X) → IsAmong x xs → ⊥) → xs ≡ []
@@ -86,7 +79,7 @@ enters over version table people lists next states e begun zeros =
     let version_is : over.version ≡ version = ap (λ (o : Setting). o.version) e.over_is in
     let none : (i n : ℕ) → slice_get next i ≡ Some n → n ≡ 0 = λ i n at. zeros_at (length lists) i n (subst (λ l. slice_get l i ≡ Some n) zeros at) in
     let size = length_with over.people over.lists e.set_is.full in
-    let full : length next ≡ length (seekers_in over) = (let a = ap length zeros ∙ length_zeros (length lists) in let b = ap length lists_is in let d = e.set_is.full in omega (arith, a, b, d, size)) in
+    let full : length next ≡ length (seekers_in over) = (let a = ap length zeros ∙ length-replicate (length lists) 0 in let b = ap length lists_is in let d = e.set_is.full in omega (arith, a, b, d, size)) in
     let well = chooses_well over.version over.table e.set_is.laws e.set_is.seats in
     let underway = begins (rule_of over.version over.table) (MayApplyIn over.table) (length over.table.programmes) (seekers_in over) next e.set_is.market well full none in
     record {
@@ -136,7 +129,7 @@ ended over version table people lists before next states tallies steps_before st
   tallied = tallied;
 }
 
--- the same run, told by lists that are the same
+-- the same run, with lists that are the same
 pub run_again : (over : Setting) (next next2 : List ℕ) (states states2 : List ProgrammeKept) (tallies tallies2 : List Tried) → next2 ≡ next → states2 ≡ states → tallies2 ≡ tallies
     → HasRun over next states tallies → HasRun over next2 states2 tallies2
 run_again over next next2 states states2 tallies tallies2 a b d run =
@@ -150,7 +143,7 @@ left_first over version table people lists before e zeros =
     let lists_is : over.lists ≡ lists = ap (λ (o : Setting). o.lists) e.over_is in
     let none : (i n : ℕ) → slice_get before i ≡ Some n → n ≡ 0 = λ i n at. zeros_at (length lists) i n (subst (λ l. slice_get l i ≡ Some n) zeros at) in
     let size = length_with over.people over.lists e.set_is.full in
-    let full : length before ≡ length (seekers_in over) = (let a = ap length zeros ∙ length_zeros (length lists) in let b = ap length lists_is in let d = e.set_is.full in omega (arith, a, b, d, size)) in
+    let full : length before ≡ length (seekers_in over) = (let a = ap length zeros ∙ length-replicate (length lists) 0 in let b = ap length lists_is in let d = e.set_is.full in omega (arith, a, b, d, size)) in
     left_at_first (seekers_in over) before full none
 
 -- The steps are no more than there are places,

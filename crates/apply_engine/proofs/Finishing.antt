@@ -26,6 +26,7 @@ use Rattle.office_base.specs.StepNumbers.{step_number}
 use Rattle.seat_matrix.specs.Matrix.{seats_in}
 use Rattle.seat_matrix.specs.declared.seats.ProgrammeSeats.{ProgrammeSeats}
 use Rattle.office_base.proofs.StepNumbers.{kinds, kind_at, number_at}
+use Rattle.office_base.proofs.Lists.{there_is}
 use Rattle.seeks.specs.declared.seek.Seek.{Seek}
 use Rattle.apply_engine.specs.Applications.{applications}
 use Rattle.apply_engine.specs.Engine.{HasEnded, HasRun, IsMade, IsSet, Setting, seekers_in}
@@ -33,7 +34,6 @@ use Rattle.apply_engine.specs.Made.{AreGiven, AreInOrder, AreListed, AreShown, a
 use Rattle.apply_engine.proofs.Counting.{settled_applications}
 use Rattle.apply_engine.proofs.Offers.{admitted_is_there, held_tried, rule_shows}
 use Rattle.apply_engine.proofs.Setting.{chooses_well, length_with, seeker_at}
-use Rattle.round_laws.proofs.People.{there_is}
 
 -- what the lists of a programme show
 pub record ShownAt (over : Setting) (next : List ℕ) (p : ℕ) (programme : Programme) : Type 0 where
@@ -75,7 +75,7 @@ at_programme : (over : Setting) (next : List ℕ) (programmes : List Programme) 
 at_programme over next programmes p programme r at =
     ((let short = slice_get_within programmes p programme at in let f = r.listed.full in omega (arith, short, f)), shown_at over next p programme (r.listed.each p programme at))
 
--- whoever is shown tried the programme last
+-- a person who is shown tried the programme last
 pub record Seated (over : Setting) (next : List ℕ) (p : ℕ) (person : Person) (kind : StepKind) : Type 0 where
   pub place : ℕ
   pub s : Seeker

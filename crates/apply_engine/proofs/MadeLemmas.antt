@@ -7,7 +7,8 @@ use Rattle.office_base.specs.Lists.{IsAmong, Pairwise}
 use Rattle.office_base.specs.declared.asks.Seat.{Seat}
 use Rattle.office_base.specs.declared.person.Person.{Person}
 use Rattle.office_base.specs.declared.person.ProgId.{ProgId}
-use Rattle.allocations.proofs.Course.{get_set_same, get_set_other}
+use Rattle.office_base.proofs.Lists.{there_is, get_set_other}
+use Rattle.allocations.proofs.Course.{get_set_same}
 use Rattle.choice_lists.specs.Choices.{Lists}
 use Rattle.rank_lists.specs.Register.{row_of}
 use Rattle.seat_matrix.specs.Matrix.{SeatTable}
@@ -15,7 +16,7 @@ use Rattle.seeks.specs.Seek.{seek_leaves}
 use Rattle.seeks.specs.declared.seek.Seek.{Seek}
 use Rattle.apply_engine.specs.Engine.{lists_in}
 use Rattle.apply_engine.specs.Made.{AreOf, IsPut, leaves_along}
-use Rattle.round_laws.proofs.People.{one_row, row_at, there_is}
+use Rattle.round_laws.proofs.People.{one_row, row_at}
 
 -- the list at a place of the register
 pub list_at_row : (lists : Lists) (i : ℕ) → slice_get (lists_in lists) i ≡ option_map (λ (held : ℕ × List ProgId). held.1) (slice_get lists i)
@@ -45,10 +46,6 @@ pub one_more : {X : Type 0} (done new rest before whole : List X) (x : X) → ne
 one_more done new rest before whole x made next all = ap (λ z. z ++ rest) made ∙ (append_assoc done (x ∷ []) rest ∙ (ap (λ z. done ++ z) (sym next) ∙ all))
 
 -- ---- seats
-
--- nobody was given the seat yet
-pub none_put : (people : List Person) (seat : Seat) (seats : List (Option Seat)) → IsPut people seat [] seats seats
-none_put people seat seats = record { full = refl; here = λ i person at among. absurd among; elsewhere = λ i person at apart. refl }
 
 among_end : {X : Type 0} (y x : X) (xs : List X) → IsAmong y (xs ++ x ∷ []) → IsAmong y xs ⊎ (y ≡ x)
 among_end y x [] h = elim h [ inl e ↦ inr e | inr later ↦ absurd later ]

@@ -19,7 +19,7 @@ use Rattle.apply_engine.specs.Engine.{IsFree, IsSet, Leaves, MayPropose, Setting
 use Rattle.apply_engine.proofs.Answered.{Given, Offer, leaves_displaced, may_be_offered}
 use Rattle.apply_engine.proofs.Setting.{seeker_at}
 
--- who is free stands in the register, with a list and a place
+-- a candidate who is free is in the register, with a list and a place
 pub record Standing (over : Setting) (next : List ℕ) (cur : ℕ) : Type 0 where
   pub in_people : cur < length over.people
   pub in_lists : cur < length over.lists
@@ -109,7 +109,7 @@ pub falls : (over : Setting) (next : List ℕ) (states : List ProgrammeKept) (cu
     → places_left (seekers_in over) next ≡ places_left (seekers_in over) (slice_set next cur (slice_index next cur + 1)) + 1
 falls over next states cur p m = left_falls cur (slice_index next cur) (seekers_in over) next m.s m.try.there m.try.at m.try.less
 
--- the one who left is at the row that the register tells
+-- the one who left is at the row that the register gives
 pub displaced : (over : Setting) (people : List Person) (lists : List (List ProgId)) (next : List ℕ) (states : List ProgrammeKept) (cur p : ℕ) (old new : ProgrammeKept) (cand : CandId) (place : ℕ)
     → MayPropose over people lists next states cur → (m : Making over next states cur p) → Given over next states cur p (slice_index next cur) m.s old new (Displaced cand)
     → Some place ≡ row_of cand.0 people → Leaves over next (slice_set next cur (slice_index next cur + 1)) cur (Some place)

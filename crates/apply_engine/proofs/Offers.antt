@@ -10,12 +10,13 @@ use Rattle.office_base.specs.declared.person.ListId.{ListId}
 use Rattle.office_base.specs.declared.person.Person.{Person}
 use Rattle.office_base.specs.declared.step.StepKind.{StepKind}
 use Rattle.office_base.specs.declared.step.StepKind.TheVariants.{Open, Ews, Obc, Sc, St, Dereserved}
+use Rattle.office_base.proofs.Lists.{get_set_other, among_left, among_right, all_among}
 use Rattle.placements.proofs.Ranks.{any_among, any_all, any_append, among_sublist}
 use Rattle.allocations.specs.Course.{IsUnderway, IsWith as IsWithOne, MayTry, tried}
 use Rattle.allocations.specs.Fair.{IsMarket}
 use Rattle.allocations.specs.Market.{Seeker}
 use Rattle.allocations.specs.Rule.{Admits, ChoosesWell, Refuses}
-use Rattle.allocations.proofs.Course.{tried_may, tried_with, get_set_same, get_set_other}
+use Rattle.allocations.proofs.Course.{tried_may, tried_with, get_set_same}
 use Rattle.allocations.proofs.Settled.{other_programmes}
 use Rattle.open_then_category.specs.State.{ProgrammeKept}
 use Rattle.programme_lists.specs.Chosen.{ChoosesFrom, IsAdmitted, IsRefused, everybody}
@@ -26,28 +27,19 @@ use Rattle.apply_engine.specs.Engine.{AllShow, AreLawful, Show}
 
 -- ---- everybody
 
--- who is in one of two lists is in both joined
-in_left : {X : Type 0} (x : X) (xs ys : List X) → IsAmong x xs → IsAmong x (xs ++ ys)
-in_left x [] ys h = absurd h
-in_left x (y ∷ xs) ys h = elim h [ inl e ↦ inl e | inr later ↦ inr (in_left x xs ys later) ]
-
-in_right : {X : Type 0} (x : X) (xs ys : List X) → IsAmong x ys → IsAmong x (xs ++ ys)
-in_right x [] ys h = h
-in_right x (y ∷ xs) ys h = inr (in_right x xs ys h)
-
--- whoever a step admits is one of all who are admitted
+-- a person whom a step admits is one of all who are admitted
 pub admitted_is_there : (admissions : Admissions) (person : Person) → IsAdmitted admissions person → IsAmong person (everybody admissions)
 admitted_is_there admissions person (Open, h) =
-    in_left person _ admissions.dereserved (in_left person _ admissions.st (in_left person _ admissions.sc (in_left person _ admissions.obc (in_left person admissions.open_step admissions.ews h))))
+    among_left person _ admissions.dereserved (among_left person _ admissions.st (among_left person _ admissions.sc (among_left person _ admissions.obc (among_left person admissions.open_step admissions.ews h))))
 admitted_is_there admissions person (Ews, h) =
-    in_left person _ admissions.dereserved (in_left person _ admissions.st (in_left person _ admissions.sc (in_left person _ admissions.obc (in_right person admissions.open_step admissions.ews h))))
+    among_left person _ admissions.dereserved (among_left person _ admissions.st (among_left person _ admissions.sc (among_left person _ admissions.obc (among_right person admissions.open_step admissions.ews h))))
 admitted_is_there admissions person (Obc, h) =
-    in_left person _ admissions.dereserved (in_left person _ admissions.st (in_left person _ admissions.sc (in_right person (admissions.open_step ++ admissions.ews) admissions.obc h)))
+    among_left person _ admissions.dereserved (among_left person _ admissions.st (among_left person _ admissions.sc (among_right person (admissions.open_step ++ admissions.ews) admissions.obc h)))
 admitted_is_there admissions person (Sc, h) =
-    in_left person _ admissions.dereserved (in_left person _ admissions.st (in_right person (admissions.open_step ++ admissions.ews ++ admissions.obc) admissions.sc h))
+    among_left person _ admissions.dereserved (among_left person _ admissions.st (among_right person (admissions.open_step ++ admissions.ews ++ admissions.obc) admissions.sc h))
 admitted_is_there admissions person (St, h) =
-    in_left person _ admissions.dereserved (in_right person (admissions.open_step ++ admissions.ews ++ admissions.obc ++ admissions.sc) admissions.st h)
-admitted_is_there admissions person (Dereserved, h) = in_right person (admissions.open_step ++ admissions.ews ++ admissions.obc ++ admissions.sc ++ admissions.st) admissions.dereserved h
+    among_left person _ admissions.dereserved (among_right person (admissions.open_step ++ admissions.ews ++ admissions.obc ++ admissions.sc) admissions.st h)
+admitted_is_there admissions person (Dereserved, h) = among_right person (admissions.open_step ++ admissions.ews ++ admissions.obc ++ admissions.sc ++ admissions.st) admissions.dereserved h
 
 -- and is admitted by one of the steps
 pub there_is_admitted : (admissions : Admissions) (person : Person) → IsAmong person (everybody admissions) → IsAdmitted admissions person
@@ -131,11 +123,7 @@ pub all_of : {X : Type 0} (P : X → Type 0) (xs : List X) → ((x : X) → IsAm
 all_of P [] h = tt
 all_of P (x ∷ xs) h = (h x (inl refl), all_of P xs (λ y among. h y (inr among)))
 
-one_of : {X : Type 0} (P : X → Type 0) (xs : List X) (x : X) → AllByRecursion P xs → IsAmong x xs → P x
-one_of P [] x all among = absurd among
-one_of P (y ∷ xs) x all among = elim among [ inl e ↦ subst P (sym e) all.0 | inr later ↦ one_of P xs x all.1 later ]
-
--- whoever is among some of the people is among all
+-- a person who is among some of the people is among all
 pub within : (x : Person) (some all : List Person) → IsSublist some all → IsAmong x some → IsAmong x all
 within x some all part among = any_among (λ other. x ≡ other) some all (among_sublist some all part) among
 
@@ -155,7 +143,7 @@ facts version table seekers next i p n s well market before after try = record {
   may_after = tried_may (rule_of version table) (MayApplyIn table) (length table.programmes) p seekers (slice_set next i (n + 1)) market well try.below after.full after.within;
 }
 
--- whoever is held tried the programme before
+-- a person who is held tried the programme before
 pub held_tried : (version : ℕ) (table : SeatTable) (p : ℕ) (people : List Person) (admissions : Admissions) (other : Person) → AreLawful → AreSeats table → p < length table.programmes
     → MayApplyIn table p people → ChoosesFrom version (seats_in table p) people admissions → IsAmong other (everybody admissions) → IsAmong other people
 held_tried version table p people admissions other laws seats below may choice among =
@@ -173,8 +161,8 @@ new_to_held version table seekers next i p n s admissions laws seats below f cho
     ids_apart after s.person other f.may_after.distinct f.with_one.there (within other _ _ f.with_one.within before)
     (λ e. f.with_one.fresh (subst (λ z. IsAmong z (tried p seekers next)) (sym e) before)) in
     record {
-      traits = one_of (λ (x : Person). IsTraitSet x.traits) after s.person f.may_after.traits f.with_one.there;
-      placed = one_of (λ x. IsSome (number_in (list_in table p) x)) after s.person f.may_after.placed f.with_one.there;
+      traits = all_among (λ (x : Person). IsTraitSet x.traits) after s.person f.may_after.traits f.with_one.there;
+      placed = all_among (λ x. IsSome (number_in (list_in table p) x)) after s.person f.may_after.placed f.with_one.there;
       distinct = all_of _ _ apart;
       numbers = all_of _ _ (λ other among.
           let before = held_tried version table p _ admissions other laws seats below f.may choice among in

@@ -1,6 +1,7 @@
 -- States, counts and lists of programmes, one after another.
-use Rattle.std.proofs.Common.{◌≡◌, ◌+◌, ◌⊎◌, inl, inr, ℕ, zero, suc, List, [], ◌∷◌, ◌++◌, Some, length, arith, refl, sym, ap, ◌∙◌, subst}
+use Rattle.std.proofs.Common.{◌≡◌, ◌+◌, ◌⊎◌, inl, inr, ℕ, zero, suc, List, [], ◌∷◌, ◌++◌, Some, length, refl, sym, ap, ◌∙◌, subst}
 use Rattle.std.specs.Prelude.{slice_get}
+use Rattle.std.proofs.lemmas.List.{length_push}
 use Rattle.allocations.specs.Course.{tried}
 use Rattle.open_then_category.specs.State.{ProgrammeKept, nobody}
 use Rattle.open_then_category.specs.Tried.{counted}
@@ -9,18 +10,13 @@ use Rattle.programme_lists.specs.Chosen.{ShowsFrom}
 use Rattle.programme_lists.specs.declared.programme.Programme.{Programme}
 use Rattle.seat_matrix.specs.Matrix.{SeatTable, list_in, seats_in}
 use Rattle.apply_engine.specs.Engine.{AreBegun, AreUntried, Setting, seekers_in}
-use Rattle.apply_engine.specs.Made.{AreListed}
 
--- what stands at a place of a list with one more
+-- what is at a place of a list with one more
 at_end : {X : Type 0} (xs : List X) (x y : X) (p : ℕ) → slice_get (xs ++ x ∷ []) p ≡ Some y → (slice_get xs p ≡ Some y) ⊎ ((p ≡ length xs) × (x ≡ y))
 at_end [] x y zero at = inr (refl, (let same : x ≡ y = cc in same))
 at_end [] x y (suc p) at = absurd (cc)
 at_end (z ∷ xs) x y zero at = inl at
 at_end (z ∷ xs) x y (suc p) at = elim (at_end xs x y p at) [ inl h ↦ inl h | inr h ↦ inr (ap suc h.0, h.1) ]
-
-longer : {X : Type 0} (xs : List X) (x : X) → length (xs ++ x ∷ []) ≡ length xs + 1
-longer [] x = refl
-longer (y ∷ xs) x = (let rest = longer xs x in omega (arith, rest))
 
 pub record BegunTo (version : ℕ) (table : SeatTable) (n : ℕ) (states : List ProgrammeKept) : Type 0 where
   pub full : length states ≡ n
@@ -35,7 +31,7 @@ begun_none version table states none = record {
 pub begun_more : (version : ℕ) (table : SeatTable) (n : ℕ) (states new : List ProgrammeKept) (state : ProgrammeKept) → BegunTo version table n states → new ≡ states ++ state ∷ []
     → state ≡ record { version = version; seats = seats_in table n; admissions = nobody } → BegunTo version table (n + 1) new
 begun_more version table n states new state h made is = record {
-  full = ap length made ∙ (longer states state ∙ ap (λ k. k + 1) h.full);
+  full = ap length made ∙ (length_push states state ∙ ap (λ k. k + 1) h.full);
   each = λ p other at. elim (at_end states state other p (subst (λ l. slice_get l p ≡ Some other) made at)) [
     | inl before ↦ h.each p other before
     | inr now ↦ sym now.1 ∙ (is ∙ ap (λ k. let s : ProgrammeKept = record { version = version; seats = seats_in table k; admissions = nobody } in s) (sym (now.0 ∙ h.full)))
@@ -58,7 +54,7 @@ untried_none table tallies none = record {
 pub untried_more : (table : SeatTable) (n : ℕ) (tallies new : List Tried) (tally : Tried) → UntriedTo table n tallies → new ≡ tallies ++ tally ∷ [] → tally ≡ counted (list_in table n) []
     → UntriedTo table (n + 1) new
 untried_more table n tallies new tally h made is = record {
-  full = ap length made ∙ (longer tallies tally ∙ ap (λ k. k + 1) h.full);
+  full = ap length made ∙ (length_push tallies tally ∙ ap (λ k. k + 1) h.full);
   each = λ p other at. elim (at_end tallies tally other p (subst (λ l. slice_get l p ≡ Some other) made at)) [
     | inl before ↦ h.each p other before
     | inr now ↦ sym now.1 ∙ (is ∙ ap (λ k. counted (list_in table k) []) (sym (now.0 ∙ h.full)))
@@ -72,16 +68,10 @@ pub record ListedTo (over : Setting) (next : List ℕ) (n : ℕ) (programmes : L
   pub full : length programmes ≡ n
   pub each : (p : ℕ) (programme : Programme) → slice_get programmes p ≡ Some programme → ShowsFrom over.version (seats_in over.table p) (tried p (seekers_in over) next) programme
 
-pub listed_none : (over : Setting) (next : List ℕ) (programmes : List Programme) → programmes ≡ [] → ListedTo over next 0 programmes
-listed_none over next programmes none = record {
-  full = ap length none;
-  each = λ p programme at. absurd (let at' : slice_get [] p ≡ Some programme = subst (λ l. slice_get l p ≡ Some programme) none at in cc);
-}
-
 pub listed_more : (over : Setting) (next : List ℕ) (n : ℕ) (programmes new : List Programme) (programme : Programme) → ListedTo over next n programmes → new ≡ programmes ++ programme ∷ []
     → ShowsFrom over.version (seats_in over.table n) (tried n (seekers_in over) next) programme → ListedTo over next (n + 1) new
 listed_more over next n programmes new programme h made shows = record {
-  full = ap length made ∙ (longer programmes programme ∙ ap (λ k. k + 1) h.full);
+  full = ap length made ∙ (length_push programmes programme ∙ ap (λ k. k + 1) h.full);
   each = λ p other at. elim (at_end programmes programme other p (subst (λ l. slice_get l p ≡ Some other) made at)) [
     | inl before ↦ h.each p other before
     | inr now ↦
@@ -90,6 +80,3 @@ listed_more over next n programmes new programme h made shows = record {
         subst (λ k. ShowsFrom over.version (seats_in over.table k) (tried k (seekers_in over) next) other) (sym here) same
   ];
 }
-
-pub listed_all : (over : Setting) (next : List ℕ) (n : ℕ) (programmes : List Programme) → ListedTo over next n programmes → n ≡ length over.table.programmes → AreListed over next programmes
-listed_all over next n programmes h all = record { full = h.full ∙ all; each = h.each }

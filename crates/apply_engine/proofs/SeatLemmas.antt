@@ -1,10 +1,9 @@
 -- The seats that the lists of the programmes show, step after step and programme after programme.
-use Rattle.std.proofs.Common.{◌≡◌, ◌≢◌, ◌<◌, ◌≤◌, ◌+◌, ◌⊎◌, inl, inr, ℕ, zero, suc, List, [], ◌∷◌, Option, Some, None, length, arith, refl, sym, ap, ◌∙◌, subst}
+use Rattle.std.proofs.Common.{◌≡◌, ◌≢◌, ◌<◌, ◌≤◌, ◌+◌, ◌⊎◌, inl, inr, ℕ, zero, suc, List, [], ◌∷◌, Option, Some, arith, refl, sym, ap, ◌∙◌, subst}
 use Rattle.std.specs.Prelude.{slice_get}
 use Rattle.std.proofs.lemmas.Bool.Decides.{eqb_tells}
 use Rattle.office_base.specs.Lists.{IsAmong, Pairwise}
 use Rattle.placements.proofs.Ranks.{one_person}
-use Rattle.allocations.proofs.Those.{same_id}
 use Rattle.office_base.specs.declared.asks.Seat.{Seat}
 use Rattle.office_base.specs.declared.person.Person.{Person}
 use Rattle.office_base.specs.declared.step.StepKind.{StepKind}
@@ -14,15 +13,12 @@ use Rattle.programme_lists.specs.declared.programme.Programme.{Programme}
 use Rattle.programme_lists.specs.declared.programme.StepList.{StepList}
 use Rattle.office_base.specs.StepNumbers.{step_number}
 use Rattle.office_base.proofs.StepNumbers.{one_number, below_six}
+use Rattle.placements.proofs.Convert.{same_cand}
 use Rattle.apply_engine.specs.Made.{AreGiven, AreInOrder, AreOf, ArePut, AreShown, IsPut, IsShownOnce, admitted_of, shown}
 
 -- the list at a place shows whom it admits
 pub shows_at : (programme : Programme) (j : ℕ) (list : StepList) → AreInOrder programme → slice_get programme.steps j ≡ Some list → shown programme list.kind ≡ list.admitted
 shows_at programme j list order at = ap (λ k. admitted_of (slice_get programme.steps k)) (order.each j list at) ∙ ap admitted_of at
-
--- nobody has a seat of a programme before its first step
-pub none_given : (people : List Person) (p : ℕ) (programme : Programme) (seats : List (Option Seat)) → ArePut people p 0 programme seats seats
-none_given people p programme seats = record { full = refl; here = λ i person kind less at among. absurd (omega (arith, less)); elsewhere = λ i person at apart. refl }
 
 -- one step more
 pub step_more : (people : List Person) (p j : ℕ) (programme : Programme) (list : StepList) (old seats new : List (Option Seat)) → AreInOrder programme → IsShownOnce programme
@@ -53,15 +49,6 @@ step_more people p j programme list old seats new order once at h put =
     cases m zero less = inr (omega (arith, less))
     cases zero (suc n) less = inl (omega arith)
     cases (suc m) (suc n) less = elim (cases m n (omega (arith, less))) [ inl h ↦ inl (omega (arith, h)) | inr h ↦ inr (ap suc h) ]
-
--- whoever has a seat before anything was given: nobody
-pub nothing_given : (people : List Person) (programmes : List Programme) (seats : List (Option Seat)) → length seats ≡ length people
-    → ((i : ℕ) (seat : Option Seat) → slice_get seats i ≡ Some seat → seat ≡ None) → AreGiven people programmes 0 seats
-nothing_given people programmes seats full none = record {
-  full = full;
-  given = λ q i programme person kind less. absurd (omega (arith, less));
-  only = λ i person seat there has. absurd (let e = none i (Some seat) has in cc);
-}
 
 -- one programme more: each person is shown by it, or has what the person had
 pub one_programme_more : (people : List Person) (programmes : List Programme) (p : ℕ) (programme : Programme) (seats new : List (Option Seat)) → AreShown people programmes
@@ -105,12 +92,12 @@ one_programme_more people programmes p programme seats new shown_is at given put
     cases zero (suc n) less = inl (omega arith)
     cases (suc m) (suc n) less = elim (cases m n (omega (arith, less))) [ inl h ↦ inl (omega (arith, h)) | inr h ↦ inr (ap suc h) ]
 
--- whether a person is among some who are told by their numbers
+-- whether a person is among some whose numbers are distinct
 decide_among : (person : Person) (some all : List Person) → ((x : Person) → IsAmong x some → IsAmong x all) → IsAmong person all → Pairwise (λ (a b : Person). a.id ≢ b.id) all
     → IsAmong person some ⊎ (IsAmong person some → ⊥)
 decide_among person [] all part there distinct = inr (λ h. h)
 decide_among person (x ∷ some) all part there distinct = elim (eqb_tells person.id.0 x.id.0) [
-  | inl h ↦ inl (inl (one_person all distinct person x there (part x (inl refl)) (same_id person.id x.id h.1)))
+  | inl h ↦ inl (inl (one_person all distinct person x there (part x (inl refl)) (same_cand person.id x.id h.1)))
   | inr h ↦ elim (decide_among person some all (λ y among. part y (inr among)) there distinct) [
     | inl among ↦ inl (inr among)
     | inr apart ↦ inr (λ among. elim among [ inl e ↦ h.1 (ap (λ (z : Person). z.id.0) e) | inr later ↦ apart later ])

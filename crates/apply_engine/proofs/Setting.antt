@@ -1,5 +1,5 @@
 -- What follows for a setting: its programmes are a rule that chooses well, and whom each of them may be offered.
-use Rattle.std.proofs.Common.{◌≡◌, ℕ, zero, suc, List, [], ◌∷◌, Some, length, arith, refl, ap, ◌∙◌}
+use Rattle.std.proofs.Common.{◌≡◌, ℕ, zero, suc, List, [], ◌∷◌, Some, length, arith, refl, ap}
 use Rattle.std.specs.Prelude.{slice_get}
 use Rattle.office_base.specs.declared.person.Person.{Person}
 use Rattle.office_base.specs.declared.person.ProgId.{ProgId}
@@ -34,14 +34,3 @@ pub length_with : (people : List Person) (lists : List (List ProgId)) → length
 length_with [] lists full = refl
 length_with (person ∷ people) [] full = absurd (omega (arith, full))
 length_with (person ∷ people) (list ∷ lists) full = ap suc (length_with people lists (omega (arith, full)))
-
--- the seeker of a person and a list
-pub made_at : (people : List Person) (lists : List (List ProgId)) (i : ℕ) (person : Person) (list : List ProgId) → slice_get people i ≡ Some person → slice_get lists i ≡ Some list
-    → slice_get (seekers_with people lists) i ≡ Some (record { person = person; list = list })
-made_at [] lists i person list at at' = absurd (cc)
-made_at (x ∷ people) [] i person list at at' = absurd (cc)
-made_at (x ∷ people) (y ∷ lists) zero person list at at' =
-    let first : x ≡ person = cc in
-    let second : y ≡ list = cc in
-    ap (λ p. Some (let s : Seeker = record { person = p; list = y } in s)) first ∙ ap (λ l. Some (let s : Seeker = record { person = person; list = l } in s)) second
-made_at (x ∷ people) (y ∷ lists) (suc i) person list at at' = made_at people lists i person list at at'

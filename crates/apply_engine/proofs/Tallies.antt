@@ -1,5 +1,5 @@
 -- How many tried each programme: nobody at first, and one more after each offer.
-use Rattle.std.proofs.Common.{◌≡◌, ◌<◌, ◌≤◌, ◌+◌, ◌++◌, inl, inr, ℕ, zero, suc, Bool, true, false, List, [], ◌∷◌, Some, length, drop, take, slice_set, arith, refl, sym, ap, ◌∙◌, subst, length-set, cond, nat_lt}
+use Rattle.std.proofs.Common.{◌≡◌, ◌<◌, ◌≤◌, ◌+◌, inl, inr, ℕ, zero, suc, Bool, true, false, List, [], ◌∷◌, Some, length, slice_set, arith, refl, sym, ap, ◌∙◌, subst, length-set, cond, nat_lt}
 use Rattle.std.specs.Prelude.{slice_get, if◌then◌else◌}
 use Rattle.std.specs.List.{filter}
 use Rattle.std.proofs.lemmas.Bool.{lt-ltb}
@@ -9,11 +9,12 @@ use Rattle.office_base.specs.Person.{IsList, is_common}
 use Rattle.office_base.specs.declared.person.Category.TheVariants.{Ews, Obc, Sc, St}
 use Rattle.office_base.specs.declared.person.ListId.{ListId}
 use Rattle.office_base.specs.declared.person.Person.{Person}
+use Rattle.office_base.proofs.Lists.{get_set_other}
 use Rattle.placements.proofs.Filters.{filter-sublist}
 use Rattle.placements.proofs.Sublists.{length-sublist}
 use Rattle.allocations.specs.Course.{MayTry, tried}
 use Rattle.allocations.specs.Market.{Seeker, place_of, those}
-use Rattle.allocations.proofs.Course.{get_set_same, get_set_other}
+use Rattle.allocations.proofs.Course.{get_set_same}
 use Rattle.allocations.proofs.Settled.{other_programmes}
 use Rattle.programme_lists.specs.Programme.{is_of}
 use Rattle.rounds.specs.Rule.{rule_of}
@@ -156,13 +157,3 @@ untried over next tallies begun none = record {
   full = begun.full;
   each = λ p tally at. begun.each p tally at ∙ ap (λ people. counted (list_in over.table p) people) (sym (none p));
 }
-
--- a vector whose slice was written whole has what was written
-pub whole_again : {X : Type 0} (new items : List X) (len : ℕ) → length new ≡ length items → len ≡ length items → take len (new ++ drop (length new) items) ≡ new
-whole_again new items len full same = take_front new (drop (length new) items) len (omega (arith, full, same))
-  where
-    take_front : {X : Type 0} (xs ys : List X) (n : ℕ) → n ≡ length xs → take n (xs ++ ys) ≡ xs
-    take_front [] ys zero e = refl
-    take_front [] ys (suc n) e = absurd (omega (arith, e))
-    take_front (x ∷ xs) ys zero e = absurd (omega (arith, e))
-    take_front (x ∷ xs) ys (suc n) e = ap (λ z. x ∷ z) (take_front xs ys n (omega (arith, e)))

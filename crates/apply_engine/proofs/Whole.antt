@@ -7,6 +7,7 @@ use Rattle.office_base.specs.Limits.{most_row_choices}
 use Rattle.office_base.specs.declared.asks.Seat.{Seat}
 use Rattle.office_base.specs.declared.person.Person.{Person}
 use Rattle.office_base.specs.declared.person.ProgId.{ProgId}
+use Rattle.office_base.proofs.Lists.{there_is}
 use Rattle.allocations.specs.Course.{places}
 use Rattle.allocations.specs.Fair.{IsBest, IsMarket}
 use Rattle.allocations.specs.Market.{applicants}
@@ -24,7 +25,6 @@ use Rattle.seeks.specs.declared.seek.Seek.{Seek}
 use Rattle.apply_engine.specs.Applications.{applications}
 use Rattle.apply_engine.specs.Engine.{AreLawful, IsMade, IsSet, MayRun, Setting, lists_in, seekers_with}
 use Rattle.apply_engine.specs.Made.{leaves_along}
-use Rattle.round_laws.proofs.People.{there_is}
 use Rattle.round_laws.proofs.Season.{aligned_length, entrants, length_lists, list_at_place}
 
 pub seekers_same : (table : SeatTable) (people : List Person) (lists : List (List ProgId)) (seeks : List Seek) → seekers_with people (leaves_along table lists seeks) ≡ seekers_of table people lists seeks

@@ -1,10 +1,12 @@
--- How many applications a round takes (Gale and Shapley 1962): everybody has applied to each programme of the own list down to the one that holds them.
+-- How many applications a round takes (Gale and Shapley 1962): everybody has applied to each programme of their list
+-- down to the one that holds them.
 use Rattle.std.specs.Prelude.{◌+◌, ℕ, List, [], ◌∷◌, Option, Some, None, length}
 use Rattle.office_base.specs.declared.asks.Seat.{Seat}
 use Rattle.office_base.specs.declared.person.ProgId.{ProgId}
 use Rattle.allocations.specs.Market.{Seeker, place_of}
 
--- to how many programmes of the own list one applies who is held by this seat in the end: to each down to the one that holds; to all of them, if none does
+-- to how many programmes of their list a seeker applies who has this seat in the end: to each down to the one that
+-- holds; to all of them, if none does
 abbrev pub own_applications : List ProgId → Option Seat → ℕ
 own_applications list None = length list
 own_applications list (Some seat) = place_of list seat.prog.0 + 1

@@ -116,7 +116,7 @@ pub record AreUntried (table : SeatTable) (tallies : List Tried) : Type 0 where
   pub full : length tallies ≡ length table.programmes
   pub each : (p : ℕ) (tally : Tried) → slice_get tallies p ≡ Some tally → tally ≡ counted (list_in table p) []
 
--- The one at this place is free, and has a programme left on the own list to propose to.
+-- The one at this place is free, and their list has a programme left to propose to.
 pub record MayPropose (over : Setting) (people : List Person) (lists : List (List ProgId)) (next : List ℕ) (states : List ProgrammeKept) (cur : ℕ) : Type 0 where
   pub people_is : over.people ≡ people
   pub lists_is : over.lists ≡ lists
@@ -152,12 +152,14 @@ pub record Enters (over : Setting) (version : ℕ) (table : SeatTable) (people :
   pub version_is : IsVersion version
   pub set_is : IsSet over
 
--- All applications were made: everybody is admitted by the programme tried last, or has come to the end of the own list.
+-- All applications were made: everybody is admitted by the programme tried last, or has come to the end of their
+-- list.
 pub record HasEnded (over : Setting) (next : List ℕ) : Type 0 where
   pub underway : IsUnderway (rule_of over.version over.table) (length over.table.programmes) (seekers_in over) next
   pub settled : IsSettledTo over next (length over.people)
 
--- A round may be run: a known version, sound choices along the register, and one seek for each, within the own list.
+-- A round may be run: a known version, sound choices along the register, and one seek for each, within the
+-- candidate's own list.
 pub record MayRun (version : ℕ) (table : SeatTable) (ranks : Ranks) (lists : Lists) (seeks : List Seek) : Type 0 where
   pub version_is : IsVersion version
   pub choices : AreChoices ranks table lists

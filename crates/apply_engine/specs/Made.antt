@@ -46,7 +46,7 @@ admitted_of (Some list) = list.admitted
 abbrev pub shown : Programme → StepKind → List Person
 shown programme kind = admitted_of (slice_get programme.steps (step_number kind))
 
--- the lists stand in the order of the steps
+-- the lists are in the order of the steps
 pub record AreInOrder (programme : Programme) : Type 0 where
   pub six : length programme.steps ≡ 6
   pub each : (j : ℕ) (list : StepList) → slice_get programme.steps j ≡ Some list → step_number list.kind ≡ j

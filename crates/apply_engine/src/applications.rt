@@ -14,8 +14,8 @@ use seat_matrix::Matrix;
 use std::alloc::Global;
 use std::sync::ledger::Ledger;
 
-/// All applications: the programmes, each with the choice from all who tried it, how many tried it, and how many programmes
-/// of the own list each candidate tried.
+/// Holds all applications: the programmes, each with the choice from all who tried it; how many tried it; and how
+/// many programmes of their list each candidate tried.
 #[derive(Drop)]
 pub(crate) struct Applied {
     pub states: Vec<ProgrammeState>,
@@ -23,8 +23,8 @@ pub(crate) struct Applied {
     pub next: Vec<u16>,
 }
 
-/// The candidate at `cur`, who is free, tries the next programme of the own list. Who is free then: nobody, or the one
-/// at this place.
+/// Makes the candidate at `cur`, who is free, try the next programme of their list. Returns who is free then: nobody,
+/// or the one at this place.
 fn offer_next<L: Ledger>(
     register: &Register,
     lists: &FlatLists<ProgId>,
@@ -41,7 +41,8 @@ fn offer_next<L: Ledger>(
     ensures tallied { AreTallied over next.new tallies.new }
     ensures next { next.new ≡ slice_set next.old cur (slice_index next.old cur + 1) }
     ensures free { Leaves over next.old next.new cur result }
-    ensures left { places_left (seekers_in over) next.old ≡ places_left (seekers_in over) next.new + 1 }
+    ensures left { places_left (seekers_in over) next.old
+        ≡ places_left (seekers_in over) next.new + 1 }
     ensures cost { steps.new ≡ steps.old + 1 }
 {
     let prog = lists.at(cur)[usize::from(next[cur])];
@@ -61,7 +62,7 @@ fn offer_next<L: Ledger>(
     }
 }
 
-/// Offers on behalf of the candidate at `first`, and of whoever is displaced, until all up to that one are settled.
+/// Offers on behalf of the candidate at `first`, and of anyone who is displaced, until all up to `first` are settled.
 fn apply_from<L: Ledger>(
     register: &Register,
     lists: &FlatLists<ProgId>,
@@ -72,7 +73,8 @@ fn apply_from<L: Ledger>(
     steps: &mut Steps<L>,
 )
     ghost over: { Setting }
-    requires is_next { IsNextToPropose over register.now.people lists.now next.old states.old first }
+    requires is_next { IsNextToPropose over register.now.people
+        lists.now next.old states.old first }
     requires tallied { AreTallied over next.old tallies.old }
     ensures applied { HasApplied over next.old next.new states.new (first + 1) steps.old steps.new }
     ensures tallied { AreTallied over next.new tallies.new }
@@ -98,7 +100,8 @@ fn apply_in_order<L: Ledger>(
     ghost over: { Setting }
     requires settled { AreSettledBefore over register.now.people lists.now next.old states.old 0 }
     requires tallied { AreTallied over next.old tallies.old }
-    ensures applied { HasApplied over next.old next.new states.new (length register.now.people) steps.old steps.new }
+    ensures applied { HasApplied over next.old next.new states.new
+        (length register.now.people) steps.old steps.new }
     ensures tallied { AreTallied over next.new tallies.new }
 {
     for first in 0..next.len() {
@@ -124,7 +127,8 @@ pub(crate) fn apply_all<L: Ledger>(
 ) -> Result<Applied, OutOfMemory>
     ghost over: { Setting }
     requires { Enters over version matrix.now register.now.people lists.now }
-    ensures run { IfOk result (λ applied. HasRun over applied.next.items applied.states.items applied.tallies.items) }
+    ensures run { IfOk result (λ applied.
+        HasRun over applied.next.items applied.states.items applied.tallies.items) }
     ensures cost { steps.new ≤ steps.old + places (seekers_in over) }
     ensures counted { IfOk result (λ applied. steps.new ≡ steps.old + sum applied.next.items) }
 {

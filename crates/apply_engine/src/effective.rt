@@ -19,8 +19,10 @@ pub(crate) fn effective(
     seeks: &[Seek],
 ) -> Result<FlatLists<ProgId>, OutOfMemory>
     requires seeks { AreSeeks (lists_in choices.now) seeks.now }
-    requires below { (i : ℕ) (list : List ProgId) → slice_get (lists_in choices.now) i ≡ Some list → AreBelow (length matrix.now.programmes) list }
-    ensures { IfOk result (λ lists. lists ≡ leaves_along matrix.now (lists_in choices.now) seeks.now) }
+    requires below { (i : ℕ) (list : List ProgId) → slice_get (lists_in choices.now) i ≡ Some list
+        → AreBelow (length matrix.now.programmes) list }
+    ensures { IfOk result (λ lists.
+        lists ≡ leaves_along matrix.now (lists_in choices.now) seeks.now) }
 {
     let mut lists = FlatLists::new(alloc);
     let mut left = Vec::new(alloc);

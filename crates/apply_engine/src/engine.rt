@@ -15,12 +15,15 @@ use std::alloc::Global;
 use std::marker::Brand;
 use std::sync::ledger::{Blank, Ledger};
 
-/// The round of this number over a season, on what each candidate of the register seeks, and over a matrix of the season's
-/// programmes: its own one, or one with raised seats. The round is the best allocation on what the seeks leave of the choice
-/// lists (candidates propose, and acceptance is deferred), with the six lists of each programme from its applicants. Steps rise
-/// by one for each application: everybody has applied to each programme of what the own seek leaves, down to that of the own
-/// seat, or to all of them without a seat. The only error is want of memory; it leaves nothing but the steps, which never rise
-/// by more than the lengths of what the seeks leave.
+/// Returns the round of this number over a season, on what each candidate of the register seeks. The matrix is one of
+/// the season's programmes: the season's own one, or one with raised seats.
+///
+/// The round is the best allocation on what the seeks leave of the choice lists (candidates propose, and acceptance
+/// is deferred). It has the six lists of each programme from its applicants.
+///
+/// Steps rise by one for each application. Everybody has applied to each programme of what their seek leaves, down to
+/// that of their seat, or to all of them without a seat. The only error is that memory runs out. It leaves nothing
+/// but the steps, which never rise by more than the lengths of what the seeks leave.
 pub fn round<L: Ledger>(
     alloc: Global,
     season: &Season,
@@ -31,9 +34,13 @@ pub fn round<L: Ledger>(
 ) -> Result<Round, OutOfMemory>
     requires programmes { matrix.now.programmes ≡ season.now.matrix.programmes }
     requires sought { AreSeeks (lists_in season.now.choices) seeks.now }
-    ensures round { IfOk result (λ round. IsRound season.now.version matrix.now season.now.register.people (lists_in season.now.choices) number seeks.now round) }
-    ensures cost { steps.new ≤ steps.old + places (seekers_of matrix.now season.now.register.people (lists_in season.now.choices) seeks.now) }
-    ensures counted { IfOk result (λ round. steps.new ≡ steps.old + applications (seekers_of matrix.now season.now.register.people (lists_in season.now.choices) seeks.now) round.seats) }
+    ensures round { IfOk result (λ round. IsRound season.now.version matrix.now
+        season.now.register.people (lists_in season.now.choices) number seeks.now round) }
+    ensures cost { steps.new ≤ steps.old + places
+        (seekers_of matrix.now season.now.register.people (lists_in season.now.choices) seeks.now) }
+    ensures counted { IfOk result (λ round.
+        steps.new ≡ steps.old + applications (seekers_of matrix.now season.now.register.people
+        (lists_in season.now.choices) seeks.now) round.seats) }
 {
     let mut own = Seeks::new(alloc);
     own.extend_from_slice(seeks.as_slice())?;
@@ -63,7 +70,8 @@ fn round_in<L: Ledger>(
     requires some { 0 < blank.parts }
     requires programmes { matrix.now.programmes ≡ season.now.matrix.programmes }
     requires sought { AreSeeks (lists_in season.now.choices) seeks }
-    ensures { IfOk result (λ round. IsRound season.now.version matrix.now season.now.register.people (lists_in season.now.choices) number seeks round) }
+    ensures { IfOk result (λ round. IsRound season.now.version matrix.now
+        season.now.register.people (lists_in season.now.choices) number seeks round) }
 {
     let mut steps: Steps<L> = Steps::new(blank);
     round_over(
@@ -78,8 +86,8 @@ fn round_in<L: Ledger>(
     )
 }
 
-/// The same round as that of `round`, on seeks that it takes over, and no steps are counted. The only error is want of
-/// memory; it leaves nothing.
+/// Returns the same round as `round`, on seeks that it consumes, and counts no steps. The only error is that memory
+/// runs out; it leaves nothing.
 pub fn plain_round(
     alloc: Global,
     season: &Season,
@@ -89,7 +97,8 @@ pub fn plain_round(
 ) -> Result<Round, OutOfMemory>
     requires programmes { matrix.now.programmes ≡ season.now.matrix.programmes }
     requires sought { AreSeeks (lists_in season.now.choices) seeks }
-    ensures round { IfOk result (λ round. IsRound season.now.version matrix.now season.now.register.people (lists_in season.now.choices) number seeks round) }
+    ensures round { IfOk result (λ round. IsRound season.now.version matrix.now
+        season.now.register.people (lists_in season.now.choices) number seeks round) }
 {
     round_in::<Brand>(alloc, season, matrix, number, seeks, Blank::new(1))
 }

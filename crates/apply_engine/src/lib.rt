@@ -1,8 +1,8 @@
 // Rounds are made here: candidates apply down their lists, and programmes keep the choice from all who applied.
 //
-// The office stands on it. What a round has to be is said in `rounds`, and what follows for the rounds of a season in `round_laws`; that a
-// round made here is the best allocation rests on the theory in `allocations`, on the laws of `open_then_category` and on those of `round_laws`.
-// No contract knows in which order candidates apply.
+// The office depends on it. `rounds` says what a round must be, and `round_laws` says what follows for the rounds of
+// a season. That a round made here is the best allocation follows from the theory in `allocations`, from the laws of
+// `open_then_category` and from those of `round_laws`. No contract knows in which order candidates apply.
 #![tactic(auto)]
 
 mod applications;

@@ -40,9 +40,11 @@ fn finish(
 ) -> Result<Round, OutOfMemory>
     ghost over: { Setting }
     requires people { over.people ≡ register.now.people }
-    requires run { HasRun over applied.now.next.items applied.now.states.items applied.now.tallies.items }
+    requires run { HasRun over applied.now.next.items
+        applied.now.states.items applied.now.tallies.items }
     ensures made { IfOk result (IsMade over number seeks) }
-    ensures counted { IfOk result (λ round. sum applied.now.next.items ≡ applications (seekers_in over) round.seats) }
+    ensures counted { IfOk result (λ round.
+        sum applied.now.next.items ≡ applications (seekers_in over) round.seats) }
 {
     let programmes = list_programmes(alloc, applied)?;
     let seats = seats_of(alloc, register, programmes.as_slice())?;
@@ -69,7 +71,8 @@ fn round_on<L: Ledger>(
     requires { Enters over version matrix.now register.now.people lists.now }
     ensures round { IfOk result (IsMade over number seeks) }
     ensures cost { steps.new ≤ steps.old + places (seekers_in over) }
-    ensures counted { IfOk result (λ round. steps.new ≡ steps.old + applications (seekers_in over) round.seats) }
+    ensures counted { IfOk result (λ round.
+        steps.new ≡ steps.old + applications (seekers_in over) round.seats) }
 {
     let applied = apply_all(alloc, version, matrix, register, lists, steps)?;
     finish(alloc, register, &applied, number, seeks)
@@ -87,9 +90,12 @@ pub(crate) fn round_over<L: Ledger>(
     steps: &mut Steps<L>,
 ) -> Result<Round, OutOfMemory>
     requires { MayRun version matrix.now register.now choices.now seeks }
-    ensures round { IfOk result (λ round. IsRound version matrix.now register.now.people (lists_in choices.now) number seeks round) }
-    ensures cost { steps.new ≤ steps.old + places (seekers_of matrix.now register.now.people (lists_in choices.now) seeks) }
-    ensures counted { IfOk result (λ round. steps.new ≡ steps.old + applications (seekers_of matrix.now register.now.people (lists_in choices.now) seeks) round.seats) }
+    ensures round { IfOk result (λ round.
+        IsRound version matrix.now register.now.people (lists_in choices.now) number seeks round) }
+    ensures cost { steps.new ≤ steps.old
+        + places (seekers_of matrix.now register.now.people (lists_in choices.now) seeks) }
+    ensures counted { IfOk result (λ round. steps.new ≡ steps.old + applications
+        (seekers_of matrix.now register.now.people (lists_in choices.now) seeks) round.seats) }
 {
     laws();
     let _count = matrix.count();

@@ -45,7 +45,8 @@ pub(crate) fn begin_tallies(alloc: Global, matrix: &Matrix) -> Result<Vec<Tried>
 /// The six lists of each programme, once all have applied.
 pub(crate) fn list_programmes(alloc: Global, applied: &Applied) -> Result<Programmes, OutOfMemory>
     ghost over: { Setting }
-    requires { HasRun over applied.now.next.items applied.now.states.items applied.now.tallies.items }
+    requires { HasRun over applied.now.next.items
+        applied.now.states.items applied.now.tallies.items }
     ensures { IfOk result (λ programmes. AreListed over applied.now.next.items programmes) }
 {
     let mut programmes = Vec::with_capacity(alloc, applied.states.len())?;

@@ -33,7 +33,8 @@ fn put_programme(
     programme: &Programme,
 )
     requires in_order { AreInOrder programme.now }
-    requires of_people { (kind : AnyStepKind) → AreOf register.now.people (shown programme.now kind) }
+    requires of_people { (kind : AnyStepKind)
+        → AreOf register.now.people (shown programme.now kind) }
     requires once { IsShownOnce programme.now }
     requires full { length seats.old ≡ length register.now.people }
     ensures { ArePut register.now.people prog.0 6 programme.now seats.old seats.new }
@@ -51,7 +52,8 @@ fn put_programme(
 fn put_all(seats: &mut [Option<Seat>], register: &Register, programmes: &[Programme])
     requires shown { AreShown register.now.people programmes.now }
     requires full { length seats.old ≡ length register.now.people }
-    requires none { (i : ℕ) (seat : Option AnySeat) → slice_get seats.old i ≡ Some seat → seat ≡ None }
+    requires none { (i : ℕ) (seat : Option AnySeat)
+        → slice_get seats.old i ≡ Some seat → seat ≡ None }
     ensures { AreGiven register.now.people programmes.now (length programmes.now) seats.new }
 {
     let _people = register.people();
@@ -67,7 +69,8 @@ pub(crate) fn seats_of(
     programmes: &[Programme],
 ) -> Result<Seats, OutOfMemory>
     requires { AreShown register.now.people programmes.now }
-    ensures { IfOk result (λ seats. AreGiven register.now.people programmes.now (length programmes.now) seats) }
+    ensures { IfOk result (λ seats.
+        AreGiven register.now.people programmes.now (length programmes.now) seats) }
 {
     let mut seats = vec![in alloc; None; register.people().len()]?;
     put_all(&mut seats, register, programmes);

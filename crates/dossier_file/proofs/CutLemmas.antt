@@ -90,10 +90,6 @@ one_title name text a b is its = elim (cases_lt a b) [
   ]
 ]
 
--- no line `[requests]`
-pub no_first : (bytes : List ℕ) → ((at : ℕ) → IsTitledAt (codes "[requests]") (skip_mark bytes) at → ⊥) → HasNoSection bytes
-no_first bytes none bundle requests published cut = none cut.first cut.requests_line
-
 -- no line `[published]` after it
 pub no_second : (bytes : List ℕ) (first : ℕ) → IsTitledAt (codes "[requests]") (skip_mark bytes) first → ((at : ℕ) → IsTitledAt (codes "[published]") (after_line (drop first (skip_mark bytes))) at → ⊥) → HasNoSection bytes
 no_second bytes first t none bundle requests published cut =

@@ -1,6 +1,6 @@
 -- Texts that are due, one after another.
-use Rattle.std.proofs.Common.{◌≡◌, ◌≢◌, ◌<◌, ◌≤◌, ◌+◌, ◌-◌, ◌^◌, ℕ, zero, suc, List, [], ◌∷◌, ◌++◌, Option, Some, None, length, take, drop, true, false, eqb, refl, sym, ap, ◌∙◌, subst, inl, inr, arith, append_assoc, length-append}
-use Rattle.std.proofs.lemmas.Bool.{eqb-true, false≢true}
+use Rattle.std.proofs.Common.{◌≡◌, ◌≢◌, ◌<◌, ◌≤◌, ◌+◌, ◌-◌, ◌^◌, ℕ, zero, suc, List, [], ◌∷◌, ◌++◌, Option, Some, None, length, take, drop, false, eqb, refl, sym, ap, ◌∙◌, subst, inl, inr, arith, append_assoc, length-append}
+use Rattle.std.proofs.lemmas.Bool.{false≢true}
 use Rattle.std.proofs.lemmas.List.{append-nil, length-take}
 use Rattle.std.specs.List.{AllByRecursion}
 use Rattle.office_base.specs.declared.person.Person.{Person}
@@ -12,6 +12,7 @@ use Rattle.publish.specs.declared.lists.ListRead.{ListRead}
 use Rattle.publish.specs.declared.reads.FinalRead.{FinalRead}
 use Rattle.publish.specs.declared.reads.RoundRead.{RoundRead}
 use Rattle.seat_matrix.specs.Matrix.{SeatTable}
+use Rattle.publish.proofs.LineLemmas.{first_lines-none}
 use Rattle.dossier_file.specs.Due.{IsDueOf}
 use Rattle.dossier_file.specs.Papers.{ArePapers, IsListOf, IsRoundOf, IsThen, no_papers, with_final, with_list, with_round}
 use Rattle.dossier_file.specs.Texts.{HasRoom, IsDueFault, IsFaultFrom, IsPut, IsReadFrom, after_lines, final_after, list_after, or_else, round_after}
@@ -19,7 +20,7 @@ use Rattle.dossier_file.specs.declared.due.Due.{Due}
 use Rattle.dossier_file.specs.declared.due.Due.TheVariants.{Round as RoundDue, List as ListDue, Final as FinalDue}
 use Rattle.dossier_file.specs.declared.papers.Papers.{Papers}
 use Rattle.dossier_file.proofs.FollowLemmas.{begin_then, faults_carry, faults_follow}
-use Rattle.dossier_file.proofs.LineLemmas.{lines_short, none_taken, nothing_left, one_taken, some_lines}
+use Rattle.dossier_file.proofs.LineLemmas.{lines_short, nothing_left, one_taken, some_lines}
 use Rattle.dossier_file.proofs.ListLemmas.{list-some}
 use Rattle.dossier_file.proofs.RowsLemmas.{final-some, round-some}
 
@@ -44,10 +45,6 @@ list_put papers later read = ap (λ (z : List ListRead). record { rounds = paper
 
 final_put : (papers later : Papers) (read : FinalRead) → after_papers papers (with_final read later) ≡ after_papers (final_after papers read) later
 final_put papers later read = ap (λ (z : Option FinalRead). record { rounds = papers.rounds ++ later.rounds; lists = papers.lists ++ later.lists; last = z }) (or_same papers.last later.last read)
-
--- papers after none are they
-pub after_none : (later : Papers) → after_papers no_papers later ≡ later
-after_none later = refl
 
 or_none : (last : Option FinalRead) → or_last last None ≡ last
 or_none None = refl
@@ -96,9 +93,6 @@ abbrev pub lines_before : List ℕ → List ℕ → ℕ
 lines_before bytes rest = lines_in (take (length bytes - length rest) bytes)
 
 module _ (table : SeatTable) (people : List Person) (rounds : ℕ) where
-  abbrev papers_at : List Due → Grammar Papers
-  papers_at dues = ArePapers table people rounds dues
-
   -- texts that are due can be
   pub papers_some : (dues : List Due) → AllByRecursion (IsDueOf table) dues → Begins (ArePapers table people rounds dues) []
   papers_some [] good = ([], no_papers, (refl, refl))
@@ -157,7 +151,7 @@ module _ (table : SeatTable) (people : List Person) (rounds : ℕ) where
   left_over bytes some = record {
     none = λ papers is. some is.0;
     some = omega arith;
-    before = subst (Begins (ArePapers table people rounds [])) (sym (none_taken bytes)) ([], no_papers, (refl, refl));
+    before = subst (Begins (ArePapers table people rounds [])) (sym (first_lines-none bytes)) ([], no_papers, (refl, refl));
     here = inl (some_lines bytes some, λ begins. never bytes some begins.0 begins.2.0);
   }
     where
@@ -173,13 +167,6 @@ module _ (table : SeatTable) (people : List Person) (rounds : ℕ) where
     pub values : (later : Papers) → ArePapers table people rounds left rest later → ArePapers table people rounds dues bytes (after_papers papers later)
     pub faults : (n : ℕ) → IsFaultLine (ArePapers table people rounds left) rest n → IsFaultLine (ArePapers table people rounds dues) bytes (before + n)
     pub short : before + length rest ≤ length bytes
-
-  pub along_all : (dues : List Due) (bytes : List ℕ) → IsAlong dues dues bytes bytes 0 no_papers
-  along_all dues bytes = record {
-    values = λ later texts. texts;
-    faults = λ n fault. subst (IsFaultLine (ArePapers table people rounds dues) bytes) (omega arith) fault;
-    short = omega arith;
-  }
 
   pub along_more : (dues : List Due) (due : Due) (left : List Due) (bytes rest later : List ℕ) (before count : ℕ) (papers after : Papers) → IsAlong dues (due ∷ left) bytes rest before papers
       → IsPut table people (rounds + 1) due rest later papers after → count ≡ lines_before rest later → count ≤ length (take (length rest - length later) rest) → IsAlong dues left bytes later (before + count) after
@@ -241,10 +228,6 @@ none_left zero [] past = refl
 none_left zero (due ∷ dues) past = absurd (omega (arith, past))
 none_left (suc n) [] past = refl
 none_left (suc n) (due ∷ dues) past = none_left n dues (omega (arith, past))
-
-pub no_bytes : (bytes : List ℕ) → eqb (length bytes) 0 ≡ true → bytes ≡ []
-no_bytes [] e = refl
-no_bytes (byte ∷ bytes) e = absurd (omega (arith, eqb-true (length (byte ∷ bytes)) 0 e))
 
 pub some_bytes : (bytes : List ℕ) → eqb (length bytes) 0 ≡ false → bytes ≢ []
 some_bytes bytes e empty = false≢true (sym e ∙ ap (λ (z : List ℕ). eqb (length z) 0) empty)

@@ -1,5 +1,5 @@
 -- Bytes cut after their first ending line.
-use Rattle.std.proofs.Common.{◌≡◌, ◌≢◌, ◌⊎◌, ℕ, List, [], ◌∷◌, ◌++◌, refl, sym, ap, ◌∙◌, subst, inl, inr, arith, append-nil, append_assoc, length-append, length, take, drop, ◌-◌}
+use Rattle.std.proofs.Common.{◌≡◌, ◌≢◌, ◌⊎◌, ℕ, List, [], ◌∷◌, ◌++◌, sym, ap, ◌∙◌, subst, inl, inr, arith, append-nil, append_assoc, length-append, length, take, drop, ◌-◌}
 use Rattle.std.proofs.Math.Seq.{take-append_seam}
 use Rattle.std.proofs.lemmas.List.{take-append-drop}
 use Rattle.publish.specs.Reading.{Grammar, HasNo}
@@ -15,7 +15,7 @@ pub line-first : (line rest tail : List ℕ) → ((line ++ 10 ∷ []) ++ rest) +
 line-first line rest tail = append_assoc (line ++ 10 ∷ []) rest tail ∙ append_assoc line (10 ∷ []) (rest ++ tail)
 
 module _ (ending : List ℕ) (clear : HasNo 10 ending) where
-  -- the first ending line stands at one place
+  -- the first ending line is at one place
   one_end : (ls ms : List (List ℕ)) (x y : List ℕ) → AreOthers ending ls → AreOthers ending ms → joined ls ++ (ending ++ 10 ∷ x) ≡ joined ms ++ (ending ++ 10 ∷ y) → x ≡ y
   one_end [] [] x y p q e = (cut-one 10 ending ending x y clear clear e).1
   one_end [] (m ∷ ms) x y p q e =
@@ -35,7 +35,7 @@ module _ (ending : List ℕ) (clear : HasNo 10 ending) where
       no_end ls ms last y p.1 none q.1 (cut-one 10 l m (joined ls ++ last) (joined ms ++ (ending ++ 10 ∷ y)) p.0.0 q.0.0
       (sym (line-first l (joined ls) last) ∙ e ∙ line-first m (joined ms) (ending ++ 10 ∷ y))).1
 
-  -- what stands after a whole text that is an ending
+  -- what follows a whole text that is an ending
   ended_more : (ms : List (List ℕ)) (tail : List ℕ) → (joined ms ++ (ending ++ 10 ∷ [])) ++ tail ≡ joined ms ++ (ending ++ 10 ∷ tail)
   ended_more ms tail = append_assoc (joined ms) (ending ++ 10 ∷ []) tail ∙ ap (λ (z : List ℕ). joined ms ++ z) (append_assoc ending (10 ∷ []) tail)
 
@@ -70,9 +70,6 @@ pub record IsPassed (ending bytes rest : List ℕ) : Type 0 where
   pub others : AreOthers ending lines
   pub whole : bytes ≡ joined lines ++ rest
 
-pub passed_none : (ending bytes : List ℕ) → IsPassed ending bytes bytes
-passed_none ending bytes = record { lines = []; others = tt; whole = refl }
-
 joined_more : (lines : List (List ℕ)) (line : List ℕ) → joined (lines ++ line ∷ []) ≡ joined lines ++ (line ++ 10 ∷ [])
 joined_more [] line = append-nil (line ++ 10 ∷ [])
 joined_more (first ∷ lines) line = ap (λ (z : List ℕ). (first ++ 10 ∷ []) ++ z) (joined_more lines line) ∙ sym (append_assoc (first ++ 10 ∷ []) (joined lines) (line ++ 10 ∷ []))
@@ -105,13 +102,6 @@ cut_met ending bytes rest line later piece last at passed split same where_ fron
       whole = sym (take-append-drop at bytes) ∙ (ap (λ (z : List ℕ). z ++ drop at bytes) (sym front) ∙ ap (λ (z : List ℕ). piece ++ z) (sym back));
       cut = inl (record { lines = passed.lines; others = passed.others; whole = first ∙ ap (λ (z : List ℕ). joined passed.lines ++ (z ++ 10 ∷ [])) same });
     }
-
--- it was not
-pub cut_unmet : (ending bytes rest last : List ℕ) → IsPassed ending bytes rest → HasNo 10 rest → last ≡ [] → IsCutAfter ending bytes bytes last
-cut_unmet ending bytes rest last passed clear none = record {
-  whole = sym (append-nil bytes) ∙ ap (λ (z : List ℕ). bytes ++ z) (sym none);
-  cut = inr (record { lines = passed.lines; last = rest; others = passed.others; clear = clear; whole = passed.whole }, none);
-}
 
 -- what follows a whole text is one
 pub same_rest : (ending : List ℕ) → HasNo 10 ending → (front other rest more : List ℕ) → IsEnding ending front → IsEnding ending other → front ++ rest ≡ other ++ more → rest ≡ more

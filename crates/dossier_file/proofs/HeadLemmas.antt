@@ -4,7 +4,8 @@ use Rattle.std.proofs.lemmas.Bool.{cases_eq}
 use Rattle.publish.specs.Reading.{Begins, Grammar, HasNo, IsFaultLine, first_lines, lines_in}
 use Rattle.dossier_file.specs.Papers.{OwnTexts}
 use Rattle.publish.proofs.PartsLemmas.{cut-one, has-one}
-use Rattle.dossier_file.proofs.LineLemmas.{all_taken, are_front, first_line, none_taken, one_line, some_line, some_lines, two_fronts, whole_line}
+use Rattle.publish.proofs.LineLemmas.{first_lines-none}
+use Rattle.dossier_file.proofs.LineLemmas.{all_taken, are_front, first_line, one_line, some_line, some_lines, two_fronts, whole_line}
 
 -- a value is one of these exactly where its text has this head
 pub record IsHeaded {A : Type 0} (head : List ℕ) (grammar : Grammar A) (Own : A → Type 0) : Type 0 where
@@ -60,13 +61,13 @@ module _ {A : Type 0} (head : List ℕ) (grammar : Grammar A) (Own : A → Type 
   any_begins bytes (more, value, text) = (more, value, text.0)
 
   module _ (some : Begins (OwnTexts grammar Own) []) where
-    -- with its head the faults of a piece are those of the own texts
+    -- with its head the faults of a piece are those of `OwnTexts`
     pub own_fault : (tail : List ℕ) (n : ℕ) → IsFaultLine grammar (head ++ tail) n → IsFaultLine (OwnTexts grammar Own) (head ++ tail) n
     own_fault tail n fault = record {
       none = λ value text. fault.none value text.0;
       some = fault.some;
       before = elim (cases_eq n 1) [
-        | inl one ↦ subst (Begins (OwnTexts grammar Own)) (sym (none_taken (head ++ tail)) ∙ ap (λ (k : ℕ). first_lines k (head ++ tail)) (omega (arith, one))) some
+        | inl one ↦ subst (Begins (OwnTexts grammar Own)) (sym (first_lines-none (head ++ tail)) ∙ ap (λ (k : ℕ). first_lines k (head ++ tail)) (omega (arith, one))) some
         | inr more ↦
             let least = fault.some in
             let front = head_first (n - 1) (omega (arith, more, least)) head tail is_head in
@@ -109,7 +110,7 @@ module _ {A : Type 0} (head : List ℕ) (grammar : Grammar A) (Own : A → Type 
     apart_fault bytes longer shorter = record {
       none = λ value text. let start = own.starts bytes value text.0 text.1 in longer start.0 start.1;
       some = omega arith;
-      before = subst (Begins (OwnTexts grammar Own)) (sym (none_taken bytes)) some;
+      before = subst (Begins (OwnTexts grammar Own)) (sym (first_lines-none bytes)) some;
       here = inl (some_lines bytes (λ empty. shorter head (ap (λ (z : List ℕ). z ++ head) (sym empty))), λ begins. never begins);
     }
       where

@@ -7,7 +7,7 @@ mod RowsLemmas
 mod ListLemmas
 mod TextLemmas
 mod DueLemmas
-mod CutLemmas
+pub mod CutLemmas
 mod KeptLemmas
 mod LawLemmas
 mod PartLemmas

@@ -2,6 +2,7 @@
 use Rattle.std.proofs.Common.{length, eq-eqb, ◌≢◌, ◌≡◌, ◌≤◌, ◌<◌, ◌+◌, ◌-◌, ◌⊎◌, ℕ, zero, suc, Bool, true, false, cond, List, [], ◌∷◌, ◌++◌, refl, sym, ap, ◌∙◌, inl, inr, arith, ◌==◌, if◌then◌else◌}
 use Rattle.std.proofs.lemmas.Bool.{cases_Bool, cond-true, cond-false, eqb-true, false≢true, ne_eqb}
 use Rattle.publish.specs.Reading.{HasNo, first_lines, lines_after, lines_in}
+use Rattle.publish.proofs.LineLemmas.{first_lines-none}
 
 -- of two ways to cut bytes in two, one cuts later
 pub two_fronts : {X : Type 0} (a b c d : List X) → a ++ b ≡ c ++ d → ((m : List X) × (c ≡ a ++ m) × (b ≡ m ++ d)) ⊎ ((m : List X) × (a ≡ c ++ m) × (d ≡ m ++ b))
@@ -19,17 +20,9 @@ pub nothing_left : {X : Type 0} (a b : List X) → a ++ b ≡ [] → a ≡ []
 nothing_left [] b e = refl
 nothing_left (x ∷ a) b e = absurd (cc)
 
-pub nothing_right : {X : Type 0} (a b : List X) → a ++ b ≡ [] → b ≡ []
-nothing_right [] b e = e
-nothing_right (x ∷ a) b e = absurd (cc)
-
 -- how many lines are to be taken after a byte
 abbrev next : ℕ → ℕ → ℕ
 next byte n = if byte == 10 then n - 1 else n
-
-pub none_taken : (bytes : List ℕ) → first_lines 0 bytes ≡ []
-none_taken [] = refl
-none_taken (byte ∷ bytes) = refl
 
 pub one_taken : (n byte : ℕ) (bytes : List ℕ) → 1 ≤ n → first_lines n (byte ∷ bytes) ≡ byte ∷ first_lines (next byte n) bytes
 one_taken n byte bytes some = cond-false (n == 0) [] (byte ∷ first_lines (next byte n) bytes) (ne_eqb n 0 (λ z. omega (arith, z, some)))
@@ -65,7 +58,7 @@ next_other byte n e = cond-false (byte == 10) (n - 1) n e
 
 -- fewer lines than the piece has are those of the piece alone
 pub short_same : (n : ℕ) (begun : Bool) (piece rest : List ℕ) → n < lines_after begun piece → first_lines n (piece ++ rest) ≡ first_lines n piece
-short_same zero begun piece rest less = none_taken (piece ++ rest) ∙ sym (none_taken piece)
+short_same zero begun piece rest less = first_lines-none (piece ++ rest) ∙ sym (first_lines-none piece)
 short_same (suc n) true [] rest less = absurd (omega (arith, less))
 short_same (suc n) false [] rest less = absurd (omega (arith, less))
 short_same (suc n) begun (byte ∷ piece) rest less = one_taken (suc n) byte (piece ++ rest) (omega arith) ∙ (ap (λ (z : List ℕ). byte ∷ z) (elim (cases_Bool (byte == 10)) [
@@ -161,7 +154,7 @@ first_line (byte ∷ bytes) = elim (cases_Bool (byte == 10)) [
         tail = bytes;
         clear = tt;
         whole = ap (λ (z : ℕ). z ∷ bytes) same;
-        taken = one_taken 1 byte bytes (omega arith) ∙ (ap (λ (k : ℕ). byte ∷ first_lines k bytes) (next_break byte 1 e) ∙ (ap (λ (z : List ℕ). byte ∷ z) (none_taken bytes) ∙ ap (λ (z : ℕ). z ∷ []) same));
+        taken = one_taken 1 byte bytes (omega arith) ∙ (ap (λ (k : ℕ). byte ∷ first_lines k bytes) (next_break byte 1 e) ∙ (ap (λ (z : List ℕ). byte ∷ z) (first_lines-none bytes) ∙ ap (λ (z : ℕ). z ∷ []) same));
       })
   | inr e ↦
       let to : first_lines 1 (byte ∷ bytes) ≡ byte ∷ first_lines 1 bytes = one_taken 1 byte bytes (omega arith) ∙ ap (λ (k : ℕ). byte ∷ first_lines k bytes) (next_other byte 1 e) in

@@ -8,7 +8,7 @@ use Rattle.office_base.specs.declared.step.Pair.{Pair}
 use Rattle.office_base.specs.declared.step.StepKind.{StepKind}
 use Rattle.programme_lists.specs.declared.programme.Programme.{Programme}
 use Rattle.programme_lists.specs.declared.programme.StepList.{StepList}
-use Rattle.published_texts.specs.Texts.{code_in, list_head, list_step, list_text}
+use Rattle.published_texts.specs.Texts.{list_head, list_step, list_text}
 use Rattle.seat_matrix.specs.Matrix.{SeatTable}
 use Rattle.publish.specs.ListLines.{CanStand, IsLineThen, IsListEnd, IsListHead, IsStepHead, Said, entry_words, honoured_text, honoured_words, last_words, lines_text, list_words, most_slots, rows_text, slots_in, step_list, step_text, step_words, steps_text, with_step}
 use Rattle.publish.specs.ListReader.{AreKnown}
@@ -17,7 +17,7 @@ use Rattle.publish.specs.Reading.{Begins, Grammar, HasNo}
 use Rattle.publish.specs.declared.lists.ListRead.{ListRead}
 use Rattle.publish.proofs.FollowLemmas.{slots-few}
 use Rattle.publish.proofs.FreeLemmas.{found-small}
-use Rattle.publish.proofs.ListTexts.{list-lines'}
+use Rattle.publish.proofs.ListTexts.{list-lines', head-lines}
 use Rattle.publish.proofs.PartsLemmas.{cut-one, has-no-tested, heads}
 use Rattle.publish.proofs.RowLemmas.{digits-clear}
 use Rattle.publish.proofs.StageLines.{entry-clear}
@@ -102,12 +102,6 @@ not-lf byte = not (eqb byte 10)
 pub end-list-clear : HasNo 10 (codes "end list")
 unfolding not-lf
 end-list-clear = has-no-tested not-lf 10 (codes "end list") refl refl
-
--- the first line and what follows it
-head-lines : (table : SeatTable) (number prog : ℕ) (rest : List ℕ) → list_head table number prog ++ rest ≡ list_words table (number, prog) ++ 10 ∷ rest
-head-lines table number prog rest =
-    append_assoc (codes "list " ++ decimal number ++ codes " " ++ code_in table prog) (10 ∷ []) rest
-    ∙ ap (λ z. z ++ 10 ∷ rest) (append_assoc (codes "list " ++ decimal number) (codes " ") (code_in table prog) ∙ append_assoc (codes "list ") (decimal number) (32 ∷ code_in table prog))
 
 module _ (table : SeatTable) (people : List Person) (known : AreKnown table people) (number prog : ℕ) (small : number < 2 ^ 16) (within : prog < length table.programmes) where
   pub list-is-head : IsHead (list_head table number prog)

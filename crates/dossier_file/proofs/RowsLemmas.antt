@@ -19,6 +19,7 @@ use Rattle.publish.proofs.RowLemmas.{digits-clear, row-clear}
 use Rattle.publish.proofs.TailLemmas.{cands, ids, rows-can, sub-nothing, sub-rest, sub-small}
 use Rattle.publish.proofs.WholeLemmas.{text-final, text-round}
 use Rattle.published_texts.specs.Texts.{final_text}
+use Rattle.publish.proofs.HeadLemmas.{round-clear, final-clear}
 use Rattle.dossier_file.specs.Papers.{IsRoundOf}
 use Rattle.dossier_file.specs.Texts.{AreOthers, joined, round_start}
 use Rattle.dossier_file.proofs.EndLemmas.{EndsOnce, line-first}
@@ -30,17 +31,9 @@ use Rattle.dossier_file.proofs.HeadLemmas.{IsHead, IsHeaded}
 not-lf : ℕ → Bool
 not-lf byte = not (eqb byte 10)
 
-round-clear : HasNo 10 (codes "round ")
-unfolding not-lf
-round-clear = has-no-tested not-lf 10 (codes "round ") refl refl
-
 seated-clear : HasNo 10 (codes " seated ")
 unfolding not-lf
 seated-clear = has-no-tested not-lf 10 (codes " seated ") refl refl
-
-final-clear : HasNo 10 (codes "final ")
-unfolding not-lf
-final-clear = has-no-tested not-lf 10 (codes "final ") refl refl
 
 allot-clear : HasNo 10 (codes "allot ")
 unfolding not-lf

@@ -21,7 +21,7 @@ last_lf [] (x ∷ line) more clear e = (let rest : [] ≡ line ++ 10 ∷ more = 
 last_lf (x ∷ l) [] more clear e = absurd (clear.0 cc)
 last_lf (x ∷ l) (y ∷ line) more clear e = (let rest : l ++ 10 ∷ [] ≡ line ++ 10 ∷ more = cc in last_lf l line more clear.1 rest)
 
--- nothing of a head stands after a whole line
+-- nothing of a head follows a whole line
 head_ends : (head line more : List ℕ) → IsHead head → head ≡ (line ++ 10 ∷ []) ++ more → more ≡ []
 head_ends head line more is e =
     let there : head ≡ line ++ 10 ∷ more = e ∙ append_assoc line (10 ∷ []) more in
@@ -64,7 +64,7 @@ module _ {A : Type 0} (head ending : List ℕ) (clear : HasNo 10 ending) (gramma
   own_once text value is = once text value is.0
 
   module _ (text piece rest tail : List ℕ) (cut : IsCutAfter ending text piece rest) (begins : text ≡ head ++ tail) where
-    -- the head stands in the piece
+    -- the head is in the piece
     piece_headed : (more : List ℕ) × (piece ≡ head ++ more)
     piece_headed = elim (two_fronts piece rest head tail (sym cut.whole ∙ begins)) [
       | inl h ↦

@@ -54,7 +54,7 @@ GaveDossier before after dossier = (bytes : List ℕ) × Took bytes before after
 
 -- ---- faults
 
--- the first fault of the body of requests, beside a bundle without faults: it is no UTF-8, or a row is no request
+-- the first fault of the body of requests, where the bundle has no fault: it is no UTF-8, or a row is no request
 abbrev pub IsRequestsFault : List ℕ → SeasonFault → Type 0
 IsRequestsFault requests NotUtf8 = IsUtf8 requests → ⊥
 IsRequestsFault requests (BadRequest row) = IsUtf8 requests × (script_of (rows_of requests) ≡ Err row)
@@ -91,7 +91,7 @@ pub record HasPublishedFault (bytes : List ℕ) (line : ℕ) : Type 0 where
   pub of_script : IsScript requests script
   pub is : IsFaultLine (AreDuePapers content.matrix content.register.people content.head.rounds script) published line
 
--- the first fault of a dossier's bytes, in this order; a source that failed and want of memory are none of theirs
+-- the first fault of a dossier's bytes, in this order; `ReadFault` and `OutOfMemory` are none of theirs
 abbrev pub HasDossierFault : List ℕ → DossierFault → Type 0
 HasDossierFault bytes ReadFault = ⊥
 HasDossierFault bytes TooLong = most_bundle_bytes < length bytes
@@ -100,13 +100,13 @@ HasDossierFault bytes (BadSeason fault) = HasSeasonFault bytes fault
 HasDossierFault bytes (Published line) = HasPublishedFault bytes line
 HasDossierFault bytes OutOfMemory = ⊥
 
--- the first fault of bytes that are at hand; want of memory tells nothing of them
+-- the first fault of given bytes; `OutOfMemory` says nothing of them
 abbrev pub IsBytesFault : List ℕ → DossierFault → Type 0
 IsBytesFault bytes ReadFault = ⊥
 IsBytesFault bytes OutOfMemory = Unit {0}
 IsBytesFault bytes fault = HasDossierFault bytes fault
 
--- the first fault of a body of requests; want of memory tells nothing of it
+-- the first fault of a body of requests; `OutOfMemory` says nothing of it
 abbrev pub IsRequestsError : List ℕ → SeasonFault → Type 0
 IsRequestsError requests NoSeasonMemory = Unit {0}
 IsRequestsError requests fault = IsRequestsFault requests fault
@@ -132,7 +132,8 @@ IsUnread before after fault = ⊥
 abbrev pub GaveFault : Option (List ℕ) → Option (List ℕ) → DossierFault → Type 0
 GaveFault before after fault = (bytes : List ℕ) × Took bytes before after × IsAtEnd after × HasDossierFault bytes fault
 
--- The fault of a source: that of its bytes, where it gave all of them; or there are too many. What failed of itself tells nothing of them.
+-- The fault of a source: that of its bytes, if it gave all of them; or there are too many. `ReadFault` and
+-- `OutOfMemory` say nothing of them.
 abbrev pub GaveDossierFault : Option (List ℕ) → Option (List ℕ) → DossierFault → Type 0
 GaveDossierFault before after ReadFault = Unit {0}
 GaveDossierFault before after TooLong = TookMore most_bundle_bytes before after

@@ -94,7 +94,7 @@ pub record IsFaultFrom {A : Type 0} (grammar : Grammar A) (bytes : List ℕ) (li
   pub ended : IsEnded grammar piece ⊎ (rest ≡ [])
   pub fault : IsFaultLine grammar piece line
 
--- want of memory tells nothing of the bytes
+-- `OutOfMemory` says nothing of the bytes
 abbrev pub IsTextsFault : {A : Type 0} → Grammar A → List ℕ → TextFault → Type 0
 IsTextsFault grammar bytes (Line n) = IsFaultFrom grammar bytes n
 IsTextsFault grammar bytes OutOfMemory = Unit {0}

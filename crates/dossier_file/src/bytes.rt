@@ -5,7 +5,7 @@ ghost use Rattle.dossier_file.specs.Texts.{IsCutAfter, IsNoHead};
 
 use memchr::memchr;
 
-/// The first line without its end, and what stands after it. None where no line ends.
+/// Returns the first line without its end, and what follows it. `None` if no line ends.
 fn cut_line(bytes: &[u8]) -> Option<(&[u8], &[u8])>
     ensures some { IfSome result (λ parts. bytes.now ≡ parts.0.now ++ 10 ∷ parts.1.now) }
     ensures first { IfSome result (λ parts. HasNo 10 parts.0.now) }
@@ -18,7 +18,7 @@ fn cut_line(bytes: &[u8]) -> Option<(&[u8], &[u8])>
     }
 }
 
-/// What stands after a word. None where the bytes do not begin with it.
+/// Returns what follows a word. `None` if the bytes do not begin with it.
 fn after<'a>(bytes: &'a [u8], word: &[u8]) -> Option<&'a [u8]>
     ensures some { IfSome result (λ rest. bytes.now ≡ word.now ++ rest.now) }
     ensures none { IfNone result ((rest : List ℕ) → bytes.now ≢ word.now ++ rest) }
@@ -26,7 +26,7 @@ fn after<'a>(bytes: &'a [u8], word: &[u8]) -> Option<&'a [u8]>
     bytes.strip_prefix(word)
 }
 
-/// How many lines there are. What stands after the last LF is a line too.
+/// Returns how many lines there are. What follows the last LF is a line too.
 pub(crate) fn line_count(bytes: &[u8]) -> u32
     requires { length bytes.now < 2 ^ 32 }
     ensures value { result ≡ lines_in bytes.now }

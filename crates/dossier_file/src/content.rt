@@ -27,9 +27,11 @@ pub(crate) fn read_bytes<S: Source>(alloc: Global, source: &mut S) -> Result<Tex
     ensures ended { IfOk result (λ bytes. IsAtEnd (S.left source.new)) }
     ensures short { IfOk result (λ bytes. length bytes ≤ most_bundle_bytes) }
     ensures fault { IfErr result (λ fault. IsUnread (S.left source.old) (S.left source.new) fault) }
-    ensures cause { IsErrOf result DossierFault.ReadFault → Rose (S.faults source.old) (S.faults source.new) }
+    ensures cause { IsErrOf result DossierFault.ReadFault
+        → Rose (S.faults source.old) (S.faults source.new) }
     ensures count { S.faults source.old ≤ S.faults source.new }
-    ensures steady { ¬ IsErrOf result DossierFault.ReadFault → S.faults source.new ≡ S.faults source.old }
+    ensures steady { ¬ IsErrOf result DossierFault.ReadFault
+        → S.faults source.new ≡ S.faults source.old }
 {
     match read_whole(alloc, source, MOST_BUNDLE_BYTES) {
         Ok(bytes) => Ok(bytes),
@@ -101,8 +103,10 @@ pub(crate) fn read_papers(
     published: &[u8],
 ) -> Result<Papers, TextFault>
     requires { length published.now ≤ most_bundle_bytes }
-    ensures value { IfOk result (λ papers. AreDuePapers season.now.matrix season.now.register.people season.now.rounds script.now published.now papers) }
-    ensures fault { IfErr result (λ fault. IsTextFault (AreDuePapers season.now.matrix season.now.register.people season.now.rounds script.now) published.now fault) }
+    ensures value { IfOk result (λ papers. AreDuePapers season.now.matrix
+        season.now.register.people season.now.rounds script.now published.now papers) }
+    ensures fault { IfErr result (λ fault. IsTextFault (AreDuePapers season.now.matrix
+        season.now.register.people season.now.rounds script.now) published.now fault) }
 {
     are_readable(&season.matrix, &season.register);
     let cuts = accepted_cuts(season.rounds, script);

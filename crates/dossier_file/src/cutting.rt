@@ -38,7 +38,8 @@ fn find_title(text: &[u8], name: &[u8]) -> Option<usize>
 
 /// The parts of a dossier. None where one of the two lines between them is missing.
 pub(crate) fn cut(bytes: &[u8]) -> Option<Parts<'_>>
-    ensures some { IfSome result (λ parts. IsCut bytes.now parts.bundle.now parts.requests.now parts.published.now) }
+    ensures some { IfSome result (λ parts.
+        IsCut bytes.now parts.bundle.now parts.requests.now parts.published.now) }
     ensures none { IfNone result (HasNoSection bytes.now) }
 {
     let text = skip_mark(bytes);

@@ -37,11 +37,15 @@ impl Dossier {
 
     /// The dossier that the bytes are which a source gives up to its end, or their first fault.
     pub fn read<S: Source>(alloc: Global, source: &mut S) -> Result<Dossier, DossierFault>
-        ensures value { IfOk result (λ dossier. GaveDossier (S.left source.old) (S.left source.new) dossier) }
-        ensures fault { IfErr result (λ fault. GaveDossierFault (S.left source.old) (S.left source.new) fault) }
-        ensures cause { IsErrOf result DossierFault.ReadFault → Rose (S.faults source.old) (S.faults source.new) }
+        ensures value { IfOk result (λ dossier.
+            GaveDossier (S.left source.old) (S.left source.new) dossier) }
+        ensures fault { IfErr result (λ fault.
+            GaveDossierFault (S.left source.old) (S.left source.new) fault) }
+        ensures cause { IsErrOf result DossierFault.ReadFault
+            → Rose (S.faults source.old) (S.faults source.new) }
         ensures count { S.faults source.old ≤ S.faults source.new }
-        ensures steady { ¬ IsErrOf result DossierFault.ReadFault → S.faults source.new ≡ S.faults source.old }
+        ensures steady { ¬ IsErrOf result DossierFault.ReadFault
+            → S.faults source.new ≡ S.faults source.old }
     {
         let bytes = read_bytes(alloc, source)?;
         Dossier::of_bytes(alloc, bytes.as_slice())
@@ -72,7 +76,8 @@ impl Dossier {
 
     /// The dossier of a season, requests and the texts that these publish.
     fn with_papers(season: Season, script: Script, papers: Papers) -> Dossier
-        requires { HasTexts season.matrix season.register.people season.rounds script papers.rounds papers.lists papers.last }
+        requires { HasTexts season.matrix season.register.people season.rounds
+            script papers.rounds papers.lists papers.last }
         ensures season { result.season ≡ season }
         ensures script { result.script ≡ script }
         ensures papers { papers_of result ≡ papers }

@@ -5,7 +5,8 @@ ghost use Rattle.dossier_file.specs.declared.fault.DossierFault.TheVariants.{Out
 use office_base::OutOfMemory;
 use season_file::SeasonFault;
 
-/// Why a dossier was not read. Nothing is left behind. The fault of a season never is a failed source or want of memory.
+/// Says why a dossier was not read. Nothing is left behind. The fault of a season is never `ReadFault` or
+/// `OutOfMemory`.
 #[derive(Clone, Copy, Debug, PartialEq, Eq, thiserror::Error)]
 pub enum DossierFault {
     /// The source failed: its count of faults rose.

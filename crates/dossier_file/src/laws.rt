@@ -1,4 +1,4 @@
-// What holds of dossiers themselves, whoever reads them.
+// Laws of dossiers themselves, for any reader.
 ghost use Rattle.std.specs.Prelude.{ℕ, List};
 ghost use Rattle.dossier_file.specs.Laws.{HaveOneDossier, TextsAreOne};
 

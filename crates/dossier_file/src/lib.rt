@@ -1,9 +1,9 @@
 // The dossier of a season: its bundle, its requests, and the texts that were published of it, read exactly.
 //
-// Whoever audits a season stands on it. `specs/Cut` says where a dossier is cut into its three parts, `specs/Due` and
-// `specs/Papers` which texts the accepted cuts of its requests publish, in which order, and what they say, `specs/Dossier` which
-// dossier bytes are and which fault of theirs is the first. It decides nothing about an allocation. It must never know how a round
-// is made or found sound.
+// Every crate that audits a season depends on it. `specs/Cut` says where a dossier is cut into its three parts.
+// `specs/Due` and `specs/Papers` say which texts the accepted cuts of its requests publish, in which order, and what
+// they say. `specs/Dossier` says which dossier some bytes are, and which of their faults is the first. It decides
+// nothing about an allocation. It must never know how a round is made or found sound.
 #![tactic(auto)]
 
 mod bytes;

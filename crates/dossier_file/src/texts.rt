@@ -57,8 +57,10 @@ fn take_round<'a>(
     bytes: &'a [u8],
 ) -> Result<(RoundRead, &'a [u8]), TextFault>
     requires { AreReadable season.now.matrix season.now.register.people }
-    ensures value { IfOk result (λ read. IsReadFrom (IsRoundOf season.now.matrix season.now.register.people number) bytes.now read.0 read.1.now) }
-    ensures fault { IfErr result (λ fault. IsTextsFault (IsRoundOf season.now.matrix season.now.register.people number) bytes.now fault) }
+    ensures value { IfOk result (λ read. IsReadFrom (IsRoundOf season.now.matrix
+        season.now.register.people number) bytes.now read.0 read.1.now) }
+    ensures fault { IfErr result (λ fault. IsTextsFault (IsRoundOf season.now.matrix
+        season.now.register.people number) bytes.now fault) }
 {
     let head = round_start(alloc, number)?;
     if let Some(line) = headless_line(bytes, head.as_slice()) {
@@ -81,8 +83,10 @@ fn take_list<'a>(
 ) -> Result<(ListRead, &'a [u8]), TextFault>
     requires readable { AreReadable season.now.matrix season.now.register.people }
     requires programme { prog.0 < length season.now.matrix.programmes }
-    ensures value { IfOk result (λ read. IsReadFrom (IsListOf season.now.matrix season.now.register.people number prog.0) bytes.now read.0 read.1.now) }
-    ensures fault { IfErr result (λ fault. IsTextsFault (IsListOf season.now.matrix season.now.register.people number prog.0) bytes.now fault) }
+    ensures value { IfOk result (λ read. IsReadFrom (IsListOf season.now.matrix
+        season.now.register.people number prog.0) bytes.now read.0 read.1.now) }
+    ensures fault { IfErr result (λ fault. IsTextsFault (IsListOf season.now.matrix
+        season.now.register.people number prog.0) bytes.now fault) }
 {
     let head = list_start(alloc, &season.matrix, number, prog)?;
     if let Some(line) = headless_line(bytes, head.as_slice()) {
@@ -102,8 +106,10 @@ fn take_final<'a>(
     bytes: &'a [u8],
 ) -> Result<(FinalRead, &'a [u8]), TextFault>
     requires { AreReadable season.now.matrix season.now.register.people }
-    ensures value { IfOk result (λ read. IsReadFrom (IsFinalText season.now.matrix season.now.register.people (season.now.rounds + 1)) bytes.now read.0 read.1.now) }
-    ensures fault { IfErr result (λ fault. IsTextsFault (IsFinalText season.now.matrix season.now.register.people (season.now.rounds + 1)) bytes.now fault) }
+    ensures value { IfOk result (λ read. IsReadFrom (IsFinalText season.now.matrix
+        season.now.register.people (season.now.rounds + 1)) bytes.now read.0 read.1.now) }
+    ensures fault { IfErr result (λ fault. IsTextsFault (IsFinalText season.now.matrix
+        season.now.register.people (season.now.rounds + 1)) bytes.now fault) }
 {
     let (piece, rest) = cut_text(bytes, b"end final");
     match read_final(alloc, season, piece) {
@@ -122,8 +128,10 @@ fn take_due<'a>(
 ) -> Result<&'a [u8], TextFault>
     requires readable { AreReadable season.now.matrix season.now.register.people }
     requires due { IsDueOf season.now.matrix due }
-    ensures value { IfOk result (λ rest. IsPut season.now.matrix season.now.register.people (season.now.rounds + 1) due bytes.now rest.now papers.old papers.new) }
-    ensures fault { IfErr result (λ fault. IsDueFault season.now.matrix season.now.register.people (season.now.rounds + 1) due bytes.now fault) }
+    ensures value { IfOk result (λ rest. IsPut season.now.matrix season.now.register.people
+        (season.now.rounds + 1) due bytes.now rest.now papers.old papers.new) }
+    ensures fault { IfErr result (λ fault. IsDueFault season.now.matrix
+        season.now.register.people (season.now.rounds + 1) due bytes.now fault) }
 {
     match due {
         Due::Round { number } => match take_round(alloc, season, number, bytes) {
@@ -174,8 +182,10 @@ pub(crate) fn take_all(
     requires readable { AreReadable season.now.matrix season.now.register.people }
     requires dues { AllByRecursion (IsDueOf season.now.matrix) dues.now }
     requires short { length bytes.now < 2 ^ 32 - 2 }
-    ensures value { IfOk result (λ papers. ArePapers season.now.matrix season.now.register.people season.now.rounds dues.now bytes.now papers) }
-    ensures fault { IfErr result (λ fault. IsTextFault (ArePapers season.now.matrix season.now.register.people season.now.rounds dues.now) bytes.now fault) }
+    ensures value { IfOk result (λ papers. ArePapers season.now.matrix
+        season.now.register.people season.now.rounds dues.now bytes.now papers) }
+    ensures fault { IfErr result (λ fault. IsTextFault (ArePapers season.now.matrix
+        season.now.register.people season.now.rounds dues.now) bytes.now fault) }
 {
     let mut papers = Papers {
         rounds: RoundReads::new(alloc),

@@ -1,5 +1,5 @@
--- Each step that a reason tells of stands against the person.
-use Rattle.std.proofs.Common.{◌≡◌, ℕ, zero, suc, not, take, Bool, true, false, Option, Some, None, List, [], ◌∷◌, length, refl, sym, ap, ◌∙◌, subst, inl, inr, if◌then◌else◌}
+-- Each step that a reason reports counts against the person.
+use Rattle.std.proofs.Common.{◌≡◌, not, take, Bool, true, false, Option, Some, None, List, [], length, refl, sym, ap, ◌∙◌, subst, if◌then◌else◌}
 use Rattle.std.specs.Prelude.{option_to_list, slice_get}
 use Rattle.std.specs.Option.{option_and_then, option_map}
 use Rattle.std.specs.List.{AllByRecursion, filter}
@@ -15,7 +15,6 @@ use Rattle.office_base.specs.declared.person.Person.{Person}
 use Rattle.office_base.specs.declared.step.StepKind.{StepKind}
 use Rattle.office_base.specs.declared.step.StepKind.TheVariants.{Open, Ews as EwsStep, Obc as ObcStep, Sc as ScStep, St as StStep, Dereserved}
 use Rattle.placements.specs.Ranks.{without as without_one}
-use Rattle.placements.proofs.Exchange.{all_joined}
 use Rattle.placements.proofs.Ranks.{ranked_sublist}
 use Rattle.placements.proofs.Zips.{zip_at, zipped}
 use Rattle.placements.proofs.Filters.{filter-sublist, among_filter_from}
@@ -31,10 +30,12 @@ use Rattle.seat_matrix.specs.Seats.{AreProgrammeSeats, seats_of}
 use Rattle.seat_matrix.specs.declared.seats.ProgrammeSeats.{ProgrammeSeats}
 use Rattle.office_base.specs.StepNumbers.{step_number}
 use Rattle.office_base.proofs.StepNumbers.{kinds, kind_at}
+use Rattle.office_base.proofs.Lists.{all_joined, at_among}
+use Rattle.placements.proofs.Merit.{not_both_better}
 use Rattle.explain.specs.Just.{ReasonsAreJust, StandsAgainst, WasApplicant, told}
 use Rattle.explain.specs.Reason.{admitted_in, category_step, reason_from, refusal, step_why, why_at}
 use Rattle.explain.proofs.Lists.{left_by_take, none_taken, not_listed, stays, tells_worse}
-use Rattle.explain.proofs.Step.{IsRefusedBy, all_taken, each, fewer_honoured, not_both}
+use Rattle.explain.proofs.Step.{IsRefusedBy, all_taken, each, fewer_honoured}
 
 -- the laws of the choice of a step that this rests on
 pub record AreLaws : Type 0 where
@@ -48,12 +49,6 @@ pub record AreLaws : Type 0 where
 -- a filter of ranked people is ranked
 filter_ranked : (list : ListId) (p : Person → Bool) (people : List Person) → AreRanked list people → AreRanked list (filter p people)
 filter_ranked list p people ranked = ranked_sublist list (filter p people) people ranked (filter-sublist p people)
-
--- who is at a place of a list
-at_place : {X : Type 0} (xs : List X) (n : ℕ) (x : X) → slice_get xs n ≡ Some x → IsAmong x xs
-at_place [] n x at = absurd (cc)
-at_place (y ∷ xs) zero x at = inl (let same : y ≡ x = cc in sym same)
-at_place (y ∷ xs) (suc n) x at = inr (at_place xs n x at)
 
 module _ (laws : AreLaws) (seats : ProgrammeSeats) (programme : Programme) (person : Person) (sound : AreProgrammeSeats seats) (was : WasApplicant seats programme person)
     (refused : admitted_in programme.steps person ≡ None) where
@@ -77,7 +72,7 @@ module _ (laws : AreLaws) (seats : ProgrammeSeats) (programme : Programme) (pers
 
   -- no list has the person
   not_on : (kind : StepKind) (shown : StepList) → slice_get programme.steps (step_number kind) ≡ Some shown → is_taken shown.admitted person ≡ false
-  not_on kind shown at = each (λ (l : StepList). is_taken l.admitted person ≡ false) shown programme.steps (at_place programme.steps (step_number kind) shown at) (not_listed programme.steps person refused)
+  not_on kind shown at = each (λ (l : StepList). is_taken l.admitted person ≡ false) shown programme.steps (at_among programme.steps (step_number kind) shown at) (not_listed programme.steps person refused)
 
   -- each of the six steps is shown
   shown_of : (kind : StepKind) → (shown : StepList) × (slice_get programme.steps (step_number kind) ≡ Some shown)
@@ -114,13 +109,13 @@ module _ (laws : AreLaws) (seats : ProgrammeSeats) (programme : Programme) (pers
       among_filter_from (is_of category) person (without applicants admissions.open_step) (stays applicants admissions.open_step person present (not_taken Open))
       (subst (λ (c : Category). is_same category c ≡ true) (sym same) (same_itself category))
 
-  -- whoever is refused stands before the de-reserved step
+  -- a person who is refused is among those left to the de-reserved step
   left : IsAmong person (left_over applicants admissions)
   left =
       stays _ admissions.st person (stays _ admissions.sc person (stays _ admissions.obc person (stays _ admissions.ews person
       (stays applicants admissions.open_step person present (not_taken Open)) (not_taken EwsStep)) (not_taken ObcStep)) (not_taken ScStep)) (not_taken StStep)
 
-  -- ---- what stands against the person
+  -- ---- what counts against the person
 
   abbrev Against : StepList → Type 0
   Against shown = StandsAgainst seats programme person (step_why seats.list person shown)
@@ -135,7 +130,7 @@ module _ (laws : AreLaws) (seats : ProgrammeSeats) (programme : Programme) (pers
       let r : IsRefusedBy step admitted person = record { is_step = is_step kind; choice = chosen; among = among; refused = not_among kind } in
       record {
         shown = shown;
-        listed = at_place programme.steps (step_number kind) shown at;
+        listed = at_among programme.steps (step_number kind) shown at;
         of_kind = refl;
         seats_told = refl;
         full = ap length shows.persons ∙ all_taken step admitted person r laws.one laws.size laws.for_all ∙ sym filled ∙ sym shows.of_seats;
@@ -160,15 +155,15 @@ module _ (laws : AreLaws) (seats : ProgrammeSeats) (programme : Programme) (pers
       let all_better = subst (AllByRecursion (λ (x : Person). IsBetter seats.list x person)) (sym same) by.1 in
       record {
         shown = shown;
-        listed = at_place programme.steps (step_number Dereserved) shown at;
+        listed = at_among programme.steps (step_number Dereserved) shown at;
         of_kind = refl;
         seats_told = refl;
         full = ap length same ∙ by.0 ∙ sym shows.of_seats;
         worse = tells_worse seats.list person shown.admitted;
-        swapped = λ other m n there better theirs own. absurd (not_both seats.list person other better (each (λ (x : Person). IsBetter seats.list x person) other shown.admitted there all_better));
+        swapped = λ other m n there better theirs own. absurd (not_both_better seats.list person other better (each (λ (x : Person). IsBetter seats.list x person) other shown.admitted there all_better));
       }
 
-  -- ---- all that is told
+  -- ---- all that is reported
 
   abbrev Told : Option StepWhy → Type 0
   Told why = AllByRecursion (StandsAgainst seats programme person) (option_to_list why)

@@ -17,7 +17,7 @@ use Rattle.explain.proofs.Step.{each, not_ahead_means}
 
 -- ---- who is taken
 
--- whoever is not taken is none of those taken
+-- a person who is not taken is none of those taken
 pub none_taken : (taken : List Person) (person : Person) → is_taken taken person ≡ false → IsAmong person taken → ⊥
 none_taken taken person fails among = absurd (let e : false ≡ true = sym fails ∙ is_there taken among in cc)
   where
@@ -32,7 +32,7 @@ none_taken taken person fails among = absurd (let e : false ≡ true = sym fails
 pub stays : (people taken : List Person) (person : Person) → IsAmong person people → is_taken taken person ≡ false → IsAmong person (without people taken)
 stays people taken person among fails = among_filter_from (λ (x : Person). not (is_taken taken x)) person people among (ap not fails)
 
--- no list has whoever no list admits
+-- no list has a person whom no list admits
 pub not_listed : (lists : List StepList) (person : Person) → admitted_in lists person ≡ None → AllByRecursion (λ list. is_taken list.admitted person ≡ false) lists
 not_listed [] person none = tt
 not_listed (list ∷ lists) person none = elim (cases_Bool (is_taken list.admitted person)) [

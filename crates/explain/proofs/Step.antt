@@ -1,5 +1,6 @@
--- Whoever a step refuses: all its seats are taken, and in place of somebody worse the person would leave fewer honoured.
-use Rattle.std.proofs.Common.{◌≡◌, ◌≢◌, ◌<◌, ◌≤◌, ℕ, suc, false, Option, Some, None, List, [], ◌∷◌, length, refl, sym, ap, ◌∙◌, subst, inl, inr, arith}
+-- A person whom a step refuses: all its seats are taken, and in place of somebody worse the person would leave fewer
+-- honoured.
+use Rattle.std.proofs.Common.{◌≡◌, ◌≢◌, ◌<◌, ◌≤◌, ℕ, false, Option, Some, None, List, [], ◌∷◌, length, refl, sym, ap, ◌∙◌, subst, inl, inr, arith}
 use Rattle.std.specs.Prelude.{IsSome}
 use Rattle.std.specs.List.{AllByRecursion}
 use Rattle.std.proofs.lemmas.Bool.{ltb-false, cases_Bool, cases_lt, cond-true, cond-false}
@@ -11,12 +12,12 @@ use Rattle.office_base.specs.StepChoice.{AreRanked, IsNoWorse, IsStep, IsStepCho
 use Rattle.office_base.specs.declared.person.ListId.{ListId}
 use Rattle.office_base.specs.declared.person.Person.{Person}
 use Rattle.office_base.specs.declared.step.Step.{Step}
+use Rattle.office_base.proofs.Lists.{all_weaker}
 use Rattle.placements.specs.Ranks.{AreAmong, AreDistinct, without}
-use Rattle.placements.proofs.Exchange.{all_weaker}
 use Rattle.placements.proofs.Ranks.{any_among, any_weaker, among_again, among_itself, among_sublist, one_person, pairwise_sublist}
 use Rattle.placements.proofs.Sublists.{AllByRecursion-sublist}
 use Rattle.placements.proofs.Without.{all_without, length_without, pairwise_without, without_among, without_later}
-use Rattle.placements.proofs.Merit.{ahead_again, not_ahead, ahead_true}
+use Rattle.placements.proofs.Merit.{ahead_again, not_ahead, ahead_true, not_both_better, length_with}
 use Rattle.merit_choice.specs.InMerit.{RankedPart, WithPersonRanks}
 use Rattle.merit_choice.specs.Laws.{ChoiceSize, OneChoice, SeatsForAll}
 
@@ -30,15 +31,12 @@ not_ahead_means (Some m) (Some n) told ahead = absurd (omega (arith, ltb-false m
 pub better_again : (list : ListId) (a b c : Person) → IsBetter list a b → IsBetter list b c → IsBetter list a c
 better_again list a b c one two = ahead_again (number_in list a) (number_in list b) (number_in list c) one two
 
-pub not_both : (list : ListId) (a b : Person) → IsBetter list a b → IsBetter list b a → ⊥
-not_both list a b one two = not_ahead (number_in list a) (better_again list a b a one two)
-
 -- what holds of each holds of one of them
 pub each : {X : Type 0} (P : X → Type 0) (x : X) (xs : List X) → IsAmong x xs → AllByRecursion P xs → P x
 each P x [] among all = absurd among
 each P x (y ∷ xs) among all = elim among [ inl here ↦ subst P (sym here) all.0 | inr later ↦ each P x xs later all.1 ]
 
--- of people in merit order, whoever has the number of another is that one
+-- of people in merit order, a person with the number of another is that one
 pub one_number : (list : ListId) (people : List Person) → Pairwise (IsBetter list) people → (a b : Person) → IsAmong a people → IsAmong b people → number_in list a ≡ number_in list b → a ≡ b
 one_number list [] order a b in_a in_b same = absurd in_a
 one_number list (person ∷ people) order a b in_a in_b same = elim in_a [
@@ -64,13 +62,6 @@ first_of_all list person (other ∷ people) worse = elim (cases_Bool (is_better 
   | inr fails ↦ absurd (not_ahead_means (number_in list person) (number_in list other) fails worse.0)
 ]
 
-pub length_with : (list : ListId) (person : Person) (people : List Person) → length (with_person list person people) ≡ suc (length people)
-length_with list person [] = refl
-length_with list person (other ∷ people) = elim (cases_Bool (is_better list person other)) [
-  | inl holds ↦ ap length (cond-true _ _ _ holds)
-  | inr fails ↦ ap length (cond-false _ _ _ fails) ∙ ap suc (length_with list person people)
-]
-
 -- the persons in merit order are somewhere worse than those with the person in place of somebody worse
 pub somewhere_worse : (list : ListId) (chosen : List Person) (person other : Person) → Pairwise (IsBetter list) chosen → AreDistinct chosen → IsAmong other chosen → IsBetter list person other
     → IsNoWorse list chosen (with_person list person (without other.id chosen)) → ⊥
@@ -84,7 +75,7 @@ somewhere_worse list (one ∷ chosen) person other order distinct among better n
       let here = (subst (IsNoWorse list (one ∷ chosen)) first.1 no_worse).0 in
       elim here [
         | inl same ↦ not_ahead (number_in list person) (subst (λ (x : Person). IsBetter list person x) same ahead)
-        | inr back ↦ not_both list person one ahead back
+        | inr back ↦ not_both_better list person one ahead back
       ]
   | inr fails ↦ elim among [
     | inl here ↦ not_ahead_means (number_in list person) (number_in list one) fails (subst (λ (x : Person). IsBetter list person x) here better)

@@ -1,4 +1,4 @@
--- When what is told of a refusal is just.
+-- When what a refusal reports is just.
 use Rattle.std.specs.Prelude.{◌≡◌, ◌<◌, ℕ, List, [], ◌++◌, option_to_list, length, IsTrue, ◌↔◌}
 use Rattle.std.specs.List.{AllByRecursion}
 use Rattle.office_base.specs.Lists.{AnyByRecursion, IsAmong}
@@ -25,12 +25,12 @@ pub record WasApplicant (seats : ProgrammeSeats) (programme : Programme) (person
   pub shows : ShowsFrom version seats people programme
   pub among : IsAmong person people
 
--- what a reason tells of steps
+-- the steps that a reason reports
 abbrev pub told : Reason → List StepWhy
 told (Admitted step) = []
 told (Refused at_open at_category at_dereserved) = option_to_list at_open ++ option_to_list at_category ++ option_to_list at_dereserved
 
--- What is told of a step is so, and it stands against the person.
+-- What is reported of a step is true, and it counts against the person.
 pub record StandsAgainst (seats : ProgrammeSeats) (programme : Programme) (person : Person) (why : StepWhy) : Type 0 where
   -- the list of the step
   pub shown : StepList
@@ -39,14 +39,14 @@ pub record StandsAgainst (seats : ProgrammeSeats) (programme : Programme) (perso
   -- as many are admitted as it has seats
   pub seats_told : shown.seats ≡ why.seats
   pub full : length shown.admitted ≡ why.seats
-  -- it tells of somebody worse exactly where somebody worse was admitted
+  -- it reports somebody worse exactly when somebody worse was admitted
   pub worse : IsTrue why.worse ↔ AnyByRecursion (IsBetter seats.list person) shown.admitted
   -- with the person in place of anybody worse who was admitted, the step would honour fewer
   pub swapped : (other : Person) (m n : ℕ) → IsAmong other shown.admitted → IsBetter seats.list person other
       → IsHonoured (seats_of seats why.kind).protections (with_person seats.list person (without other.id shown.admitted)) m
       → IsHonoured (seats_of seats why.kind).protections shown.admitted n → m < n
 
--- each step that a refusal tells of stands against the person
+-- each step that a refusal reports counts against the person
 abbrev pub ReasonsAreJust : Type 0
 ReasonsAreJust = (seats : ProgrammeSeats) (programme : Programme) (person : Person) → AreProgrammeSeats seats → WasApplicant seats programme person
     → AllByRecursion (StandsAgainst seats programme person) (told (reason_of seats.list programme person))

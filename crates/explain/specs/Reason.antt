@@ -27,11 +27,12 @@ abbrev pub has_worse : ListId → Person → List Person → Bool
 has_worse list person [] = false
 has_worse list person (other ∷ admitted) = is_better list person other || has_worse list person admitted
 
--- what stood against the person at the step that this list shows: its seats, and whether somebody worse was admitted
+-- what counted against the person at the step that this list shows: its seats, and whether somebody worse was
+-- admitted
 abbrev pub step_why : ListId → Person → StepList → StepWhy
 step_why list person shown = record { kind = shown.kind; seats = shown.seats; worse = has_worse list person shown.admitted }
 
--- what stood against the person at a step
+-- what counted against the person at a step
 abbrev pub why_at : ListId → Programme → Person → StepKind → Option StepWhy
 why_at list programme person kind = option_map (step_why list person) (slice_get programme.steps (step_number kind))
 
@@ -43,11 +44,12 @@ category_step Obc = Some ObcStep
 category_step Sc = Some ScStep
 category_step St = Some StStep
 
--- what stood against the person at the step of the own category, where it has one
+-- what counted against the person at the step of the person's own category, if it has one
 abbrev pub at_category : ListId → Programme → Person → Option StepWhy
 at_category list programme person = option_and_then (why_at list programme person) (category_step person.category)
 
--- what stood against the person at each step: open and de-reserved seats are for those with a common place, and a category's for its members
+-- what counted against the person at each step: open and de-reserved seats are for those with a common place, and a
+-- category's for its members
 abbrev pub refusal : ListId → Programme → Person → Reason
 refusal list programme person =
     Refused (if is_common list person then why_at list programme person Open else None) (at_category list programme person) (if is_common list person then why_at list programme person Dereserved else None)
@@ -57,6 +59,6 @@ abbrev pub reason_from : Option StepKind → Reason → Reason
 reason_from None refused = refused
 reason_from (Some step) refused = Admitted step
 
--- under which step the programme admits the person, or what stood against the person
+-- under which step the programme admits the person, or what counted against the person
 abbrev pub reason_of : ListId → Programme → Person → Reason
 reason_of list programme person = reason_from (admitted_in programme.steps person) (refusal list programme person)

@@ -1,8 +1,9 @@
 // That reasons are just.
 ghost use Rattle.explain.specs.Just.{ReasonsAreJust};
 
-/// Each step that the reason of an applicant tells of stands against the person: all its seats are taken; it tells of somebody
-/// worse exactly where somebody worse was admitted; and with the person in place of any such one the step would honour fewer.
+/// States that each step that the reason of an applicant reports counts against the person. All its seats are taken.
+/// The reason reports somebody worse exactly when somebody worse was admitted. With the person in place of any such
+/// one, the step would honour fewer protections.
 pub fn reasons_are_just()
     ensures { ReasonsAreJust }
 {

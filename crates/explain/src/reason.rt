@@ -13,8 +13,8 @@ use programme_lists::{Programme, StepList};
 use reasons::{Reason, StepWhy};
 use seat_matrix::Matrix;
 
-/// Under which step the programme admits the person, or what stood against the person at each step for whose seats the person stood.
-/// It takes no memory.
+/// Returns under which step the programme admits the person, or what counted against the person at each step for
+/// whose seats the person competed. Allocates nothing.
 pub fn why(matrix: &Matrix, prog: ProgId, programme: &Programme, person: &Person) -> Reason
     requires { prog.0 < length matrix.now.programmes }
     ensures reason { result ≡ reason_of (list_in matrix.now prog.0) programme.now person.now }
@@ -26,7 +26,7 @@ pub fn why(matrix: &Matrix, prog: ProgId, programme: &Programme, person: &Person
     }
 }
 
-/// What stood against the person at each step.
+/// Returns what counted against the person at each step.
 fn refusal(list: ListId, programme: &Programme, person: &Person) -> Reason
     requires { IsList list }
     ensures { result ≡ refusal list programme.now person.now }
@@ -47,7 +47,7 @@ fn refusal(list: ListId, programme: &Programme, person: &Person) -> Reason
     }
 }
 
-/// What stood against the person at the step of the own category, where it has one.
+/// Returns what counted against the person at the step of the person's own category, if it has one.
 fn at_category(list: ListId, programme: &Programme, person: &Person) -> Option<StepWhy>
     requires { IsList list }
     ensures { result ≡ at_category list programme.now person.now }
@@ -58,7 +58,7 @@ fn at_category(list: ListId, programme: &Programme, person: &Person) -> Option<S
     }
 }
 
-/// What stood against the person at a step.
+/// Returns what counted against the person at a step.
 fn why_at(list: ListId, programme: &Programme, person: &Person, kind: StepKind) -> Option<StepWhy>
     requires { IsList list }
     ensures { result ≡ why_at list programme.now person.now kind }

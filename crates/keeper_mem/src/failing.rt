@@ -33,7 +33,15 @@ impl Model for MemKeeper {
 impl MemKeeper {
     /// Makes a keeper without a season.
     pub fn new(alloc: Global, fail_at: &[u32]) -> Result<MemKeeper, OutOfMemory>
-        ensures { IfOk result (λ keeper. keeper ≡ record { memory = record { tables = NoSeason; spare = 0 }; calls = 0; fail_at = fail_at.now; faults = 0 }) }
+        ensures { IfOk result (λ keeper. keeper ≡ record {
+          memory = record {
+            tables = NoSeason;
+            spare = 0;
+          };
+          calls = 0;
+          fail_at = fail_at.now;
+          faults = 0;
+        }) }
     {
         Ok(MemKeeper {
             memory: Memory::new(alloc),
@@ -45,7 +53,15 @@ impl MemKeeper {
 
     /// Makes a keeper with the records of a season.
     pub fn from_tables(alloc: Global, kept: Kept, fail_at: &[u32]) -> Result<MemKeeper, OutOfMemory>
-        ensures { IfOk result (λ keeper. keeper ≡ record { memory = record { tables = Records kept; spare = 0 }; calls = 0; fail_at = fail_at.now; faults = 0 }) }
+        ensures { IfOk result (λ keeper. keeper ≡ record {
+          memory = record {
+            tables = Records kept;
+            spare = 0;
+          };
+          calls = 0;
+          fail_at = fail_at.now;
+          faults = 0;
+        }) }
     {
         let fail_at = Vec::from_slice(alloc, fail_at)?;
         Ok(MemKeeper {
@@ -58,7 +74,8 @@ impl MemKeeper {
 
     // Counts a call, and fails if its number is one of those that must fail.
     fn begin_call(&mut self) -> Result<(), KeepFault>
-        ensures same { self.new ≡ record self.old { calls = counted self.old.calls; faults = self.new.faults } }
+        ensures same { self.new
+            ≡ record self.old { calls = counted self.old.calls; faults = self.new.faults } }
         ensures count { self.old.faults ≤ self.new.faults }
         ensures ok { OnOk result (self.new.faults ≡ self.old.faults) }
         ensures err { OnErr result (self.new.faults ≡ counted self.old.faults) }
@@ -85,10 +102,12 @@ impl Keeper for MemKeeper {
         ensures ok { IfOk result (λ found. IsFound found self.new.memory.tables) }
         ensures look { IsLook (shelf_of self.old) (shelf_of self.new) result }
         // it fails if and only if its number is in the list
-        ensures fails { IsErrOf result KeepFault.Failed ↔ Contains self.old.fail_at (counted self.old.calls) }
+        ensures fails { IsErrOf result KeepFault.Failed
+            ↔ Contains self.old.fail_at (counted self.old.calls) }
         ensures calls { self.new.calls ≡ counted self.old.calls }
         ensures told_to { self.new.fail_at ≡ self.old.fail_at }
-        ensures by_one { IsErrOf result KeepFault.Failed → self.new.faults ≡ counted self.old.faults }
+        ensures by_one { IsErrOf result KeepFault.Failed
+            → self.new.faults ≡ counted self.old.faults }
     {
         self.begin_call()?;
         Ok(self.memory.has_season())
@@ -96,12 +115,15 @@ impl Keeper for MemKeeper {
 
     fn put_season(&mut self, text: &[u8]) -> Result<(), KeepFault>
         requires { IsFound false self.old.memory.tables }
-        ensures put { IsPut (with_season text.now) 0 (shelf_of self.old) (shelf_of self.new) result }
+        ensures put { IsPut (with_season text.now) 0
+            (shelf_of self.old) (shelf_of self.new) result }
         // it fails if and only if its number is in the list
-        ensures fails { IsErrOf result KeepFault.Failed ↔ Contains self.old.fail_at (counted self.old.calls) }
+        ensures fails { IsErrOf result KeepFault.Failed
+            ↔ Contains self.old.fail_at (counted self.old.calls) }
         ensures calls { self.new.calls ≡ counted self.old.calls }
         ensures told_to { self.new.fail_at ≡ self.old.fail_at }
-        ensures by_one { IsErrOf result KeepFault.Failed → self.new.faults ≡ counted self.old.faults }
+        ensures by_one { IsErrOf result KeepFault.Failed
+            → self.new.faults ≡ counted self.old.faults }
     {
         self.begin_call()?;
         self.memory.put_season(text)?;
@@ -111,10 +133,12 @@ impl Keeper for MemKeeper {
     fn reserve_answers(&mut self, n: u32) -> Result<(), KeepFault>
         ensures takes { TakesRoom n (shelf_of self.old) (shelf_of self.new) result }
         // it fails if and only if its number is in the list
-        ensures fails { IsErrOf result KeepFault.Failed ↔ Contains self.old.fail_at (counted self.old.calls) }
+        ensures fails { IsErrOf result KeepFault.Failed
+            ↔ Contains self.old.fail_at (counted self.old.calls) }
         ensures calls { self.new.calls ≡ counted self.old.calls }
         ensures told_to { self.new.fail_at ≡ self.old.fail_at }
-        ensures by_one { IsErrOf result KeepFault.Failed → self.new.faults ≡ counted self.old.faults }
+        ensures by_one { IsErrOf result KeepFault.Failed
+            → self.new.faults ≡ counted self.old.faults }
     {
         self.begin_call()?;
         self.memory.reserve_answers(n)?;
@@ -126,10 +150,12 @@ impl Keeper for MemKeeper {
         ensures put { IsPut (with_answer row) 1 (shelf_of self.old) (shelf_of self.new) result }
         ensures memory { IsErrOf result KeepFault.OutOfMemory → self.old.memory.spare ≡ 0 }
         // it fails if and only if its number is in the list
-        ensures fails { IsErrOf result KeepFault.Failed ↔ Contains self.old.fail_at (counted self.old.calls) }
+        ensures fails { IsErrOf result KeepFault.Failed
+            ↔ Contains self.old.fail_at (counted self.old.calls) }
         ensures calls { self.new.calls ≡ counted self.old.calls }
         ensures told_to { self.new.fail_at ≡ self.old.fail_at }
-        ensures by_one { IsErrOf result KeepFault.Failed → self.new.faults ≡ counted self.old.faults }
+        ensures by_one { IsErrOf result KeepFault.Failed
+            → self.new.faults ≡ counted self.old.faults }
     {
         self.begin_call()?;
         self.memory.put_answer(row)?;
@@ -140,10 +166,12 @@ impl Keeper for MemKeeper {
         requires { IsFound true self.old.memory.tables }
         ensures put { IsPut (with_raise row) 0 (shelf_of self.old) (shelf_of self.new) result }
         // it fails if and only if its number is in the list
-        ensures fails { IsErrOf result KeepFault.Failed ↔ Contains self.old.fail_at (counted self.old.calls) }
+        ensures fails { IsErrOf result KeepFault.Failed
+            ↔ Contains self.old.fail_at (counted self.old.calls) }
         ensures calls { self.new.calls ≡ counted self.old.calls }
         ensures told_to { self.new.fail_at ≡ self.old.fail_at }
-        ensures by_one { IsErrOf result KeepFault.Failed → self.new.faults ≡ counted self.old.faults }
+        ensures by_one { IsErrOf result KeepFault.Failed
+            → self.new.faults ≡ counted self.old.faults }
     {
         self.begin_call()?;
         self.memory.put_raise(row)?;
@@ -154,10 +182,12 @@ impl Keeper for MemKeeper {
         requires { IsFound true self.old.memory.tables }
         ensures put { IsPut (with_cut rows.now) 0 (shelf_of self.old) (shelf_of self.new) result }
         // it fails if and only if its number is in the list
-        ensures fails { IsErrOf result KeepFault.Failed ↔ Contains self.old.fail_at (counted self.old.calls) }
+        ensures fails { IsErrOf result KeepFault.Failed
+            ↔ Contains self.old.fail_at (counted self.old.calls) }
         ensures calls { self.new.calls ≡ counted self.old.calls }
         ensures told_to { self.new.fail_at ≡ self.old.fail_at }
-        ensures by_one { IsErrOf result KeepFault.Failed → self.new.faults ≡ counted self.old.faults }
+        ensures by_one { IsErrOf result KeepFault.Failed
+            → self.new.faults ≡ counted self.old.faults }
     {
         self.begin_call()?;
         self.memory.put_cut(rows)?;
@@ -165,13 +195,16 @@ impl Keeper for MemKeeper {
     }
 
     fn load(&mut self, alloc: Global) -> Result<Option<Kept>, KeepFault>
-        ensures ok { IfOk result (λ found. MatchOption found (IsFound false self.new.memory.tables) (IsLoaded self.new.memory.tables)) }
+        ensures ok { IfOk result (λ found. MatchOption found
+            (IsFound false self.new.memory.tables) (IsLoaded self.new.memory.tables)) }
         ensures look { IsLook (shelf_of self.old) (shelf_of self.new) result }
         // it fails if and only if its number is in the list
-        ensures fails { IsErrOf result KeepFault.Failed ↔ Contains self.old.fail_at (counted self.old.calls) }
+        ensures fails { IsErrOf result KeepFault.Failed
+            ↔ Contains self.old.fail_at (counted self.old.calls) }
         ensures calls { self.new.calls ≡ counted self.old.calls }
         ensures told_to { self.new.fail_at ≡ self.old.fail_at }
-        ensures by_one { IsErrOf result KeepFault.Failed → self.new.faults ≡ counted self.old.faults }
+        ensures by_one { IsErrOf result KeepFault.Failed
+            → self.new.faults ≡ counted self.old.faults }
     {
         self.begin_call()?;
         Ok(self.memory.load(alloc)?)

@@ -64,7 +64,8 @@ pub trait Keeper {
 
     /// Returns all that is kept, or None if no season is, by the tables as this call leaves them.
     fn load(&mut self, alloc: Global) -> Result<Option<Kept>, KeepFault>
-        ensures ok { IfOk result (λ found. MatchOption found (IsFound false (seen self.new).tables) (IsLoaded (seen self.new).tables)) }
+        ensures ok { IfOk result (λ found. MatchOption found
+            (IsFound false (seen self.new).tables) (IsLoaded (seen self.new).tables)) }
         ensures look { IsLook (seen self.old) (seen self.new) result };
 }
 

@@ -75,7 +75,8 @@ impl Memory {
     /// Keeps the text of a season. No season may be kept yet.
     pub fn put_season(&mut self, text: &[u8]) -> Result<(), OutOfMemory>
         requires { IsFound false self.old.tables }
-        ensures ok { OnOk result (self.new ≡ record { tables = with_season text.now self.old.tables; spare = self.old.spare }) }
+        ensures ok { OnOk result (self.new
+            ≡ record { tables = with_season text.now self.old.tables; spare = self.old.spare }) }
         ensures err { OnErr result (self.new ≡ self.old) }
     {
         let kept = Listed::from_vec(Vec::from_slice(self.alloc, text)?);
@@ -103,7 +104,8 @@ impl Memory {
     /// Puts an answer after the others.
     pub fn put_answer(&mut self, row: AnswerRow) -> Result<(), OutOfMemory>
         requires { IsFound true self.old.tables }
-        ensures ok { OnOk result (self.new ≡ record { tables = with_answer row self.old.tables; spare = self.old.spare - 1 }) }
+        ensures ok { OnOk result (self.new
+            ≡ record { tables = with_answer row self.old.tables; spare = self.old.spare - 1 }) }
         ensures err { OnErr result (self.new ≡ self.old) }
         ensures memory { OnErr result (self.old.spare ≡ 0) }
     {
@@ -117,7 +119,8 @@ impl Memory {
     /// Puts a raise after the others.
     pub fn put_raise(&mut self, row: RaiseRow) -> Result<(), OutOfMemory>
         requires { IsFound true self.old.tables }
-        ensures ok { OnOk result (self.new ≡ record { tables = with_raise row self.old.tables; spare = self.old.spare }) }
+        ensures ok { OnOk result (self.new
+            ≡ record { tables = with_raise row self.old.tables; spare = self.old.spare }) }
         ensures err { OnErr result (self.new ≡ self.old) }
     {
         self.raises.push(row)?;
@@ -127,7 +130,8 @@ impl Memory {
     /// Puts published seats after the others and adds one to the cuts.
     pub fn put_cut(&mut self, rows: &[AllotRow]) -> Result<(), OutOfMemory>
         requires { IsFound true self.old.tables }
-        ensures ok { OnOk result (self.new ≡ record { tables = with_cut rows.now self.old.tables; spare = self.old.spare }) }
+        ensures ok { OnOk result (self.new
+            ≡ record { tables = with_cut rows.now self.old.tables; spare = self.old.spare }) }
         ensures err { OnErr result (self.new ≡ self.old) }
     {
         let Some(cuts) = self.cuts.checked_add(1) else {
@@ -140,7 +144,8 @@ impl Memory {
 
     /// Returns a copy of all that is kept, or None if no season is.
     pub fn load(&self, alloc: Global) -> Result<Option<Kept>, OutOfMemory>
-        ensures { IfOk result (λ found. MatchOption found (IsFound false self.now.tables) (IsLoaded self.now.tables)) }
+        ensures { IfOk result (λ found.
+            MatchOption found (IsFound false self.now.tables) (IsLoaded self.now.tables)) }
     {
         let Some(season) = &self.season else {
             return Ok(None);

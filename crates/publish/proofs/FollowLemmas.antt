@@ -38,7 +38,7 @@ some-text table people some =
 
 -- ---- rows
 
--- a slot that can stand first among so many rows
+-- a slot that can be the first among that many rows
 some-slot : (left slots : ℕ) → slots ≤ suc left → (slot : Option ℕ) × (IfSome slot (λ t. t < 6)) × (slots_in slot ≤ slots) × (slots - slots_in slot ≤ left)
 some-slot left slots enough = elim (cases_lt left slots) [
   | inl more ↦ (Some 0, omega arith, omega (arith, more), omega (arith, enough))

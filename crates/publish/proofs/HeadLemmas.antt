@@ -20,7 +20,7 @@ use Rattle.publish.proofs.TailLemmas.{can-tail, rows-can}
 not-lf : ℕ → Bool
 not-lf byte = not (eqb byte 10)
 
-round-clear : HasNo 10 (codes "round ")
+pub round-clear : HasNo 10 (codes "round ")
 unfolding not-lf
 round-clear = has-no-tested not-lf 10 (codes "round ") refl refl
 
@@ -28,7 +28,7 @@ seated-clear : HasNo 10 (codes "seated ")
 unfolding not-lf
 seated-clear = has-no-tested not-lf 10 (codes "seated ") refl refl
 
-final-clear : HasNo 10 (codes "final ")
+pub final-clear : HasNo 10 (codes "final ")
 unfolding not-lf
 final-clear = has-no-tested not-lf 10 (codes "final ") refl refl
 
@@ -40,7 +40,7 @@ head-clear Round known number count fits small is =
 head-clear Final known number count fits small is =
     has-no-append 10 (codes "final ") (decimal count) final-clear (digits-clear 10 count (omega (arith, small)) refl)
 
--- one line tells one number and one count
+-- one line spells one number and one count
 pub head-one : (sort : Sort) (known number count other next : ℕ) → known < 2 ^ 16 → count < 2 ^ 32 → next < 2 ^ 32 → IsNumber sort known number → IsNumber sort known other
     → head_words sort number count ≡ head_words sort other next → (number ≡ other) × (count ≡ next)
 head-one Round known number count other next fits small below is too e =

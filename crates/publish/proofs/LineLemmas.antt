@@ -67,7 +67,7 @@ more-lines k done line all none = record {
       ∙ omega arith;
 }
 
--- what stands before the first LF has none, and the LF and the rest follow it
+-- what comes before the first LF has none, and the LF and the rest follow it
 pub cut-first : (byte : ℕ) (bytes : List ℕ) (end : ℕ) → end < length bytes → get_or bytes end 0 ≡ byte → bytes ≡ take end bytes ++ byte ∷ drop (suc end) bytes
 cut-first byte [] end within here = absurd (omega (arith, within))
 cut-first byte (b ∷ bytes) zero within here = ap (λ z. z ∷ bytes) here

@@ -5,7 +5,7 @@ use Rattle.publish.specs.Reading.{Begins, EndsWithLines, Grammar, HasNo, IsRefus
 use Rattle.publish.proofs.PartsLemmas.{cut-one, has-one}
 use Rattle.publish.proofs.PieceLemmas.{prefix-line, prefix-more}
 
--- one of the lines may stand, and something completes the text after it
+-- one of the lines is possible, and something completes the text after it
 pub then-some : {P V : Type 0} (words : P → List ℕ) (can : P → Type 0) (next : P → Grammar V) (p : P) → can p → Begins (next p) [] → Begins (IsLineThen words can next) []
 then-some words can next p may (rest, value, later) = (words p ++ 10 ∷ rest, value, record { part = p; may = may; rest = rest; same = refl; later = later })
 

@@ -146,35 +146,6 @@ honoured-line most piece b = record { part = b.count; may = b.within; begins = a
 pub line-honoured : (most : ℕ) (piece : List ℕ) → BeginsLine honoured_words (λ slots. slots ≤ most) piece → BeginsCount (codes "honoured ") most piece
 line-honoured most piece b = record { count = b.part; within = b.may; begins = ap (is_prefix piece) (sym (append_assoc (codes "honoured ") (decimal b.part) (10 ∷ []))) ∙ b.begins }
 
--- ---- a row
-
-module _ (id left slots : ℕ) (piece : List ℕ) where
-  pub entry-none : IsApart piece (decimal id) → BeginsEntry id left slots piece → ⊥
-  entry-none apart b = false≢true (sym (apart (32 ∷ slot_letter b.slot ∷ 10 ∷ [])) ∙ b.begins)
-
-  module _ (rest : List ℕ) (digits : IsLeft piece (decimal id) rest) where
-    pub entry-no-space : IsApart rest (32 ∷ []) → BeginsEntry id left slots piece → ⊥
-    entry-no-space apart b = false≢true (sym (apart (slot_letter b.slot ∷ 10 ∷ [])) ∙ sym (digits.same (32 ∷ slot_letter b.slot ∷ 10 ∷ [])) ∙ b.begins)
-
-    module _ (last : List ℕ) (space : IsLeft rest (32 ∷ []) last) where
-      pub slot-entry : BeginsSlot left slots last → BeginsEntry id left slots piece
-      slot-entry b = record {
-        slot = b.slot;
-        known = b.known;
-        some = b.some;
-        enough = b.enough;
-        begins = digits.same (32 ∷ slot_letter b.slot ∷ 10 ∷ []) ∙ space.same (slot_letter b.slot ∷ 10 ∷ []) ∙ b.begins;
-      }
-
-      pub entry-slot : BeginsEntry id left slots piece → BeginsSlot left slots last
-      entry-slot b = record {
-        slot = b.slot;
-        known = b.known;
-        some = b.some;
-        enough = b.enough;
-        begins = sym (space.same (slot_letter b.slot ∷ 10 ∷ [])) ∙ sym (digits.same (32 ∷ slot_letter b.slot ∷ 10 ∷ [])) ∙ b.begins;
-      }
-
 -- ---- slots of rows
 
 module _ (left slots : ℕ) (piece : List ℕ) where
@@ -206,7 +177,7 @@ at-found [] at d rising within = absurd (omega (arith, within))
 at-found (p ∷ people) zero d rising within = cond-true (eqb p.id.0 p.id.0) (Some p) (find_person p.id.0 people) (eq-eqb p.id.0 p.id.0 refl)
 at-found (p ∷ people) (suc at) d rising within = found-later p people (get_or people at d) rising (at-found people at d rising.1 (omega (arith, within)))
 
--- whoever is found stands somewhere
+-- a person who is found is somewhere
 pub found-at : (people : List Person) (id : ℕ) (person d : Person) → find_person id people ≡ Some person → (at : ℕ) × (at < length people) × (get_or people at d ≡ person)
 found-at [] id person d e = absurd (false≢true (ap is_some e))
 found-at (p ∷ people) id person d e = elim (cases_eq id p.id.0) [

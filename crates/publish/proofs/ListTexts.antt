@@ -12,6 +12,7 @@ use Rattle.office_base.specs.declared.person.ProgId.{ProgId}
 use Rattle.office_base.specs.declared.step.Pair.{Pair}
 use Rattle.office_base.specs.declared.step.StepKind.{StepKind}
 use Rattle.office_base.specs.declared.step.StepKind.TheVariants.{Open, Ews, Obc, Sc, St, Dereserved}
+use Rattle.office_base.proofs.Lists.{all_joined}
 use Rattle.programme_lists.specs.declared.programme.Programme.{Programme}
 use Rattle.programme_lists.specs.declared.programme.StepList.{StepList}
 use Rattle.published_texts.specs.Texts.{code_in, list_head, list_step}
@@ -45,10 +46,6 @@ slot-here : (person : Person) (slot : Option ℕ) (rest : List Pair) → AreOthe
 slot-here person None rest others = slot-none person.id rest others
 slot-here person (Some t) rest others = cond-true (eqb person.id.0 person.id.0) (Some t) (slot_of rest person.id) (eq-eqb person.id.0 person.id.0 refl)
 
-all-append : {X : Type 0} (P : X → Type 0) (xs ys : List X) → AllByRecursion P xs → AllByRecursion P ys → AllByRecursion P (xs ++ ys)
-all-append P [] ys left right = right
-all-append P (x ∷ xs) ys left right = (left.0, all-append P xs ys left.1 right)
-
 pair-others : (id : ℕ) (person : Person) (slot : Option ℕ) → (person.id.0 ≡ id → ⊥) → AreOthers id (pair_of person slot)
 pair-others id person None other = tt
 pair-others id person (Some t) other = (other, tt)
@@ -57,7 +54,7 @@ pair-others id person (Some t) other = (other, tt)
 later-others : (people used : List Person) (entries : List Entry) (id : ℕ) → is_listed id used ≡ true → AreEntries people used entries → AreOthers id (pairs_of entries)
 later-others people used [] id listed are = tt
 later-others people used (entry ∷ entries) id listed are =
-    all-append (λ pair. pair.cand.0 ≡ id → ⊥) (pair_of entry.0 entry.1) (pairs_of entries)
+    all_joined (λ pair. pair.cand.0 ≡ id → ⊥) (pair_of entry.0 entry.1) (pairs_of entries)
     (pair-others id entry.0 entry.1 (λ same. false≢true (sym are.0.new ∙ ap (λ n. is_listed n used) same ∙ listed)))
     (later-others people (used ++ entry.0 ∷ []) entries id (listed-kept id used entry.0 listed) are.1)
 
@@ -85,7 +82,7 @@ line-same : (pairs : List Pair) (entry : Entry) → slot_of pairs entry.0.id ≡
 line-same pairs entry e =
     ap (λ slot. decimal entry.0.id.0 ++ 32 ∷ slot_letter slot ∷ 10 ∷ []) e ∙ sym (append_assoc (decimal entry.0.id.0) (32 ∷ slot_letter entry.1 ∷ []) (10 ∷ []))
 
--- rows are told as the list of their persons and pairs is
+-- rows are written as the list of their persons and pairs is
 letters-same : (people used : List Person) (before : List Pair) (entries : List Entry) → AreOf used before → AreEntries people used entries
     → flat_map (admitted_line (before ++ pairs_of entries)) (persons_of entries) ≡ flat_map entry_line entries
 letters-same people used before [] of are = refl
@@ -96,7 +93,7 @@ letters-same people used before (entry ∷ entries) of are =
     let slot : slot_of pairs entry.0.id ≡ entry.1 =
     slot-skip entry.0.id before (pair_of entry.0 entry.1 ++ pairs_of entries) (of-others entry.0.id.0 used before are.0.new of) ∙ slot-here entry.0 entry.1 (pairs_of entries) others in
     let later = letters-same people (used ++ entry.0 ∷ []) (before ++ pair_of entry.0 entry.1) entries
-    (all-append (λ pair. is_listed pair.cand.0 (used ++ entry.0 ∷ []) ≡ true) before (pair_of entry.0 entry.1) (of-more used entry.0 before of) (of-pair used entry.0 entry.1)) are.1 in
+    (all_joined (λ pair. is_listed pair.cand.0 (used ++ entry.0 ∷ []) ≡ true) before (pair_of entry.0 entry.1) (of-more used entry.0 before of) (of-pair used entry.0 entry.1)) are.1 in
     ap (λ z. z ++ flat_map (admitted_line pairs) (persons_of entries)) (line-same pairs entry slot)
     ∙ ap (λ z. entry_line entry ++ z) (ap (λ z. flat_map (admitted_line z) (persons_of entries)) moved ∙ later)
 
@@ -310,7 +307,7 @@ steps-write people number prog (kind ∷ kinds) done (list ∷ lists) rising are
 
 -- ---- a whole text
 
-head-lines : (table : SeatTable) (number prog : ℕ) (rest : List ℕ) → list_head table number prog ++ rest ≡ list_words table (number, prog) ++ 10 ∷ rest
+pub head-lines : (table : SeatTable) (number prog : ℕ) (rest : List ℕ) → list_head table number prog ++ rest ≡ list_words table (number, prog) ++ 10 ∷ rest
 head-lines table number prog rest =
     append_assoc (codes "list " ++ decimal number ++ codes " " ++ code_in table prog) (10 ∷ []) rest
     ∙ ap (λ z. z ++ 10 ∷ rest) (append_assoc (codes "list " ++ decimal number) (codes " ") (code_in table prog) ∙ append_assoc (codes "list ") (decimal number) (32 ∷ code_in table prog))

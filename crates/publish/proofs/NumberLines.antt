@@ -40,7 +40,7 @@ module _ (inverse : AreInverse) (high : ℕ) (fits : high < 2 ^ 32) (text : List
   whole-none None e = λ n within same. false≢true (ap is_some (e ∙ ap (number_within 0 high) same ∙ number-read inverse high n (omega (arith, within, fits)) within))
   whole-none (Some n) e = tt
 
--- a word, a number and a space are told in one way
+-- a word, a number and a space are spelled in one way
 pub numbers-one : (word : List ℕ) (n m : ℕ) (a b : List ℕ) → n < 2 ^ 32 → m < 2 ^ 32 → word ++ (decimal n ++ 32 ∷ a) ≡ word ++ (decimal m ++ 32 ∷ b) → (n ≡ m) × (a ≡ b)
 numbers-one word n m a b small fits e =
     let rest = append_cancel_left word (decimal n ++ 32 ∷ a) (decimal m ++ 32 ∷ b) e in

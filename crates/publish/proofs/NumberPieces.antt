@@ -8,6 +8,7 @@ use Rattle.std.specs.Fmt.{decimal}
 use Rattle.std.specs.List.{list_all}
 use Rattle.std.specs.Prelude.{codes}
 use Rattle.office_text.specs.Number.{AreInverse, are_digits, is_number, number_within, value_after, value_of}
+use Rattle.office_text.proofs.NumberLemmas.{value_after-ge}
 use Rattle.publish.specs.Parts.{IsLeft, is_prefix}
 use Rattle.publish.specs.Pieces.{BeginsHead, BeginsNumber, BeginsSeated, IsRoundNumber}
 use Rattle.publish.specs.Reading.{HasNo}
@@ -36,15 +37,11 @@ number-before (x ∷ y ∷ a) b some e =
     let (range, digits) = and_parts (leb 49 x && leb x 57) (are_digits (y ∷ (a ++ b))) e in
     and_from (leb 49 x && leb x 57) (are_digits (y ∷ a)) range (all-before is_ascii_digit (y ∷ a) b digits)
 
-value_after-ge : (n : ℕ) (bytes : List ℕ) → n ≤ value_after n bytes
-value_after-ge n [] = omega arith
-value_after-ge n (b ∷ bytes) = omega (arith, value_after-ge (n * 10 + (b - 48)) bytes)
-
 value-before : (n : ℕ) (a b : List ℕ) → value_after n a ≤ value_after n (a ++ b)
 value-before n [] b = value_after-ge n b
 value-before n (x ∷ a) b = value-before (n * 10 + (x - 48)) a b
 
--- a piece without the byte stands before it
+-- a piece without the byte comes before it
 prefix-within : (byte : ℕ) (piece digits tail : List ℕ) → HasNo byte piece → is_prefix piece (digits ++ byte ∷ tail) ≡ true → (more : List ℕ) × (digits ≡ piece ++ more)
 prefix-within byte [] digits tail none e = (digits, refl)
 prefix-within byte (b ∷ piece) [] tail none e = absurd (false≢true (sym (cond-false (eqb b byte) (is_prefix piece tail) false (ne_eqb b byte none.0)) ∙ e))
@@ -99,10 +96,6 @@ module _ (most : ℕ) (piece rest : List ℕ) where
 
   pub seated-to : IsLeft piece (codes "seated ") rest → BeginsSeated most piece → BeginsNumber most (10 ∷ []) rest
   seated-to left b = record { number = b.count; within = b.within; begins = sym (left.same (decimal b.count ++ 10 ∷ [])) ∙ b.begins }
-
--- what follows the number of a round
-seated-tail : ℕ → List ℕ
-seated-tail count = codes "seated " ++ (decimal count ++ 10 ∷ [])
 
 round-assoc : (number count : ℕ) → head_words Round number count ++ 10 ∷ [] ≡ codes "round " ++ (decimal number ++ 32 ∷ (codes "seated " ++ (decimal count ++ 10 ∷ [])))
 round-assoc number count = ap (λ z. codes "round " ++ z) (append_assoc (decimal number) (32 ∷ (codes "seated " ++ decimal count)) (10 ∷ []))

@@ -36,7 +36,7 @@ is_prefix-apart (b ∷ piece) (c ∷ part) first second tail =
     (λ rest is. first rest (ap (λ z. z ∷ piece) e ∙ ap (λ z. c ∷ z) is))
     (λ rest is. second rest (ap (λ z. z ∷ part) (sym e) ∙ ap (λ z. b ∷ z) is)) tail)
 
--- what stands after a part has none of the bytes that the whole has none of
+-- what follows a part has none of the bytes that the whole has none of
 has-no-rest : (byte : ℕ) (a b : List ℕ) → HasNo byte (a ++ b) → HasNo byte b
 has-no-rest byte [] b none = none
 has-no-rest byte (c ∷ a) b none = has-no-rest byte a b none.1

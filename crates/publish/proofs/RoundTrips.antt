@@ -121,7 +121,7 @@ cands-small : (people : List Person) (rows : List AllotRow) → AreSmall people 
 cands-small people [] small sub = tt
 cands-small people (row ∷ rows) small sub = (sub-small row.cand.0 (cands rows) people small sub, cands-small people rows small (sub-rest row.cand.0 (cands rows) (ids people) sub))
 
--- a text of rows tells one number and one list of rows
+-- a text of rows spells one number and one list of rows
 texts-same : (sort : Sort) (table : SeatTable) (people : List Person) (known : ℕ) (text : List ℕ) (number other : ℕ) (rows others : List AllotRow) → known < 2 ^ 16 → AreDistinct table people
     → IsRowsText sort table people known text (number, rows) → IsRowsText sort table people known text (other, others) → (number ≡ other) × (rows ≡ others)
 texts-same sort table people known text number other rows others fits distinct is its =

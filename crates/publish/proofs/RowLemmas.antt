@@ -1,10 +1,9 @@
 -- How the line of a row is taken apart.
-use Rattle.std.proofs.Common.{◌≡◌, ◌<◌, ◌≤◌, ◌^◌, ℕ, true, false, ◌&&◌, leb, List, ◌∷◌, ◌++◌, Some, None, length, refl, sym, ap, subst, ◌∙◌, arith, rules}
+use Rattle.std.proofs.Common.{◌≡◌, ◌<◌, ◌≤◌, ◌^◌, ℕ, true, false, ◌&&◌, leb, List, ◌∷◌, ◌++◌, Some, None, length, refl, sym, ap, subst, ◌∙◌, arith}
 use Rattle.std.proofs.lemmas.Bool.{and_from, and_parts, cond-true, le-leb, leb-true}
 use Rattle.std.proofs.lemmas.Fmt.{decimal_injective, digits_decimal}
 use Rattle.std.proofs.lemmas.List.{append_cancel_left}
 use Rattle.std.proofs.lemmas.Option.{cond_some}
-use Rattle.std.proofs.lemmas.Str.Parse.{IsNumeralModel, numerals_by_fold}
 use Rattle.std.specs.Char.{is_ascii_digit}
 use Rattle.std.specs.Fmt.{decimal}
 use Rattle.std.specs.List.{list_all}
@@ -12,7 +11,8 @@ use Rattle.office_base.specs.Codes.{is_code, is_code_byte}
 use Rattle.office_base.specs.Limits.{longest_code, shortest_code}
 use Rattle.office_base.specs.declared.step.StepKind.{StepKind}
 use Rattle.office_base.specs.declared.step.StepKind.TheVariants.{Open, Ews, Obc, Sc, St, Dereserved}
-use Rattle.office_text.specs.Number.{AreInverse, are_digits, is_number, number_of, number_within, value_after, value_of}
+use Rattle.office_text.specs.Number.{AreInverse, is_number, number_of, number_within, value_of}
+use Rattle.office_text.proofs.NumberLemmas.{own}
 use Rattle.published_texts.specs.Texts.{code_in}
 use Rattle.seat_matrix.specs.Matrix.{SeatTable}
 use Rattle.step_lines.specs.Lines.{step_name}
@@ -21,10 +21,6 @@ use Rattle.publish.specs.Reading.{HasNo}
 use Rattle.publish.proofs.PartsLemmas.{cut-one, has-no-append, has-no-tested, has-one}
 
 -- ---- numbers
-
--- `are_digits` and `value_of` are the digits and the value of std's numerals.
-own : IsNumeralModel (λ ds. are_digits ds ≡ true) value_of
-own = numerals_by_fold _ (search rules) value_after (search rules)
 
 pub digits-clear : (byte n : ℕ) → n < 2 ^ 64 → is_ascii_digit byte ≡ false → HasNo byte (decimal n)
 digits-clear byte n small other = has-no-tested is_ascii_digit byte (decimal n) other (digits_decimal own n small)

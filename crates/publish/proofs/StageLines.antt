@@ -9,7 +9,7 @@ use Rattle.publish.specs.ListLines.{BeginsLine, CanStand, IsListEnd, IsListHead,
 use Rattle.publish.specs.ListReader.{AreKnown, free_in}
 use Rattle.publish.specs.Listing.{Entry, pair_of, step_kinds}
 use Rattle.publish.specs.Parts.{is_prefix}
-use Rattle.publish.specs.Reading.{Begins, EndsWithLines, Grammar, HasNo, IsRefused, Leads}
+use Rattle.publish.specs.Reading.{Begins, EndsWithLines, HasNo, IsRefused, Leads}
 use Rattle.publish.specs.declared.list_stage.OpenStep.{OpenStep}
 use Rattle.publish.proofs.FollowLemmas.{no-slots, slots-few, some-end, some-rows, some-steps}
 use Rattle.publish.proofs.FreeLemmas.{found-small, free-all, free-less}
@@ -40,9 +40,6 @@ end-ends said piece some read is = omega (arith, some, ap length is.empty)
 
 module _ (table : SeatTable) (people : List Person) (known : AreKnown table people) where
   -- ---- the first line
-
-  head-next : ℕ × ℕ → Grammar Said
-  head-next part = steps_text people step_kinds (part.0, part.1, [])
 
   pub head-refused : (line : List ℕ) → HasNo 10 line → ((part : ℕ × ℕ) → IsListHead table part → line ≢ list_words table part) → IsRefused (lines_text table people) line
   head-refused line none never =
@@ -95,9 +92,6 @@ module _ (table : SeatTable) (people : List Person) (known : AreKnown table peop
     -- ---- a step
 
     module _ (kind : StepKind) (kinds : List StepKind) where
-      step-next : ℕ × ℕ × ℕ → Grammar Said
-      step-next part = honoured_text people (after_rows people kinds said (open_step kind part)) kind part.2
-
       some-step : (part : ℕ × ℕ × ℕ) → IsStepHead (length people) part → Begins (honoured_text people (after_rows people kinds said (open_step kind part)) kind part.2) []
       some-step part may =
           let rows = after_rows people kinds said (open_step kind part) in
@@ -130,9 +124,6 @@ module _ (table : SeatTable) (people : List Person) (known : AreKnown table peop
     -- ---- slots and rows
 
     module _ (kinds : List StepKind) (step : OpenStep) where
-      after' : List Person → List Pair → Grammar Said
-      after' = after_rows people kinds said step
-
       some-after : (admitted : List Person) (pairs : List Pair) → Begins (after_rows people kinds said step admitted pairs) []
       some-after admitted pairs = some-steps people kinds (with_step said (step_list step.kind step.seats step.candidates admitted pairs))
 

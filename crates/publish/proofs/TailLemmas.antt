@@ -40,7 +40,7 @@ sub-short xs [] e = omega (arith, ap length e)
 sub-short xs (y ∷ ys) (inl later) = omega (arith, sub-short xs ys later)
 sub-short xs (y ∷ ys) (inr (rest, e, in')) = omega (arith, ap length e, sub-short rest ys in')
 
--- a candidate is found, and the later ones stand after it
+-- a candidate is found, and the later ones come after it
 sub-after : (id : ℕ) (later : List ℕ) (people : List Person) → IsSublist (id ∷ later) (ids people)
     → (rest : List Person) × (people_after id people ≡ Some rest) × IsSublist later (ids rest)
 sub-after id later [] e = absurd (omega (arith, ap length e))

@@ -1,9 +1,8 @@
 -- Whole texts of rows, as they are published.
-use Rattle.std.proofs.Common.{◌≡◌, ◌≤◌, ◌-◌, inl, inr, ℕ, eqb, List, [], ◌∷◌, ◌++◌, Some, is_some, length, refl, sym, ap, subst, ◌∙◌, arith, append_assoc, eq-eqb}
-use Rattle.std.proofs.lemmas.Bool.{cases_eq, cond-true, cond-false, false≢true, ne_eqb}
+use Rattle.std.proofs.Common.{◌≡◌, ◌≤◌, ◌-◌, inl, inr, ℕ, eqb, List, [], ◌∷◌, ◌++◌, Some, length, refl, sym, ap, subst, ◌∙◌, arith, append_assoc, eq-eqb}
+use Rattle.std.proofs.lemmas.Bool.{cases_eq, cond-true, cond-false, ne_eqb}
 use Rattle.std.specs.Fmt.{decimal}
 use Rattle.std.specs.List.{flat_map}
-use Rattle.std.specs.Option.{unwrap_or}
 use Rattle.std.specs.Prelude.{codes}
 use Rattle.keeper_mem.specs.declared.rows.AllotRow.{AllotRow}
 use Rattle.office_base.specs.declared.person.Person.{Person}
@@ -11,6 +10,7 @@ use Rattle.published_texts.specs.Texts.{admit_line, code_in, final_head, final_t
 use Rattle.rank_lists.specs.Register.{find_person}
 use Rattle.seat_matrix.specs.Matrix.{SeatTable}
 use Rattle.step_lines.specs.Lines.{step_name}
+use Rattle.rank_lists.proofs.Known.{found_id}
 use Rattle.publish.specs.Reader.{AreSmall}
 use Rattle.publish.specs.Reading.{Begins, Grammar, IsFaultLine, IsTextFault, first_lines}
 use Rattle.publish.specs.Rows.{IsFinalText, IsRoundText, IsRowsText, AreRows, allot_row_line, head_words, round_rows_text, row_line, tail_text, word}
@@ -133,21 +133,13 @@ round-fault table people known text fault is =
 
 -- ---- ids
 
--- whoever is found has the id
-found-id : (id : ℕ) (people : List Person) (person : Person) → find_person id people ≡ Some person → person.id.0 ≡ id
-found-id id [] person e = absurd (false≢true (ap is_some e))
-found-id id (p ∷ people) person e = elim (cases_eq id p.id.0) [
-  | inl same ↦ ap (λ o. (unwrap_or o p).id.0) (sym e ∙ cond-true (eqb id p.id.0) (Some p) (find_person id people) (eq-eqb id p.id.0 same)) ∙ sym same
-  | inr other ↦ found-id id people person (sym (cond-false (eqb id p.id.0) (Some p) (find_person id people) (ne_eqb id p.id.0 other)) ∙ e)
-]
-
 pub small-people : (people : List Person) → ((id : ℕ) (person : Person) → find_person id people ≡ Some person → person.id.0 ≤ 999999999) → AreSmall people
 small-people [] known = tt
 small-people (p ∷ people) known =
     let here : p.id.0 ≤ 999999999 = known p.id.0 p (cond-true (eqb p.id.0 p.id.0) (Some p) (find_person p.id.0 people) (eq-eqb p.id.0 p.id.0 refl)) in (
       omega (arith, here),
       small-people people (λ id person e. elim (cases_eq id p.id.0) [
-        | inl same ↦ omega (arith, same, here, found-id id people person e)
+        | inl same ↦ omega (arith, same, here, found_id id people person e)
         | inr other ↦ known id person (cond-false (eqb id p.id.0) (Some p) (find_person id people) (ne_eqb id p.id.0 other) ∙ e)
       ]),
     )

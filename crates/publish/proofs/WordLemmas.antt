@@ -1,17 +1,16 @@
--- The lines of a list: what each tells, and that it tells one thing and has no LF.
+-- The lines of a list: what each says, and that it says one thing and has no LF.
 use Rattle.std.proofs.Common.{◌≡◌, ◌≢◌, ◌<◌, ◌≤◌, ◌^◌, ℕ, zero, suc, Bool, not, eqb, List, [], ◌∷◌, ◌++◌, Option, Some, None, IfSome, length, get_or, is_some, refl, sym, ap, ◌∙◌, arith, unwrap_or}
 use Rattle.std.proofs.lemmas.Bool.{false≢true}
 use Rattle.std.proofs.lemmas.Fmt.{decimal_injective}
 use Rattle.std.proofs.lemmas.List.{append_cancel_left}
-use Rattle.std.proofs.lemmas.List.Quantifiers.{position-Some}
-use Rattle.std.proofs.lemmas.Bool.{eqb-true}
 use Rattle.std.specs.Fmt.{decimal}
 use Rattle.std.specs.List.{AllByRecursion}
 use Rattle.std.specs.Option.{option_map}
 use Rattle.std.specs.Prelude.{codes, slice_get}
 use Rattle.office_base.specs.Lists.{Pairwise}
 use Rattle.office_base.specs.declared.step.StepKind.{StepKind}
-use Rattle.office_text.specs.Traits.{letter, letters, trait_of}
+use Rattle.office_text.specs.Traits.{trait_of}
+use Rattle.office_text.proofs.TraitsLemmas.{trait_of-letter}
 use Rattle.published_texts.specs.Texts.{code_in}
 use Rattle.seat_matrix.specs.Matrix.{SeatTable, codes_in}
 use Rattle.seat_matrix.specs.declared.entry.Home.{Home}
@@ -147,33 +146,16 @@ last-clear part = has-no-tested not-lf 10 (codes "end list") refl refl
 
 -- ---- letters
 
--- a trait is the one of its letter
-pub letter-trait : (t : ℕ) → t < 6 → trait_of (letter t) ≡ Some t
-letter-trait zero below = refl
-letter-trait (suc zero) below = refl
-letter-trait (suc (suc zero)) below = refl
-letter-trait (suc (suc (suc zero))) below = refl
-letter-trait (suc (suc (suc (suc zero)))) below = refl
-letter-trait (suc (suc (suc (suc (suc zero))))) below = refl
-letter-trait (suc (suc (suc (suc (suc (suc t)))))) below = absurd (omega (arith, below))
-
--- a letter is the one of its trait
-pub trait-letter : (byte t : ℕ) → trait_of byte ≡ Some t → byte ≡ letter t
-trait-letter byte t e = sym (eqb-true (letter t) byte (position-Some (λ other. eqb other byte) letters t 0 e).1)
-
-some-value : {X : Type 0} (a b : X) → Some a ≡ Some b → a ≡ b
-some-value a b e = ap (λ o. unwrap_or o a) e
-
 -- two slots with one letter are one
 pub slot-one : (a b : Option ℕ) → IfSome a (λ t. t < 6) → IfSome b (λ t. t < 6) → slot_letter a ≡ slot_letter b → a ≡ b
 slot-one None None left right e = refl
-slot-one None (Some t) left right e = absurd (false≢true (ap is_some (ap trait_of e ∙ letter-trait t right)))
-slot-one (Some t) None left right e = absurd (false≢true (ap is_some (sym (sym (letter-trait t left) ∙ ap trait_of e))))
-slot-one (Some t) (Some s) left right e = sym (letter-trait t left) ∙ ap trait_of e ∙ letter-trait s right
+slot-one None (Some t) left right e = absurd (false≢true (ap is_some (ap trait_of e ∙ trait_of-letter t right)))
+slot-one (Some t) None left right e = absurd (false≢true (ap is_some (sym (sym (trait_of-letter t left) ∙ ap trait_of e))))
+slot-one (Some t) (Some s) left right e = sym (trait_of-letter t left) ∙ ap trait_of e ∙ trait_of-letter s right
 
 pub slot-clear : (slot : Option ℕ) → IfSome slot (λ t. t < 6) → slot_letter slot ≡ 10 → ⊥
 slot-clear None known e = absurd (omega (arith, e))
-slot-clear (Some t) known e = false≢true (ap is_some (sym (sym (letter-trait t known) ∙ ap trait_of e)))
+slot-clear (Some t) known e = false≢true (ap is_some (sym (sym (trait_of-letter t known) ∙ ap trait_of e)))
 
 -- ---- a row
 
@@ -210,7 +192,7 @@ pub code-one : (table : SeatTable) → Pairwise (λ a b. a ≢ b) (codes_in tabl
 unfolding code-at
 code-one table apart i j within below e = codes-one table.programmes apart i j within below e
 
--- a first line tells one round and one programme
+-- a first line names one round and one programme
 pub list-one : (table : SeatTable) → Pairwise (λ a b. a ≢ b) (codes_in table.programmes) → (p q : ℕ × ℕ) → IsListHead table p → IsListHead table q → list_words table p ≡ list_words table q → p ≡ q
 list-one table apart p q may can e =
     let (number, code) = numbers-one (codes "list ") p.0 q.0 (code_in table p.1) (code_in table q.1) (omega (arith, may.0)) (omega (arith, can.0)) e in

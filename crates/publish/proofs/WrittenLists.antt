@@ -1,4 +1,4 @@
--- A list as it is published is such as a text can tell.
+-- A text can spell a list as it is published.
 use Rattle.std.proofs.Common.{◌≡◌, ◌≢◌, ◌<◌, ℕ, false, List, [], ◌∷◌, ◌++◌, Some, None, IfSome, length, map, get_or, drop, refl, sym, inl, inr, ap, subst, ◌∙◌, arith}
 use Rattle.std.specs.List.{AllByRecursion}
 use Rattle.office_base.specs.Lists.{IsSublist, Pairwise}

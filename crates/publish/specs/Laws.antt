@@ -60,8 +60,8 @@ RoundsAreOne = (table : SeatTable) (people : List Person) (text : List ℕ) (a b
 abbrev pub FinalsAreOne : Type 0
 FinalsAreOne = (table : SeatTable) (people : List Person) (number : ℕ) (text : List ℕ) (a b : FinalRead) → number < 2 ^ 16 → AreDistinct table people → IsFinalText table people number text a → IsFinalText table people number text b → a.rows ≡ b.rows
 
--- A list as it is published: its persons are distinct ones of the register, and its pairs stand in their order, as those of the
--- certificate do. In the step of the seats that categories left there are none.
+-- A list as it is published: its persons are distinct ones of the register, and its pairs are in their order, as
+-- those of the certificate are. In the step of the seats that categories left there are none.
 pub record IsWritten (people : List Person) (kind : StepKind) (list : StepList) : Type 0 where
   pub named : list.kind ≡ kind
   pub seats : list.seats < 2 ^ 32
@@ -72,11 +72,11 @@ pub record IsWritten (people : List Person) (kind : StepKind) (list : StepList) 
   pub slots : AllByRecursion (λ pair. pair.slot < 6) list.cert.pairs
   pub none : kind ≡ Dereserved → list.cert.pairs ≡ []
 
--- a list as it is published is such as a text can tell
+-- a text can spell a list as it is published
 abbrev pub ListsAreTold : Type 0
 ListsAreTold = (people : List Person) (kind : StepKind) (list : StepList) → IsWritten people kind list → IsStepList people kind list
 
--- the text of the list of a programme is one that is read, as this programme, where its lists are such as a text can tell
+-- the text of the list of a programme is one that is read, as this programme, if a text can spell its lists
 abbrev pub ListsAreRead : Type 0
 ListsAreRead = (table : SeatTable) (people : List Person) (number : ℕ) (prog : ProgId) (programme : Programme) → number < 2 ^ 16 → prog.0 < length table.programmes → AreStepLists people step_kinds programme.steps
     → IsListText table people (list_text table number prog.0 programme) (record { round = number; prog = prog; programme = programme })

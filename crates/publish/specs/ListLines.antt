@@ -67,7 +67,7 @@ abbrev pub slots_in : Option ℕ → ℕ
 slots_in None = 0
 slots_in (Some t) = 1
 
--- A row that can stand where so many rows are left after it, and with it so many slots.
+-- A row that is possible when that many rows are left after it, and with it that many slots.
 pub record CanStand (people used : List Person) (left slots : ℕ) (entry : Entry) : Type 0 where
   pub is : IsEntry people used entry
   pub some : slots_in entry.1 ≤ slots

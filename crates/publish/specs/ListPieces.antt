@@ -65,7 +65,7 @@ pub record BeginsLetter (piece : List ℕ) : Type 0 where
   pub within : slot < 6
   pub begins : is_prefix piece (letter slot ∷ 10 ∷ []) ≡ true
 
--- The piece begins a slot that can stand where so many rows are left after it, and with it so many slots.
+-- The piece begins a slot that is possible when that many rows are left after it, and with it that many slots.
 pub record BeginsSlot (left slots : ℕ) (piece : List ℕ) : Type 0 where
   pub slot : Option ℕ
   pub known : IfSome slot (λ t. t < 6)

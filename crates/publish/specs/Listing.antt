@@ -44,8 +44,8 @@ abbrev pub AreEntries : List Person → List Person → List Entry → Type 0
 AreEntries people used [] = Unit {0}
 AreEntries people used (entry ∷ entries) = IsEntry people used entry × AreEntries people (used ++ entry.0 ∷ []) entries
 
--- The list of a step, as a text can tell it: its persons are distinct ones of the register, and its pairs go along with them. In
--- the step of the seats that categories left there are none.
+-- The list of a step, as a text can spell it: its persons are distinct ones of the register, and its pairs go along
+-- with them. In the step of the seats that categories left there are none.
 pub record IsStepList (people : List Person) (kind : StepKind) (list : StepList) : Type 0 where
   pub named : list.kind ≡ kind
   pub seats : list.seats < 2 ^ 32

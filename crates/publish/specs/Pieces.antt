@@ -56,7 +56,7 @@ pub record IsRoundNumber (text : List ℕ) : Type 0 where
   pub within : number < 2 ^ 16
   pub same : text ≡ decimal number
 
--- the count of a round, with what stands before it
+-- the count of a round, with what comes before it
 pub record BeginsSeated (most : ℕ) (piece : List ℕ) : Type 0 where
   pub count : ℕ
   pub within : count ≤ most

@@ -13,7 +13,7 @@ abbrev pub first_lines : ℕ → List ℕ → List ℕ
 first_lines n [] = []
 first_lines n (byte ∷ bytes) = if n == 0 then [] else byte ∷ first_lines (if byte == 10 then n - 1 else n) bytes
 
--- how many lines end in bytes, where a line may have begun before them; what stands after the last LF is a line too
+-- how many lines end in bytes, if a line may have begun before them; what follows the last LF is a line too
 abbrev pub lines_after : Bool → List ℕ → ℕ
 lines_after begun [] = if begun then 1 else 0
 lines_after begun (byte ∷ bytes) = if byte == 10 then 1 + lines_after false bytes else lines_after true bytes
@@ -62,7 +62,7 @@ abbrev pub IsWhole : {Value : Type 0} → Grammar Value → Value → Bool → T
 IsWhole {Value} grammar value true = grammar [] value
 IsWhole {Value} grammar value false = (other : Value) → grammar [] other → ⊥
 
--- the line of a fault is that of the bytes; want of memory tells nothing of them
+-- the line of a fault is that of the bytes; `OutOfMemory` says nothing of them
 abbrev pub IsTextFault : {Value : Type 0} → Grammar Value → List ℕ → TextFault → Type 0
 IsTextFault grammar bytes (Line n) = IsFaultLine grammar bytes n
 IsTextFault grammar bytes OutOfMemory = Unit {0}

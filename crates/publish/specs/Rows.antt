@@ -55,7 +55,7 @@ abbrev pub head_words : Sort → ℕ → ℕ → List ℕ
 head_words Round number count = codes "round " ++ (decimal number ++ 32 ∷ (codes "seated " ++ decimal count))
 head_words Final number count = codes "final " ++ decimal count
 
--- a text tells the number of its round, or it does not and the number is this one
+-- a text gives the number of its round, or it does not and the number is this one
 abbrev pub IsNumber : Sort → ℕ → ℕ → Type 0
 IsNumber Round known number = number < 2 ^ 16
 IsNumber Final known number = number ≡ known

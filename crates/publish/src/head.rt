@@ -9,19 +9,20 @@ use crate::sort::Sort;
 use office_text::laws::numbers_are_inverse;
 use office_text::read_number;
 
-/// What the first line of a text tells.
+/// Holds what the first line of a text says.
 #[derive(Clone, Copy)]
 pub(crate) struct Head {
     pub(crate) number: u16,
     pub(crate) count: u32,
 }
 
-/// What the first line of a text tells. A text of final admissions tells no number, and has the known one.
+/// Returns what the first line of a text says. A text of final admissions gives no number, and has the known one.
 pub(crate) fn read_head(sort: Sort, known: u16, line: &[u8]) -> Option<Head>
     ensures some { IfSome result (λ head. line.now ≡ head_words sort head.number head.count) }
     ensures number { IfSome result (λ head. IsNumber sort known head.number) }
     ensures small { IfSome result (λ head. head.count < 2 ^ 32) }
-    ensures none { IfNone result ((number count : ℕ) → IsNumber sort known number → count < 2 ^ 32 → line.now ≢ head_words sort number count) }
+    ensures none { IfNone result ((number count : ℕ) → IsNumber sort known number
+        → count < 2 ^ 32 → line.now ≢ head_words sort number count) }
 {
     match sort {
         Sort::Round => read_round_head(line),
@@ -29,12 +30,13 @@ pub(crate) fn read_head(sort: Sort, known: u16, line: &[u8]) -> Option<Head>
     }
 }
 
-/// What the first line of a round tells.
+/// Returns what the first line of a round says.
 fn read_round_head(line: &[u8]) -> Option<Head>
     ensures some { IfSome result (λ head. line.now ≡ head_words Sort.Round head.number head.count) }
     ensures number { IfSome result (λ head. head.number < 2 ^ 16) }
     ensures small { IfSome result (λ head. head.count < 2 ^ 32) }
-    ensures none { IfNone result ((number count : ℕ) → number < 2 ^ 16 → count < 2 ^ 32 → line.now ≢ head_words Sort.Round number count) }
+    ensures none { IfNone result ((number count : ℕ) → number < 2 ^ 16
+        → count < 2 ^ 32 → line.now ≢ head_words Sort.Round number count) }
 {
     numbers_are_inverse();
     let rest = after(line, b"round ")?;
@@ -48,12 +50,13 @@ fn read_round_head(line: &[u8]) -> Option<Head>
     })
 }
 
-/// What the first line of final admissions tells.
+/// Returns what the first line of final admissions says.
 fn read_final_head(known: u16, line: &[u8]) -> Option<Head>
     ensures some { IfSome result (λ head. line.now ≡ head_words Sort.Final head.number head.count) }
     ensures number { IfSome result (λ head. head.number ≡ known) }
     ensures small { IfSome result (λ head. head.count < 2 ^ 32) }
-    ensures none { IfNone result ((number count : ℕ) → IsNumber Sort.Final known number → count < 2 ^ 32 → line.now ≢ head_words Sort.Final number count) }
+    ensures none { IfNone result ((number count : ℕ) → IsNumber Sort.Final known number
+        → count < 2 ^ 32 → line.now ≢ head_words Sort.Final number count) }
 {
     numbers_are_inverse();
     let count = after(line, b"final ")?;
@@ -66,7 +69,8 @@ fn read_final_head(known: u16, line: &[u8]) -> Option<Head>
 
 /// Whether a piece without this byte begins a number up to this one, and the byte.
 pub(crate) fn begins_number(high: u32, piece: &[u8]) -> bool
-    ensures { (byte : ℕ) (tail : List ℕ) → HasNo byte piece.now → IsTrue result ↔ BeginsNumber high (byte ∷ tail) piece.now }
+    ensures { (byte : ℕ) (tail : List ℕ) → HasNo byte piece.now
+        → IsTrue result ↔ BeginsNumber high (byte ∷ tail) piece.now }
 {
     numbers_are_inverse();
     piece.is_empty() || read_number(piece, 0, high).is_some()
@@ -116,7 +120,7 @@ fn is_round(text: &[u8]) -> bool
     read_number(text, 0, 65_535).is_some()
 }
 
-/// Whether a piece of a line begins the count of a round, with what stands before it.
+/// Returns whether a piece of a line begins the count of a round, with what comes before the count.
 fn begins_seated(most: u32, piece: &[u8]) -> bool
     requires { HasNo 10 piece.now }
     ensures { IsTrue result ↔ BeginsSeated most piece.now }

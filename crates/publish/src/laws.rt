@@ -21,13 +21,13 @@ pub fn finals_are_one()
     ensures { FinalsAreOne }
 {}
 
-/// A list of distinct persons of the register whose pairs stand in their order, as those of a certificate do, is such as a text can
-/// tell.
+/// States that a text can spell a list of distinct persons of the register whose pairs are in their order, as those
+/// of a certificate are.
 pub fn lists_are_told()
     ensures { ListsAreTold }
 {}
 
-/// The text of a programme's list is one that `read_list` takes, with this programme, where its lists are such as a text can tell.
+/// States that `read_list` takes the text of a programme's list, with this programme, if a text can spell its lists.
 pub fn lists_are_read()
     ensures { ListsAreRead }
 {}

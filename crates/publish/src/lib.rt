@@ -1,9 +1,9 @@
-// The readers of the published texts, beside their writers.
+// The readers of the published texts, next to their writers.
 //
-// Whoever checks published rounds stands on it. A text is read line by line into a reader that knows, as numbers, what can still
-// follow; the reader of any text tells the line of a fault by that alone. `specs/Reading` says which line that is for any grammar,
-// `specs/Rows` and `specs/Listing` say the texts, and `laws` that what is written is read back. It decides nothing about an
-// allocation. It must never know of commands or of sinks.
+// Every crate that checks published rounds depends on it. A text is read line by line into a reader that knows, as
+// numbers, what can still follow. The reader of any text finds the line of a fault by that alone. `specs/Reading`
+// says which line that is for any grammar, `specs/Rows` and `specs/Listing` define the texts, and `laws` says that
+// what is written is read back. It decides nothing about an allocation. It must never know of commands or sinks.
 #![tactic(auto)]
 
 pub mod fault;

@@ -112,7 +112,8 @@ fn begins_trait(left: u32, slots: u32, piece: &[u8]) -> bool
     begins_letter(piece)
 }
 
-/// Whether a piece begins a slot that can stand where so many rows are left after it, and with it so many slots.
+/// Returns whether a piece begins a slot that is possible when that many rows are left after it, and with it that
+/// many slots.
 fn begins_slot(left: u32, slots: u32, piece: &[u8]) -> bool
     ensures { IsTrue result ↔ BeginsSlot left slots piece.now }
 {
@@ -147,7 +148,9 @@ pub(crate) fn begins_entries(
     piece: &[u8],
 ) -> bool
     requires { AreRising people.now }
-    ensures { (admitted : List AnyPerson) → ((id : ℕ) → contains nat_cmp used.now id ≡ is_listed id admitted) → IsTrue result ↔ BeginsLine entry_words (CanStand people.now admitted left slots) piece.now }
+    ensures { (admitted : List AnyPerson)
+        → ((id : ℕ) → contains nat_cmp used.now id ≡ is_listed id admitted) → IsTrue result
+        ↔ BeginsLine entry_words (CanStand people.now admitted left slots) piece.now }
 {
     for person in people {
         if !used.contains(&person.id.0) && begins_entry(person.id.0, left, slots, piece) {

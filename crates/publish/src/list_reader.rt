@@ -27,9 +27,9 @@ pub(crate) struct ListReader<'a> {
     pub(crate) matrix: &'a Matrix,
     pub(crate) register: &'a Register,
     pub(crate) stage: ListStage,
-    /// The round that the first line told; 0 before it.
+    /// The round that the first line names; 0 before it.
     pub(crate) number: u16,
-    /// The programme that it told; the first one before it.
+    /// The programme that the first line names; the first programme before it.
     pub(crate) prog: ProgId,
     /// The steps to come after the one that is read.
     pub(crate) kinds: &'a [StepKind],
@@ -90,7 +90,8 @@ impl ListReader<'_> {
         requires keeps { KeepsList self.old }
         requires stage { self.old.stage ≡ ListStage.Head }
         requires line { HasNo 10 line.now }
-        ensures answered { IsAnswered (list_grammar self.old) (list_grammar self.new) line.now result }
+        ensures answered { IsAnswered (list_grammar self.old)
+            (list_grammar self.new) line.now result }
         ensures keeps { IsTrue result → KeepsList self.new }
         ensures left { IsTrue result → list_left self.new < list_left self.old }
     {
@@ -109,7 +110,8 @@ impl ListReader<'_> {
         requires stage { self.old.stage ≡ ListStage.Steps }
         requires kinds { self.old.kinds.now ≡ [] }
         requires line { HasNo 10 line.now }
-        ensures answered { IsAnswered (list_grammar self.old) (list_grammar self.new) line.now result }
+        ensures answered { IsAnswered (list_grammar self.old)
+            (list_grammar self.new) line.now result }
         ensures keeps { IsTrue result → KeepsList self.new }
         ensures left { IsTrue result → list_left self.new < list_left self.old }
     {
@@ -126,7 +128,8 @@ impl ListReader<'_> {
         requires keeps { KeepsList self.old }
         requires stage { self.old.stage ≡ ListStage.Steps }
         requires line { HasNo 10 line.now }
-        ensures answered { IsAnswered (list_grammar self.old) (list_grammar self.new) line.now result }
+        ensures answered { IsAnswered (list_grammar self.old)
+            (list_grammar self.new) line.now result }
         ensures keeps { IsTrue result → KeepsList self.new }
         ensures left { IsTrue result → list_left self.new < list_left self.old }
     {
@@ -153,9 +156,11 @@ impl ListReader<'_> {
         requires keeps { KeepsList self.old }
         requires stage { self.old.stage ≡ ListStage.Honoured step rows }
         requires line { HasNo 10 line.now }
-        ensures answered { IfOk result (λ taken. IsAnswered (list_grammar self.old) (list_grammar self.new) line.now taken) }
+        ensures answered { IfOk result (λ taken.
+            IsAnswered (list_grammar self.old) (list_grammar self.new) line.now taken) }
         ensures keeps { IfOk result (λ taken. IsTrue taken → KeepsList self.new) }
-        ensures left { IfOk result (λ taken. IsTrue taken → list_left self.new < list_left self.old) }
+        ensures left { IfOk result (λ taken. IsTrue taken
+            → list_left self.new < list_left self.old) }
     {
         let Some(slots) = honoured_slots(slots_within(step.kind, rows), line) else {
             return Ok(false);
@@ -189,9 +194,11 @@ impl ListReader<'_> {
         requires keeps { KeepsList self.old }
         requires stage { self.old.stage ≡ ListStage.Rows step rows slots }
         requires line { HasNo 10 line.now }
-        ensures answered { IfOk result (λ taken. IsAnswered (list_grammar self.old) (list_grammar self.new) line.now taken) }
+        ensures answered { IfOk result (λ taken.
+            IsAnswered (list_grammar self.old) (list_grammar self.new) line.now taken) }
         ensures keeps { IfOk result (λ taken. IsTrue taken → KeepsList self.new) }
-        ensures left { IfOk result (λ taken. IsTrue taken → list_left self.new < list_left self.old) }
+        ensures left { IfOk result (λ taken. IsTrue taken
+            → list_left self.new < list_left self.old) }
     {
         let left = rows - 1;
         let Some((person, slot)) = next_entry(self.register, &self.used, left, slots, line) else {
@@ -282,7 +289,8 @@ impl Lines for ListReader<'_> {
 fn begins_next_step(matrix: &Matrix, register: &Register, kinds: &[StepKind], piece: &[u8]) -> bool
     requires known { AreKnown matrix.now register.now.people }
     requires piece { HasNo 10 piece.now }
-    ensures { (said : Said) → IsTrue result ↔ Begins (steps_text register.now.people kinds.now said) piece.now }
+    ensures { (said : Said)
+        → IsTrue result ↔ Begins (steps_text register.now.people kinds.now said) piece.now }
 {
     match first_step(kinds) {
         Some((kind, _)) => begins_step_head(kind, count_people(register), piece),

@@ -19,7 +19,7 @@ use seat_matrix::Matrix;
 use std::collections::BTreeSet;
 use step_lines::step_name;
 
-/// What the line of a step tells.
+/// Holds what the line of a step says.
 #[derive(Clone, Copy)]
 pub(crate) struct StepHead {
     pub(crate) seats: u32,
@@ -27,23 +27,27 @@ pub(crate) struct StepHead {
     pub(crate) admitted: u32,
 }
 
-/// The round and the programme that the first line of a list tells.
+/// Returns the round and the programme that the first line of a list names.
 pub(crate) fn list_head(matrix: &Matrix, line: &[u8]) -> Option<(u16, ProgId)>
     requires { AreSpelled matrix.now }
     ensures some { IfSome result (λ head. line.now ≡ list_words matrix.now (head.0, head.1.0)) }
     ensures may { IfSome result (λ head. IsListHead matrix.now (head.0, head.1.0)) }
-    ensures none { IfNone result ((part : ℕ × ℕ) → IsListHead matrix.now part → line.now ≢ list_words matrix.now part) }
+    ensures none { IfNone result ((part : ℕ × ℕ) → IsListHead matrix.now part
+        → line.now ≢ list_words matrix.now part) }
 {
     let (number, code) = number_after(b"list ", 65_535, line)?;
     let prog = read_programme(matrix, code)?;
     Some((number as u16, prog))
 }
 
-/// What the line of this step tells, where it admits no more than this number.
+/// Returns what the line of this step says, if it admits no more than this number.
 pub(crate) fn step_head(kind: StepKind, most: u32, line: &[u8]) -> Option<StepHead>
-    ensures some { IfSome result (λ head. line.now ≡ step_words kind (head.seats, head.candidates, head.admitted)) }
-    ensures may { IfSome result (λ head. IsStepHead most (head.seats, head.candidates, head.admitted)) }
-    ensures none { IfNone result ((part : ℕ × ℕ × ℕ) → IsStepHead most part → line.now ≢ step_words kind part) }
+    ensures some { IfSome result (λ head.
+        line.now ≡ step_words kind (head.seats, head.candidates, head.admitted)) }
+    ensures may { IfSome result (λ head.
+        IsStepHead most (head.seats, head.candidates, head.admitted)) }
+    ensures none { IfNone result ((part : ℕ × ℕ × ℕ) → IsStepHead most part
+        → line.now ≢ step_words kind part) }
 {
     let rest = after(line, b"step ")?;
     let rest = after(rest, step_name(kind).as_bytes())?;
@@ -71,7 +75,7 @@ pub(crate) fn slots_within(kind: StepKind, rows: u32) -> u32
     }
 }
 
-/// How many slots the line after that of a step tells, where it tells no more than this number.
+/// Returns how many slots the line after that of a step names, if it names no more than this number.
 pub(crate) fn honoured_slots(most: u32, line: &[u8]) -> Option<u32>
     ensures some { IfSome result (λ slots. line.now ≡ honoured_words slots) }
     ensures may { IfSome result (λ slots. slots ≤ most) }
@@ -84,7 +88,8 @@ pub(crate) fn honoured_slots(most: u32, line: &[u8]) -> Option<u32>
 fn slot_of(letter: u8) -> Option<Option<u8>>
     ensures some { IfSome result (λ slot. letter ≡ slot_letter slot) }
     ensures known { IfSome result (λ slot. IfSome slot (λ t. t < 6)) }
-    ensures none { IfNone result ((slot : Option ℕ) → IfSome slot (λ t. t < 6) → letter ≢ slot_letter slot) }
+    ensures none { IfNone result ((slot : Option ℕ)
+        → IfSome slot (λ t. t < 6) → letter ≢ slot_letter slot) }
 {
     if letter == b'-' {
         return Some(None);
@@ -99,7 +104,8 @@ fn slot_of(letter: u8) -> Option<Option<u8>>
 fn read_slot(text: &[u8]) -> Option<Option<u8>>
     ensures some { IfSome result (λ slot. text.now ≡ slot_letter slot ∷ []) }
     ensures known { IfSome result (λ slot. IfSome slot (λ t. t < 6)) }
-    ensures none { IfNone result ((slot : Option ℕ) → IfSome slot (λ t. t < 6) → text.now ≢ slot_letter slot ∷ []) }
+    ensures none { IfNone result ((slot : Option ℕ) → IfSome slot (λ t. t < 6)
+        → text.now ≢ slot_letter slot ∷ []) }
 {
     match text {
         [letter] => slot_of(*letter),
@@ -109,17 +115,19 @@ fn read_slot(text: &[u8]) -> Option<Option<u8>>
 
 /// The candidate and the slot of the line of a row.
 fn read_entry(line: &[u8]) -> Option<(CandId, Option<u8>)>
-    ensures some { IfSome result (λ row. line.now ≡ decimal row.0.0 ++ 32 ∷ slot_letter row.1 ∷ []) }
+    ensures some { IfSome result (λ row.
+        line.now ≡ decimal row.0.0 ++ 32 ∷ slot_letter row.1 ∷ []) }
     ensures small { IfSome result (λ row. row.0.0 < 2 ^ 32) }
     ensures known { IfSome result (λ row. IfSome row.1 (λ t. t < 6)) }
-    ensures none { IfNone result ((id : ℕ) (slot : Option ℕ) → id < 2 ^ 32 → IfSome slot (λ t. t < 6) → line.now ≢ decimal id ++ 32 ∷ slot_letter slot ∷ []) }
+    ensures none { IfNone result ((id : ℕ) (slot : Option ℕ) → id < 2 ^ 32
+        → IfSome slot (λ t. t < 6) → line.now ≢ decimal id ++ 32 ∷ slot_letter slot ∷ []) }
 {
     let (id, slot) = number_before(u32::MAX, line)?;
     let slot = read_slot(slot)?;
     Some((CandId(id), slot))
 }
 
-/// Whether a slot can stand where so many rows are left after it, and with it so many slots.
+/// Returns whether a slot is possible when that many rows are left after it, and with it that many slots.
 fn can_have(slot: Option<u8>, left: u32, slots: u32) -> bool
     ensures { IsTrue result ↔ ((slots_in slot ≤ slots) × (slots - slots_in slot ≤ left)) }
 {
@@ -140,9 +148,12 @@ pub(crate) fn next_entry(
 ) -> Option<(Person, Option<u8>)>
     requires { AreSmall register.now.people }
     ensures some { IfSome result (λ row. line.now ≡ entry_words row) }
-    ensures may { IfSome result (λ row. (admitted : List AnyPerson) → ((id : ℕ) → contains nat_cmp used.now id ≡ is_listed id admitted) → CanStand register.now.people admitted left slots row) }
-    ensures none { IfNone result ((admitted : List AnyPerson) → ((id : ℕ) → contains nat_cmp used.now id ≡ is_listed id admitted)
-        → (row : Entry) → CanStand register.now.people admitted left slots row → line.now ≢ entry_words row) }
+    ensures may { IfSome result (λ row. (admitted : List AnyPerson)
+        → ((id : ℕ) → contains nat_cmp used.now id ≡ is_listed id admitted)
+        → CanStand register.now.people admitted left slots row) }
+    ensures none { IfNone result ((admitted : List AnyPerson)
+        → ((id : ℕ) → contains nat_cmp used.now id ≡ is_listed id admitted) → (row : Entry)
+        → CanStand register.now.people admitted left slots row → line.now ≢ entry_words row) }
 {
     let (id, slot) = read_entry(line)?;
     let person = register.person(id)?;

@@ -40,8 +40,10 @@ pub struct ListRead {
 /// The list that a text spells, or the line of its fault. Where the matrix has no programme, no text spells a list, and the fault
 /// is the first line.
 pub fn read_list(alloc: Global, season: &Season, text: &[u8]) -> Result<ListRead, TextFault>
-    ensures value { IfOk result (λ read. IsListText season.now.matrix season.now.register.people text.now read) }
-    ensures fault { IfErr result (λ fault. 0 < length season.now.matrix.programmes → IsTextFault (IsListText season.now.matrix season.now.register.people) text.now fault) }
+    ensures value { IfOk result (λ read.
+        IsListText season.now.matrix season.now.register.people text.now read) }
+    ensures fault { IfErr result (λ fault. 0 < length season.now.matrix.programmes
+        → IsTextFault (IsListText season.now.matrix season.now.register.people) text.now fault) }
     ensures empty { length season.now.matrix.programmes ≡ 0 → IsErrOf result (TextFault.Line 1) }
 {
     if season.matrix.count() == 0 {

@@ -9,11 +9,12 @@ use crate::parts::{after, cut, left_after};
 use office_text::laws::numbers_are_inverse;
 use office_text::read_number;
 
-/// The number up to this one with which bytes begin before a space, and what stands after the space.
+/// Returns the number up to this one with which bytes begin before a space, and what follows the space.
 pub(crate) fn number_before(high: u32, bytes: &[u8]) -> Option<(u32, &[u8])>
     ensures small { IfSome result (λ found. found.0 ≤ high) }
     ensures some { IfSome result (λ found. bytes.now ≡ decimal found.0 ++ 32 ∷ found.1.now) }
-    ensures none { IfNone result ((n : ℕ) (rest : List ℕ) → n ≤ high → bytes.now ≢ decimal n ++ 32 ∷ rest) }
+    ensures none { IfNone result ((n : ℕ) (rest : List ℕ)
+        → n ≤ high → bytes.now ≢ decimal n ++ 32 ∷ rest) }
 {
     numbers_are_inverse();
     let (number, rest) = cut(bytes, b' ')?;
@@ -21,11 +22,13 @@ pub(crate) fn number_before(high: u32, bytes: &[u8]) -> Option<(u32, &[u8])>
     Some((number, rest))
 }
 
-/// The number up to this one that stands in a line after a word and before a space, and what stands after the space.
+/// Returns the number up to this one that is in a line after a word and before a space, and what follows the space.
 pub(crate) fn number_after<'a>(word: &[u8], high: u32, line: &'a [u8]) -> Option<(u32, &'a [u8])>
     ensures small { IfSome result (λ found. found.0 ≤ high) }
-    ensures some { IfSome result (λ found. line.now ≡ word.now ++ (decimal found.0 ++ 32 ∷ found.1.now)) }
-    ensures none { IfNone result ((n : ℕ) (rest : List ℕ) → n ≤ high → line.now ≢ word.now ++ (decimal n ++ 32 ∷ rest)) }
+    ensures some { IfSome result (λ found.
+        line.now ≡ word.now ++ (decimal found.0 ++ 32 ∷ found.1.now)) }
+    ensures none { IfNone result ((n : ℕ) (rest : List ℕ) → n ≤ high
+        → line.now ≢ word.now ++ (decimal n ++ 32 ∷ rest)) }
 {
     let rest = after(line, word)?;
     let (number, rest) = number_before(high, rest)?;

@@ -22,7 +22,7 @@ pub(crate) struct Row {
     pub(crate) step: StepKind,
 }
 
-/// What stands before the first of these bytes, and what stands after it. None where there is none.
+/// Returns what comes before the first of these bytes, and what follows it. `None` if there is none.
 pub(crate) fn cut(bytes: &[u8], byte: u8) -> Option<(&[u8], &[u8])>
     ensures some { IfSome result (λ parts. bytes.now ≡ parts.0.now ++ byte ∷ parts.1.now) }
     ensures first { IfSome result (λ parts. HasNo byte parts.0.now) }
@@ -35,7 +35,7 @@ pub(crate) fn cut(bytes: &[u8], byte: u8) -> Option<(&[u8], &[u8])>
     }
 }
 
-/// What stands after a word. None where the bytes do not begin with it.
+/// Returns what follows a word. `None` if the bytes do not begin with it.
 pub(crate) fn after<'a>(bytes: &'a [u8], word: &[u8]) -> Option<&'a [u8]>
     ensures some { IfSome result (λ rest. bytes.now ≡ word.now ++ rest.now) }
     ensures none { IfNone result ((rest : List ℕ) → bytes.now ≢ word.now ++ rest) }
@@ -83,8 +83,10 @@ pub(crate) fn written_step(text: &[u8]) -> Option<StepKind>
 /// The programme of the code that a text spells.
 pub(crate) fn read_programme(matrix: &Matrix, text: &[u8]) -> Option<ProgId>
     requires { AreSpelled matrix.now }
-    ensures some { IfSome result (λ prog. (prog.0 < length matrix.now.programmes) × (text.now ≡ code_in matrix.now prog.0)) }
-    ensures none { IfNone result ((prog : ℕ) → prog < length matrix.now.programmes → text.now ≢ code_in matrix.now prog) }
+    ensures some { IfSome result (λ prog. (prog.0 < length matrix.now.programmes)
+        × (text.now ≡ code_in matrix.now prog.0)) }
+    ensures none { IfNone result ((prog : ℕ) → prog < length matrix.now.programmes
+        → text.now ≢ code_in matrix.now prog) }
 {
     match Code::read(text) {
         Some(code) => matrix.find(code),
@@ -95,7 +97,8 @@ pub(crate) fn read_programme(matrix: &Matrix, text: &[u8]) -> Option<ProgId>
 /// The row of a line with this first word.
 pub(crate) fn read_row(matrix: &Matrix, word: &[u8], line: &[u8]) -> Option<Row>
     requires { AreSpelled matrix.now }
-    ensures some { IfSome result (λ row. IsRow word.now matrix.now line.now row.cand.0 row.prog.0 row.step) }
+    ensures some { IfSome result (λ row.
+        IsRow word.now matrix.now line.now row.cand.0 row.prog.0 row.step) }
     ensures small { IfSome result (λ row. row.cand.0 < 2 ^ 32) }
     ensures none { IfNone result (IsNoRow word.now matrix.now line.now) }
 {

@@ -23,16 +23,17 @@ pub(crate) trait Lines {
     /// What it keeps.
     ghost keeps: { Self → Type 0 };
 
-    /// Takes a whole line, without its LF, where it can stand here, or says that it cannot. Then it is of no use any more, and
-    /// neither is it where there is no memory.
+    /// Takes a whole line, without its LF, if it can be here, or says that it cannot. Then the reader is of no use
+    /// any more, and neither is it when memory runs out.
     fn take(&mut self, line: &[u8]) -> Result<bool, OutOfMemory>
         requires keeps { keeps self.old }
         requires line { HasNo 10 line.now }
-        ensures answered { IfOk result (λ taken. IsAnswered (grammar self.old) (grammar self.new) line.now taken) }
+        ensures answered { IfOk result (λ taken.
+            IsAnswered (grammar self.old) (grammar self.new) line.now taken) }
         ensures keeps { IfOk result (λ taken. IsTrue taken → keeps self.new) }
         ensures left { IfOk result (λ taken. IsTrue taken → left self.new < left self.old) };
 
-    /// Whether the piece begins a line that can stand here.
+    /// Returns whether the piece begins a line that can be here.
     fn begins(&self, piece: &[u8]) -> bool
         requires keeps { keeps self.now }
         requires line { HasNo 10 piece.now }
@@ -46,7 +47,8 @@ pub(crate) trait Lines {
         ensures { IsWhole (grammar self.now) (value self.now) result };
 }
 
-/// Reads a text into a reader at its beginning, or tells the line of its fault. After a fault the reader is of no use any more.
+/// Reads a text into a reader at its beginning, or returns the line of its fault. After a fault the reader is of no
+/// use any more.
 pub(crate) fn read_lines<L: Lines>(lines: &mut L, text: &[u8]) -> Result<(), TextFault>
     requires keeps { L.keeps lines.old }
     requires some { Begins (L.grammar lines.old) [] }

@@ -32,8 +32,10 @@ pub struct FinalRead {
 
 /// The round that a text spells, or the line of its fault.
 pub fn read_round(alloc: Global, season: &Season, text: &[u8]) -> Result<RoundRead, TextFault>
-    ensures value { IfOk result (λ read. IsRoundText season.now.matrix season.now.register.people text.now read) }
-    ensures fault { IfErr result (λ fault. IsTextFault (IsRoundText season.now.matrix season.now.register.people) text.now fault) }
+    ensures value { IfOk result (λ read.
+        IsRoundText season.now.matrix season.now.register.people text.now read) }
+    ensures fault { IfErr result (λ fault.
+        IsTextFault (IsRoundText season.now.matrix season.now.register.people) text.now fault) }
 {
     let people = small_people(&season.register);
     match read_rows(alloc, &season.matrix, people, Sort::Round, 0, text) {
@@ -44,8 +46,10 @@ pub fn read_round(alloc: Global, season: &Season, text: &[u8]) -> Result<RoundRe
 
 /// The final admissions that a text spells, or the line of its fault.
 pub fn read_final(alloc: Global, season: &Season, text: &[u8]) -> Result<FinalRead, TextFault>
-    ensures value { IfOk result (λ read. IsFinalText season.now.matrix season.now.register.people (season.now.rounds + 1) text.now read) }
-    ensures fault { IfErr result (λ fault. IsTextFault (IsFinalText season.now.matrix season.now.register.people (season.now.rounds + 1)) text.now fault) }
+    ensures value { IfOk result (λ read. IsFinalText season.now.matrix
+        season.now.register.people (season.now.rounds + 1) text.now read) }
+    ensures fault { IfErr result (λ fault. IsTextFault (IsFinalText season.now.matrix
+        season.now.register.people (season.now.rounds + 1)) text.now fault) }
 {
     let people = small_people(&season.register);
     let known = season.rounds + 1;
@@ -66,8 +70,10 @@ fn read_rows(
 ) -> Result<(u16, AllotRows), TextFault>
     requires small { AreSmall people.now }
     requires few { length people.now < 2 ^ 31 }
-    ensures value { IfOk result (λ read. IsRowsText sort matrix.now people.now known text.now (read.0, read.1)) }
-    ensures fault { IfErr result (λ fault. IsTextFault (IsRowsText sort matrix.now people.now known) text.now fault) }
+    ensures value { IfOk result (λ read.
+        IsRowsText sort matrix.now people.now known text.now (read.0, read.1)) }
+    ensures fault { IfErr result (λ fault.
+        IsTextFault (IsRowsText sort matrix.now people.now known) text.now fault) }
 {
     codes_are_spelled(matrix);
     let mut reader = RowsReader {

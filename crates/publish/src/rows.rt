@@ -63,7 +63,7 @@ fn most_rows(matrix: &Matrix, people: &[Person]) -> u32
     }
 }
 
-/// What the first line of a text tells, where a text can go on after it.
+/// Returns what the first line of a text says, if a text can continue after it.
 fn first_line(
     matrix: &Matrix,
     people: &[Person],
@@ -73,9 +73,11 @@ fn first_line(
 ) -> Option<Head>
     requires few { length people.now < 2 ^ 31 }
     requires line { HasNo 10 line.now }
-    ensures some { IfSome result (λ head. Leads (IsRowsText sort matrix.now people.now known) (IsRest sort matrix.now people.now head.number head.count []) line.now) }
+    ensures some { IfSome result (λ head. Leads (IsRowsText sort matrix.now people.now known)
+        (IsRest sort matrix.now people.now head.number head.count []) line.now) }
     ensures few { IfSome result (λ head. head.count ≤ length people.now) }
-    ensures none { IfNone result (IsRefused (IsRowsText sort matrix.now people.now known) line.now) }
+    ensures none { IfNone result
+        (IsRefused (IsRowsText sort matrix.now people.now known) line.now) }
 {
     match read_head(sort, known, line) {
         Some(head) => {
@@ -105,7 +107,8 @@ fn next_row<'a>(
         (IsRest sort matrix.now next.1.now number (left - 1) (rows ++ record { round = number; cand = next.0.cand; prog = next.0.prog; step = next.0.step } ∷ [])) line.now) }
     ensures small { IfSome result (λ next. AreSmall next.1.now) }
     ensures few { IfSome result (λ next. length next.1.now ≤ length people.now) }
-    ensures none { IfNone result ((number : ℕ) (rows : List AnyRow) → IsRefused (IsRest sort matrix.now people.now number left rows) line.now) }
+    ensures none { IfNone result ((number : ℕ) (rows : List AnyRow)
+        → IsRefused (IsRest sort matrix.now people.now number left rows) line.now) }
 {
     let row = match read_row(matrix, row_word(sort), line) {
         Some(row) => row,
@@ -128,7 +131,8 @@ fn begins_next(matrix: &Matrix, people: &[Person], sort: Sort, left: usize, piec
     requires spelled { AreSpelled matrix.now }
     requires small { AreSmall people.now }
     requires piece { HasNo 10 piece.now }
-    ensures { (number : ℕ) (rows : List AnyRow) → IsTrue result ↔ Begins (IsRest sort matrix.now people.now number left rows) piece.now }
+    ensures { (number : ℕ) (rows : List AnyRow)
+        → IsTrue result ↔ Begins (IsRest sort matrix.now people.now number left rows) piece.now }
 {
     if left == 0 {
         begins_whole(piece, last_line(sort))
@@ -154,7 +158,8 @@ impl RowsReader<'_> {
         requires line { HasNo 10 line.now }
         ensures answered { IsAnswered (grammar_of self.old) (grammar_of self.new) line.now result }
         ensures keeps { IsTrue result → KeepsRows self.new }
-        ensures left { IsTrue result → lines_left self.new.stage (length self.new.people.now) self.new.left < lines_left self.old.stage (length self.old.people.now) self.old.left }
+        ensures left { IsTrue result → lines_left self.new.stage (length self.new.people.now)
+            self.new.left < lines_left self.old.stage (length self.old.people.now) self.old.left }
     {
         let Some(head) = first_line(self.matrix, self.people, self.sort, self.number, line) else {
             return false;
@@ -173,7 +178,8 @@ impl RowsReader<'_> {
         requires line { HasNo 10 line.now }
         ensures answered { IsAnswered (grammar_of self.old) (grammar_of self.new) line.now result }
         ensures keeps { IsTrue result → KeepsRows self.new }
-        ensures left { IsTrue result → lines_left self.new.stage (length self.new.people.now) self.new.left < lines_left self.old.stage (length self.old.people.now) self.old.left }
+        ensures left { IsTrue result → lines_left self.new.stage (length self.new.people.now)
+            self.new.left < lines_left self.old.stage (length self.old.people.now) self.old.left }
     {
         if line == last_line(self.sort) {
             self.stage = Stage::Done;
@@ -189,10 +195,12 @@ impl RowsReader<'_> {
         requires stage { self.old.stage ≡ Stage.Rows }
         requires left { 0 < self.old.left }
         requires line { HasNo 10 line.now }
-        ensures answered { IfOk result (λ taken. IsAnswered (grammar_of self.old) (grammar_of self.new) line.now taken) }
+        ensures answered { IfOk result (λ taken.
+            IsAnswered (grammar_of self.old) (grammar_of self.new) line.now taken) }
         ensures keeps { IfOk result (λ taken. IsTrue taken → KeepsRows self.new) }
         ensures left { IfOk result (λ taken. IsTrue taken
-            → lines_left self.new.stage (length self.new.people.now) self.new.left < lines_left self.old.stage (length self.old.people.now) self.old.left) }
+            → lines_left self.new.stage (length self.new.people.now) self.new.left
+            < lines_left self.old.stage (length self.old.people.now) self.old.left) }
     {
         let Some((row, next)) = next_row(self.matrix, self.people, self.sort, self.left, line)
         else {

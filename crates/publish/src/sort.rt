@@ -1,6 +1,6 @@
 // Which texts of rows there are.
 
-/// What a text of rows tells: a round, or the final admissions.
+/// Says what a text of rows shows: a round, or the final admissions.
 #[derive(Clone, Copy, Debug)]
 pub(crate) enum Sort {
     Round,

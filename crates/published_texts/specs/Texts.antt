@@ -91,16 +91,16 @@ abbrev pub worse_words : Bool → List ℕ
 worse_words true = codes " worse yes\n"
 worse_words false = codes " worse no\n"
 
--- what stood against a person at a step
+-- what counted against a person at a step
 abbrev pub step_why : StepWhy → List ℕ
 step_why why = step_name why.kind ++ codes " seats " ++ decimal why.seats ++ worse_words why.worse
 
--- nothing where the person did not stand for the seats of the step
+-- nothing if the person did not compete for the seats of the step
 abbrev pub why_line : Option StepWhy → List ℕ
 why_line None = []
 why_line (Some why) = step_why why
 
--- the step that admits, or what stood against the person at each step
+-- the step that admits, or what counted against the person at each step
 abbrev pub reason_lines : Reason → List ℕ
 reason_lines (Admitted step) = codes " admitted " ++ step_name step ++ codes "\n"
 reason_lines (Refused at_open at_category at_dereserved) = codes " refused\n" ++ why_line at_open ++ why_line at_category ++ why_line at_dereserved ++ codes "end why\n"

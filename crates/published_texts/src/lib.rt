@@ -1,8 +1,10 @@
-// The texts that the office publishes: a round, the list of a programme, the final admissions, and the reason of a refusal.
+// The texts that the office publishes: a round, the list of a programme, the final admissions, and the reason of a
+// refusal.
 //
-// The replies of the office, the commands and the readers of these texts stand on it. `specs/Texts` says each text as a function of
-// values, line by line; the calls give exactly that text, in one pass. It decides nothing: it is told a round, a programme, rows
-// or an answer. It must never know how these came about, of commands or of sinks.
+// The replies of the office, the commands and the readers of these texts depend on it. `specs/Texts` defines each
+// text as a function of values, line by line; the calls write exactly that text, in one pass. It decides nothing: the
+// caller gives it a round, a programme, rows or an answer. It must never know how these came about, or of commands or
+// sinks.
 #![tactic(auto)]
 
 pub mod admissions;

@@ -21,7 +21,8 @@ pub fn list_text(
     programme: &Programme,
 ) -> Result<Text, OutOfMemory>
     requires programme { prog.0 < length matrix.now.programmes }
-    requires slots { AllByRecursion (λ list. AllByRecursion (λ pair. pair.slot < 6) list.cert.pairs) programme.now.steps }
+    requires slots { AllByRecursion (λ list.
+        AllByRecursion (λ pair. pair.slot < 6) list.cert.pairs) programme.now.steps }
     ensures { IfOk result (λ text. text ≡ list_text matrix.now number prog.0 programme.now) }
 {
     let mut out = Text::new(alloc);
@@ -45,7 +46,8 @@ fn push_head(out: &mut Text, matrix: &Matrix, number: u16, prog: ProgId) -> Resu
 
 /// Puts the lines of steps, in their order.
 fn push_lists(out: &mut Text, lists: &[StepList]) -> Result<(), OutOfMemory>
-    requires { AllByRecursion (λ list. AllByRecursion (λ pair. pair.slot < 6) list.cert.pairs) lists.now }
+    requires { AllByRecursion (λ list.
+        AllByRecursion (λ pair. pair.slot < 6) list.cert.pairs) lists.now }
     ensures { OnOk result (out.new ≡ out.old ++ flat_map list_step lists.now) }
 {
     for list in lists {

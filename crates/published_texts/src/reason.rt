@@ -54,7 +54,7 @@ fn push_better(out: &mut Text, matrix: &Matrix, held: ProgId) -> Result<(), OutO
     out.extend_from_slice(b"\n")
 }
 
-/// Puts the step that admits, or what stood against the person at each step.
+/// Appends the step that admits, or what counted against the person at each step.
 fn push_reason(out: &mut Text, reason: &Reason) -> Result<(), OutOfMemory>
     ensures { OnOk result (out.new ≡ out.old ++ reason_lines reason.now) }
 {
@@ -78,7 +78,7 @@ fn push_reason(out: &mut Text, reason: &Reason) -> Result<(), OutOfMemory>
     }
 }
 
-/// Puts the line of a step, where the person stood for its seats.
+/// Appends the line of a step, if the person competed for its seats.
 fn push_why(out: &mut Text, why: &Option<StepWhy>) -> Result<(), OutOfMemory>
     ensures { OnOk result (out.new ≡ out.old ++ why_line why.now) }
 {
@@ -88,7 +88,7 @@ fn push_why(out: &mut Text, why: &Option<StepWhy>) -> Result<(), OutOfMemory>
     }
 }
 
-/// Puts what stood against the person at a step.
+/// Appends what counted against the person at a step.
 fn push_step_why(out: &mut Text, why: &StepWhy) -> Result<(), OutOfMemory>
     ensures { OnOk result (out.new ≡ out.old ++ step_why why.now) }
 {

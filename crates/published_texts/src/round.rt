@@ -10,8 +10,9 @@ use seat_matrix::Matrix;
 use std::alloc::Global;
 use step_lines::push_count;
 
-/// The text of a round over these people, who stand in rising order of id: how many of them have a seat, and the seats in their
-/// order. The round has an entry for each of the people, and each seat is in a programme of the matrix.
+/// Returns the text of a round over these people, who are in rising order of id: how many of them have a seat, and
+/// the seats in their order. The round has an entry for each of the people, and each seat is in a programme of the
+/// matrix.
 pub fn round_text(
     alloc: Global,
     matrix: &Matrix,

@@ -1,8 +1,8 @@
-// What stood against a person, and the answers to why.
+// What counted against a person, and the answers to why.
 use office_base::{ProgId, StepKind};
 
-/// What stood against a person at one step of a programme: its seats, and whether somebody worse in merit was admitted there
-/// for a protection.
+/// Says what counted against a person at one step of a programme: its seats, and whether somebody worse in merit was
+/// admitted there for a protection.
 #[derive(Clone, Copy, Debug, PartialEq, Eq)]
 pub struct StepWhy {
     pub kind: StepKind,
@@ -10,8 +10,9 @@ pub struct StepWhy {
     pub worse: bool,
 }
 
-/// Under which step a programme admits a person, or what stood against the person. An entry of a refusal is there exactly where
-/// the person stood for the seats of that step: the open ones, those of the own category, and those that categories left unfilled.
+/// Says under which step a programme admits a person, or what counted against the person. A refusal has an entry
+/// exactly when the person competed for the seats of that step: the open ones, those of the candidate's own category,
+/// and those that categories left unfilled.
 #[derive(Clone, Copy, Debug, PartialEq, Eq)]
 pub enum Reason {
     Admitted(StepKind),

@@ -24,7 +24,7 @@ below version table more seekers next seats others i before seat turn there has 
     let read = place_read before.list seat.prog.0 own in
     subst (λ n. n < length table.programmes) read.2 (turn.market.below i _ before read.0 there read.1)
 
--- whoever still wants the programme of the own seat has a seat, by what the next round gives
+-- a seeker who still wants the programme of their seat has a seat, by what the next round gives
 stays : ProgrammesChooseWell → ProgrammesGrow → (version : ℕ) (table more : SeatTable) (seekers next : List Seeker) (seats others : List (Option Seat)) (i : ℕ) (before after : Seeker) (seat : Seat) (value : Option Seat)
     → AreFairInTurn version table more seekers next seats others → slice_get seekers i ≡ Some before → slice_get next i ≡ Some after → slice_get seats i ≡ Some (Some seat)
     → place_of after.list seat.prog.0 < length after.list → slice_get others i ≡ Some value

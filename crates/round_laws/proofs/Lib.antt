@@ -1,6 +1,6 @@
 mod Choosing
 mod InTurn
-mod OneRound
+pub mod OneRound
 mod Told
 pub mod People
 pub mod Season

@@ -65,7 +65,7 @@ abbrev upto_st : Admissions → List Person
 upto_st admissions = upto_sc admissions ++ admissions.st
 
 -- those whom a step admits are distinct, where all who are admitted are
-step_distinct : (admissions : Admissions) (kind : StepKind) → AreDistinct (everybody admissions) → AreDistinct (admitted_by admissions kind)
+pub step_distinct : (admissions : Admissions) (kind : StepKind) → AreDistinct (everybody admissions) → AreDistinct (admitted_by admissions kind)
 step_distinct admissions kind distinct = go kind
   where
     st : AreDistinct (upto_st admissions)
@@ -97,7 +97,7 @@ one_along R one (x ∷ xs) (y ∷ ys) [] first second = absurd second
 one_along R one (x ∷ xs) (y ∷ ys) (z ∷ zs) first second =
     ap (λ h. h ∷ ys) (one x y z first.0 second.0) ∙ ap (λ rest. z ∷ rest) (one_along R one xs ys zs first.1 second.1)
 
-same_places : {X : Type 0} (xs ys : List X) → length xs ≡ length ys → ((i : ℕ) (x y : X) → slice_get xs i ≡ Some x → slice_get ys i ≡ Some y → x ≡ y) → xs ≡ ys
+pub same_places : {X : Type 0} (xs ys : List X) → length xs ≡ length ys → ((i : ℕ) (x y : X) → slice_get xs i ≡ Some x → slice_get ys i ≡ Some y → x ≡ y) → xs ≡ ys
 same_places [] [] full same = refl
 same_places [] (y ∷ ys) full same = absurd (omega (arith, full))
 same_places (x ∷ xs) [] full same = absurd (omega (arith, full))

@@ -1,5 +1,5 @@
--- The people of a register, whose ids rise: where each of them stands, and what goes along with them.
-use Rattle.std.proofs.Common.{◌≡◌, ◌≢◌, ◌<◌, inl, inr, ℕ, zero, suc, false, List, [], ◌∷◌, Some, length, arith, refl, sym, ap, ◌∙◌, ◌+◌, ◌==◌, add-one}
+-- The people of a register, whose ids rise: where each of them is, and what goes along with them.
+use Rattle.std.proofs.Common.{◌≡◌, ◌≢◌, ◌<◌, inl, inr, ℕ, zero, suc, false, List, [], ◌∷◌, Some, arith, refl, sym, ap, ◌∙◌, ◌+◌, ◌==◌, add-one}
 use Rattle.std.specs.Prelude.{slice_get, option_map}
 use Rattle.std.specs.List.{AllByRecursion}
 use Rattle.std.proofs.lemmas.Bool.{cases_Bool, cond-false, cond-true, eq-eqb, eqb-true}
@@ -9,12 +9,7 @@ use Rattle.office_base.specs.Person.{at_person}
 use Rattle.office_base.specs.declared.person.CandId.{CandId}
 use Rattle.office_base.specs.declared.person.Person.{Person}
 use Rattle.rank_lists.specs.Register.{find_person, row_of}
-
--- something stands at each place below the length
-pub there_is : {X : Type 0} (xs : List X) (i : ℕ) → i < length xs → (x : X) × (slice_get xs i ≡ Some x)
-there_is [] i less = absurd (omega (arith, less))
-there_is (x ∷ xs) zero less = (x, refl)
-there_is (x ∷ xs) (suc i) less = there_is xs i (omega (arith, less))
+pub use Rattle.office_base.proofs.Lists.{there_is}
 
 -- a number is not below itself
 pub apart_of_less : (m n : ℕ) → m < n → (n == m) ≡ false
@@ -39,7 +34,7 @@ distinct_of_rising (x ∷ people) rising = (apart_all x people rising.0, distinc
     apart_all x [] all = tt
     apart_all x (y ∷ people) all = ((λ e. let same = ap (λ (z : CandId). z.0) e in let less = all.0 in omega (arith, same, less)), apart_all x people all.1)
 
--- one id stands at one place
+-- one id is at one place
 pub one_row : (people : List Person) (i j : ℕ) (a b : Person) → Pairwise (λ (a b : Person). a.id.0 < b.id.0) people → slice_get people i ≡ Some a → slice_get people j ≡ Some b → a.id.0 ≡ b.id.0 → i ≡ j
 one_row [] i j a b rising at at' same = absurd (cc)
 one_row (x ∷ people) zero zero a b rising at at' same = refl
@@ -68,7 +63,7 @@ row_at (x ∷ people) (suc i) person rising at =
 
 -- ---- what goes along with the people
 
--- whoever has something stands at its place
+-- what a person has is at the person's place
 pub record StandsAt {X : Type 0} (id : ℕ) (people : List Person) (xs : List X) (x : X) : Type 0 where
   pub place : ℕ
   pub person : Person

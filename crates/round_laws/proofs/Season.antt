@@ -3,7 +3,7 @@ use Rattle.std.proofs.Common.{◌≡◌, ◌<◌, ◌-◌, ℕ, zero, suc, true,
 use Rattle.std.specs.Prelude.{slice_get, IsSome, IsTrue}
 use Rattle.std.proofs.lemmas.Bool.{cond-false, cond-true, eq-eqb}
 use Rattle.std.specs.List.{AllByRecursion}
-use Rattle.office_base.proofs.Lists.{all-get}
+use Rattle.office_base.proofs.Lists.{all-get, all_from}
 use Rattle.office_base.specs.Lists.{Pairwise}
 use Rattle.office_base.specs.Person.{number_in}
 use Rattle.office_base.specs.declared.person.Person.{Person}
@@ -76,10 +76,6 @@ same_choices ranks table more lists same choices = λ candidate.
     }
 
 -- ---- those who enter
-
-all_from : {X : Type 0} (P : X → Type 0) (xs : List X) → ((i : ℕ) (x : X) → slice_get xs i ≡ Some x → P x) → AllByRecursion P xs
-all_from P [] h = tt
-all_from P (x ∷ xs) h = (h 0 x refl, all_from P xs (λ i. h (suc i)))
 
 pub length_lists : (lists : Lists) → length (lists_in lists) ≡ length lists
 length_lists [] = refl

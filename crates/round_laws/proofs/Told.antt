@@ -6,6 +6,7 @@ use Rattle.std.proofs.lemmas.Option.{slice_get_within}
 use Rattle.std.proofs.lemmas.Bool.{and_parts, eqb-true, le-leb, leb-true}
 use Rattle.office_base.specs.declared.person.Person.{Person}
 use Rattle.office_base.specs.declared.person.ProgId.{ProgId}
+use Rattle.office_base.proofs.Lists.{there_is}
 use Rattle.allocations.specs.Fair.{IsBest}
 use Rattle.allocations.specs.Market.{Seeker, place_of, rank_of}
 use Rattle.allocations.specs.Compared.{SomeLeave, TellsAnother}
@@ -22,7 +23,6 @@ use Rattle.seeks.specs.declared.seek.Seek.TheVariants.{Whole, UpTo, Within, Only
 use Rattle.seeks.proofs.Left.{leaves_same, left_nothing, left_up_to}
 use Rattle.rounds.specs.Rule.{MayApplyIn, ProgrammesAdmitNoFewer, ProgrammesChooseWell, ProgrammesGrow, rule_of, seekers_of}
 use Rattle.rounds.proofs.Entrants.{entered, market}
-use Rattle.round_laws.proofs.People.{there_is}
 use Rattle.round_laws.specs.Laws.{AreOtherwise, FairRoundsSeatAlike, IsUpTo, MoreSeatsHurtNobody, SomeSeekNothing, TruthIsBest, WiderIsNoWorse}
 
 pub seat_alike : ProgrammesChooseWell → ProgrammesAdmitNoFewer → FairRoundsSeatAlike
@@ -30,7 +30,7 @@ seat_alike well fewer version table people lists seeks seats others are entrants
     fair_seat_alike (rule_of version table) (MayApplyIn table) (well version table are) (fewer version table are) (length table.programmes) (seekers_of table people lists seeks) seats others
     (market table people lists seeks are entrants) fair fair'
 
--- ---- the seekers, where one tells and seeks otherwise
+-- ---- the seekers, when one submits another list and another seek
 
 as_many_seekers : (table more : SeatTable) (people : List Person) (lists told : List (List ProgId)) (seeks sought : List Seek) → length told ≡ length lists → length sought ≡ length seeks
     → length (seekers_of more people told sought) ≡ length (seekers_of table people lists seeks)
@@ -79,7 +79,7 @@ truth well fewer version table people lists told seeks sought seats others i s s
 
 -- ---- parts of a list up to a place
 
--- what a seek up to the place leaves stands up to the place
+-- what a seek up to the place leaves is up to the place
 left_up : (table : SeatTable) (seek : Seek) (k : ℕ) (progs : List ProgId) (place : ℕ) (prog : ProgId) → IsUpTo k seek → is_left table seek progs place prog ≡ true → nat_le place k ≡ true
 left_up table Whole k progs place prog up left = absurd up
 left_up table (UpTo last) k progs place prog up left = let less = leb-true _ _ left in le-leb _ _ (omega (arith, up, less))
@@ -113,7 +113,7 @@ left_stands table seek k progs place [] p up stands = stands
 left_stands table seek k progs place (prog ∷ rest) p up stands =
     stands_if (is_left table seek progs place prog) (nat_le place k) prog _ _ p (left_up table seek k progs place prog up) (left_stands table seek k progs (place + 1) rest p up) stands
 
--- what a seeker wants, told by the own list and seek
+-- what a seeker wants, by their list and seek
 leaves_by : (table : SeatTable) (people : List Person) (lists : List (List ProgId)) (seeks : List Seek) (i : ℕ) (s : Seeker) (list : List ProgId) (seek : Seek)
     → slice_get (seekers_of table people lists seeks) i ≡ Some s → slice_get lists i ≡ Some list → slice_get seeks i ≡ Some seek → s.list ≡ seek_leaves table seek list
 leaves_by table people lists seeks i s list seek there at at' =

@@ -30,7 +30,8 @@ abbrev pub Market : Type 0
 Market = (table : SeatTable) (people : List Person) (lists : List (List ProgId)) (seeks : List Seek) → AreSeats table → AreEntrants table people lists
     → IsMarket (MayApplyIn table) (length table.programmes) (seekers_of table people lists seeks)
 
--- Seats are fair exactly where nobody has a justified claim and each programme admits all who hold a seat of it, from these alone, under the steps of their seats.
+-- Seats are fair exactly when nobody has a justified claim and each programme admits all who hold a seat of it, from
+-- these alone, under the steps of their seats.
 abbrev pub FairWithoutClaims : Type 0
 FairWithoutClaims = (version : ℕ) (table : SeatTable) (people : List Person) (lists : List (List ProgId)) (seeks : List Seek) (seats : List (Option Seat)) → AreSeats table
     → AreEntrants table people lists
@@ -52,7 +53,8 @@ pub record AreFairInTurn (version : ℕ) (table more : SeatTable) (seekers next 
   pub narrowed : IsNextMarket seekers seats next
   pub next_fair : IsFair (rule_of version more) (length more.programmes) next others
 
--- Whoever had a seat and still wants its programme has a seat in the next round, at the same place of the first list or an earlier one.
+-- A candidate who had a seat and still wants its programme has a seat in the next round, at the same place of the
+-- first list or an earlier one.
 abbrev pub NobodyFalls : Type 0
 NobodyFalls = (version : ℕ) (table more : SeatTable) (seekers next : List Seeker) (seats others : List (Option Seat)) (i : ℕ) (before after : Seeker) (seat : Seat)
     → AreFairInTurn version table more seekers next seats others → slice_get seekers i ≡ Some before → slice_get next i ≡ Some after → slice_get seats i ≡ Some (Some seat)
@@ -73,7 +75,8 @@ pub record AreOtherwise (i : ℕ) (lists told : List (List ProgId)) (seeks sough
   pub same_lists : (j : ℕ) → j ≢ i → slice_get told j ≡ slice_get lists j
   pub same_seeks : (j : ℕ) → j ≢ i → slice_get sought j ≡ slice_get seeks j
 
--- Whatever a person had told and sought in place of the own list and seek, the round would have given no seat that is better by what the person seeks.
+-- Whatever list and seek a person had submitted in place of their own, the round would have given no seat that is
+-- better by what the person seeks.
 abbrev pub TruthIsBest : Type 0
 TruthIsBest = (version : ℕ) (table : SeatTable) (people : List Person) (lists told : List (List ProgId)) (seeks sought : List Seek) (seats others : List (Option Seat)) (i : ℕ) (s : Seeker)
     (seat other : Option Seat) → AreSeats table → AreEntrants table people lists → AreEntrants table people told → AreOtherwise i lists told seeks sought
@@ -89,7 +92,8 @@ IsUpTo k (Within last) = last ≤ k
 IsUpTo k (Only seat) = seat ≤ k
 IsUpTo k Nothing = Unit {0}
 
--- Whoever seeks the list up to a place does no worse by that list than by any part of it that a seek could leave: float is no worse than slide or freeze.
+-- A candidate who seeks the list up to a place does no worse by that list than by any part of it that a seek could
+-- leave: float is no worse than slide or freeze.
 abbrev pub WiderIsNoWorse : Type 0
 WiderIsNoWorse = (version : ℕ) (table : SeatTable) (people : List Person) (lists : List (List ProgId)) (seeks sought : List Seek) (seats others : List (Option Seat)) (i k : ℕ)
     (list : List ProgId) (seek : Seek) (seat other : Option Seat) → AreSeats table → AreEntrants table people lists → AreOtherwise i lists lists seeks sought

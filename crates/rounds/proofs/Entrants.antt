@@ -1,5 +1,5 @@
--- Those who enter a round are a market, in which all who want a programme may stand before it together.
-use Rattle.std.proofs.Common.{◌≡◌, ◌≢◌, ◌<◌, ◌+◌, inl, inr, ℕ, zero, suc, Bool, true, false, List, [], ◌∷◌, Option, Some, None, length, arith, refl, sym, ap, ◌∙◌, subst, ◌==◌, if◌then◌else◌}
+-- Those who enter a round are a market, in which all who want a programme may apply to it together.
+use Rattle.std.proofs.Common.{◌≡◌, ◌≢◌, ◌<◌, ◌+◌, inl, inr, ℕ, zero, suc, Bool, true, false, List, [], ◌∷◌, Some, length, arith, refl, sym, ap, ◌∙◌, subst, ◌==◌, if◌then◌else◌}
 use Rattle.std.specs.Prelude.{slice_get, IsSome}
 use Rattle.std.specs.List.{AllByRecursion}
 use Rattle.std.proofs.lemmas.Bool.{cases_Bool, eq-eqb, eqb-true, ltb-true}
@@ -9,6 +9,7 @@ use Rattle.office_base.specs.Merit.{CanBeRanked}
 use Rattle.office_base.specs.Person.{IsList, IsTraitSet, number_in}
 use Rattle.office_base.specs.declared.person.Person.{Person}
 use Rattle.office_base.specs.declared.person.ProgId.{ProgId}
+use Rattle.office_base.proofs.Options.{some_value}
 use Rattle.placements.proofs.Sublists.{AllByRecursion-sublist}
 use Rattle.placements.proofs.Ranks.{pairwise_sublist}
 use Rattle.allocations.specs.Fair.{IsMarket}
@@ -114,7 +115,7 @@ distinct_seekers table (person ∷ people) (list ∷ lists) (seek ∷ seeks) dis
 
 -- ---- those who pass a test
 
-all_when : (P : Person → Type 0) (b : Bool) (x : Person) (xs : List Person) → (b ≡ true → P x) → AllByRecursion P xs → AllByRecursion P (if b then x ∷ xs else xs)
+pub all_when : (P : Person → Type 0) (b : Bool) (x : Person) (xs : List Person) → (b ≡ true → P x) → AllByRecursion P xs → AllByRecursion P (if b then x ∷ xs else xs)
 all_when P true x xs here rest = (here refl, rest)
 all_when P false x xs here rest = rest
 
@@ -150,11 +151,7 @@ placed_there table people lists seeks p i s entrants there less =
     let placed = all-get (λ (prog : ProgId). IsSome (number_in (list_in table prog.0) s.person)) _ _ read.0 own.placed read.1 in
     subst (λ q. IsSome (number_in (list_in table q) s.person)) read.2 placed
 
-some_number : (number : Option ℕ) → IsSome number → (n : ℕ) × (number ≡ Some n)
-some_number None h = absurd (let e : false ≡ true = h in cc)
-some_number (Some n) h = (n, refl)
-
--- all who want a programme may stand before it together
+-- all who want a programme may apply to it together
 wanting_may : (table : SeatTable) (people : List Person) (lists : List (List ProgId)) (seeks : List Seek) (p : ℕ) → IsList (list_in table p) → AreEntrants table people lists
     → CanBeRanked (list_in table p) (wanting p (seekers_of table people lists seeks))
 wanting_may table people lists seeks p is_list entrants =
@@ -168,7 +165,7 @@ wanting_may table people lists seeks p is_list entrants =
           (λ i j s t x y less there there' at at' passes passes' same.
           let first = entered table people lists seeks i s there in
           let second = entered table people lists seeks j t there' in
-          let n = some_number _ (placed_there table people lists seeks p i s entrants there (ltb-true _ _ passes)) in
+          let n = some_value _ (placed_there table people lists seeks p i s entrants there (ltb-true _ _ passes)) in
           let one = entrants.apart (list_in table p) i j n.0 s.person t.person is_list first.person_at second.person_at n.1 (sym same ∙ n.1) in
           omega (arith, one, less));
       distinct = pairwise_those (λ a b. a.id ≢ b.id) (λ s other. wants p s.list) seekers seekers

@@ -18,7 +18,7 @@ use Rattle.seeks.specs.declared.seek.Seek.{Seek}
 abbrev pub rule_of : ℕ → SeatTable → Rule
 rule_of version table p = AdmitsUnder version (seats_in table p)
 
--- the people may stand before the programme together
+-- the people may apply to the programme together
 abbrev pub MayApplyIn : SeatTable → ℕ → List Person → Type 0
 MayApplyIn table p = AreApplicants (list_in table p)
 

@@ -1,10 +1,10 @@
 use Rattle.std.proofs.Common.{◌≡◌, ◌+◌, ◌∙◌, ℕ, List, length, sym, subst, ap}
 use Rattle.std.specs.Prelude.{replicate, sum}
+use Rattle.office_base.proofs.Lists.{whole_again}
 use Rattle.open_then_category.specs.State.{ProgrammeKept}
 use Rattle.open_then_category.specs.declared.kept_lists.Tried.{Tried}
 use Rattle.apply_engine.specs.Engine.{AreBegun, AreUntried}
 use Rattle.apply_engine.proofs.Ending.{at_most, ended, enters, enters_untried, exactly, run_again}
-use Rattle.apply_engine.proofs.Tallies.{whole_again}
 use Rattle.apply_engine.proofs.applications.apply_all.Goals as goal
 
 pub apply_in_order-requires : goal.apply_in_order-requires

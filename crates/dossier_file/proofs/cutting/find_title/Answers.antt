@@ -4,8 +4,9 @@ use Rattle.std.proofs.lemmas.Bool.Decides.{Decides-eqb}
 use Rattle.std.proofs.lemmas.List.{drop-drop, length-drop}
 use Rattle.std.proofs.lemmas.Slice.Eq.{slice_eq-Decides}
 use Rattle.season_file.specs.Bundle.{line_len, title}
+use Rattle.publish.proofs.ReadLemmas.{no-bytes}
 use Rattle.dossier_file.proofs.CutLemmas.{begins_more, title_end, title_last, title_more}
-use Rattle.dossier_file.proofs.DueLemmas.{long_of, no_bytes, some_bytes}
+use Rattle.dossier_file.proofs.DueLemmas.{long_of, some_bytes}
 use Rattle.dossier_file.proofs.cutting.find_title.Goals as goal
 
 pub returns-then-eq-clause-some : goal.returns-then-eq-clause-some
@@ -52,4 +53,4 @@ lines-preserved c =
 
 pub returns-clause-none : goal.returns-clause-none
 returns-clause-none c =
-    title_end c.args.name.now c.args.text.now c.lines.at c.lines.invariant.none (sym c.lines.invariant.rest ∙ no_bytes c.lines.rest.now (sym c.is_empty.ensures ∙ c.lines-test.false))
+    title_end c.args.name.now c.args.text.now c.lines.at c.lines.invariant.none (sym c.lines.invariant.rest ∙ no-bytes c.lines.rest.now (sym c.is_empty.ensures ∙ c.lines-test.false))

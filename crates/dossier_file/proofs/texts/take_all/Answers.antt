@@ -2,9 +2,10 @@ use Rattle.std.proofs.Common.{◌+◌, List, drop, sym, subst, ◌∙◌}
 use Rattle.std.proofs.lemmas.List.{drop_more}
 use Rattle.publish.specs.Reading.{IsTextFault}
 use Rattle.publish.specs.declared.fault.TextFault.{TextFault}
+use Rattle.publish.proofs.ReadLemmas.{no-bytes}
 use Rattle.dossier_file.specs.Papers.{ArePapers}
 use Rattle.dossier_file.specs.declared.due.Due.{Due}
-use Rattle.dossier_file.proofs.DueLemmas.{IsAlong, along_done, along_fault, along_left, along_more, along_room, good_rest, no_bytes, none_left, some_bytes}
+use Rattle.dossier_file.proofs.DueLemmas.{IsAlong, along_done, along_fault, along_left, along_more, along_room, good_rest, none_left, some_bytes}
 use Rattle.dossier_file.proofs.texts.take_all.Goals as goal
 
 pub after_lines-requires : goal.after_lines-requires
@@ -41,7 +42,7 @@ returns-then-is_empty-clause-value c =
     let season = c.args.season.now in
     let at = c.loop-due.due-index in
     along_done season.matrix season.register.people season.rounds c.args.dues.now (drop at c.args.dues.now) c.args.bytes.now c.loop-due.rest.now c.loop-due.before c.loop-due.papers c.loop-due.invariant
-    (none_left at c.args.dues.now c.loop-due-test.false) (no_bytes c.loop-due.rest.now (sym c.is_empty.ensures ∙ c.if-is_empty.true))
+    (none_left at c.args.dues.now c.loop-due-test.false) (no-bytes c.loop-due.rest.now (sym c.is_empty.ensures ∙ c.if-is_empty.true))
 
 pub returns-else-is_empty-clause-fault : goal.returns-else-is_empty-clause-fault
 returns-else-is_empty-clause-fault c =
