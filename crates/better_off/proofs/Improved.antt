@@ -1,45 +1,28 @@
 -- A seeker whom every programme still admits that admitted the seeker before has no worse seat.
-use Rattle.std.proofs.Common.{◌≡◌, ◌≢◌, ◌<◌, ◌≤◌, ◌+◌, ◌⊎◌, inl, inr, ℕ, zero, suc, Bool, true, false, List, [], ◌∷◌, Option, Some, None, length, arith, refl, sym, ap, ◌∙◌, subst, ◌==◌, if◌then◌else◌}
+use Rattle.std.proofs.Common.{◌≡◌, ◌≢◌, ◌<◌, ◌≤◌, ◌⊎◌, inl, inr, ℕ, suc, Bool, true, false, List, [], ◌∷◌, Option, Some, None, length, arith, refl, sym, ap, ◌∙◌, subst, if◌then◌else◌}
 use Rattle.std.specs.Prelude.{slice_get, slice_set}
 use Rattle.std.proofs.Math.ListN.{length-set}
-use Rattle.std.proofs.lemmas.Bool.{cases_Bool, cases_eq, eq-eqb, eqb-true}
+use Rattle.std.proofs.lemmas.Bool.{cases_Bool, cases_eq, eq-eqb}
 use Rattle.office_base.specs.Lists.{IsAmong, IsSublist}
 use Rattle.office_base.specs.declared.asks.Seat.{Seat}
 use Rattle.office_base.specs.declared.person.Person.{Person}
 use Rattle.office_base.specs.declared.person.ProgId.{ProgId}
 use Rattle.office_base.specs.declared.step.StepKind.{StepKind}
+use Rattle.office_base.proofs.Lists.{get_set_other}
 use Rattle.allocations.specs.Compared.{TellsAnother}
 use Rattle.allocations.specs.Fair.{IsBest, IsFair, IsMarket, IsOwn}
 use Rattle.allocations.specs.Market.{Seeker, applicants, applies, is_of, place_of, rank_of, seat_at, those}
 use Rattle.allocations.specs.Rule.{Admits, AdmitsNoFewer, ChoosesWell, Rule}
 use Rattle.allocations.proofs.Best.{best_there}
 use Rattle.allocations.proofs.Claims.{applicants_may, outside_refused}
-use Rattle.allocations.proofs.Course.{get_set_other, get_set_same}
+use Rattle.allocations.proofs.Course.{get_set_same}
 use Rattle.allocations.proofs.Places.{applies_means, holder_applies}
 use Rattle.allocations.proofs.Seated.{fair_seat_alike}
 use Rattle.allocations.proofs.Those.{of_those, same_place, those_has, those_sublist, value_at}
-use Rattle.allocations.proofs.Truthful.{narrows_market, still_fair, truth_is_best, with_list}
+use Rattle.allocations.proofs.Truthful.{narrows_market, still_fair, truth_is_best, with_list, alone_wants, alone_place, alone_distinct}
 use Rattle.programme_laws.specs.Laws.{AreTheSameBut}
 
 -- ---- a list of one programme
-
-one_step : (b : Bool) → (if b then 0 else 0 + 1) < 1 → b ≡ true
-one_step true less = refl
-one_step false less = absurd (omega (arith, less))
-
-alone_wants : (q : ProgId) (p : ℕ) → place_of (q ∷ []) p < 1 → q.0 ≡ p
-alone_wants q p less = eqb-true q.0 p (one_step (q.0 == p) less)
-
-alone_at : (b : Bool) → b ≡ true → (if b then 0 else 0 + 1) ≡ 0
-alone_at true e = refl
-alone_at false e = absurd (cc)
-
-alone_place : (q : ProgId) → place_of (q ∷ []) q.0 ≡ 0
-alone_place q = alone_at (q.0 == q.0) (eq-eqb q.0 q.0 refl)
-
-alone_distinct : (x : ProgId) (k : ℕ) (q : ProgId) → slice_get (x ∷ []) k ≡ Some q → place_of (x ∷ []) q.0 ≡ k
-alone_distinct x zero q at = let same : x ≡ q = cc in subst (λ (z : ProgId). place_of (x ∷ []) z.0 ≡ 0) same (alone_place x)
-alone_distinct x (suc k) q at = absurd (cc)
 
 -- nobody applies by an empty list
 no_list : (q : ℕ) (seat : Option Seat) → applies q [] seat ≡ false

@@ -26,7 +26,7 @@ use Rattle.office_moves.proofs.Chains.{IsNewAnswer, IsNewCut, IsNewRaise, answer
 
 -- ---- codes of programmes
 
-code_at : (programmes : List (List ℕ × Home)) (prog : ℕ) → unwrap_or (option_map (λ held. held.0) (slice_get programmes prog)) [] ≡ get_or (map (λ held. held.0) programmes) prog []
+pub code_at : (programmes : List (List ℕ × Home)) (prog : ℕ) → unwrap_or (option_map (λ held. held.0) (slice_get programmes prog)) [] ≡ get_or (map (λ held. held.0) programmes) prog []
 code_at [] prog = refl
 code_at (held ∷ programmes) zero = refl
 code_at (held ∷ programmes) (suc prog) = code_at programmes prog
@@ -35,7 +35,7 @@ length_codes : (programmes : List (List ℕ × Home)) → length (map (λ (held 
 length_codes [] = refl
 length_codes (held ∷ programmes) = ap suc (length_codes programmes)
 
-found_number : (found : Option ℕ) (prog : ProgId) → option_map (λ n. record { 0 = n }) found ≡ Some prog → found ≡ Some prog.0
+pub found_number : (found : Option ℕ) (prog : ProgId) → option_map (λ n. record { 0 = n }) found ≡ Some prog → found ≡ Some prog.0
 found_number None prog e = absurd (cc)
 found_number (Some n) prog e = ap (option_map (λ (p : ProgId). p.0)) e
 
@@ -66,7 +66,7 @@ pub data Accepts (facts : SeasonFacts) (old : State) (by : By) (ask : Ask) (act 
   NewCut : (window : ℕ) → ask ≡ AskCut window → act ≡ Cut old.now → IsNewCut by old.now facts.rounds window → old.now < facts.rounds → decided_by facts old by ask ≡ Publish
       → Accepts facts old by ask act
 
-same_act : (act other : Act) → Some act ≡ Some other → other ≡ act
+pub same_act : (act other : Act) → Some act ≡ Some other → other ≡ act
 same_act act other e = cc
 
 pub accepts : (facts : SeasonFacts) (old : State) (by : By) (ask : Ask) (act : Act) → newly old.now (decided_by facts old by ask) ≡ Some act → Accepts facts old by ask act

@@ -4,7 +4,7 @@ use Rattle.std.specs.Prelude.{slice_get, option_map, IsSome, nat_le}
 use Rattle.std.proofs.lemmas.Bool.{and_from, and_parts, eq-eqb, eqb-true, le-leb, leb-true}
 use Rattle.std.proofs.lemmas.Option.{slice_get_within}
 use Rattle.std.proofs.lemmas.Slice.Eq.{bytes_eq-Decides}
-use Rattle.office_base.proofs.Lists.{all-get}
+use Rattle.office_base.proofs.Lists.{all-get, there_is}
 use Rattle.office_base.specs.Lists.{Pairwise}
 use Rattle.office_base.specs.declared.asks.Seat.{Seat}
 use Rattle.office_base.specs.declared.person.Person.{Person}
@@ -31,7 +31,6 @@ use Rattle.office_moves.specs.State.{State, seat_in}
 use Rattle.office_moves.specs.Raised.{matrix_of_round}
 use Rattle.office_moves.specs.Promise.{HoldsOn, IsNoWorse, standing_then}
 use Rattle.office_moves.proofs.Narrows.{FitsLast, holder_narrows, left_there, narrows_applies, there_left}
-use Rattle.round_laws.proofs.People.{there_is}
 use Rattle.histories.specs.Course.{IsCourse, left_then, seek_then, seeks_then}
 use Rattle.histories.proofs.Entering.{entrants, own_there}
 use Rattle.histories.proofs.Fits.{Answered, SeatOf, FitsCut, cut_fits, enters, follows, full_seekers, held_seat, not_true, seat_at_place, seat_is, seat_there, seekers_then, still_waits}
@@ -42,7 +41,7 @@ use Rattle.histories.proofs.Fits.{Answered, SeatOf, FitsCut, cut_fits, enters, f
 abbrev place_in : List ProgId → Option Seat → Option ℕ
 place_in list seat = option_map (λ (held : Seat). place_of list held.prog.0) seat
 
--- whoever seeks nothing wants no programme
+-- a candidate who seeks nothing wants no programme
 nothing_wanted : (table : SeatTable) (list : List ProgId) (p : ℕ) → place_of (seek_leaves table Nothing list) p < length (seek_leaves table Nothing list) → ⊥
 nothing_wanted table list p wanted =
     let found = left_there table Nothing list p wanted in
@@ -83,7 +82,7 @@ next_applied table list last left Slide (Some seat) p distinct cut answered own 
 next_applied table list last left Withdrawn seat p distinct cut answered own wanted = absurd (nothing_wanted table list p wanted)
 next_applied table list last left NoShow seat p distinct cut answered own wanted = absurd (nothing_wanted table list p wanted)
 
--- a programme stands at its own institute
+-- a programme is at its own institute
 self_together : {home : List ℕ × Home} (a : Option (List ℕ × Home)) → a ≡ Some home → are_together a a ≡ true
 self_together None e = absurd (cc)
 self_together (Some held) e = (bytes_eq-Decides held.1.institute held.1.institute).1 refl
@@ -93,7 +92,7 @@ turned_together None b e = absurd (cc)
 turned_together (Some a) None e = absurd (cc)
 turned_together (Some a) (Some b) e = (bytes_eq-Decides b.1.institute a.1.institute).1 (sym ((bytes_eq-Decides a.1.institute b.1.institute).0 e))
 
--- whoever keeps a seat seeks its programme again
+-- a candidate who keeps a seat seeks its programme again
 left_again : (table : SeatTable) (list : List ProgId) (standing : Standing) (k : ℕ) (prog : ProgId) → holds standing ≡ true → slice_get list k ≡ Some prog → prog.0 < length table.programmes
     → is_left table (seek_after standing (Some k)) list k prog ≡ true
 left_again table list Waiting k prog keeps there below = absurd (cc)
@@ -108,12 +107,12 @@ left_again table list Withdrawn k prog keeps there below = absurd (cc)
 left_again table list NoShow k prog keeps there below = absurd (cc)
 
 -- What is sought again is no worse.
-record IsKept (table : SeatTable) (standing : Standing) (j k : ℕ) (new old : ProgId) : Type 0 where
-  place : j ≤ k
-  freeze : standing ≡ Freeze → new ≡ old
-  slide : standing ≡ Slide → same_institute table new.0 old.0 ≡ true
+pub record IsKept (table : SeatTable) (standing : Standing) (j k : ℕ) (new old : ProgId) : Type 0 where
+  pub place : j ≤ k
+  pub freeze : standing ≡ Freeze → new ≡ old
+  pub slide : standing ≡ Slide → same_institute table new.0 old.0 ≡ true
 
-left_kept : (table : SeatTable) (list : List ProgId) (standing : Standing) (j k : ℕ) (new old : ProgId) → holds standing ≡ true → slice_get list j ≡ Some new → slice_get list k ≡ Some old
+pub left_kept : (table : SeatTable) (list : List ProgId) (standing : Standing) (j k : ℕ) (new old : ProgId) → holds standing ≡ true → slice_get list j ≡ Some new → slice_get list k ≡ Some old
     → is_left table (seek_after standing (Some k)) list j new ≡ true → IsKept table standing j k new old
 left_kept table list Waiting j k new old keeps there there' left = absurd (cc)
 left_kept table list Offered j k new old keeps there there' left = absurd (cc)
@@ -172,7 +171,7 @@ next_market facts state before round sound course fit is = record {
 
 -- ---- nobody falls
 
--- what whoever keeps a seat seeks again, by the choice list
+-- what a candidate who keeps a seat seeks again, by the choice list
 abbrev again_list : SeasonFacts → State → ℕ → ℕ → Seat → List ProgId
 again_list facts state before id old =
     seek_leaves (matrix_of_round facts state (suc (suc before))) (seek_after (standing_then facts state (suc before) id) (Some (place_of (list_of facts.lists id) old.prog.0)))
@@ -226,7 +225,7 @@ in_matrix facts state before id n old course known =
     let in_season = all-get (λ (prog : ProgId). prog.0 < length facts.matrix.programmes) list (place_of list old.prog.0) old.prog known.own.below known.at.there in
     subst (λ (ps : List (List ℕ × Home)). old.prog.0 < length ps) (sym (course.programmes n)) in_season
 
--- whoever keeps a seat wants its programme in the next round
+-- a candidate who keeps a seat wants its programme in the next round
 wants_again : (facts : SeasonFacts) (state : State) (before id : ℕ) (old : Seat) → IsCourse facts state → (known : SeatOf facts state before id old)
     → (back : Returns facts state before id known.place old) → holds (standing_then facts state (suc before) id) ≡ true → place_of back.t.list old.prog.0 < length back.t.list
 wants_again facts state before id old course known back keeps =
@@ -306,14 +305,14 @@ step_holds facts state before id sound well grow course less fit keeps =
 nobody_first : (facts : SeasonFacts) (state : State) (id : ℕ) → IsCourse facts state → holds (standing_then facts state 0 id) ≡ true → ⊥
 nobody_first facts state id course keeps = not_true (held_seat Waiting (standing_then facts state 0 id) None (course.answers 0 id) (λ e. absurd (cc)) keeps)
 
--- the cut of a window fits, where whoever kept a seat then had one before and has one after
+-- the cut of a window fits, if a candidate who kept a seat then had one before and has one after
 cut_holds : (facts : SeasonFacts) (state : State) (window id : ℕ) → HoldsOn facts state window id
     → FitsCut (left_then facts state (suc window) id) (seek_then facts state window id) (seat_in facts state.rounds (suc window) id)
 cut_holds facts state window id on =
     cut_fits (standing_then facts state window id) (place_in (list_of facts.lists id) (seat_in facts state.rounds window id)) (seat_in facts state.rounds (suc window) id)
     (λ keeps. let h = on keeps in subst (λ o. IsSome (place_in (list_of facts.lists id) o)) (sym h.2) refl) (λ keeps. let h = on keeps in subst (λ o. IsSome o) (sym h.3) refl)
 
--- whoever keeps a seat at the cut of a window holds on
+-- a candidate who keeps a seat at the cut of a window holds on
 pub holds_on : (facts : SeasonFacts) (state : State) (window id : ℕ) → IsSound facts → ProgrammesChooseWell → ProgrammesGrow → IsCourse facts state → window < length state.rounds
     → HoldsOn facts state window id
 holds_on facts state zero id sound well grow course less keeps = absurd (nobody_first facts state id course keeps)
@@ -324,7 +323,7 @@ holds_on facts state (suc before) id sound well grow course less keeps =
 pub fit_all : (facts : SeasonFacts) (state : State) (before : ℕ) → IsSound facts → ProgrammesChooseWell → ProgrammesGrow → IsCourse facts state → before < length state.rounds → FitAll facts state before
 fit_all facts state before sound well grow course less id = cut_holds facts state before id (holds_on facts state before id sound well grow course less)
 
--- whoever keeps a seat has one
+-- a candidate who keeps a seat has one
 pub holder_seated : (facts : SeasonFacts) (state : State) (window id : ℕ) → IsSound facts → ProgrammesChooseWell → ProgrammesGrow → IsCourse facts state → window ≤ length state.rounds
     → holds (standing_then facts state window id) ≡ true → IsSome (seat_in facts state.rounds window id)
 holder_seated facts state zero id sound well grow course few keeps = absurd (nobody_first facts state id course keeps)

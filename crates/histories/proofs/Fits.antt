@@ -1,4 +1,5 @@
--- How a cut left a candidate fits what was sought at it and the seat that it gave; and what everybody seeks next stands in the choice lists.
+-- How a cut left a candidate fits what was sought at it and the seat that it gave. What everybody seeks next is in the choice
+-- lists.
 use Rattle.std.proofs.Common.{◌≡◌, ◌≢◌, ◌<◌, ◌⊎◌, inl, inr, ℕ, zero, suc, true, false, List, [], ◌∷◌, Option, Some, None, length, map, arith, refl, sym, ap, ◌∙◌, subst}
 use Rattle.std.specs.Prelude.{slice_get, option_map, IsSome}
 use Rattle.std.specs.Option.{option_and_then}
@@ -11,6 +12,7 @@ use Rattle.office_base.specs.declared.asks.Choice.TheVariants.{Freeze as ToFreez
 use Rattle.office_base.specs.declared.asks.Seat.{Seat}
 use Rattle.office_base.specs.declared.person.Person.{Person}
 use Rattle.office_base.specs.declared.person.ProgId.{ProgId}
+use Rattle.office_base.proofs.Lists.{there_is}
 use Rattle.allocations.specs.Market.{Seeker, place_of}
 use Rattle.choice_lists.specs.Choices.{list_of}
 use Rattle.seat_matrix.specs.Matrix.{SeatTable}
@@ -28,7 +30,7 @@ use Rattle.office_moves.specs.Raised.{matrix_of_round}
 use Rattle.office_moves.specs.Promise.{standing_then}
 use Rattle.office_moves.proofs.Narrows.{FitsLast, Follows, IsSeatAt, left_there}
 use Rattle.histories.specs.Course.{IsCourse, seek_then, seeks_then}
-use Rattle.round_laws.proofs.People.{StandsAt, stands_at, there_is}
+use Rattle.round_laws.proofs.People.{StandsAt, stands_at}
 use Rattle.histories.proofs.Entering.{list_there, lists_full, own_there}
 
 -- ---- an answer
@@ -58,7 +60,7 @@ no_holder ToFloat e h = absurd (cc)
 no_holder ToSlide e h = absurd (cc)
 no_holder ToWithdraw e h = absurd (cc)
 
--- whoever keeps a seat where none is given kept it before
+-- a candidate who keeps a seat, and is given none, kept it before
 pub held_before : (left standing : Standing) (seat : Option Seat) → Answered left standing seat → seat ≡ None → holds standing ≡ true → holds left ≡ true
 held_before left standing seat (inl same) none h = subst (λ s. holds s ≡ true) same h
 held_before left standing seat (inr (choice, may, is, inl away)) none h = absurd (no_holder choice away (subst (λ s. holds s ≡ true) is h))
@@ -75,7 +77,7 @@ held_over Slide seat e = e
 held_over Withdrawn seat e = e
 held_over NoShow seat e = e
 
--- whoever keeps a seat has one
+-- a candidate who keeps a seat has one
 pub held_seat : (left standing : Standing) (seat : Option Seat) → Answered left standing seat → (holds left ≡ true → IsSome seat) → holds standing ≡ true → IsSome seat
 held_seat left standing seat (inl same) has h = has (subst (λ s. holds s ≡ true) same h)
 held_seat left standing seat (inr (choice, may, is, inl away)) has h = absurd (no_holder choice away (subst (λ s. holds s ≡ true) is h))
@@ -152,13 +154,13 @@ pub seat_there : (facts : SeasonFacts) (rounds : List Round) (before i : ℕ) (r
 seat_there facts rounds before i round person seat sound is at has =
     ap (λ o. seat_of facts o person.id.0) is ∙ ap (λ o. option_and_then (λ s. s) o) (at_person-get facts.people round.seats i person sound.ranks.rising at ∙ has)
 
--- whoever has a seat stands among the people, and has it there
+-- a candidate who has a seat is among the people, and has it there
 pub record IsSeated (facts : SeasonFacts) (rounds : List Round) (before id : ℕ) (seat : Seat) : Type 0 where
   pub round : Round
   pub is : slice_get rounds before ≡ Some round
   pub stands : StandsAt id facts.people round.seats (Some seat)
 
-seat_of_some : (o : Option (Option Seat)) (seat : Seat) → option_and_then (λ s. s) o ≡ Some seat → o ≡ Some (Some seat)
+pub seat_of_some : (o : Option (Option Seat)) (seat : Seat) → option_and_then (λ s. s) o ≡ Some seat → o ≡ Some (Some seat)
 seat_of_some None seat e = absurd (cc)
 seat_of_some (Some s) seat e = ap Some e
 
@@ -177,7 +179,7 @@ the_prog a b same = ap number_prog same
     number_prog : ℕ → ProgId
     number_prog n = record { 0 = n }
 
--- a seat of what a seek leaves stands in the whole list, where the seek leaves it
+-- a seat of what a seek leaves is in the whole list, where the seek leaves it
 pub seat_at_place : (table : SeatTable) (last : Seek) (list : List ProgId) (seat : Seat) → Pairwise (λ (a b : ProgId). a.0 ≢ b.0) list
     → place_of (seek_leaves table last list) seat.prog.0 < length (seek_leaves table last list) → IsSeatAt table last list seat (place_of list seat.prog.0)
 seat_at_place table last list seat distinct less =
@@ -236,7 +238,7 @@ seat_is facts state before id seat sound course e =
       at = seat_at_place table (seek_then facts state before id) (list_of facts.lists id) seat own.distinct (subst (λ l. place_of l seat.prog.0 < length l) leaves less);
     }
 
--- a seat stands in the choice list
+-- the programme of a seat is in the choice list
 pub placed : (facts : SeasonFacts) (state : State) (window id : ℕ) (seat : Seat) → IsSound facts → IsCourse facts state → seat_in facts state.rounds window id ≡ Some seat
     → place_of (list_of facts.lists id) seat.prog.0 < length (list_of facts.lists id)
 placed facts state zero id seat sound course e = absurd (cc)
@@ -246,7 +248,7 @@ placed facts state (suc before) id seat sound course e =
 
 -- ---- what everybody seeks
 
-within : (list : List ProgId) (standing : Standing) (seat : Option Seat) → ((held : Seat) → seat ≡ Some held → place_of list held.prog.0 < length list)
+pub within : (list : List ProgId) (standing : Standing) (seat : Option Seat) → ((held : Seat) → seat ≡ Some held → place_of list held.prog.0 < length list)
     → IsWithinList list (seek_after standing (option_map (λ (held : Seat). place_of list held.prog.0) seat))
 within list Waiting seat h = tt
 within list Offered seat h = tt
@@ -259,14 +261,14 @@ within list Slide (Some seat) h = h seat refl
 within list Withdrawn seat h = tt
 within list NoShow seat h = tt
 
-some_one : (a b : Seek) → Some a ≡ Some b → a ≡ b
+pub some_one : (a b : Seek) → Some a ≡ Some b → a ≡ b
 some_one a b e = cc
 
 -- what the people seek by the seats of a round, with whatever standings
 abbrev pub sought_by : SeasonFacts → List Round → (ℕ → Standing) → ℕ → ℕ → Seek
 sought_by facts rounds standing number id = seek_after (standing id) (option_map (λ seat. place_of (list_of facts.lists id) seat.prog.0) (seat_in facts rounds number id))
 
--- and it stands in the choice lists
+-- and it is in the choice lists
 pub seeks_within : (facts : SeasonFacts) (state : State) (standing : ℕ → Standing) (number : ℕ) → IsSound facts → IsCourse facts state
     → AreSeeks (lists_in_order facts) (map (λ (person : Person). sought_by facts state.rounds standing number person.id.0) facts.people)
 seeks_within facts state standing number sound course = record {
@@ -285,6 +287,6 @@ seeks_within facts state standing number sound course = record {
       subst (λ q. IsWithinList list q) (sym one) (subst (λ l. IsWithinList l sought) mine fits);
 }
 
--- what everybody seeks at a cut stands in the choice lists
+-- what everybody seeks at a cut is in the choice lists
 pub seeks_fit : (facts : SeasonFacts) (state : State) (window : ℕ) → IsSound facts → IsCourse facts state → AreSeeks (lists_in_order facts) (seeks_then facts state window)
 seeks_fit facts state window sound course = seeks_within facts state (λ id. standing_then facts state window id) window sound course

@@ -1,14 +1,14 @@
-mod Accepted
+pub mod Accepted
 mod Acts
 mod Answered
 pub mod Changes
 mod Coursed
 pub mod Entering
-mod Falls
+pub mod Falls
 pub mod Fits
 mod InOrder
 mod Made
-mod Raises
+pub mod Raises
 pub mod Rows
 mod Stays
 pub mod Turns

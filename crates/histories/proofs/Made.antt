@@ -151,7 +151,7 @@ rows_same number f g (person ∷ people) same =
 none_yet : (facts : SeasonFacts) (state : State) → state.finals ≡ None → AreLast facts state
 none_yet facts state none rows some = absurd (cc)
 
--- the seat of the last round of whoever holds it by the standing
+-- the seat of the last round, if the candidate holds it by the standing
 abbrev kept_by : Standing → Option Seat → Option Seat
 kept_by standing seat = if holds standing then seat else None
 

@@ -72,7 +72,7 @@ passes false false false first second third row h = record { is_own = refl; is_m
 not_fewer : (m n : ℕ) → nat_le m n ≡ false → n ≤ m
 not_fewer m n e = grind (arith, nat_tests)
 
-was_lift : (facts : SeasonFacts) (old : State) (row : RaiseRow) → row.prog.0 < length (matrix_at facts old).programmes → judge_new_seats (raise_looks facts old row) row ≡ Lift row
+pub was_lift : (facts : SeasonFacts) (old : State) (row : RaiseRow) → row.prog.0 < length (matrix_at facts old).programmes → judge_new_seats (raise_looks facts old row) row ≡ Lift row
     → IsLift (matrix_at facts old) row
 was_lift facts old row below next =
     let looks = raise_looks facts old row in

@@ -1,7 +1,6 @@
 -- The rows of a candidate in a window, and the raises before a window, with a row more.
-use Rattle.std.proofs.Common.{◌≡◌, ◌<◌, ◌≤◌, inl, inr, ℕ, Bool, true, false, List, [], ◌∷◌, ◌++◌, arith, refl, ap, ◌∙◌, nat_lt, ◌==◌, if◌then◌else◌, append-nil}
-use Rattle.std.proofs.lemmas.Bool.{cases_Bool, eq-eqb, eqb-false, eqb-true, lt-ltb}
-use Rattle.std.proofs.lemmas.Bool.Decides.{nat_tests}
+use Rattle.std.proofs.Common.{◌≡◌, ◌<◌, ◌≤◌, inl, inr, ℕ, Bool, true, false, List, [], ◌∷◌, ◌++◌, refl, ap, ◌∙◌, nat_lt, ◌==◌, if◌then◌else◌, append-nil}
+use Rattle.std.proofs.lemmas.Bool.{cases_Bool, eq-eqb, eqb-false, eqb-true, lt-ltb, le-ltb}
 use Rattle.keeper_mem.specs.declared.rows.AnswerRow.{AnswerRow}
 use Rattle.keeper_mem.specs.declared.rows.RaiseRow.{RaiseRow}
 use Rattle.round_options.specs.Options.{standing_of}
@@ -12,7 +11,7 @@ use Rattle.office_moves.proofs.Repeats.{rows_append, rows_when}
 
 -- ---- the rows of a window
 
-window_append : (window : ℕ) (rows more : List AnswerRow) → in_window window (rows ++ more) ≡ in_window window rows ++ in_window window more
+pub window_append : (window : ℕ) (rows more : List AnswerRow) → in_window window (rows ++ more) ≡ in_window window rows ++ in_window window more
 window_append window [] more = refl
 window_append window (row ∷ rows) more =
     ap (λ (z : List AnswerRow). if row.window == window then row ∷ z else z) (window_append window rows more)
@@ -70,14 +69,14 @@ window_same window id rows row apart =
     rows_then window id rows row
     ∙ (ap (λ (z : List AnswerRow). in_window window (rows_of id rows) ++ z) (own_none window id row apart (owns window id row)) ∙ append-nil (in_window window (rows_of id rows)))
 
--- the last row decides how a candidate stands
+-- the last row decides the standing of a candidate
 pub answered_last : (standing : Standing) (rows : List AnswerRow) (row : AnswerRow) → answered standing (rows ++ row ∷ []) ≡ standing_of row.choice
 answered_last standing [] row = refl
 answered_last standing (first ∷ rows) row = answered_last (standing_of first.choice) rows row
 
 -- ---- the raises before a window
 
-lifted_when : (b : Bool) (row : RaiseRow) (rows more : List RaiseRow) → (if b then row ∷ (rows ++ more) else rows ++ more) ≡ (if b then row ∷ rows else rows) ++ more
+pub lifted_when : (b : Bool) (row : RaiseRow) (rows more : List RaiseRow) → (if b then row ∷ (rows ++ more) else rows ++ more) ≡ (if b then row ∷ rows else rows) ++ more
 lifted_when true row rows more = refl
 lifted_when false row rows more = refl
 
@@ -87,14 +86,11 @@ before_append window (row ∷ rows) more =
     ap (λ (z : List RaiseRow). if nat_lt row.window window then row ∷ z else z) (before_append window rows more)
     ∙ lifted_when (nat_lt row.window window) row (raised_before window rows) (raised_before window more)
 
-not_less : (m n : ℕ) → n ≤ m → nat_lt m n ≡ false
-not_less m n less = grind (arith, nat_tests)
-
 -- a raise of this window or a later one is not among those before it
 pub before_same : (window : ℕ) (rows : List RaiseRow) (row : RaiseRow) → window ≤ row.window → raised_before window (rows ++ row ∷ []) ≡ raised_before window rows
 before_same window rows row late =
     before_append window rows (row ∷ [])
-    ∙ (ap (λ (b : Bool). raised_before window rows ++ (if b then row ∷ [] else [])) (not_less row.window window late) ∙ append-nil (raised_before window rows))
+    ∙ (ap (λ (b : Bool). raised_before window rows ++ (if b then row ∷ [] else [])) (le-ltb row.window window late) ∙ append-nil (raised_before window rows))
 
 -- a raise of an earlier window is
 pub before_more : (window : ℕ) (rows : List RaiseRow) (row : RaiseRow) → row.window < window → raised_before window (rows ++ row ∷ []) ≡ raised_before window rows ++ row ∷ []

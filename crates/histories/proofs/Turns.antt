@@ -24,7 +24,7 @@ use Rattle.histories.proofs.Windows.{Runs, along_windows}
 
 -- ---- turns
 
-greater_next : (k n : ℕ) → k ≤ n → greater k n ≡ n
+pub greater_next : (k n : ℕ) → k ≤ n → greater k n ≡ n
 greater_next k n less = by (nat_lt k n) refl
   where
     by : (b : Bool) → nat_lt k n ≡ b → (if b then n else k) ≡ n
@@ -32,7 +32,7 @@ greater_next k n less = by (nat_lt k n) refl
     by false e = grind (arith, nat_tests)
 
 -- the last of turns that count up is as great as there are rows
-turns_count : (k : ℕ) (rows : List AnswerRow) → AreTurnsAfter k rows → greater k (last_turn rows) ≡ k + length rows
+pub turns_count : (k : ℕ) (rows : List AnswerRow) → AreTurnsAfter k rows → greater k (last_turn rows) ≡ k + length rows
 turns_count k [] turns = by (nat_lt k 0) refl
   where
     by : (b : Bool) → nat_lt k 0 ≡ b → (if b then 0 else k) ≡ k + 0

@@ -13,7 +13,7 @@ use Rattle.office_moves.specs.Moves.{next_seeks}
 use Rattle.office_moves.specs.Promise.{IsJust, KeepsItsWord, standing_then}
 use Rattle.histories.specs.Course.{IsCourse, left_then, seeks_then}
 use Rattle.histories.proofs.Entering.{entrants}
-use Rattle.histories.proofs.Fits.{full_seekers, held_before, held_over, seekers_then, seeks_fit, seeks_within}
+use Rattle.histories.proofs.Fits.{full_seekers, held_before, held_over, seekers_then, seeks_within}
 use Rattle.histories.proofs.Falls.{holder_seated, holds_on}
 
 -- every round is just
@@ -32,15 +32,11 @@ just facts state before round sound well course is =
       best = rw made.sought made.best;
     }
 
--- what everybody seeks next stands in the choice lists
-pub next_seeks_fit : (facts : SeasonFacts) (state : State) → IsSound facts → IsCourse facts state → AreSeeks (lists_in_order facts) (seeks_then facts state (length state.rounds))
-next_seeks_fit facts state sound course = seeks_fit facts state (length state.rounds) sound course
-
 -- and so does what everybody seeks by the standings now and the seats of the last round, also after the last cut
 pub seeks_now_fit : (facts : SeasonFacts) (state : State) → IsSound facts → IsCourse facts state → AreSeeks (lists_in_order facts) (next_seeks facts state)
 seeks_now_fit facts state sound course = seeks_within facts state (λ id. standing_then facts state state.now id) (length state.rounds) sound course
 
--- whoever keeps a seat has one
+-- a candidate who keeps a seat has one
 pub holders_seated : (facts : SeasonFacts) (state : State) → IsSound facts → ProgrammesChooseWell → ProgrammesGrow → IsCourse facts state → (id : ℕ)
     → holds (standing_then facts state (length state.rounds) id) ≡ true → IsSome (seat_in facts state.rounds (length state.rounds) id)
 holders_seated facts state sound well grow course id keeps = holder_seated facts state (length state.rounds) id sound well grow course (omega arith) keeps
@@ -50,7 +46,7 @@ no_round : (rounds : List Round) → slice_get rounds (length rounds) ≡ None
 no_round [] = refl
 no_round (round ∷ rounds) = no_round rounds
 
--- after a cut that publishes no round whoever keeps a seat has one in the last round
+-- after a cut that publishes no round, a candidate who keeps a seat has one in the last round
 pub still_seated : (facts : SeasonFacts) (state : State) → IsSound facts → ProgrammesChooseWell → ProgrammesGrow → IsCourse facts state → (id : ℕ)
     → holds (standing_then facts state (suc (length state.rounds)) id) ≡ true → IsSome (seat_in facts state.rounds (length state.rounds) id)
 still_seated facts state sound well grow course id keeps =
@@ -60,7 +56,7 @@ still_seated facts state sound well grow course id keeps =
     let left = held_before (left_then facts state (suc count) id) (standing_then facts state (suc count) id) seat (course.answers (suc count) id) none keeps in
     holders_seated facts state sound well grow course id (held_over (standing_then facts state count id) seat left)
 
--- whoever keeps a seat now has one in the last round
+-- a candidate who keeps a seat now has one in the last round
 pub seated_now : (facts : SeasonFacts) (state : State) → IsSound facts → ProgrammesChooseWell → ProgrammesGrow → IsCourse facts state
     → (state.now ≡ length state.rounds) ⊎ (state.now ≡ suc (length state.rounds)) → (id : ℕ) → holds (standing_then facts state state.now id) ≡ true → IsSome (last_seat facts state.rounds id)
 seated_now facts state sound well grow course (inl now) id keeps =

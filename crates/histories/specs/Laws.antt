@@ -2,9 +2,12 @@
 use Rattle.std.specs.Prelude.{◌≡◌, ◌<◌, ◌≤◌, ◌+◌, ℕ, suc, List, Some, None, IsSome, length, map}
 use Rattle.office_base.specs.Numbered.{last_of}
 use Rattle.office_base.specs.declared.asks.Request.{Request}
-use Rattle.seat_matrix.specs.Matrix.{AreSeats}
+use Rattle.seat_matrix.specs.Matrix.{AreSeats, SeatTable}
+use Rattle.seeks.specs.declared.seek.Seek.{Seek}
+use Rattle.rounds.specs.Round.{IsRound}
+use Rattle.rounds.specs.declared.round.Round.{Round}
 use Rattle.rounds.specs.Rule.{IsRaised}
-use Rattle.office_moves.specs.Facts.{IsSound, SeasonFacts}
+use Rattle.office_moves.specs.Facts.{IsSound, SeasonFacts, lists_in_order}
 use Rattle.office_moves.specs.State.{State, opening}
 use Rattle.office_moves.specs.Raised.{matrix_at, matrix_of_round}
 use Rattle.office_moves.specs.Decided.{decided}
@@ -56,3 +59,14 @@ pub record SeatsRise (facts : SeasonFacts) (state : State) : Type 0 where
 -- In every state that a history reaches seats have only risen.
 abbrev pub SeatsOnlyRise : SeasonFacts → Type 0
 SeatsOnlyRise facts = IsSound facts → (entries : List Entry) (state : State) → Reaches facts opening entries state → SeatsRise facts state
+
+-- Two rounds of a season by one matrix, on one seek for each of the people, are one.
+abbrev pub RoundsAreOne : Type 0
+RoundsAreOne = (facts : SeasonFacts) (table : SeatTable) (n : ℕ) (seeks : List Seek) (first second : Round) → IsSound facts → AreSeats table
+    → table.programmes ≡ facts.matrix.programmes → IsRound facts.version table facts.people (lists_in_order facts) n seeks first
+    → IsRound facts.version table facts.people (lists_in_order facts) n seeks second → first ≡ second
+
+-- A request after a history has one reply, and leads to one state.
+abbrev pub AnswersAreOne : Type 0
+AnswersAreOne = (facts : SeasonFacts) (entries : List Entry) (state after other : State) (request : Request) (reply again : Reply) → IsSound facts
+    → IsHistory facts entries state → IsMove facts state request reply after → IsMove facts state request again other → (reply ≡ again) × (after ≡ other)

@@ -34,7 +34,7 @@ pub record IsOrderly (facts : SeasonFacts) (state : State) : Type 0 where
   pub now : state.now ≤ facts.rounds + 1
   pub unfinished : state.now ≤ facts.rounds → state.finals ≡ None
   pub finished : facts.rounds < state.now → (length state.rounds ≡ facts.rounds) × IsSome state.finals
-  -- whoever keeps a seat has one, and what everybody seeks next stands in the choice lists
+  -- each candidate who keeps a seat has one in the last round, and what everybody seeks next is in the choice lists
   pub seated : (id : ℕ) → holds (standing_then facts state state.now id) ≡ true → IsSome (last_seat facts state.rounds id)
   pub seeks : AreSeeks (lists_in_order facts) (next_seeks facts state)
   -- there is a seat entry for each of the people, and lists for each programme

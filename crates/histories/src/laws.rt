@@ -1,20 +1,13 @@
 // The laws of the states that a history reaches. Each is the contract of a function that does nothing.
-ghost use Rattle.std.specs.Prelude.{◌≡◌, ℕ, List};
-ghost use Rattle.seat_matrix.specs.Matrix.{AreSeats, SeatTable};
-ghost use Rattle.seeks.specs.declared.seek.Seek.{Seek};
-ghost use Rattle.rounds.specs.Round.{IsRound};
-ghost use Rattle.rounds.specs.declared.round.Round.{Round};
-ghost use Rattle.office_moves.specs.Facts.{IsSound, SeasonFacts, lists_in_order};
+ghost use Rattle.std.specs.Prelude.{◌≡◌, List};
+ghost use Rattle.office_moves.specs.Facts.{IsSound, SeasonFacts};
 ghost use Rattle.office_moves.specs.Laws.{NextRoundsAreOne, OneNextRound};
 ghost use Rattle.office_moves.specs.Promise.{KeepsItsWord};
 ghost use Rattle.office_moves.specs.State.{State, opening};
 ghost use Rattle.office_moves.specs.History.{IsHistory, Reaches};
-ghost use Rattle.office_base.specs.declared.asks.Request.{Request};
-ghost use Rattle.office_moves.specs.Moves.{IsMove};
 ghost use Rattle.office_moves.specs.declared.moves.Entry.{Entry};
-ghost use Rattle.office_moves.specs.declared.moves.Reply.{Reply};
 ghost use Rattle.histories.specs.Course.{IsCourse};
-ghost use Rattle.histories.specs.Laws.{AcceptedByItsAct, HistoryGrows, SeatsOnlyRise, TurnsCount, WindowsPass};
+ghost use Rattle.histories.specs.Laws.{AcceptedByItsAct, AnswersAreOne, HistoryGrows, RoundsAreOne, SeatsOnlyRise, TurnsCount, WindowsPass};
 ghost use Rattle.histories.specs.Orderly.{IsOrderly};
 
 /// A newly accepted request comes to the same as its act, asked by its candidate or by the clerk.
@@ -46,7 +39,8 @@ pub fn seats_only_rise()
 
 /// A state that a history reaches has the course of a season.
 pub fn runs_its_course()
-    ensures { (facts : SeasonFacts) (entries : List Entry) (state : State) → IsSound facts → Reaches facts opening entries state → IsCourse facts state }
+    ensures { (facts : SeasonFacts) (entries : List Entry) (state : State) → IsSound facts
+        → Reaches facts opening entries state → IsCourse facts state }
 {
     windows_pass();
     seats_only_rise();
@@ -54,7 +48,8 @@ pub fn runs_its_course()
 
 /// Over a course of a season the office keeps its word: every round is just, and nobody falls.
 pub fn keeps_its_word()
-    ensures { (facts : SeasonFacts) (state : State) → IsSound facts → IsCourse facts state → KeepsItsWord facts state }
+    ensures { (facts : SeasonFacts) (state : State) → IsSound facts
+        → IsCourse facts state → KeepsItsWord facts state }
 {
     round_laws::laws::choose_well();
     round_laws::laws::grow();
@@ -62,7 +57,8 @@ pub fn keeps_its_word()
 
 /// In a state that a history reaches all is in order: the office keeps its word, and its windows, turns, seats and raises fit together.
 pub fn orderly()
-    ensures { (facts : SeasonFacts) (entries : List Entry) (state : State) → IsSound facts → Reaches facts opening entries state → IsOrderly facts state }
+    ensures { (facts : SeasonFacts) (entries : List Entry) (state : State) → IsSound facts
+        → Reaches facts opening entries state → IsOrderly facts state }
 {
     runs_its_course();
     turns_count();
@@ -74,9 +70,7 @@ pub fn orderly()
 
 /// Two rounds of a season by one matrix, on one seek for each of the people, are one.
 pub fn one_round()
-    ensures { (facts : SeasonFacts) (table : SeatTable) (n : ℕ) (seeks : List Seek) (first second : Round) → IsSound facts → AreSeats table
-        → table.programmes ≡ facts.matrix.programmes → IsRound facts.version table facts.people (lists_in_order facts) n seeks first
-        → IsRound facts.version table facts.people (lists_in_order facts) n seeks second → first ≡ second }
+    ensures { RoundsAreOne }
 {
     round_laws::laws::enter();
     round_laws::laws::one_round();
@@ -84,7 +78,8 @@ pub fn one_round()
 
 /// A state in which all is in order has one next round at most.
 pub fn one_next_round()
-    ensures { (facts : SeasonFacts) (state : State) → IsSound facts → IsOrderly facts state → OneNextRound facts state }
+    ensures { (facts : SeasonFacts) (state : State) → IsSound facts
+        → IsOrderly facts state → OneNextRound facts state }
 {
     one_round();
 }
@@ -99,7 +94,8 @@ pub fn next_rounds_are_one()
 
 /// A history leads to one state.
 pub fn one_history()
-    ensures { (facts : SeasonFacts) (entries : List Entry) (state other : State) → IsSound facts → IsHistory facts entries state → IsHistory facts entries other → state ≡ other }
+    ensures { (facts : SeasonFacts) (entries : List Entry) (state other : State) → IsSound facts
+        → IsHistory facts entries state → IsHistory facts entries other → state ≡ other }
 {
     next_rounds_are_one();
     office_moves::laws::one_state();
@@ -107,8 +103,7 @@ pub fn one_history()
 
 /// And a request after it has one reply, and leads to one state.
 pub fn one_answer()
-    ensures { (facts : SeasonFacts) (entries : List Entry) (state after other : State) (request : Request) (reply again : Reply) → IsSound facts → IsHistory facts entries state
-        → IsMove facts state request reply after → IsMove facts state request again other → (reply ≡ again) × (after ≡ other) }
+    ensures { AnswersAreOne }
 {
     next_rounds_are_one();
     office_moves::laws::one_reply();

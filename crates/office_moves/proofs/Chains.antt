@@ -1,7 +1,7 @@
 -- What a chain of refusals comes to.
 use Rattle.std.proofs.Common.{◌≡◌, ◌<◌, ◌+◌, ◌⊎◌, inl, inr, ℕ, Bool, true, false, Option, Some, None, arith, refl, sym, ◌∙◌, subst, not, nat_lt, ◌==◌, if◌then◌else◌}
 use Rattle.std.specs.Prelude.{◌||◌, ◌&&◌, ◌-◌, ◌≢◌, nat_le}
-use Rattle.std.proofs.lemmas.Bool.{cond-true, eqb-false, eqb-true, lt-ltb, ltb-false}
+use Rattle.std.proofs.lemmas.Bool.{cond-true, eqb-false, eqb-true, lt-ltb, ltb-false, or_parts}
 use Rattle.office_base.specs.Limits.{most_matrix_seats, most_step_seats, most_turns}
 use Rattle.seat_matrix.specs.Seats.{is_dereserved}
 use Rattle.round_options.specs.Options.{may_follow}
@@ -153,14 +153,10 @@ cut_chain now window true false true last act h = absurd (cc)
 cut_chain now window true false false true act h = record { is_clerk = refl; is_early = refl; is_ahead = refl; ends = inl (refl, refl) }
 cut_chain now window true false false false act h = record { is_clerk = refl; is_early = refl; is_ahead = refl; ends = inr (refl, refl) }
 
-not_either : (a b : Bool) → a || b ≡ false → (a ≡ false) × (b ≡ false)
-not_either true b e = absurd (cc)
-not_either false b e = (refl, e)
-
 pub cut_new : (by : By) (now rounds window : ℕ) (act : Act) → newly now (judge_cut by now rounds window) ≡ Some act → IsNewCut by now rounds window
 cut_new by now rounds window act h =
     let cuts = cut_chain now window (is_clerk by) (nat_lt window now) (nat_lt now window || nat_lt rounds window) (window == rounds) act h in
-    let within = not_either (nat_lt now window) (nat_lt rounds window) cuts.is_ahead in
+    let within = or_parts (nat_lt now window) (nat_lt rounds window) cuts.is_ahead in
     let low = ltb-false window now cuts.is_early in
     let high = ltb-false now window within.0 in
     let few = ltb-false rounds window within.1 in

@@ -1,7 +1,9 @@
 pub mod Chains
+pub mod Cuts
 pub mod Grows
 pub mod Narrows
 pub mod OneState
 mod OwnView
 pub mod Repeats
 pub mod Rising
+pub mod Sums

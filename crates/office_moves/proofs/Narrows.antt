@@ -57,7 +57,7 @@ kept_without f n q qs e = without_it (f n q) (kept f (n + 1) qs) e
     without_it true rest e = absurd (cc)
     without_it false rest e = refl
 
--- the programme stands in the list, at a place where it passes
+-- the programme is in the list, at a place where it passes
 record Passes (f : ℕ → ProgId → Bool) (n : ℕ) (list : List ProgId) (p : ℕ) : Type 0 where
   place : ℕ
   prog : ProgId
@@ -187,11 +187,11 @@ left_order table seek progs p r distinct less before =
 
 -- ---- what a later seek leaves was applied for under the last one
 
--- whatever the later seek leaves, the last one leaves too, and it stands at the seat or before it
+-- whatever the later seek leaves, the last one leaves too, and it is at the seat or before it
 abbrev pub Narrower : SeatTable → Seek → Seek → List ProgId → ℕ → Type 0
 Narrower table last next progs k = (j : ℕ) (prog : ProgId) → slice_get progs j ≡ Some prog → is_left table next progs j prog ≡ true → (is_left table last progs j prog ≡ true) × (j ≤ k)
 
--- the seat stands at this place of the list, where the last seek left it
+-- the seat is at this place of the list, where the last seek left it
 pub record IsSeatAt (table : SeatTable) (last : Seek) (progs : List ProgId) (seat : Seat) (k : ℕ) : Type 0 where
   pub there : slice_get progs k ≡ Some seat.prog
   pub left : is_left table last progs k seat.prog ≡ true
@@ -258,7 +258,7 @@ FitsLast NoShow last = Unit {0}
 abbrev pub Follows : Standing → Standing → Type 0
 Follows left standing = (standing ≡ left) ⊎ ((choice : Choice) × (may_follow left choice ≡ true) × (standing ≡ standing_of choice))
 
--- of whoever floats, the last seek was of the whole list or up to a place
+-- the last seek of a candidate who floats was of the whole list or up to a place
 float_from : (left : Standing) (last : Seek) → FitsLast left last → Follows left Float → (last ≡ Whole) ⊎ ((n : ℕ) × (last ≡ UpTo n))
 float_from Waiting last fits (inl e) = absurd (cc)
 float_from Waiting last fits (inr (ToFreeze, e, f)) = absurd (cc)
@@ -282,7 +282,7 @@ float_from Withdrawn last fits (inr c) = absurd (let e = c.1 in cc)
 float_from NoShow last fits (inl e) = absurd (cc)
 float_from NoShow last fits (inr c) = absurd (let e = c.1 in cc)
 
--- of whoever slides, it was so too, or within an institute
+-- the last seek of a candidate who slides was of the whole list, up to a place, or within an institute
 slide_from : (left : Standing) (last : Seek) → FitsLast left last → Follows left Slide → (last ≡ Whole) ⊎ (((n : ℕ) × (last ≡ UpTo n)) ⊎ ((n : ℕ) × (last ≡ Within n)))
 slide_from Waiting last fits follows = inl fits
 slide_from Offered last fits follows = inl fits
@@ -298,7 +298,7 @@ slide_from Withdrawn last fits (inr c) = absurd (let e = c.1 in cc)
 slide_from NoShow last fits (inl e) = absurd (cc)
 slide_from NoShow last fits (inr c) = absurd (let e = c.1 in cc)
 
--- whoever keeps a seat seeks nothing that was not applied for
+-- a candidate who keeps a seat seeks nothing that they had not applied for
 pub holder_narrows : (table : SeatTable) (progs : List ProgId) (last : Seek) (left standing : Standing) (seat : Seat) (k : ℕ) → FitsLast left last → Follows left standing
     → holds standing ≡ true → IsSeatAt table last progs seat k → Narrower table last (seek_after standing (Some k)) progs k
 holder_narrows table progs last left Waiting seat k fits follows keeps seated = absurd (cc)

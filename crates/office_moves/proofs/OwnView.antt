@@ -1,4 +1,4 @@
--- What is told to a candidate looks at the candidate's own view.
+-- What the office replies to a candidate looks at the candidate's own view.
 use Rattle.std.proofs.Common.{◌≡◌, ℕ, Bool, Option, length, refl, sym, ap, ◌∙◌, subst}
 use Rattle.office_base.specs.declared.asks.Ask.TheVariants.{Answer, Cut, Seat, Why, List as AskList, State as AskState, Raise}
 use Rattle.office_base.specs.declared.asks.By.{By}

@@ -12,7 +12,7 @@ use Rattle.office_base.proofs.StepNumbers.{one_number}
 use Rattle.rounds.specs.Rule.{IsRaised}
 use Rattle.office_moves.specs.Raised.{raised, raised_to}
 
--- ---- steps are told apart by their numbers
+-- ---- steps are distinguished by their numbers
 
 same_place : (p prog : ℕ) (kind step : StepKind) → ((p ≡ prog) × (kind ≡ step)) ⊎ (p ≡ prog → kind ≡ step → ⊥)
 same_place p prog kind step = elim (cases_Bool (p == prog)) [

@@ -46,7 +46,7 @@ is_candidate Clerk cand = false
 is_candidate (Candidate id) cand = id.0 == cand.0
 is_candidate Nobody cand = false
 
--- the seat of a candidate and why are told to the candidate and to the clerk
+-- the candidate and the clerk may ask for the candidate's seat, and why
 abbrev pub may_ask : By → CandId → Bool
 may_ask by cand = is_clerk by || is_candidate by cand
 
@@ -75,7 +75,8 @@ is_gone Slide = false
 is_gone Withdrawn = true
 is_gone NoShow = true
 
--- The answer that led to a standing. Whoever waits has none: that refusal never comes there, since such a candidate has no seat.
+-- The answer that led to a standing. A waiting candidate has none.
+-- The refusal that names the answer never reaches them, because they have no seat.
 abbrev pub choice_of : Standing → Choice
 choice_of Waiting = ToFloat
 choice_of Offered = ToFloat

@@ -25,7 +25,8 @@ looks_at (AskList round code) = None
 looks_at AskState = None
 looks_at (Raise window code step seats) = None
 
--- Two states that agree in a candidate's view, in how many cuts were made, the published rounds and the own rows, give that candidate's requests equal replies.
+-- Two states that agree in a candidate's view give equal replies to the requests that look at that view alone.
+-- The view is how many cuts were made, the published rounds and the candidate's own rows.
 abbrev pub OwnViewOnly : SeasonFacts → Type 0
 OwnViewOnly facts = (a b after then : State) (by : By) (ask : Ask) (cand : CandId) (reply other : Reply) → looks_at ask ≡ Some cand → view_of a cand.0 ≡ view_of b cand.0
     → IsMove facts a (record { by = by; ask = ask }) reply after → IsMove facts b (record { by = by; ask = ask }) other then → reply ≡ other

@@ -87,7 +87,7 @@ receipt facts state window =
     if nat_lt window facts.rounds then Published (window + 1) (seated_in (round_at state.rounds (window + 1)))
     else Final (unwrap_or (option_map (λ rows. length rows) state.finals) 0)
 
--- the seat is told to whoever is offered it or keeps it
+-- the seat that a reply gives: the candidate's seat if they are offered it or keep it, otherwise none
 abbrev pub told_seat : Standing → Option Seat → Option Seat
 told_seat Waiting seat = None
 told_seat Offered seat = seat
@@ -97,7 +97,7 @@ told_seat Slide seat = seat
 told_seat Withdrawn seat = None
 told_seat NoShow seat = None
 
--- how a candidate stands, with the seat of the last published round
+-- the standing of a candidate, with the seat of the last published round
 abbrev pub seat_reply : SeasonFacts → View → CandId → Reply
 seat_reply facts view cand =
     SeatIs cand (length view.rounds) (standing_at facts view cand.0 view.now) (told_seat (standing_at facts view cand.0 view.now) (last_seat facts view.rounds cand.0))

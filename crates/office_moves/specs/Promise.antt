@@ -34,20 +34,21 @@ pub record IsJust (facts : SeasonFacts) (matrix : SeatTable) (round : Round) : T
 abbrev pub standing_then : SeasonFacts → State → ℕ → ℕ → Standing
 standing_then facts state window id = standing_at facts (view_of state id) id window
 
--- A candidate does not fall from a seat to the next: the new one stands at the same place of the choice list or an earlier one; it is of the same programme
--- after freeze, and at the same institute after slide.
+-- A candidate does not fall from the old seat to the new one. The new programme is at the same place of the choice list, or
+-- earlier. After freeze, the programme is the same. After slide, the institute is the same.
 pub record IsNoWorse (facts : SeasonFacts) (standing : Standing) (id : ℕ) (old new : Seat) : Type 0 where
   pub place : place_of (list_of facts.lists id) new.prog.0 ≤ place_of (list_of facts.lists id) old.prog.0
   pub freeze : standing ≡ Freeze → new.prog ≡ old.prog
   pub slide : standing ≡ Slide → same_institute facts.matrix new.prog.0 old.prog.0 ≡ true
 
--- Whoever stood at freeze, float or slide at the cut of a window had a seat in the round before it, and has one in the round that it published, no worse.
+-- A candidate whose standing was freeze, float or slide at the cut of a window had a seat in the round before the cut.
+-- This candidate has a seat in the round that the cut published, and it is no worse.
 abbrev pub HoldsOn : SeasonFacts → State → ℕ → ℕ → Type 0
 HoldsOn facts state window id = holds (standing_then facts state window id) ≡ true
     → (old new : Seat) × (seat_in facts state.rounds window id ≡ Some old) × (seat_in facts state.rounds (suc window) id ≡ Some new)
     × IsNoWorse facts (standing_then facts state window id) id old new
 
--- the seat of the last round of whoever stood so at the last cut
+-- the seat of the last round, if the standing at the last cut was freeze, float or slide; otherwise none
 abbrev pub kept_to_the_end : SeasonFacts → State → ℕ → Option Seat
 kept_to_the_end facts state id = if holds (standing_then facts state facts.rounds id) then seat_in facts state.rounds facts.rounds id else None
 

@@ -1,4 +1,4 @@
--- What kept tables stand for.
+-- What kept tables represent.
 use Rattle.std.specs.Prelude.{◌≡◌, ◌+◌, ℕ, ◌==◌, ◌&&◌, List, [], ◌∷◌, Option, Some, None, if◌then◌else◌}
 use Rattle.office_base.specs.declared.asks.Seat.{Seat}
 use Rattle.keeper_mem.specs.Tables.{Tables, Untold, NoSeason, Records}
@@ -23,12 +23,13 @@ abbrev pub seat_in_finals : Option (List AllotRow) → ℕ → ℕ → Option Se
 seat_in_finals None number id = None
 seat_in_finals (Some rows) number id = first_allot number id rows
 
--- The seat of a candidate in a round, or the final one for the number after the last round. Whoever is not in the register has none, nor has anybody in a
--- round that is not published.
+-- The seat of a candidate in a round. For the number after the last round, it is the final seat.
+-- A candidate who is not in the register has none. Nobody has a seat in a round that is not published.
 abbrev pub published_seat : SeasonFacts → State → ℕ → ℕ → Option Seat
 published_seat facts state number id = if number == facts.rounds + 1 then seat_in_finals state.finals number id else seat_in facts state.rounds number id
 
--- Records stand for a state of a season: its text; the raises and the answers of each window, in their order; the number of cuts; and each published seat.
+-- Records represent a state of a season: its text; the raises and the answers of each window, in their order; the number of
+-- cuts; and each published seat.
 pub record AreRecordsOf (facts : SeasonFacts) (state : State) (records : Kept) : Type 0 where
   pub season : records.season ≡ facts.text
   pub raises : (window : ℕ) → raises_in window records.raises ≡ raises_in window state.raises
@@ -36,7 +37,8 @@ pub record AreRecordsOf (facts : SeasonFacts) (state : State) (records : Kept) :
   pub cuts : records.cuts ≡ state.now
   pub allots : (number id : ℕ) → first_allot number id records.allots ≡ published_seat facts state number id
 
--- Tables stand for a state where they are told.
+-- Tables represent a state. Hidden tables represent every state, and the tables of no season none.
+-- Records represent a state if they are its records.
 abbrev pub Stand : SeasonFacts → State → Tables → Type 0
 Stand facts state Untold = Unit {0}
 Stand facts state NoSeason = ⊥

@@ -46,7 +46,8 @@ with_finals state rows = record state { now = state.now + 1; finals = Some rows 
 
 -- ---- the view of one candidate
 
--- what the replies to a candidate are computed from, beside the season: how many cuts were made, the published rounds, and the candidate's own rows
+-- What the replies to a candidate are computed from, in addition to the season: how many cuts were made, the published rounds,
+-- and the candidate's own rows.
 pub record View : Type 0 where
   pub now : ℕ
   pub rounds : List Round
@@ -79,7 +80,7 @@ abbrev pub last_turn : List AnswerRow → ℕ
 last_turn [] = 0
 last_turn (row ∷ rows) = greater row.turn (last_turn rows)
 
--- how a candidate stands after some rows: as the last of them says, or as before where there is none
+-- the standing after some rows: that of the last row, or unchanged if there is none
 abbrev pub answered : Standing → List AnswerRow → Standing
 answered standing [] = standing
 answered standing (row ∷ rows) = answered (standing_of row.choice) rows
@@ -107,6 +108,6 @@ abbrev pub left_by : SeasonFacts → View → ℕ → ℕ → Standing
 left_by facts view id zero = Waiting
 left_by facts view id (suc window) = after_cut (answered (left_by facts view id window) (in_window window view.rows)) (seat_in facts view.rounds (suc window) id)
 
--- how the candidate stands at the cut of a window, or now, where it is open
+-- the standing of the candidate at the cut of a window, or now if the window is open
 abbrev pub standing_at : SeasonFacts → View → ℕ → ℕ → Standing
 standing_at facts view id window = answered (left_by facts view id window) (in_window window view.rows)

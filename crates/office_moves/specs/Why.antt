@@ -31,13 +31,14 @@ reason_in facts prog None person = NotSought
 reason_in facts prog (Some programme) None = NotSought
 reason_in facts prog (Some programme) (Some person) = Because (reason_of (list_in facts.matrix prog.0) programme person)
 
--- for whoever does not hold the programme: that it was not sought, or the reason
+-- the answer for a candidate who does not hold the programme: that it was not sought, or the reason
 abbrev pub why_refused : SeasonFacts → Round → CandId → ProgId → WhyAnswer
 why_refused facts round cand prog =
     if is_sought_by facts cand prog (at_person cand.0 facts.people round.seeks)
     then reason_in facts prog (slice_get round.programmes prog.0) (find_person cand.0 facts.people) else NotSought
 
--- by the seat that the candidate has: it is one of the programme, or of one that stands earlier on the list, or neither
+-- The answer by the seat that the candidate has. For a seat of the programme it is the step that admitted the candidate.
+-- For a seat of a programme earlier on the list it is that programme. Otherwise it is the answer of `why_refused`.
 abbrev pub why_beside : SeasonFacts → Round → CandId → ProgId → Option Seat → WhyAnswer
 why_beside facts round cand prog None = why_refused facts round cand prog
 why_beside facts round cand prog (Some seat) =

@@ -27,13 +27,13 @@ pub enum Decision {
     Publish,
     /// The cut is accepted, and publishes the final admissions.
     Finish,
-    /// The seat of the candidate is told.
+    /// The reply gives the seat of the candidate.
     TellSeat { cand: CandId },
-    /// It is told why the candidate has no seat of the programme, or has one.
+    /// The reply says why the candidate has no seat of the programme, or has one.
     TellWhy { cand: CandId, prog: ProgId },
-    /// The lists of the programme in the round are told.
+    /// The reply gives the lists of the programme in the round.
     TellList { round: u16, prog: ProgId },
-    /// It is told how far the office is.
+    /// The reply says how far the office is.
     TellState,
 }
 
@@ -52,7 +52,7 @@ pub struct AnswerLooks {
     pub last: u16,
     /// How the last cut left the candidate.
     pub left: Standing,
-    /// How the candidate stands with the answers of the open window.
+    /// The standing of the candidate with the answers of the open window.
     pub standing: Standing,
     /// The candidate has a seat in the last published round.
     pub seated: bool,
@@ -258,7 +258,7 @@ fn not_open(now: u16, rounds: u16, window: u16) -> Option<Refusal>
     None
 }
 
-/// Whether seat and why of a candidate are told to this one.
+/// Returns whether this sender may ask for a candidate's seat, or why.
 fn may_ask(by: By, cand: CandId) -> bool
     ensures { result ≡ may_ask by cand }
 {
@@ -272,7 +272,7 @@ fn is_gone(standing: Standing) -> bool
     matches!(standing, Standing::Withdrawn | Standing::NoShow)
 }
 
-/// The answer that led to a standing. Whoever waits has none, and is told another refusal before.
+/// Returns the answer that led to a standing. A waiting candidate has given none, and gets another refusal before.
 fn choice_of(standing: Standing) -> Choice
     ensures { result ≡ choice_of standing }
 {

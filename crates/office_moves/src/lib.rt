@@ -1,8 +1,8 @@
-// The office as a machine over requests: its state, what each request comes to, and the history of what was accepted.
+// The office as a machine over requests: its state, what each request results in, and the history of what was accepted.
 //
-// `specs/` says what a move is, with the refusals in their order, which state a history leads to, what kept tables stand for, and what the
-// office promises of every state that a history reaches. The office over a keeper stands on it. It must never know how a round is made, nor
-// how records are kept.
+// `specs/` says what a move is, with the refusals in their order, and which state a history leads to.
+// It also says what kept tables represent, and what the office promises of every state that a history reaches.
+// The office over a keeper depends on this crate. This crate must never know how a round is made or how records are kept.
 #![tactic(auto)]
 
 pub mod decide;

@@ -53,7 +53,7 @@ pub enum Reply {
     Final {
         admitted: u32,
     },
-    /// How a candidate stands, with the seat of the last published round, which is round 0 where there is none.
+    /// The standing of a candidate, with the seat of the last published round. The round is 0 if none is published.
     SeatIs {
         cand: CandId,
         round: u16,

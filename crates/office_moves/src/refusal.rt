@@ -5,8 +5,8 @@ ghost use Rattle.office_moves.specs.Refusals.{name_of, number_of};
 use office_base::Choice;
 use round_options::Standing;
 
-/// Why a request is refused. The first that applies, in the order of the numbers, is told; number 4 is no refusal but the receipt of a request
-/// that was accepted before.
+/// Why a request is refused. The reply has the first that applies, in the order of the numbers.
+/// Number 4 is no refusal. It is the receipt of a request that was accepted before.
 #[derive(Clone, Copy, Debug, PartialEq, Eq)]
 pub enum Refusal {
     /// The candidate is not in the register.

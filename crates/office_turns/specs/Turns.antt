@@ -4,14 +4,14 @@ use Rattle.office_base.specs.declared.asks.Choice.{Choice}
 use Rattle.office_base.specs.declared.asks.Choice.TheVariants.{Freeze, Float, Slide, Withdraw}
 use Rattle.office_turns.specs.declared.turns.Turns.{Turns}
 
--- the digit to base 4 that stands for a choice
+-- the digit to base 4 that represents a choice
 abbrev pub digit_of : Choice → ℕ
 digit_of Freeze = 0
 digit_of Float = 1
 digit_of Slide = 2
 digit_of Withdraw = 3
 
--- the choice that a digit to base 4 stands for
+-- the choice that a digit to base 4 represents
 abbrev pub of_digit : ℕ → Choice
 of_digit zero = Freeze
 of_digit (suc zero) = Float

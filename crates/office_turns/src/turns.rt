@@ -62,7 +62,8 @@ impl TurnTable {
     /// The choice of the candidate at this place at a turn, from 1. None exactly where that turn was not taken. It takes no memory.
     pub fn choice(&self, at: usize, turn: u16) -> Option<Choice>
         requires { at < length self.now }
-        ensures { option_map (λ choices. choice_at choices turn) (slice_get self.now at) ≡ Some result }
+        ensures { option_map (λ choices. choice_at choices turn) (slice_get self.now at)
+            ≡ Some result }
     {
         let slot = &self.slots[at];
         if turn == 0 || turn > u16::from(slot.count) {
@@ -86,7 +87,8 @@ impl TurnTable {
     /// One turn more of the candidate at this place. It takes no memory.
     pub fn put(&mut self, at: usize, choice: Choice)
         requires { (old : List Choice) × (slice_get self.old at ≡ Some old) × (length old < 17) }
-        ensures { (old : List Choice) → slice_get self.old at ≡ Some old → self.new ≡ slice_set self.old at (old ++ choice ∷ []) }
+        ensures { (old : List Choice) → slice_get self.old at ≡ Some old
+            → self.new ≡ slice_set self.old at (old ++ choice ∷ []) }
     {
         let slot = &mut self.slots[at];
         let count = usize::from(slot.count);
@@ -133,7 +135,7 @@ fn with_choice(byte: u8, place: usize, choice: Choice) -> u8
     }
 }
 
-/// The digit that stands for a choice.
+/// Returns the digit that represents a choice.
 fn digit_for(choice: Choice) -> u8
     ensures { result ≡ digit_of choice }
 {
@@ -145,7 +147,7 @@ fn digit_for(choice: Choice) -> u8
     }
 }
 
-/// The choice that a digit stands for.
+/// Returns the choice that a digit represents.
 fn choice_of(digit: u8) -> Choice
     ensures { result ≡ of_digit digit }
 {

@@ -2,10 +2,10 @@
 use Rattle.std.proofs.Common.{◌≡◌, ◌≤◌, suc, Some, arith, sym, ap, ◌∙◌, subst}
 use Rattle.std.proofs.lemmas.Option.{slice_get_within}
 use Rattle.office_base.specs.declared.person.Person.{Person}
+use Rattle.office_base.proofs.Lists.{there_is}
 use Rattle.allocations.specs.Market.{rank_of}
 use Rattle.seeks.specs.Seek.{seek_leaves}
 use Rattle.seeks.proofs.Left.{leaves_same}
-use Rattle.round_laws.proofs.People.{there_is}
 use Rattle.round_laws.specs.Laws as theory
 use Rattle.office_moves.specs.Facts.{SeasonFacts, lists_in_order}
 use Rattle.office_moves.specs.Promise.{all_sought_then, sought_then}

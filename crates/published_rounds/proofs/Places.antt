@@ -7,13 +7,13 @@ use Rattle.office_base.proofs.People.{at_person-get}
 use Rattle.office_base.specs.Lists.{IsAmong}
 use Rattle.office_base.specs.declared.asks.Seat.{Seat}
 use Rattle.office_base.specs.declared.person.Person.{Person}
+use Rattle.office_base.proofs.Lists.{there_is}
 use Rattle.allocations.specs.Market.{Seeker}
 use Rattle.choice_lists.specs.Choices.{list_of}
 use Rattle.seeks.proofs.Left.{leaves_same}
 use Rattle.rounds.specs.Round.{IsRound}
 use Rattle.rounds.specs.Rule.{AreEntrants}
 use Rattle.rounds.specs.declared.round.Round.{Round}
-use Rattle.round_laws.proofs.People.{there_is}
 use Rattle.office_moves.specs.Facts.{IsSound, SeasonFacts, lists_in_order}
 use Rattle.office_moves.specs.History.{Reaches}
 use Rattle.office_moves.specs.Promise.{all_sought_then, sought_then}

@@ -13,6 +13,7 @@ use Rattle.office_base.specs.declared.asks.Seat.{Seat}
 use Rattle.office_base.specs.declared.person.Person.{Person}
 use Rattle.office_base.specs.declared.step.StepKind.{StepKind}
 use Rattle.office_base.specs.declared.step.StepKind.TheVariants.{Open, Ews, Obc, Sc, St, Dereserved}
+use Rattle.office_base.proofs.Lists.{there_is}
 use Rattle.placements.proofs.Filters.{filter-sublist}
 use Rattle.placements.proofs.Ranks.{among_again, are_among, ranked_sublist}
 use Rattle.placements.proofs.Sublists.{IsSublist-take, length-sublist, sublist_again}
@@ -25,12 +26,11 @@ use Rattle.programme_lists.specs.Chosen.{AdmitsUnder, ChoosesFrom}
 use Rattle.programme_lists.specs.Programme.{Admissions, admitted_by, left_over, people_of, unfilled}
 use Rattle.open_then_category.specs.Laws.{OneProgrammeChoice}
 use Rattle.seat_matrix.specs.Matrix.{SeatTable, list_in, seating_in, seats_in}
-use Rattle.seat_matrix.specs.Seats.{is_dereserved}
 use Rattle.seat_matrix.specs.Unfilled.{left_unfilled}
+use Rattle.programme_lists.proofs.Seats.{own_seats}
 use Rattle.rounds.specs.Rule.{MayApplyIn, ProgrammesChooseWell, rule_of}
 use Rattle.rounds.specs.declared.round.Round.{Round}
 use Rattle.rounds.proofs.Entrants.{market}
-use Rattle.round_laws.proofs.People.{there_is}
 use Rattle.office_moves.specs.Facts.{IsSound, SeasonFacts, lists_in_order}
 use Rattle.office_moves.specs.Promise.{all_sought_then}
 use Rattle.office_moves.specs.State.{State}
@@ -64,16 +64,6 @@ under_of prog step None e = absurd (cc)
 under_of prog step (Some seat) e = (and_parts (seat.prog.0 == prog) (step_number seat.step == step_number step) e).0
 
 -- ---- whom a programme admits
-
--- no step admits more than its seats
-own_seats : (version : ℕ) (table : SeatTable) (prog : ℕ) (people : List Person) (admissions : Admissions) (step : StepKind) → ChoosesFrom version (seats_in table prog) people admissions
-    → is_dereserved step ≡ false → length (admitted_by admissions step) ≤ (seating_in table prog step).seats
-own_seats version table prog people admissions Open choice own = choice.open_step.may.seats
-own_seats version table prog people admissions Ews choice own = choice.ews.may.seats
-own_seats version table prog people admissions Obc choice own = choice.obc.may.seats
-own_seats version table prog people admissions Sc choice own = choice.sc.may.seats
-own_seats version table prog people admissions St choice own = choice.st.may.seats
-own_seats version table prog people admissions Dereserved choice own = absurd (cc)
 
 last_seats : (version : ℕ) (table : SeatTable) (prog : ℕ) (people : List Person) (admissions : Admissions) → ChoosesFrom version (seats_in table prog) people admissions
     → length admissions.dereserved ≤ unfilled version (seats_in table prog) admissions

@@ -1,7 +1,7 @@
 -- What was accepted in a season can be accepted window after window: the raises of a window in their order, then its answers in theirs, then its cut.
-use Rattle.std.proofs.Common.{◌≡◌, ◌≢◌, ◌≤◌, ◌<◌, ◌+◌, ◌++◌, ◌&&◌, ◌==◌, ◌⊎◌, inl, inr, ℕ, zero, suc, Bool, true, false, List, [], ◌∷◌, Option, Some, None, length, map, arith, refl, sym, ap, ◌∙◌, subst, nat_lt, if◌then◌else◌}
-use Rattle.std.specs.Prelude.{is_some, ◌||◌}
-use Rattle.std.proofs.lemmas.Bool.{cases_Bool, cond-false, eqb-true, eq-eqb, lt-ltb, ltb-false}
+use Rattle.std.proofs.Common.{◌≡◌, ◌≢◌, ◌≤◌, ◌<◌, ◌+◌, ◌++◌, ◌&&◌, ◌==◌, ◌⊎◌, ℕ, zero, suc, Bool, true, false, List, [], ◌∷◌, Option, Some, None, length, map, arith, refl, sym, ap, ◌∙◌, subst, if◌then◌else◌}
+use Rattle.std.specs.Prelude.{is_some}
+use Rattle.std.proofs.lemmas.Bool.{cond-false, eq-eqb, lt-ltb, ne_eqb}
 use Rattle.std.proofs.lemmas.List.{length-append}
 use Rattle.office_base.proofs.Lists.{get-before}
 use Rattle.office_base.specs.declared.asks.By.{By}
@@ -12,7 +12,6 @@ use Rattle.keeper_mem.specs.declared.rows.RaiseRow.{RaiseRow}
 use Rattle.rounds.specs.declared.round.Round.{Round}
 use Rattle.office_moves.specs.Facts.{SeasonFacts}
 use Rattle.office_moves.specs.State.{State, in_window, opening, round_at, seat_in, seat_of, with_finals, with_raise, with_round, with_row}
-use Rattle.office_moves.specs.Judge.{not_open}
 use Rattle.office_moves.specs.Decided.{decided}
 use Rattle.office_moves.specs.Moves.{IsMove, final_rows}
 use Rattle.office_moves.specs.History.{Reaches, asked, newly}
@@ -22,9 +21,8 @@ use Rattle.office_moves.specs.declared.moves.Act.{Act}
 use Rattle.office_moves.specs.declared.moves.Act.TheVariants.{Answer, Raise, Cut}
 use Rattle.office_moves.specs.declared.moves.Entry.{Entry}
 use Rattle.office_moves.specs.declared.moves.Reply.{Reply}
-use Rattle.office_moves.specs.declared.refusal.Refusal.{Refusal}
-use Rattle.office_moves.specs.declared.refusal.Refusal.TheVariants.{Ahead, Late}
 use Rattle.histories.proofs.Changes.{Answered, Change, Finishes, Publishes, Raised, changes}
+use Rattle.histories.proofs.Accepted.{is_open}
 use Rattle.replays.specs.Replay.{CutPasses, takes, takes_answer, takes_raise, with_act}
 
 -- ---- rows that are accepted one after another
@@ -90,9 +88,6 @@ left_out : {X : Type 0} (b : Bool) (x : X) → b ≡ false → (if b then x ∷ 
 left_out true x e = absurd (cc)
 left_out false x e = refl
 
-apart : (m n : ℕ) → m ≢ n → (m == n) ≡ false
-apart m n other = elim (cases_Bool (m == n)) [ inl same ↦ absurd (other (eqb-true m n same)) | inr e ↦ e ]
-
 nil_after : {X : Type 0} (xs : List X) → xs ++ [] ≡ xs
 nil_after [] = refl
 nil_after (x ∷ xs) = ap (λ l. x ∷ l) (nil_after xs)
@@ -102,14 +97,14 @@ raises_here window rows row same = raises_append window rows row ∙ ap (λ l. r
 
 raises_elsewhere : (window : ℕ) (rows : List RaiseRow) (row : RaiseRow) → row.window ≢ window → raises_in window (rows ++ row ∷ []) ≡ raises_in window rows
 raises_elsewhere window rows row other =
-    raises_append window rows row ∙ (ap (λ l. raises_in window rows ++ l) (left_out (row.window == window) row (apart row.window window other)) ∙ nil_after (raises_in window rows))
+    raises_append window rows row ∙ (ap (λ l. raises_in window rows ++ l) (left_out (row.window == window) row (ne_eqb row.window window other)) ∙ nil_after (raises_in window rows))
 
 answers_here : (window : ℕ) (rows : List AnswerRow) (row : AnswerRow) → row.window ≡ window → in_window window (rows ++ row ∷ []) ≡ in_window window rows ++ row ∷ []
 answers_here window rows row same = answers_append window rows row ∙ ap (λ l. in_window window rows ++ l) (chosen (row.window == window) row (eq-eqb row.window window same))
 
 answers_elsewhere : (window : ℕ) (rows : List AnswerRow) (row : AnswerRow) → row.window ≢ window → in_window window (rows ++ row ∷ []) ≡ in_window window rows
 answers_elsewhere window rows row other =
-    answers_append window rows row ∙ (ap (λ l. in_window window rows ++ l) (left_out (row.window == window) row (apart row.window window other)) ∙ nil_after (in_window window rows))
+    answers_append window rows row ∙ (ap (λ l. in_window window rows ++ l) (left_out (row.window == window) row (ne_eqb row.window window other)) ∙ nil_after (in_window window rows))
 
 map_more : {X Y : Type 0} (f : X → Y) (xs : List X) (x : X) → map f (xs ++ x ∷ []) ≡ map f xs ++ f x ∷ []
 map_more f [] x = refl
@@ -280,21 +275,8 @@ published_before facts old round number id few =
 finished_before : (facts : SeasonFacts) (old : State) (rows : List AllotRow) (number id : ℕ) → number ≢ facts.rounds + 1
     → published_seat facts (with_finals old rows) number id ≡ published_seat facts old number id
 finished_before facts old rows number id other =
-    cond-false (number == facts.rounds + 1) (seat_in_finals (Some rows) number id) (seat_in facts old.rounds number id) (apart number (facts.rounds + 1) other)
-    ∙ sym (cond-false (number == facts.rounds + 1) (seat_in_finals old.finals number id) (seat_in facts old.rounds number id) (apart number (facts.rounds + 1) other))
-
--- a window that is open is the one of now
-opened : (now rounds window : ℕ) → not_open now rounds window ≡ None → window ≡ now
-opened now rounds window e =
-    let tests = none_passes (nat_lt window now) (nat_lt now window) (nat_lt rounds window) (Late now) (Ahead now) e in
-    let low = ltb-false window now tests.0 in
-    let high = ltb-false now window tests.1 in
-    omega (arith, low, high)
-  where
-    none_passes : (late ahead beyond : Bool) (r s : Refusal) → (if late then Some r else if ahead || beyond then Some s else None) ≡ None → (late ≡ false) × (ahead ≡ false)
-    none_passes true ahead beyond r s e = absurd (cc)
-    none_passes false true beyond r s e = absurd (cc)
-    none_passes false false beyond r s e = (refl, refl)
+    cond-false (number == facts.rounds + 1) (seat_in_finals (Some rows) number id) (seat_in facts old.rounds number id) (ne_eqb number (facts.rounds + 1) other)
+    ∙ sym (cond-false (number == facts.rounds + 1) (seat_in_finals old.finals number id) (seat_in facts old.rounds number id) (ne_eqb number (facts.rounds + 1) other))
 
 cut_passes : (facts : SeasonFacts) (old new : State) (act : Act) (reply : Reply) → act ≡ Cut old.now → newly old.now (decided facts old (asked facts act)) ≡ Some act
     → IsMove facts old (asked facts act) reply new → CutPasses facts old new
@@ -310,11 +292,11 @@ goes_on : (facts : SeasonFacts) (old new : State) (act : Act) (reply : Reply) �
 goes_on facts old new act reply accepted moves (Answered row asks is fresh same) here =
     let newly_row : newly old.now (decided facts old (asked facts (Answer row))) ≡ Some (Answer row) = subst (λ a. newly old.now (decided facts old (asked facts a)) ≡ Some a) is accepted in
     subst (λ s. GoesByWindows facts s) (sym same)
-    (goes_answer facts old row (opened old.now facts.rounds row.window fresh.opened) (ap (λ o. is_some o) newly_row) here)
+    (goes_answer facts old row (is_open old.now facts.rounds row.window fresh.opened).0 (ap (λ o. is_some o) newly_row) here)
 goes_on facts old new act reply accepted moves (Raised row code asks found known is fresh same) here =
     let newly_row : newly old.now (decided facts old (asked facts (Raise row))) ≡ Some (Raise row) = subst (λ a. newly old.now (decided facts old (asked facts a)) ≡ Some a) is accepted in
     subst (λ s. GoesByWindows facts s) (sym same)
-    (goes_raise facts old row (opened old.now facts.rounds row.window fresh.opened) (both (lt-ltb row.prog.0 (length facts.matrix.programmes) found.below) (ap (λ o. is_some o) newly_row)) here)
+    (goes_raise facts old row (is_open old.now facts.rounds row.window fresh.opened).0 (both (lt-ltb row.prog.0 (length facts.matrix.programmes) found.below) (ap (λ o. is_some o) newly_row)) here)
   where
     both : {a b : Bool} → a ≡ true → b ≡ true → (a && b) ≡ true
     both first second = cc

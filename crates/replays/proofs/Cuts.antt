@@ -1,7 +1,6 @@
 -- The cut of the open window, and the seats that are published.
-use Rattle.std.proofs.Common.{◌≡◌, ◌<◌, ◌≤◌, ◌+◌, inl, inr, ℕ, Bool, true, false, List, [], Option, Some, None, length, refl, sym, ap, ◌∙◌, subst, arith, ◌==◌, nat_lt, if◌then◌else◌}
-use Rattle.std.specs.Prelude.{◌||◌}
-use Rattle.std.proofs.lemmas.Bool.{cases_Bool, eq-eqb, eqb-true, ltb-true}
+use Rattle.std.proofs.Common.{◌≡◌, ◌<◌, ◌+◌, ℕ, Bool, true, false, List, [], Option, Some, None, length, refl, sym, ap, ◌∙◌, subst, arith, ◌==◌, if◌then◌else◌}
+use Rattle.std.proofs.lemmas.Bool.{eq-eqb, eqb-true}
 use Rattle.office_base.specs.declared.asks.Seat.{Seat}
 use Rattle.office_base.specs.declared.person.Person.{Person}
 use Rattle.keeper_mem.specs.declared.rows.AllotRow.{AllotRow}
@@ -10,38 +9,19 @@ use Rattle.rounds.specs.declared.round.Round.{Round}
 use Rattle.office_moves.specs.Decided.{decided}
 use Rattle.office_moves.specs.Facts.{SeasonFacts}
 use Rattle.office_moves.specs.History.{asked, newly}
-use Rattle.office_moves.specs.Judge.{refuse_if}
 use Rattle.office_moves.specs.Moves.{Does, IsNextRound, final_rows, rows_along}
 use Rattle.office_moves.specs.State.{State, with_finals, with_round}
 use Rattle.office_moves.specs.declared.decide.Decision.{Decision}
-use Rattle.office_moves.specs.declared.decide.Decision.TheVariants.{CutAgain, Finish, Publish}
+use Rattle.office_moves.specs.declared.decide.Decision.TheVariants.{Finish, Publish}
 use Rattle.office_moves.specs.declared.moves.Act.TheVariants.{Cut}
 use Rattle.office_moves.specs.declared.moves.Reply.TheVariants.{Final, Published}
-use Rattle.office_moves.specs.declared.refusal.Refusal.{Refusal}
-use Rattle.office_moves.specs.declared.refusal.Refusal.TheVariants.{Ahead}
 use Rattle.histories.specs.Orderly.{IsOrderly}
 use Rattle.office_moves.specs.Promise.{kept_to_the_end}
 use Rattle.office_moves.specs.Stands.{first_allot, seat_in_finals}
+use Rattle.office_moves.proofs.Cuts.{ends}
 use Rattle.replays.specs.Differences.{AreFound, IsOfNobody, seat_along}
 use Rattle.replays.specs.Replay.{CutPasses}
 use Rattle.replays.proofs.Seats.{AreRising, found_along, rows_outside}
-
-lt_false : (m n : ℕ) → n ≤ m → nat_lt m n ≡ false
-lt_false m n few = elim (cases_Bool (nat_lt m n)) [ inl less ↦ absurd (let f = ltb-true m n less in omega (arith, f, few)) | inr other ↦ other ]
-
-chain : (early ahead last : Bool) (now : ℕ) (refusal : Refusal) → early ≡ false → ahead ≡ false → (if early then CutAgain now else refuse_if ahead refusal (if last then Finish else Publish)) ≡ (if last then Finish else Publish)
-chain true ahead last now refusal e f = absurd (cc)
-chain false true last now refusal e f = absurd (cc)
-chain false false last now refusal e f = refl
-
-neither : (a b : Bool) → a ≡ false → b ≡ false → a || b ≡ false
-neither true b e f = absurd (cc)
-neither false b e f = f
-
-ends : (facts : SeasonFacts) (state : State) → state.now ≤ facts.rounds → decided facts state (asked facts (Cut state.now)) ≡ (if state.now == facts.rounds then Finish else Publish)
-ends facts state few =
-    chain (nat_lt state.now state.now) (nat_lt state.now state.now || nat_lt facts.rounds state.now) (state.now == facts.rounds) state.now (Ahead state.now) (lt_false state.now state.now (omega arith))
-    (neither (nat_lt state.now state.now) (nat_lt facts.rounds state.now) (lt_false state.now state.now (omega arith)) (lt_false facts.rounds state.now few))
 
 pub publishes : (facts : SeasonFacts) (state : State) → state.now < facts.rounds → decided facts state (asked facts (Cut state.now)) ≡ Publish
 publishes facts state less = ends facts state (omega (arith, less)) ∙ step (state.now == facts.rounds) refl

@@ -1,7 +1,7 @@
 -- The entries that the rows of a window give, and its cut.
 use Rattle.std.proofs.Common.{◌≡◌, ◌≢◌, ◌<◌, ◌≤◌, ◌+◌, ℕ, suc, add-one, Bool, true, false, List, [], ◌∷◌, ◌++◌, arith, length, refl, sym, ap, ◌∙◌, subst, append-nil, ◌==◌, nat_lt, if◌then◌else◌, drop, get_or}
 use Rattle.std.specs.Prelude.{map}
-use Rattle.std.proofs.lemmas.Bool.{eq-eqb, lt-ltb}
+use Rattle.std.proofs.lemmas.Bool.{eq-eqb, lt-ltb, ne_eqb, le-ltb}
 use Rattle.std.proofs.lemmas.List.{at_drop_all, at_drop_more}
 use Rattle.keeper_mem.specs.declared.rows.Kept.{Kept}
 use Rattle.office_moves.specs.declared.moves.Act.{Act}
@@ -11,9 +11,7 @@ use Rattle.replays.specs.Acts.{acts_before, acts_in, cut_acts, kept_acts, row_ac
 use Rattle.replays.specs.Counted.{Follow}
 use Rattle.replays.specs.Replay.{window_of}
 use Rattle.replays.proofs.Numbers.{follow_more, follow_none}
-use Rattle.replays.proofs.Passed.{lt_false}
 use Rattle.replays.proofs.RowLemmas.{answers_are, raises_are}
-use Rattle.replays.proofs.Tables.{eq_fails}
 
 as_follows : (one two : List Act) (old new : List Entry) → one ≡ two → Follow one old new → Follow two old new
 as_follows one two old new same follow = subst (λ (acts : List Act). Follow acts old new) same follow
@@ -32,7 +30,7 @@ follow_own window act rest old mid new here one more =
 
 -- a row of another window
 pub follow_past : (window : ℕ) (act : Act) (rest : List Act) (old new : List Entry) → window_of act ≢ window → Follow (acts_in window rest) old new → Follow (acts_in window (act ∷ rest)) old new
-follow_past window act rest old new apart more = as_follows (acts_in window rest) (acts_in window (act ∷ rest)) old new (step (window_of act == window) (eq_fails (window_of act) window apart)) more
+follow_past window act rest old new apart more = as_follows (acts_in window rest) (acts_in window (act ∷ rest)) old new (step (window_of act == window) (ne_eqb (window_of act) window apart)) more
   where
     step : (b : Bool) → b ≡ false → acts_in window rest ≡ (if b then act ∷ acts_in window rest else acts_in window rest)
     step true e = absurd (cc)
@@ -78,4 +76,4 @@ pub follow_last : (kept : Kept) (first old new : List Entry) → Follow (acts_be
 follow_last kept first old new before rows =
     follow_window kept kept.cuts first old new before
     (as_follows (row_acts kept kept.cuts) (window_acts kept kept.cuts) old new
-    (sym (append-nil (row_acts kept kept.cuts)) ∙ ap (λ (b : Bool). row_acts kept kept.cuts ++ cut_acts kept.cuts b) (sym (lt_false kept.cuts kept.cuts (omega arith)))) rows)
+    (sym (append-nil (row_acts kept kept.cuts)) ∙ ap (λ (b : Bool). row_acts kept kept.cuts ++ cut_acts kept.cuts b) (sym (le-ltb kept.cuts kept.cuts (omega arith)))) rows)

@@ -1,7 +1,8 @@
 -- What is so of a state to which kept records were replayed: it has their rows and their seats.
 use Rattle.std.proofs.Common.{◌≡◌, ◌≢◌, ◌<◌, ◌≤◌, ◌+◌, ◌⊎◌, inl, inr, ℕ, zero, suc, add-one, Bool, true, false, List, [], ◌∷◌, ◌++◌, Option, Some, length, arith, refl, sym, ap, ◌∙◌, subst, append-nil, ◌==◌, nat_lt, if◌then◌else◌}
 use Rattle.std.specs.Prelude.{slice_get}
-use Rattle.std.proofs.lemmas.Bool.{cases_Bool, cases_lt, eqb-true, lt-ltb, ltb-true}
+use Rattle.std.proofs.lemmas.Bool.{cases_lt, eqb-true, lt-ltb, ne_eqb, le-ltb}
+use Rattle.std.proofs.lemmas.List.{length_push}
 use Rattle.office_base.specs.declared.asks.By.TheVariants.{Clerk}
 use Rattle.keeper_mem.specs.declared.rows.AllotRow.{AllotRow}
 use Rattle.keeper_mem.specs.declared.rows.AnswerRow.{AnswerRow}
@@ -19,10 +20,7 @@ use Rattle.office_moves.specs.declared.moves.Act.TheVariants.{Cut}
 use Rattle.office_moves.proofs.Chains.{cut_new}
 use Rattle.replays.specs.Replay.{AllPass, AreAllotsOf, Closes, CutPasses, IsReplayed, Pass, RowsPass}
 use Rattle.replays.proofs.RowLemmas.{answers_ahead, answers_lead, raises_ahead, raises_lead}
-use Rattle.replays.proofs.Tables.{Holds, answer_of, answers_as, below_next, eq_fails, held_whole, holds_more, holds_nothing, raise_of, raises_as}
-
-pub lt_false : (m n : ℕ) → n ≤ m → nat_lt m n ≡ false
-lt_false m n few = elim (cases_Bool (nat_lt m n)) [ inl less ↦ absurd (let f = ltb-true m n less in omega (arith, f, few)) | inr other ↦ other ]
+use Rattle.replays.proofs.Tables.{Holds, answer_of, answers_as, below_next, held_whole, holds_more, holds_nothing, raise_of, raises_as}
 
 -- ---- the rows of one window
 
@@ -80,7 +78,7 @@ round_before rounds round (suc before) few = get_beside rounds round before (ome
 
 no_last : (facts : SeasonFacts) (finals : Option (List AllotRow)) (rounds : List Round) (number id : ℕ) → number ≢ facts.rounds + 1
     → (if number == facts.rounds + 1 then seat_in_finals finals number id else seat_in facts rounds number id) ≡ seat_in facts rounds number id
-no_last facts finals rounds number id apart = step (number == facts.rounds + 1) (eq_fails number (facts.rounds + 1) apart)
+no_last facts finals rounds number id apart = step (number == facts.rounds + 1) (ne_eqb number (facts.rounds + 1) apart)
   where
     step : (b : Bool) → b ≡ false → (if b then seat_in_finals finals number id else seat_in facts rounds number id) ≡ seat_in facts rounds number id
     step true e = absurd (cc)
@@ -95,10 +93,6 @@ pub record HasCut (facts : SeasonFacts) (old new : State) : Type 0 where
   pub answers : new.answers ≡ old.answers
   pub seats : (number id : ℕ) → number ≤ old.now → published_seat facts new number id ≡ published_seat facts old number id
 
-length_more : {X : Type 0} (xs : List X) (x : X) → length (xs ++ x ∷ []) ≡ length xs + 1
-length_more [] x = refl
-length_more (y ∷ xs) x = let e = length_more xs x in omega (arith, e)
-
 pub has_cut : (facts : SeasonFacts) (old new : State) → (old.now ≤ facts.rounds → length old.rounds ≡ old.now) → CutPasses facts old new → HasCut facts old new
 has_cut facts old new order passes = elim (cut_leads facts old new passes) [
   | inl next ↦
@@ -107,7 +101,7 @@ has_cut facts old new order passes = elim (cut_leads facts old new passes) [
       subst (λ (s : State). HasCut facts old s) (sym next.3) (record {
         now = refl;
         within = (let less = next.0 in omega (arith, less));
-        order = λ few. length_more old.rounds round ∙ ap (λ n. n + 1) full;
+        order = λ few. length_push old.rounds round ∙ ap (λ n. n + 1) full;
         raises = refl;
         answers = refl;
         seats = λ number id few.
@@ -181,7 +175,7 @@ pub closes_by : (facts : SeasonFacts) (kept : Kept) (window : ℕ) (last new : S
 closes_by facts kept window last new less close = subst (λ (b : Bool). Closes facts kept window b last new) (lt-ltb window kept.cuts less) close
 
 pub stays_by : (facts : SeasonFacts) (kept : Kept) (window : ℕ) (last new : State) → kept.cuts ≤ window → Closes facts kept window (nat_lt window kept.cuts) last new → new ≡ last
-stays_by facts kept window last new past close = subst (λ (b : Bool). Closes facts kept window b last new) (lt_false window kept.cuts past) close
+stays_by facts kept window last new past close = subst (λ (b : Bool). Closes facts kept window b last new) (le-ltb window kept.cuts past) close
 
 pub has_passed : (facts : SeasonFacts) (kept : Kept) (windows : ℕ) (state : State) → windows ≤ kept.cuts → Pass facts kept windows state → HasPassed facts kept windows state
 has_passed facts kept zero state few pass = passed_none facts kept state pass

@@ -1,4 +1,4 @@
--- Kept rows, each accepted where it stands, or not.
+-- Kept rows, each accepted when the replay reaches it, or not.
 use Rattle.std.proofs.Common.{◌≡◌, ◌≢◌, ◌<◌, ◌≤◌, ◌+◌, inl, inr, ℕ, zero, suc, Bool, true, false, List, [], ◌∷◌, ◌++◌, Option, Some, None, Result, Ok, Err, length, arith, refl, sym, ap, ◌∙◌, subst, append-nil, append_assoc, ◌==◌, nat_lt, if◌then◌else◌, cond, drop, get_or}
 use Rattle.std.specs.Prelude.{map, not, is_some, option_map, slice_get, bytes_eq, ◌&&◌, ◌||◌}
 use Rattle.std.specs.List.{AllByRecursion, position_or_len}
@@ -158,11 +158,6 @@ raise_refused facts state row seats never =
     step : row.prog.0 < length facts.matrix.programmes → (o : Option Act) → newly state.now (decided facts state (asked facts (Raise row))) ≡ o → is_some o ≡ false
     step less None e = refl
     step less (Some act) e = absurd (never row (asks_own facts state row seats less ∙ (new_raise facts state row act seats less e).lifted))
-
-pub raise_unknown : (facts : SeasonFacts) (state : State) (row : RaiseRow) → length facts.matrix.programmes ≤ row.prog.0 → takes_raise facts state row ≡ false
-raise_unknown facts state row past =
-    not_second (nat_lt row.prog.0 (length facts.matrix.programmes)) (is_some (newly state.now (decided facts state (asked facts (Raise row)))))
-    (λ less. absurd (let f = ltb-true _ _ less in omega (arith, f, past)))
 
 both_mean : (a b : Bool) → a && b ≡ true → (a ≡ true) × (b ≡ true)
 both_mean true b e = (refl, e)

@@ -1,5 +1,5 @@
 -- Kept seats, by the people and by the rows of a round.
-use Rattle.std.proofs.Common.{◌≡◌, ◌≢◌, ◌<◌, ◌≤◌, ◌+◌, ◌⊎◌, inl, inr, ℕ, zero, suc, Bool, true, false, List, [], ◌∷◌, Option, Some, None, length, slice_set, arith, refl, sym, ap, ◌∙◌, subst, ◌==◌, if◌then◌else◌}
+use Rattle.std.proofs.Common.{◌≡◌, ◌≢◌, ◌<◌, inl, inr, ℕ, zero, suc, Bool, true, false, List, [], ◌∷◌, Option, Some, None, length, slice_set, arith, refl, sym, ap, ◌∙◌, subst, ◌==◌, if◌then◌else◌}
 use Rattle.std.specs.Prelude.{slice_get, option_map, replicate, ◌&&◌}
 use Rattle.std.specs.Option.{option_and_then}
 use Rattle.std.proofs.lemmas.Bool.{cases_lt, eq-eqb, eqb-true}
@@ -12,6 +12,7 @@ use Rattle.office_base.proofs.Lists.{all-get}
 use Rattle.office_base.proofs.People.{at_person-get}
 use Rattle.keeper_mem.specs.declared.rows.AllotRow.{AllotRow}
 use Rattle.rank_lists.specs.Register.{row_of}
+use Rattle.rank_lists.proofs.Known.{none_when}
 use Rattle.office_moves.specs.Moves.{row_before, rows_along}
 use Rattle.office_moves.specs.Stands.{first_allot}
 use Rattle.proceedings.proofs.Positions.{Stands, other_way, stands}
@@ -23,12 +24,6 @@ abbrev pub AreRising : List Person → Type 0
 AreRising people = Pairwise (λ a b. a.id.0 < b.id.0) people
 
 -- ---- places of people
-
--- nobody has an id that has no place
-none_when : (b : Bool) (rest : Option ℕ) → (if b then Some 0 else option_map (λ n. n + 1) rest) ≡ None → (b ≡ false) × (rest ≡ None)
-none_when true rest e = absurd (cc)
-none_when false None e = (refl, refl)
-none_when false (Some n) e = absurd (cc)
 
 pub not_there : (id : ℕ) (people : List Person) (at : ℕ) (p : Person) → row_of id people ≡ None → slice_get people at ≡ Some p → p.id.0 ≡ id → ⊥
 not_there id [] zero p none there mine = cc
@@ -90,17 +85,6 @@ row_hits number id row rest a b =
     here_if (row.round == number) (row.cand.0 == id) (Some (record { prog = row.prog; step = row.step })) (first_allot number id rest) (eq-eqb row.round number a) (eq-eqb row.cand.0 id b)
 
 -- ---- seats that are found
-
-none_there : (n at : ℕ) (seat : Option Seat) → slice_get (replicate n None) at ≡ Some seat → seat ≡ None
-none_there zero at seat there = absurd (cc)
-none_there (suc n) zero seat there = let same : None ≡ seat = cc in sym same
-none_there (suc n) (suc at) seat there = none_there n at seat there
-
-pub found_at_first : (number n : ℕ) (people : List Person) (rows : List AllotRow) → length people ≡ n → length (replicate n (let none : Option Seat = None in none)) ≡ n → AreFound number people rows rows (replicate n None)
-found_at_first number n people rows full many = record {
-  full = many ∙ sym full;
-  first = λ at person seat there found. ap (λ (s : Option Seat). seat_or s (first_allot number person.id.0 rows)) (none_there n at seat found);
-}
 
 or_skips : (seat one other : Option Seat) → (seat ≡ None → one ≡ other) → seat_or seat one ≡ seat_or seat other
 or_skips None one other same = same refl
@@ -177,38 +161,6 @@ found_more number people rows rest row found k rising here place empty so = reco
         let skips = row_skips number p.id.0 row rest (λ a b. apart (one_place people at k p s.person rising there s.there (sym b ∙ sym s.mine))) in
         sym (ap (λ (z : Option Seat). seat_or seat z) skips) ∙ so.first at p seat there before
 
--- ---- whoever is not in the register
-
-pub stranger_skips : (number : ℕ) (people : List Person) (rows rest : List AllotRow) (row : AllotRow) (best : Option AllotRow) → (row.round ≡ number → IsOfNobody people row.cand.0 → ⊥)
-    → IsStranger number people rows (row ∷ rest) best → IsStranger number people rows rest best
-stranger_skips number people rows rest row None never so = λ id nobody. so id nobody ∙ row_skips number id row rest (λ a b. never a (subst (λ n. IsOfNobody people n) (sym b) nobody))
-stranger_skips number people rows rest row (Some found) never so =
-    (so.0, so.1, λ id less nobody. so.2 id less nobody ∙ row_skips number id row rest (λ a b. never a (subst (λ n. IsOfNobody people n) (sym b) nobody)))
-
-pub stranger_first : (number : ℕ) (people : List Person) (rows rest : List AllotRow) (row : AllotRow) → row.round ≡ number → IsOfNobody people row.cand.0
-    → IsStranger number people rows (row ∷ rest) None → IsStranger number people rows rest (Some row)
-stranger_first number people rows rest row here nobody so = (
-  nobody,
-  so row.cand.0 nobody ∙ row_hits number row.cand.0 row rest here refl,
-  λ id less other. so id other ∙ row_skips number id row rest (λ a b. omega (arith, b, less)),
-)
-
-pub stranger_lower : (number : ℕ) (people : List Person) (rows rest : List AllotRow) (row found : AllotRow) → row.round ≡ number → IsOfNobody people row.cand.0 → row.cand.0 < found.cand.0
-    → IsStranger number people rows (row ∷ rest) (Some found) → IsStranger number people rows rest (Some row)
-stranger_lower number people rows rest row found here nobody low so = (
-  nobody,
-  so.2 row.cand.0 low nobody ∙ row_hits number row.cand.0 row rest here refl,
-  λ id less other. so.2 id (omega (arith, less, low)) other ∙ row_skips number id row rest (λ a b. omega (arith, b, less)),
-)
-
-pub stranger_stays : (number : ℕ) (people : List Person) (rows rest : List AllotRow) (row found : AllotRow) → found.cand.0 ≤ row.cand.0
-    → IsStranger number people rows (row ∷ rest) (Some found) → IsStranger number people rows rest (Some found)
-stranger_stays number people rows rest row found low so =
-    (so.0, so.1, λ id less other. so.2 id less other ∙ row_skips number id row rest (λ a b. omega (arith, b, less, low)))
-
-pub stranger_none : (number : ℕ) (people : List Person) (rows : List AllotRow) → IsStranger number people rows rows None
-stranger_none number people rows = λ id nobody. refl
-
 -- ---- the first difference
 
 pub nobody_seated : (people : List Person) (seats : List (Option Seat)) (id : ℕ) → IsOfNobody people id → seat_along people seats id ≡ None
@@ -222,7 +174,7 @@ or_none : (seat : Option Seat) → seat_or seat None ≡ seat
 or_none None = refl
 or_none (Some seat) = refl
 
--- what stands at a place is there
+-- what is at a place is there
 record At {X : Type 0} (xs : List X) (at : ℕ) : Type 0 where
   it : X
   there : slice_get xs at ≡ Some it
@@ -236,7 +188,7 @@ allot_at : (number : ℕ) (people : List Person) (rows : List AllotRow) (kept : 
     → slice_get people at ≡ Some p → slice_get kept at ≡ Some seat → first_allot number p.id.0 rows ≡ seat
 allot_at number people rows kept at p seat found there has = sym (found.first at p seat there has) ∙ or_none seat
 
--- somebody of the register stands at a place
+-- somebody of the register is at a place
 someone : (id : ℕ) (people : List Person) → IsOfPeople people id → (at : ℕ) × (row_of id people ≡ Some at)
 someone id people is = step (row_of id people) refl
   where
@@ -306,65 +258,6 @@ outside_some number people rows seats row is = (
   λ id less nobody. is.2 id less nobody ∙ sym (nobody_seated people seats id nobody),
 )
 
--- of everybody
-place_or_none : (id : ℕ) (people : List Person) → IsOfPeople people id ⊎ IsOfNobody people id
-place_or_none id people = step (row_of id people) refl
-  where
-    step : (o : Option ℕ) → row_of id people ≡ o → IsOfPeople people id ⊎ IsOfNobody people id
-    step None e = inr e
-    step (Some at) e = inl (λ none. let f : Some at ≡ None = sym e ∙ none in cc)
-
-pub all_same : (people : List Person) (first second : ℕ → Option Seat) → ((id : ℕ) → IsOfPeople people id → first id ≡ second id) → ((id : ℕ) → IsOfNobody people id → first id ≡ second id)
-    → (id : ℕ) → first id ≡ second id
-all_same people first second some none id = elim (place_or_none id people) [
-  | inl is ↦ some id is
-  | inr nobody ↦ none id nobody
-]
-
-pub lower_same : (people : List Person) (first second : ℕ → Option Seat) (most : ℕ) → ((id : ℕ) → id < most → IsOfPeople people id → first id ≡ second id)
-    → ((id : ℕ) → id < most → IsOfNobody people id → first id ≡ second id) → (id : ℕ) → id < most → first id ≡ second id
-lower_same people first second most some none id less = elim (place_or_none id people) [
-  | inl is ↦ some id less is
-  | inr nobody ↦ none id less nobody
-]
-
-pub first_inside : (people : List Person) (first second : ℕ → Option Seat) (inside outside : Difference) → inside.cand.0 < outside.cand.0
-    → IsComparisonOf (IsOfPeople people) first second (Some inside) → IsComparisonOf (IsOfNobody people) first second (Some outside) → IsComparison first second (Some inside)
-first_inside people first second inside outside less a b = record {
-  found = a.1;
-  made = a.2;
-  apart = a.3;
-  before = lower_same people first second inside.cand.0 a.4 (λ id low nobody. b.4 id (omega (arith, low, less)) nobody);
-}
-
-pub first_outside : (people : List Person) (first second : ℕ → Option Seat) (inside outside : Difference) → outside.cand.0 ≤ inside.cand.0
-    → IsComparisonOf (IsOfPeople people) first second (Some inside) → IsComparisonOf (IsOfNobody people) first second (Some outside) → IsComparison first second (Some outside)
-first_outside people first second inside outside few a b = record {
-  found = b.1;
-  made = b.2;
-  apart = b.3;
-  before = lower_same people first second outside.cand.0 (λ id low is. a.4 id (omega (arith, low, few)) is) b.4;
-}
-
-pub only_inside : (people : List Person) (first second : ℕ → Option Seat) (inside : Difference) → IsComparisonOf (IsOfPeople people) first second (Some inside)
-    → IsComparisonOf (IsOfNobody people) first second None → IsComparison first second (Some inside)
-only_inside people first second inside a b = record {
-  found = a.1;
-  made = a.2;
-  apart = a.3;
-  before = lower_same people first second inside.cand.0 a.4 (λ id low nobody. b id nobody);
-}
-
-pub only_outside : (people : List Person) (first second : ℕ → Option Seat) (outside : Option Difference) → IsComparisonOf (IsOfPeople people) first second None
-    → IsComparisonOf (IsOfNobody people) first second outside → IsComparison first second outside
-only_outside people first second None a b = all_same people first second a b
-only_outside people first second (Some outside) a b = record {
-  found = b.1;
-  made = b.2;
-  apart = b.3;
-  before = lower_same people first second outside.cand.0 (λ id low is. a id is) b.4;
-}
-
 -- ---- seats along the people, and rows
 
 pub nobody_along : (people : List Person) (n id : ℕ) → seat_along people (replicate n None) id ≡ None
@@ -417,7 +310,7 @@ compared people others rows more number seats third (Some found) same is so said
       before = λ lower less. first lower ∙ (so.before lower less ∙ second lower);
     }
 
--- the person at a place has the id that is told of it
+-- the person at a place has the id that is read there
 pub inside_at : (number : ℕ) (people : List Person) (rows : List AllotRow) (kept computed : List (Option Seat)) (at : ℕ) (id : CandId) (one other : Option Seat) → AreRising people
     → length computed ≡ length people → AreFound number people rows [] kept → IsFirstPlace kept computed (Some at) → option_map (λ (p : Person). p.id) (slice_get people at) ≡ Some id
     → slice_get kept at ≡ Some one → slice_get computed at ≡ Some other

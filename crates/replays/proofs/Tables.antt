@@ -1,14 +1,11 @@
 -- The rows of a number among the rows of a table.
 use Rattle.std.proofs.Common.{◌≡◌, ◌≢◌, ◌<◌, ◌≤◌, ◌+◌, ◌⊎◌, inl, inr, ℕ, Bool, true, false, List, [], ◌∷◌, ◌++◌, arith, refl, sym, ap, ◌∙◌, subst, append-nil, ◌==◌, if◌then◌else◌}
 use Rattle.std.specs.Prelude.{map}
-use Rattle.std.proofs.lemmas.Bool.{cases_Bool, cases_lt, eqb-true}
+use Rattle.std.proofs.lemmas.Bool.{cases_lt, eqb-true, ne_eqb}
 use Rattle.keeper_mem.specs.declared.rows.AnswerRow.{AnswerRow}
 use Rattle.keeper_mem.specs.declared.rows.RaiseRow.{RaiseRow}
 use Rattle.office_moves.specs.Stands.{raises_in}
 use Rattle.office_moves.specs.State.{in_window}
-
-pub eq_fails : (m n : ℕ) → m ≢ n → (m == n) ≡ false
-eq_fails m n apart = elim (cases_Bool (m == n)) [ inl same ↦ absurd (apart (eqb-true m n same)) | inr other ↦ other ]
 
 -- the rows of a number
 abbrev pub with_number : {X : Type 0} → (X → ℕ) → ℕ → List X → List X
@@ -49,7 +46,7 @@ with_other number n other (row ∷ rows) apart = step (number row == n) refl (wi
 
     step : (b : Bool) → (number row == n) ≡ b → with_number number other (with_number number n rows) ≡ []
         → with_number number other (if b then row ∷ with_number number n rows else with_number number n rows) ≡ []
-    step true e rest = skip (number row == other) (eq_fails (number row) other (λ same. apart (sym same ∙ eqb-true (number row) n e))) rest
+    step true e rest = skip (number row == other) (ne_eqb (number row) other (λ same. apart (sym same ∙ eqb-true (number row) n e))) rest
     step false e rest = rest
 
 -- the rows of a number among those that are made of others

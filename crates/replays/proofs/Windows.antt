@@ -1,7 +1,7 @@
 -- Windows that pass, one after another, and the faults that stop them.
 use Rattle.std.proofs.Common.{◌≡◌, ◌<◌, ◌≤◌, ◌+◌, ◌⊎◌, inl, inr, ℕ, zero, suc, add-one, Bool, true, false, List, [], ◌∷◌, Option, Some, None, length, arith, refl, sym, ap, ◌∙◌, subst, ◌==◌, if◌then◌else◌}
 use Rattle.std.specs.Prelude.{slice_get}
-use Rattle.std.proofs.lemmas.Bool.{cases_lt, eqb-true, lt-ltb}
+use Rattle.std.proofs.lemmas.Bool.{cases_lt, eqb-true, lt-ltb, le-ltb}
 use Rattle.keeper_mem.specs.declared.rows.AllotRow.{AllotRow}
 use Rattle.keeper_mem.specs.declared.rows.Kept.{Kept}
 use Rattle.rounds.specs.declared.round.Round.{Round}
@@ -16,7 +16,7 @@ use Rattle.replays.specs.Replay.{AllPass, AreAllotsOf, Closes, CutPasses, IsRepl
 use Rattle.replays.specs.Steps.{IsDifference, IsRefusedCut}
 use Rattle.replays.specs.declared.fault.ReplayFault.{ReplayFault}
 use Rattle.replays.specs.declared.fault.ReplayFault.TheVariants.{Stray, StrayRaise, Differs, OutOfMemory}
-use Rattle.replays.proofs.Passed.{cut_leads, lt_false, rows_lead}
+use Rattle.replays.proofs.Passed.{cut_leads, rows_lead}
 use Rattle.replays.proofs.RowLemmas.{answers_ahead, answers_none, raises_ahead, raises_lead, raises_none}
 
 -- ---- one window
@@ -33,7 +33,7 @@ pub window_open : (facts : SeasonFacts) (kept : Kept) (window : ℕ) (old new : 
 window_open facts kept window old new past rows = record {
   last = new;
   rows = rows;
-  close = subst (λ (b : Bool). Closes facts kept window b new new) (sym (lt_false window kept.cuts past)) refl;
+  close = subst (λ (b : Bool). Closes facts kept window b new new) (sym (le-ltb window kept.cuts past)) refl;
 }
 
 pub one_more : (facts other : SeasonFacts) (kept : Kept) (window : ℕ) (old new : State) → other ≡ facts → Pass facts kept window old → WindowPasses other kept window old new → Pass facts kept (window + 1) new
@@ -63,16 +63,13 @@ differs facts kept window old last new (Differs round cand one other) less rows 
     (last, new, rows, less, cut, is.0, subst (λ n. IsFirstDifference facts new kept n cand.0 one other) (sym is.0) is.1)
 differs facts kept window old last new OutOfMemory less rows cut is = tt
 
-pub fault_moved : (facts other : SeasonFacts) (kept : Kept) (window : ℕ) (old : State) (fault : ReplayFault) → other ≡ facts → IsFaultOfWindow other kept window old fault → IsFaultOfWindow facts kept window old fault
-fault_moved facts other kept window old fault same is = subst (λ (f : SeasonFacts). IsFaultOfWindow f kept window old fault) same is
-
 pub stops : (facts : SeasonFacts) (kept : Kept) (fault : ReplayFault) → StopsInWindow facts kept fault → IsReplayFault facts kept fault
 stops facts kept (Stray row) is = is
 stops facts kept (StrayRaise row) is = is
 stops facts kept (Differs round cand one other) is = inl is
 stops facts kept OutOfMemory is = tt
 
--- ---- of one window, where the season is told anew after each step
+-- ---- of one window, with the season stated again after each step
 
 pub cut_now : (facts : SeasonFacts) (old new : State) → CutPasses facts old new → new.now ≡ old.now + 1
 cut_now facts old new cut = elim (cut_leads facts old new cut) [

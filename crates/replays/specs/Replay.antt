@@ -42,8 +42,9 @@ window_of (Answer row) = row.window
 window_of (Raise row) = row.window
 window_of (Cut window) = window
 
--- The rows of a window, one after another in the order of their table: the state to which they lead, or the place of the first one that is not newly accepted where it
--- stands. The first row of the list has the given place in the table.
+-- The rows of a window, one after another in the order of their table. The result is the state to which they lead.
+-- If a row is not newly accepted when the replay reaches it, the result is the place of the first such row.
+-- The first row of the list has the given place in the table.
 abbrev pub rows_replayed : SeasonFacts → ℕ → ℕ → List Act → State → Result State ℕ
 rows_replayed facts window place [] state = Ok state
 rows_replayed facts window place (row ∷ rows) state =

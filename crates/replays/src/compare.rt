@@ -21,7 +21,8 @@ pub(crate) struct Difference {
 /// The seat of a row is found, where the row is of the round, and its candidate, of the register, has none yet.
 fn put_seat(found: &mut [Option<Seat>], register: &Register, row: AllotRow, number: u16)
     requires { length found.old ≡ length register.now.people }
-    ensures { (rows rest : List AnyRow) → AreFound number register.now.people rows (row ∷ rest) found.old → AreFound number register.now.people rows rest found.new }
+    ensures { (rows rest : List AnyRow) → AreFound number register.now.people rows
+        (row ∷ rest) found.old → AreFound number register.now.people rows rest found.new }
 {
     let _people = register.people();
     if row.round != number {
@@ -84,7 +85,8 @@ fn next_stranger(
     row: AllotRow,
     number: u16,
 ) -> Option<AllotRow>
-    ensures { (rows rest : List AnyRow) → IsStranger number register.now.people rows (row ∷ rest) best → IsStranger number register.now.people rows rest result }
+    ensures { (rows rest : List AnyRow) → IsStranger number register.now.people rows
+        (row ∷ rest) best → IsStranger number register.now.people rows rest result }
 {
     if row.round != number || register.position(row.cand).is_some() {
         return best;
@@ -128,8 +130,9 @@ fn difference_inside(
 ) -> Option<Difference>
     requires kept { length kept.now ≡ length register.now.people }
     requires computed { length computed.now ≡ length register.now.people }
-    ensures { (rows : List AnyRow) (number : ℕ) → AreFound number register.now.people rows [] kept.now
-        → IsComparisonOf (IsOfPeople register.now.people) (λ id. first_allot number id rows) (seat_along register.now.people computed.now) result }
+    ensures { (rows : List AnyRow) (number : ℕ) → AreFound number register.now.people rows
+        [] kept.now → IsComparisonOf (IsOfPeople register.now.people) (λ id.
+        first_allot number id rows) (seat_along register.now.people computed.now) result }
 {
     let people = register.people();
     let at = first_place(kept, computed)?;
@@ -142,7 +145,8 @@ fn difference_inside(
 
 /// The first difference among all others, who have no computed seat.
 fn difference_outside(register: &Register, rows: &[AllotRow], number: u16) -> Option<Difference>
-    ensures { (seats : List (Option AnySeat)) → IsComparisonOf (IsOfNobody register.now.people) (λ id. first_allot number id rows.now) (seat_along register.now.people seats) result }
+    ensures { (seats : List (Option AnySeat)) → IsComparisonOf (IsOfNobody register.now.people)
+        (λ id. first_allot number id rows.now) (seat_along register.now.people seats) result }
 {
     let row = stranger(register, rows, number)?;
     Some(Difference {
@@ -161,8 +165,9 @@ fn earlier(
     inside: Option<Difference>,
     outside: Option<Difference>,
 ) -> Option<Difference>
-    ensures { (first second : ℕ → Option AnySeat) → IsComparisonOf (IsOfPeople register.now.people) first second inside
-        → IsComparisonOf (IsOfNobody register.now.people) first second outside → IsComparison first second result }
+    ensures { (first second : ℕ → Option AnySeat) → IsComparisonOf (IsOfPeople register.now.people)
+        first second inside → IsComparisonOf (IsOfNobody register.now.people) first second outside
+        → IsComparison first second result }
 {
     let _people = register.people();
     match (inside, outside) {
@@ -187,7 +192,8 @@ pub(crate) fn compare(
     computed: &[Option<Seat>],
 ) -> Result<Option<Difference>, OutOfMemory>
     requires { length computed.now ≡ length register.now.people }
-    ensures { IfOk result (λ found. IsComparison (λ id. first_allot number id rows.now) (seat_along register.now.people computed.now) found) }
+    ensures { IfOk result (λ found. IsComparison (λ id. first_allot number id rows.now)
+        (seat_along register.now.people computed.now) found) }
 {
     let kept = seats_in(alloc, register, rows, number)?;
     let inside = difference_inside(register, kept.as_slice(), computed);

@@ -26,7 +26,8 @@ use std::alloc::Global;
 /// Nobody has a seat.
 fn nobodys_seats(alloc: Global, book: &Proceedings) -> Result<Vec<Option<Seat>>, OutOfMemory>
     ensures full { IfOk result (λ seats. length seats.items ≡ length book.now.season.people) }
-    ensures seats { IfOk result (λ seats. (id : ℕ) → seat_along book.now.season.people seats.items id ≡ None) }
+    ensures seats { IfOk result (λ seats. (id : ℕ)
+        → seat_along book.now.season.people seats.items id ≡ None) }
 {
     Ok(vec![in alloc; None; book.season().register.people().len()]?)
 }
@@ -38,7 +39,8 @@ fn final_seats(
     number: u16,
 ) -> Result<Vec<Option<Seat>>, OutOfMemory>
     ensures full { IfOk result (λ seats. length seats.items ≡ length book.now.season.people) }
-    ensures seats { IfOk result (λ seats. (id : ℕ) → seat_along book.now.season.people seats.items id ≡ seat_in_finals book.now.state.finals number id) }
+    ensures seats { IfOk result (λ seats. (id : ℕ) → seat_along book.now.season.people
+        seats.items id ≡ seat_in_finals book.now.state.finals number id) }
 {
     let _entries = book.entries();
     let season = book.season();
@@ -56,7 +58,8 @@ fn round_seats(
     number: u16,
 ) -> Result<Vec<Option<Seat>>, OutOfMemory>
     ensures full { IfOk result (λ seats. length seats.items ≡ length book.now.season.people) }
-    ensures seats { IfOk result (λ seats. (id : ℕ) → seat_along book.now.season.people seats.items id ≡ seat_in book.now.season book.now.state.rounds number id) }
+    ensures seats { IfOk result (λ seats. (id : ℕ) → seat_along book.now.season.people
+        seats.items id ≡ seat_in book.now.season book.now.state.rounds number id) }
 {
     let _entries = book.entries();
     match book.round(number) {
@@ -72,7 +75,8 @@ fn published_seats(
     number: u16,
 ) -> Result<Vec<Option<Seat>>, OutOfMemory>
     ensures full { IfOk result (λ seats. length seats.items ≡ length book.now.season.people) }
-    ensures seats { IfOk result (λ seats. (id : ℕ) → seat_along book.now.season.people seats.items id ≡ published_seat book.now.season book.now.state number id) }
+    ensures seats { IfOk result (λ seats. (id : ℕ) → seat_along book.now.season.people
+        seats.items id ≡ published_seat book.now.season book.now.state number id) }
 {
     let season = book.season();
     says_what_is_sound(season);
@@ -91,7 +95,8 @@ fn compare_round(
     number: u16,
 ) -> Result<(), ReplayFault>
     ensures same { OnOk result (AreAllotsOf book.now.season book.now.state kept.now number) }
-    ensures fault { IfErr result (λ fault. IsDifference book.now.season book.now.state kept.now number fault) }
+    ensures fault { IfErr result (λ fault.
+        IsDifference book.now.season book.now.state kept.now number fault) }
 {
     let computed = published_seats(alloc, book, number)?;
     let register = &book.season().register;
@@ -117,11 +122,14 @@ fn replay_window(
 ) -> Result<(), ReplayFault>
     requires opened { window ≡ book.old.state.now }
     requires cut { window < kept.now.cuts }
-    ensures passes { OnOk result (WindowPasses book.old.season kept.now window book.old.state book.new.state) }
+    ensures passes { OnOk result
+        (WindowPasses book.old.season kept.now window book.old.state book.new.state) }
     ensures now { OnOk result (book.new.state.now ≡ book.old.state.now + 1) }
     ensures season { book.new.season ≡ book.old.season }
-    ensures entries { OnOk result (Follow (window_acts kept.now window) book.old.entries book.new.entries) }
-    ensures fault { IfErr result (λ fault. IsFaultOfWindow book.old.season kept.now window book.old.state fault) }
+    ensures entries { OnOk result
+        (Follow (window_acts kept.now window) book.old.entries book.new.entries) }
+    ensures fault { IfErr result (λ fault.
+        IsFaultOfWindow book.old.season kept.now window book.old.state fault) }
 {
     let _cuts = kept.cuts;
     replay_rows(book, kept, window)?;
@@ -133,7 +141,8 @@ fn replay_window(
 /// All windows are replayed up to the one after the last cut.
 fn replay_windows(alloc: Global, book: &mut Proceedings, kept: &Kept) -> Result<(), ReplayFault>
     requires { book.old.state ≡ opening }
-    ensures passes { OnOk result (Pass book.old.season kept.now (kept.now.cuts + 1) book.new.state) }
+    ensures passes { OnOk result
+        (Pass book.old.season kept.now (kept.now.cuts + 1) book.new.state) }
     ensures now { OnOk result (book.new.state.now ≡ kept.now.cuts) }
     ensures season { book.new.season ≡ book.old.season }
     ensures entries { OnOk result (Follow (kept_acts kept.now) book.old.entries book.new.entries) }
@@ -191,7 +200,8 @@ pub fn replay(alloc: Global, season: Season, kept: &Kept) -> Result<Proceedings,
     ensures replayed { IfOk result (λ book. IsReplayed (facts_of season) kept.now book.state) }
     ensures entries { IfOk result (λ book. book.entries ≡ counted (kept_acts kept.now)) }
     ensures counted { IfOk result (λ book. AreCounted book.entries) }
-    ensures stands { IfOk result (λ book. kept.now.season ≡ (facts_of season).text → AreRecordsOf (facts_of season) book.state kept.now) }
+    ensures stands { IfOk result (λ book. kept.now.season ≡ (facts_of season).text
+        → AreRecordsOf (facts_of season) book.state kept.now) }
     ensures fault { IfErr result (λ fault. IsUnreplayed (facts_of season) kept.now fault) }
 {
     says_what_is_sound(&season);

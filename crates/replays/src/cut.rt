@@ -20,7 +20,8 @@ fn publish(alloc: Global, book: &mut Proceedings, number: u64) -> Result<(), Out
     requires space { book.old.still < book.old.room }
     ensures passes { OnOk result (CutPasses book.old.season book.old.state book.new.state) }
     ensures season { book.new.season ≡ book.old.season }
-    ensures entries { OnOk result (Follow (Cut book.old.state.now ∷ []) book.old.entries book.new.entries) }
+    ensures entries { OnOk result
+        (Follow (Cut book.old.state.now ∷ []) book.old.entries book.new.entries) }
 {
     let round = next_round(alloc, book)?;
     let table = book.next_table(alloc)?;
@@ -35,7 +36,8 @@ fn finish(alloc: Global, book: &mut Proceedings, number: u64) -> Result<(), OutO
     requires space { book.old.still < book.old.room }
     ensures passes { OnOk result (CutPasses book.old.season book.old.state book.new.state) }
     ensures season { book.new.season ≡ book.old.season }
-    ensures entries { OnOk result (Follow (Cut book.old.state.now ∷ []) book.old.entries book.new.entries) }
+    ensures entries { OnOk result
+        (Follow (Cut book.old.state.now ∷ []) book.old.entries book.new.entries) }
 {
     let rows = book.final_rows(alloc)?;
     book.finish(number, rows);
@@ -46,7 +48,8 @@ fn finish(alloc: Global, book: &mut Proceedings, number: u64) -> Result<(), OutO
 pub(crate) fn replay_cut(alloc: Global, book: &mut Proceedings) -> Result<(), ReplayFault>
     ensures passes { OnOk result (CutPasses book.old.season book.old.state book.new.state) }
     ensures season { book.new.season ≡ book.old.season }
-    ensures entries { OnOk result (Follow (Cut book.old.state.now ∷ []) book.old.entries book.new.entries) }
+    ensures entries { OnOk result
+        (Follow (Cut book.old.state.now ∷ []) book.old.entries book.new.entries) }
     ensures fault { IfErr result (λ fault. IsRefusedCut book.old.season book.old.state fault) }
 {
     let number = next_entry(book)?;

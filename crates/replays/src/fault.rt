@@ -10,12 +10,12 @@ use season_file::Season;
 /// Why kept records are not replayed: the first fault by windows, and inside a window the raises first, then the answers, then the cut with its seats.
 #[derive(Clone, Copy, Debug, PartialEq, Eq)]
 pub enum ReplayFault {
-    /// The kept answer at this place of its table, counted from 1, is not newly accepted where it stands. With 0, a cut is counted for the window after
-    /// the last one.
+    /// The kept answer at this place of its table, counted from 1, is not newly accepted when the replay reaches it.
+    /// Place 0 means that a cut is counted for the window after the last one.
     Stray {
         row: u64,
     },
-    /// The kept raise at this place of its table, counted from 1, is not newly accepted where it stands.
+    /// The kept raise at this place of its table, counted from 1, is not newly accepted when the replay reaches it.
     StrayRaise {
         row: u64,
     },

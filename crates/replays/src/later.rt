@@ -18,7 +18,8 @@ fn lesser(best: Option<u16>, number: u16) -> u16
 
 /// The first window after the counted cuts that has a row of a table.
 fn later_row<R: KeptRow>(rows: &[R], cuts: u16) -> Option<u16>
-    ensures { result ≡ least_by (λ row. is_later cuts (window_of (R.act row))) (λ row. window_of (R.act row)) None rows.now }
+    ensures { result ≡ least_by (λ row. is_later cuts (window_of (R.act row)))
+        (λ row. window_of (R.act row)) None rows.now }
 {
     let mut best = None;
     for row in rows {
@@ -43,7 +44,8 @@ pub(crate) fn later_window(kept: &Kept) -> Option<u16>
 
 /// The first round that no counted cut publishes of which a seat is kept.
 fn uncounted_round(rows: &[AllotRow], cuts: u16) -> Option<u16>
-    ensures { result ≡ least_by (λ row. is_uncounted cuts row.round) (λ row. row.round) None rows.now }
+    ensures { result
+        ≡ least_by (λ row. is_uncounted cuts row.round) (λ row. row.round) None rows.now }
 {
     let mut best = None;
     for row in rows {

@@ -1,8 +1,8 @@
 // Kept records of a season are replayed: window after window its raises, its answers, its cut, and the seats that the cut published.
 //
-// The office stands on it where it goes on from what a keeper holds. `specs/Replay` says to which state records are replayed, `specs/Faults` which
-// fault they have first. What a row comes to, and what a cut does, are the words of `office_moves`; the changes are those of `proceedings`.
-// It must never know of keepers.
+// The office depends on it when it resumes from what a keeper holds. `specs/Replay` says which state records lead to, and
+// `specs/Faults` which fault they have first. What a row results in, and what a cut does, are words of `office_moves`.
+// The changes are those of `proceedings`. This crate must never know of keepers.
 #![tactic(auto)]
 
 mod compare;

@@ -18,7 +18,7 @@ use office_base::{Ask, By, OutOfMemory, Request};
 use office_moves::Decision;
 use proceedings::Proceedings;
 
-/// Takes room for one entry beside the withdrawals of all who are still in, and gives its number.
+/// Reserves room for one entry and for the withdrawals of all who are still in. Returns the number of the entry.
 pub(crate) fn next_entry(book: &mut Proceedings) -> Result<u64, OutOfMemory>
     ensures number { IfOk result (λ number. number ≡ last_of book.new.entries + 1) }
     ensures season { book.new.season ≡ book.old.season }
@@ -55,7 +55,8 @@ pub(crate) trait KeptRow: Copy {
         ensures state { OnOk result (book.new.state ≡ with_act book.old.state (act self)) }
         ensures season { book.new.season ≡ book.old.season }
         ensures entries { OnOk result (Follow (act self ∷ []) book.old.entries book.new.entries) }
-        ensures fault { IfErr result (λ fault. IsRefusedRow book.old.season book.old.state (act self) stray place fault) };
+        ensures fault { IfErr result (λ fault.
+            IsRefusedRow book.old.season book.old.state (act self) stray place fault) };
 }
 
 impl KeptRow for AnswerRow {
@@ -130,11 +131,15 @@ fn pass_row<R: KeptRow>(
     row: R,
     place: u64,
 ) -> Result<(), ReplayFault>
-    ensures on { OnOk result ((rest : List Act) → rows_replayed book.old.season window place (R.act row ∷ rest) book.old.state
+    ensures on { OnOk result ((rest : List Act)
+        → rows_replayed book.old.season window place (R.act row ∷ rest) book.old.state
         ≡ rows_replayed book.old.season window (place + 1) rest book.new.state) }
     ensures season { book.new.season ≡ book.old.season }
-    ensures entries { OnOk result ((rest : List Act) (new : List AnyEntry) → Follow (acts_in window rest) book.new.entries new → Follow (acts_in window (R.act row ∷ rest)) book.old.entries new) }
-    ensures fault { IfErr result (λ fault. (rest : List Act) → StopsAt R.stray (rows_replayed book.old.season window place (R.act row ∷ rest) book.old.state) fault) }
+    ensures entries { OnOk result ((rest : List Act) (new : List AnyEntry)
+        → Follow (acts_in window rest) book.new.entries new
+        → Follow (acts_in window (R.act row ∷ rest)) book.old.entries new) }
+    ensures fault { IfErr result (λ fault. (rest : List Act) → StopsAt R.stray
+        (rows_replayed book.old.season window place (R.act row ∷ rest) book.old.state) fault) }
 {
     if row.window() != window {
         return Ok(());
@@ -148,10 +153,13 @@ fn replay_table<R: KeptRow>(
     window: u16,
     rows: &[R],
 ) -> Result<(), ReplayFault>
-    ensures replayed { OnOk result (rows_replayed book.old.season window 1 (map R.act rows.now) book.old.state ≡ Ok book.new.state) }
+    ensures replayed { OnOk result (rows_replayed book.old.season window 1
+        (map R.act rows.now) book.old.state ≡ Ok book.new.state) }
     ensures season { book.new.season ≡ book.old.season }
-    ensures entries { OnOk result (Follow (acts_in window (map R.act rows.now)) book.old.entries book.new.entries) }
-    ensures fault { IfErr result (λ fault. StopsAt R.stray (rows_replayed book.old.season window 1 (map R.act rows.now) book.old.state) fault) }
+    ensures entries { OnOk result
+        (Follow (acts_in window (map R.act rows.now)) book.old.entries book.new.entries) }
+    ensures fault { IfErr result (λ fault. StopsAt R.stray
+        (rows_replayed book.old.season window 1 (map R.act rows.now) book.old.state) fault) }
 {
     for (at, row) in rows.iter().enumerate() {
         pass_row(book, window, *row, at as u64 + 1)?;
@@ -166,10 +174,13 @@ pub(crate) fn replay_rows(
     kept: &Kept,
     window: u16,
 ) -> Result<(), ReplayFault>
-    ensures passed { OnOk result (RowsPass book.old.season kept.now window book.old.state book.new.state) }
+    ensures passed { OnOk result
+        (RowsPass book.old.season kept.now window book.old.state book.new.state) }
     ensures season { book.new.season ≡ book.old.season }
-    ensures entries { OnOk result (Follow (row_acts kept.now window) book.old.entries book.new.entries) }
-    ensures fault { IfErr result (λ fault. IsStrayRow book.old.season kept.now window book.old.state fault) }
+    ensures entries { OnOk result
+        (Follow (row_acts kept.now window) book.old.entries book.new.entries) }
+    ensures fault { IfErr result (λ fault.
+        IsStrayRow book.old.season kept.now window book.old.state fault) }
 {
     replay_table(book, window, kept.raises.as_slice())?;
     replay_table(book, window, kept.answers.as_slice())?;

@@ -1,8 +1,7 @@
 -- An act that is newly accepted is decided in the same way if its candidate or the clerk asks it by its row.
-use Rattle.std.proofs.Common.{◌≡◌, ◌<◌, inl, inr, ℕ, zero, suc, true, List, [], ◌∷◌, Option, Some, None, length, refl, sym, ap, ◌∙◌, get_or}
-use Rattle.std.specs.Prelude.{map, option_map, position, slice_get, bytes_eq}
+use Rattle.std.proofs.Common.{◌≡◌, inl, inr, ℕ, true, List, [], Some, length, refl, sym, ap, ◌∙◌}
+use Rattle.std.specs.Prelude.{map, position, bytes_eq}
 use Rattle.std.proofs.lemmas.Bool.{eqb-true}
-use Rattle.std.specs.Option.{unwrap_or}
 use Rattle.std.proofs.lemmas.List.Quantifiers.{position-Some}
 use Rattle.std.proofs.lemmas.Slice.Eq.{bytes_eq-Decides}
 use Rattle.office_base.specs.declared.asks.Ask.{Ask}
@@ -25,6 +24,7 @@ use Rattle.office_moves.specs.declared.decide.Decision.TheVariants.{Finish, Lift
 use Rattle.office_moves.specs.declared.moves.Act.{Act}
 use Rattle.office_moves.specs.declared.moves.Act.TheVariants.{Answer, Raise, Cut}
 use Rattle.office_moves.proofs.Chains.{answer_new, cut_new, list_old, raise_new, seat_old, why_old, with_new}
+use Rattle.histories.proofs.Changes.{code_at, found_number, same_act}
 
 own_by : (by : By) (cand : CandId) → is_candidate by cand ≡ true → by ≡ Candidate cand
 own_by Clerk cand e = absurd (cc)
@@ -38,15 +38,6 @@ clerk_by Nobody e = absurd (cc)
 
 -- ---- codes of programmes
 
-code_at : (programmes : List (List ℕ × Home)) (prog : ℕ) → unwrap_or (option_map (λ held. held.0) (slice_get programmes prog)) [] ≡ get_or (map (λ held. held.0) programmes) prog []
-code_at [] prog = refl
-code_at (held ∷ programmes) zero = refl
-code_at (held ∷ programmes) (suc prog) = code_at programmes prog
-
-found_number : (found : Option ℕ) (prog : ProgId) → option_map (λ n. record { 0 = n }) found ≡ Some prog → found ≡ Some prog.0
-found_number None prog e = absurd (cc)
-found_number (Some n) prog e = ap (option_map (λ (p : ProgId). p.0)) e
-
 -- a programme that was found by a code has that code
 own_code : (facts : SeasonFacts) (code : List ℕ) (prog : ProgId) → find_programme facts code ≡ Some prog → code_in facts prog.0 ≡ code
 own_code facts code prog e =
@@ -55,9 +46,6 @@ own_code facts code prog e =
     code_at facts.matrix.programmes prog.0 ∙ sym ((bytes_eq-Decides code _).0 there.1)
 
 -- ---- acts
-
-same_act : (act other : Act) → Some act ≡ Some other → other ≡ act
-same_act act other e = cc
 
 asked_answer : (facts : SeasonFacts) (state : State) (by : By) (row : AnswerRow) (act : Act) → newly state.now (judge_answer (answer_looks facts (view_of state row.cand.0) row) by row) ≡ Some act
     → decided facts state (asked facts act) ≡ judge_answer (answer_looks facts (view_of state row.cand.0) row) by row
@@ -113,21 +101,3 @@ asked_publish facts state request e = asked_by facts state request.by request.as
 
 pub asked_finish : (facts : SeasonFacts) (state : State) (request : Request) → decided facts state request ≡ Finish → decided facts state (asked facts (Cut state.now)) ≡ Finish
 asked_finish facts state request e = asked_by facts state request.by request.ask (Cut state.now) (ap (newly state.now) e) ∙ e
-
--- ---- when a cut is one of either kind
-
-pub publishes : (facts : SeasonFacts) (state : State) → decided facts state (asked facts (Cut state.now)) ≡ Publish → state.now < facts.rounds
-publishes facts state e =
-    let n = cut_new Clerk state.now facts.rounds state.now (Cut state.now) (ap (newly state.now) e) in
-    elim n.ends [
-      | inl last ↦ absurd (let f = last.0 in cc)
-      | inr next ↦ next.1
-    ]
-
-pub finishes : (facts : SeasonFacts) (state : State) → decided facts state (asked facts (Cut state.now)) ≡ Finish → state.now ≡ facts.rounds
-finishes facts state e =
-    let n = cut_new Clerk state.now facts.rounds state.now (Cut state.now) (ap (newly state.now) e) in
-    elim n.ends [
-      | inl last ↦ last.1
-      | inr next ↦ absurd (let f = next.0 in cc)
-    ]

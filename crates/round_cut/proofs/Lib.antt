@@ -3,5 +3,5 @@ mod Asked
 mod Counts
 mod Publishing
 mod Resumed
-mod Standing
+pub mod Standing
 mod StillIn

@@ -3,6 +3,7 @@ use Rattle.std.proofs.Common.{◌≡◌, ◌<◌, ◌+◌, inl, inr, ℕ, zero, 
 use Rattle.std.specs.Prelude.{slice_get}
 use Rattle.std.proofs.lemmas.Bool.{eq-eqb, eqb-true}
 use Rattle.office_base.specs.declared.asks.Seat.{Seat}
+use Rattle.office_base.proofs.Lists.{get-after}
 use Rattle.keeper_mem.specs.Tables.{Tables, Untold, NoSeason, Records, with_cut}
 use Rattle.keeper_mem.specs.declared.rows.AllotRow.{AllotRow}
 use Rattle.rounds.specs.declared.round.Round.{Round}
@@ -20,10 +21,6 @@ false_apart m n e same = let f = eq-eqb m n same in absurd (cc)
 
 -- ---- the round of a number, with one more
 
-at_end : {X : Type 0} (xs : List X) (x : X) → slice_get (xs ++ x ∷ []) (length xs) ≡ Some x
-at_end [] x = refl
-at_end (y ∷ xs) x = at_end xs x
-
 past_end : {X : Type 0} (xs : List X) → slice_get xs (length xs) ≡ None
 past_end [] = refl
 past_end (y ∷ xs) = past_end xs
@@ -36,7 +33,7 @@ beside_end (y ∷ xs) x (suc k) apart = beside_end xs x k (λ e. apart (omega (a
 
 last_round : (rounds : List Round) (round : Round) (number : ℕ) → number ≡ length rounds + 1 → round_at (rounds ++ round ∷ []) number ≡ Some round
 last_round rounds round number e =
-    subst (λ n. round_at (rounds ++ round ∷ []) n ≡ Some round) (sym (e ∙ add-one (length rounds))) (at_end rounds round)
+    subst (λ n. round_at (rounds ++ round ∷ []) n ≡ Some round) (sym (e ∙ add-one (length rounds))) (get-after rounds round [])
 
 no_round : (rounds : List Round) (number : ℕ) → number ≡ length rounds + 1 → round_at rounds number ≡ None
 no_round rounds number e = subst (λ n. round_at rounds n ≡ None) (sym (e ∙ add-one (length rounds))) (past_end rounds)

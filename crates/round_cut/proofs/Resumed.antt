@@ -40,26 +40,6 @@ rows_fault records season (replay.StrayRaise row) read is = (season, read, is)
 rows_fault records season (replay.Differs round cand one other handed) read is = let (differs, same) = is in (season, read, differs, same)
 rows_fault records season replay.OutOfMemory read is = tt
 
--- neither is a fault of the keeper
-pub text_alone : (why : SeasonFault) → season_fault why ≡ KeeperFault → ⊥
-text_alone reading.ReadFault same = cc
-text_alone reading.TooLong same = cc
-text_alone reading.BadFirstLine same = cc
-text_alone (reading.Section line) same = cc
-text_alone (reading.BadSeason row) same = cc
-text_alone (reading.Register why) same = cc
-text_alone (reading.Matrix why) same = cc
-text_alone (reading.Choices why) same = cc
-text_alone reading.NotUtf8 same = cc
-text_alone (reading.BadRequest row) same = cc
-text_alone reading.OutOfMemory same = cc
-
-pub rows_alone : (why : Unreplayed) → replay_fault why ≡ KeeperFault → ⊥
-rows_alone (replay.Stray row) same = cc
-rows_alone (replay.StrayRaise row) same = cc
-rows_alone (replay.Differs round cand one other handed) same = cc
-rows_alone replay.OutOfMemory same = cc
-
 -- what stops loaded records is why an office does not resume, and so is a fault of the keeper
 pub stopped : (tables : Tables) (records : Kept) (why : Unresumed) → IsLoaded tables records → HaveStopped records why → IsUnresumed tables why
 stopped tables records NoSeason loaded have = absurd have

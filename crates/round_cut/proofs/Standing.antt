@@ -16,8 +16,9 @@ use Rattle.rounds.specs.declared.round.Round.{Round}
 use Rattle.office_moves.specs.Facts.{SeasonFacts}
 use Rattle.office_moves.specs.Moves.{allot_rows, row_before, rows_along}
 use Rattle.office_moves.specs.Stands.{AreRecordsOf, Stand, first_allot, published_seat, raises_in}
-use Rattle.replays.proofs.Appended.{in_append, raises_append}
+use Rattle.replays.proofs.Appended.{raises_append}
 use Rattle.office_moves.specs.State.{State, in_window, opening, round_at, seat_of, with_raise as state_with_raise, with_row}
+use Rattle.histories.proofs.Rows.{window_append}
 
 -- ---- what is visible
 
@@ -25,11 +26,6 @@ pub stand_told : (facts : SeasonFacts) (state : State) (expected told : Tables) 
 stand_told facts state expected Untold same stands = tt
 stand_told facts state expected NoSeason same stands = subst (λ t. Stand facts state t) same stands
 stand_told facts state expected (Records kept) same stands = subst (λ t. Stand facts state t) same stands
-
-pub stand_found : (facts : SeasonFacts) (state : State) (tables : Tables) → Stand facts state tables → IsFound true tables
-stand_found facts state Untold stands = tt
-stand_found facts state NoSeason stands = absurd stands
-stand_found facts state (Records kept) stands = refl
 
 pub found_told : (found : Bool) (expected told : Tables) → AreTold expected told → IsFound found expected → IsFound found told
 found_told found expected Untold same is = tt
@@ -92,7 +88,7 @@ stand_moved facts other state next tables same is stands = subst (λ f. Stand f 
 
 window_goes : (window : ℕ) (rows others : List AnswerRow) (row : AnswerRow) → in_window window rows ≡ in_window window others → in_window window (rows ++ row ∷ []) ≡ in_window window (others ++ row ∷ [])
 window_goes window rows others row same =
-    in_append window rows (row ∷ []) ∙ (ap (λ z. z ++ in_window window (row ∷ [])) same ∙ sym (in_append window others (row ∷ [])))
+    window_append window rows (row ∷ []) ∙ (ap (λ z. z ++ in_window window (row ∷ [])) same ∙ sym (window_append window others (row ∷ [])))
 
 raises_go : (window : ℕ) (rows others : List RaiseRow) (row : RaiseRow) → raises_in window rows ≡ raises_in window others → raises_in window (rows ++ row ∷ []) ≡ raises_in window (others ++ row ∷ [])
 raises_go window rows others row same =

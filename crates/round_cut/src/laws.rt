@@ -17,7 +17,8 @@ use std::alloc::Global;
 /// Shows that the tables of such a keeper are records, and that they represent the state of the office.
 #[tactic(auto, using(crate::proofs::Standing::stand_records))]
 pub fn kept_for_sure<K: Teller>(office: &Office<K>)
-    ensures { (records : AnyKept) × ((K.seen office.now.keeper).tables ≡ Records records) × AreRecordsOf office.now.season office.now.state records }
+    ensures { (records : AnyKept) × ((K.seen office.now.keeper).tables ≡ Records records)
+        × AreRecordsOf office.now.season office.now.state records }
 {
     office.keeper.tells();
 }

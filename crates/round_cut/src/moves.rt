@@ -31,14 +31,20 @@ impl<K: Keeper> Office<K> {
         request: &Request,
     ) -> Result<Reply, OfficeFault>
         requires { last_of self.old.entries < number }
-        ensures moves { IfOk result (λ reply. IsMove self.old.season self.old.state request.now reply self.new.state) }
-        ensures entries { OnOk result (self.new.entries ≡ grown self.old.entries number (newly self.old.state.now (decided self.old.season self.old.state request.now))) }
+        ensures moves { IfOk result (λ reply.
+            IsMove self.old.season self.old.state request.now reply self.new.state) }
+        ensures entries { OnOk result (self.new.entries ≡ grown self.old.entries number
+            (newly self.old.state.now (decided self.old.season self.old.state request.now))) }
         ensures stands { Stand self.new.season self.new.state (K.seen self.new.keeper).tables }
         ensures kept { KeepsOn K.seen self.old self.new result }
-        ensures sure { takes_nothing (decided self.old.season self.old.state request.now) ≡ true → IsOk result }
-        ensures asked { newly self.old.state.now (decided self.old.season self.old.state request.now) ≡ None
+        ensures sure { takes_nothing (decided self.old.season self.old.state request.now) ≡ true
+            → IsOk result }
+        ensures asked { newly self.old.state.now
+            (decided self.old.season self.old.state request.now) ≡ None
             → (self.new.keeper ≡ self.old.keeper) × (IsErrOf result OfficeFault.KeeperFault → ⊥) }
-        ensures withdraw { (K.seen self.old.keeper).holds_room ≡ true → withdraws (decided self.old.season self.old.state request.now) ≡ true → IsErrOf result OfficeFault.OutOfMemory → ⊥ }
+        ensures withdraw { (K.seen self.old.keeper).holds_room ≡ true
+            → withdraws (decided self.old.season self.old.state request.now) ≡ true
+            → IsErrOf result OfficeFault.OutOfMemory → ⊥ }
         ensures word { KeepsItsWord self.new.season self.new.state }
     {
         let _still = self.book.still_in();
@@ -63,7 +69,8 @@ impl<K: Keeper> Office<K> {
         prog: ProgId,
     ) -> Result<Reply, OfficeFault>
         requires { decided self.now.season self.now.state request.now ≡ TellList round prog }
-        ensures reply { IfOk result (λ reply. Does self.now.season self.now.state (TellList round prog) reply self.now.state) }
+        ensures reply { IfOk result (λ reply.
+            Does self.now.season self.now.state (TellList round prog) reply self.now.state) }
         ensures memory { IsErrOf result OfficeFault.KeeperFault → ⊥ }
     {
         Ok(self.book.list(alloc, request, round, prog)?)
@@ -72,13 +79,15 @@ impl<K: Keeper> Office<K> {
     /// Keeps an answer, and accepts it.
     #[tactic(auto, using(crate::proofs::Standing::was_told, crate::proofs::Standing::answer_was))]
     fn accept_answer(&mut self, number: u64, row: AnswerRow) -> Result<Reply, OfficeFault>
-        requires decided { decided self.old.season self.old.state (asked self.old.season (Answer row)) ≡ Note row }
+        requires decided { decided self.old.season self.old.state
+            (asked self.old.season (Answer row)) ≡ Note row }
         requires some { 1 ≤ self.old.still }
         requires number { last_of self.old.entries < number }
         ensures accepts { Accepts number (Note row) (Answer row) self.old self.new result }
         ensures stands { Stand self.new.season self.new.state (K.seen self.new.keeper).tables }
         ensures kept { KeepsOn K.seen self.old self.new result }
-        ensures withdraw { (K.seen self.old.keeper).holds_room ≡ true → is_withdraw row.choice ≡ true → IsErrOf result OfficeFault.OutOfMemory → ⊥ }
+        ensures withdraw { (K.seen self.old.keeper).holds_room ≡ true
+            → is_withdraw row.choice ≡ true → IsErrOf result OfficeFault.OutOfMemory → ⊥ }
     {
         if row.choice == Choice::Withdraw {
             self.keeper.put_answer(row)?;
@@ -96,7 +105,8 @@ impl<K: Keeper> Office<K> {
     /// Keeps a raise, and accepts it.
     #[tactic(auto, using(crate::proofs::Standing::was_told, crate::proofs::Standing::raise_was))]
     fn accept_raise(&mut self, number: u64, row: RaiseRow) -> Result<Reply, OfficeFault>
-        requires decided { decided self.old.season self.old.state (asked self.old.season (Raise row)) ≡ Lift row }
+        requires decided { decided self.old.season self.old.state
+            (asked self.old.season (Raise row)) ≡ Lift row }
         requires number { last_of self.old.entries < number }
         ensures accepts { Accepts number (Lift row) (Raise row) self.old self.new result }
         ensures stands { Stand self.new.season self.new.state (K.seen self.new.keeper).tables }
@@ -112,7 +122,8 @@ impl<K: Keeper> Office<K> {
     /// Makes the next round, keeps the cut, and publishes it.
     #[tactic(auto, using(crate::proofs::Standing::was_told, crate::proofs::Standing::cut_was))]
     fn publish_round(&mut self, alloc: Global, number: u64) -> Result<Reply, OfficeFault>
-        requires decided { decided self.old.season self.old.state (asked self.old.season (Cut self.old.state.now)) ≡ Publish }
+        requires decided { decided self.old.season self.old.state
+            (asked self.old.season (Cut self.old.state.now)) ≡ Publish }
         requires number { last_of self.old.entries < number }
         ensures accepts { Accepts number Publish (Cut self.old.state.now) self.old self.new result }
         ensures stands { Stand self.new.season self.new.state (K.seen self.new.keeper).tables }
@@ -139,7 +150,8 @@ impl<K: Keeper> Office<K> {
     /// Makes the final admissions, keeps the last cut, and ends the season.
     #[tactic(auto, using(crate::proofs::Standing::was_told, crate::proofs::Standing::cut_was))]
     fn finish_season(&mut self, alloc: Global, number: u64) -> Result<Reply, OfficeFault>
-        requires decided { decided self.old.season self.old.state (asked self.old.season (Cut self.old.state.now)) ≡ Finish }
+        requires decided { decided self.old.season self.old.state
+            (asked self.old.season (Cut self.old.state.now)) ≡ Finish }
         requires number { last_of self.old.entries < number }
         ensures accepts { Accepts number Finish (Cut self.old.state.now) self.old self.new result }
         ensures stands { Stand self.new.season self.new.state (K.seen self.new.keeper).tables }

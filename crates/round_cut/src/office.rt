@@ -45,9 +45,11 @@ impl<K: Keeper> Model for Office<K> {
 /// Checks that no season is kept, and returns a fault if one is.
 fn expect_empty<K: Keeper>(keeper: &mut K) -> Result<(), BeginFault>
     ensures ok { OnOk result (IsFound false (K.seen keeper.new).tables) }
-    ensures not_empty { IsErrOf result BeginFault.NotEmpty → IsFound true (K.seen keeper.new).tables }
+    ensures not_empty { IsErrOf result BeginFault.NotEmpty
+        → IsFound true (K.seen keeper.new).tables }
     ensures told { AreTold (K.seen keeper.old).tables (K.seen keeper.new).tables }
-    ensures blamed { Blames (IsErrOf result BeginFault.KeeperFault) (K.seen keeper.old) (K.seen keeper.new) }
+    ensures blamed { Blames (IsErrOf result BeginFault.KeeperFault)
+        (K.seen keeper.old) (K.seen keeper.new) }
 {
     if keeper.has_season()? {
         return Err(BeginFault::NotEmpty);
@@ -59,12 +61,15 @@ fn expect_empty<K: Keeper>(keeper: &mut K) -> Result<(), BeginFault>
 #[tactic(auto, using(crate::proofs::Standing::was_told, crate::proofs::Standing::season_was))]
 fn keep_season<K: Keeper>(book: &Proceedings, keeper: &mut K) -> Result<(), BeginFault>
     requires { IsFound false (K.seen keeper.old).tables }
-    ensures told_before { OnOk result (IsTold (K.seen keeper.new).tables → IsTold (K.seen keeper.old).tables) }
+    ensures told_before { OnOk result (IsTold (K.seen keeper.new).tables
+        → IsTold (K.seen keeper.old).tables) }
     ensures stands { OnOk result (Stand book.now.season opening (K.seen keeper.new).tables) }
-    ensures spare { OnOk result (HasRoom (K.seen keeper.new).holds_room book.now.still (K.seen keeper.new).spare) }
+    ensures spare { OnOk result
+        (HasRoom (K.seen keeper.new).holds_room book.now.still (K.seen keeper.new).spare) }
     ensures err { OnErr result (AreTold (K.seen keeper.old).tables (K.seen keeper.new).tables) }
     ensures kind { IsErrOf result BeginFault.NotEmpty → ⊥ }
-    ensures blamed { Blames (IsErrOf result BeginFault.KeeperFault) (K.seen keeper.old) (K.seen keeper.new) }
+    ensures blamed { Blames (IsErrOf result BeginFault.KeeperFault)
+        (K.seen keeper.old) (K.seen keeper.new) }
 {
     keeper.reserve_answers(book.still_in())?;
     keeper.put_season(book.season().text.as_slice())?;
@@ -79,9 +84,11 @@ impl<K: Keeper> Office<K> {
     pub fn begin(alloc: Global, season: Season, mut keeper: K) -> Result<Office<K>, (K, BeginFault)>
         requires { IsSeason season.text season }
         ensures ok { IfOk result (Begins K.seen (facts_of season) keeper) }
-        ensures not_empty { IfErr result (λ e. e.1 ≡ BeginFault.NotEmpty → IsFound true (K.seen e.0).tables) }
+        ensures not_empty { IfErr result (λ e. e.1 ≡ BeginFault.NotEmpty
+            → IsFound true (K.seen e.0).tables) }
         ensures err { IfErr result (λ e. AreTold (K.seen keeper).tables (K.seen e.0).tables) }
-        ensures blamed_err { IfErr result (λ e. Blames (e.1 ≡ BeginFault.KeeperFault) (K.seen keeper) (K.seen e.0)) }
+        ensures blamed_err { IfErr result (λ e.
+            Blames (e.1 ≡ BeginFault.KeeperFault) (K.seen keeper) (K.seen e.0)) }
     {
         if let Err(fault) = expect_empty(&mut keeper) {
             return Err((keeper, fault));
@@ -107,7 +114,8 @@ impl<K: Keeper> Office<K> {
 
     /// Returns who a token is for. It allocates nothing.
     pub fn who(&self, token: Option<&[u8]>) -> By
-        ensures { MatchOption token.entry (result ≡ Nobody) (λ bytes. result ≡ who_by self.now.season bytes.now) }
+        ensures { MatchOption token.entry (result ≡ Nobody) (λ bytes.
+            result ≡ who_by self.now.season bytes.now) }
     {
         let Some(token) = token else {
             return By::Nobody;
@@ -147,7 +155,8 @@ impl<K: Keeper> Office<K> {
 
     /// Returns the final admissions, once the last cut was made.
     pub fn finals(&self) -> Option<&[AllotRow]>
-        ensures { MatchOption result (self.now.state.finals ≡ None) (λ rows. self.now.state.finals ≡ Some rows.now) }
+        ensures { MatchOption result (self.now.state.finals ≡ None)
+            (λ rows. self.now.state.finals ≡ Some rows.now) }
     {
         match self.book.finals() {
             Some(rows) => Some(rows.as_slice()),
@@ -173,7 +182,8 @@ impl<K: Keeper> Office<K> {
     /// Returns the matrix with all raises so far, by which the next round is made.
     pub fn matrix(&self) -> &Matrix
         ensures same { result.now ≡ matrix_at self.now.season self.now.state }
-        ensures programmes { (matrix_at self.now.season self.now.state).programmes ≡ self.now.season.matrix.programmes }
+        ensures programmes { (matrix_at self.now.season self.now.state).programmes
+            ≡ self.now.season.matrix.programmes }
     {
         self.book.matrix()
     }

@@ -125,7 +125,8 @@ fn load_records<K: Keeper>(alloc: Global, keeper: &mut K) -> Result<Kept, Unresu
     ensures loaded { IfOk result (λ records. IsLoaded (K.seen keeper.new).tables records) }
     ensures fault { IfErr result (λ fault. IsUnresumed (K.seen keeper.new).tables fault) }
     ensures told { AreTold (K.seen keeper.old).tables (K.seen keeper.new).tables }
-    ensures blamed { Blames (IsErrOf result Unresumed.KeeperFault) (K.seen keeper.old) (K.seen keeper.new) }
+    ensures blamed { Blames (IsErrOf result Unresumed.KeeperFault)
+        (K.seen keeper.old) (K.seen keeper.new) }
 {
     match keeper.load(alloc)? {
         Some(records) => Ok(records),
@@ -149,10 +150,12 @@ fn replay_records(alloc: Global, records: &Kept) -> Result<Proceedings, Unresume
 /// Takes room for the answers of all who are still in.
 #[tactic(auto, using(crate::proofs::Resumed::unloaded))]
 fn take_room<K: Keeper>(book: &Proceedings, keeper: &mut K) -> Result<(), Unresumed>
-    ensures spare { OnOk result (HasRoom (K.seen keeper.new).holds_room book.now.still (K.seen keeper.new).spare) }
+    ensures spare { OnOk result
+        (HasRoom (K.seen keeper.new).holds_room book.now.still (K.seen keeper.new).spare) }
     ensures fault { IfErr result (λ fault. IsUnresumed (K.seen keeper.new).tables fault) }
     ensures told { AreTold (K.seen keeper.old).tables (K.seen keeper.new).tables }
-    ensures blamed { Blames (IsErrOf result Unresumed.KeeperFault) (K.seen keeper.old) (K.seen keeper.new) }
+    ensures blamed { Blames (IsErrOf result Unresumed.KeeperFault)
+        (K.seen keeper.old) (K.seen keeper.new) }
 {
     keeper.reserve_answers(book.still_in())?;
     Ok(())
@@ -170,7 +173,8 @@ impl<K: Keeper> Office<K> {
         ensures ok { IfOk result (GoesOn K.seen keeper) }
         ensures fault { IfErr result (λ e. IsResumeFault (K.seen e.0).tables e.1) }
         ensures err { IfErr result (λ e. AreTold (K.seen keeper).tables (K.seen e.0).tables) }
-        ensures blamed_err { IfErr result (λ e. Blames (e.1 ≡ ResumeFault.KeeperFault) (K.seen keeper) (K.seen e.0)) }
+        ensures blamed_err { IfErr result (λ e.
+            Blames (e.1 ≡ ResumeFault.KeeperFault) (K.seen keeper) (K.seen e.0)) }
     {
         match Office::resume_or_season(alloc, keeper) {
             Ok(office) => Ok(office),
@@ -188,7 +192,8 @@ impl<K: Keeper> Office<K> {
         ensures ok { IfOk result (GoesOn K.seen keeper) }
         ensures fault { IfErr result (λ e. IsUnresumed (K.seen e.0).tables e.1) }
         ensures err { IfErr result (λ e. AreTold (K.seen keeper).tables (K.seen e.0).tables) }
-        ensures blamed_err { IfErr result (λ e. Blames (e.1 ≡ Unresumed.KeeperFault) (K.seen keeper) (K.seen e.0)) }
+        ensures blamed_err { IfErr result (λ e.
+            Blames (e.1 ≡ Unresumed.KeeperFault) (K.seen keeper) (K.seen e.0)) }
     {
         let records = match load_records(alloc, &mut keeper) {
             Ok(records) => records,

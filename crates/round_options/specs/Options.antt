@@ -8,7 +8,9 @@ use Rattle.seeks.specs.declared.seek.Seek.TheVariants.{Whole, UpTo, Within, Only
 use Rattle.round_options.specs.declared.standing.Standing.{Standing}
 use Rattle.round_options.specs.declared.standing.Standing.TheVariants.{Waiting, Offered, Freeze, Float, Slide, Withdrawn, NoShow}
 
--- whoever has no seat may only leave; a first seat may be answered in every way; whoever froze may not move again, and whoever slides may not float
+-- Whether a candidate with this standing may give this answer. A waiting candidate has no seat and may only withdraw.
+-- A candidate who is offered a first seat, or floats, may give any answer. A candidate who froze may freeze again or withdraw.
+-- A candidate who slides may give any answer but float. A candidate who is out may give none.
 abbrev pub may_follow : Standing → Choice → Bool
 may_follow Waiting ToFreeze = false
 may_follow Waiting ToFloat = false
@@ -27,7 +29,7 @@ may_follow Slide ToWithdraw = true
 may_follow Withdrawn choice = false
 may_follow NoShow choice = false
 
--- how a candidate stands after an answer
+-- the standing of a candidate after an answer
 abbrev pub standing_of : Choice → Standing
 standing_of ToFreeze = Freeze
 standing_of ToFloat = Float
@@ -58,8 +60,8 @@ seek_after Slide (Some k) = Within k
 seek_after Withdrawn place = Nothing
 seek_after NoShow place = Nothing
 
--- How a cut leaves a candidate, by the seat that the new round gives: a first seat that was not answered is lost, and whoever waits and has a seat now is
--- offered it. All others stay as they stood.
+-- The standing of a candidate after a cut, by the seat that the new round gives. A first seat that was not answered is lost.
+-- A waiting candidate who has a seat now is offered it. All other standings stay the same.
 abbrev pub after_cut : Standing → Option Seat → Standing
 after_cut Waiting None = Waiting
 after_cut Waiting (Some seat) = Offered

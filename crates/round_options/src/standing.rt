@@ -1,11 +1,11 @@
-// How a candidate stands in the rounds.
+// The standing of a candidate in the rounds.
 ghost use Rattle.std.specs.Prelude.{◌≡◌, true, IsSome};
 ghost use Rattle.round_options.specs.Options.{after_cut, holds, may_follow, seek_after, standing_of};
 
 use office_base::{Choice, Seat};
 use seeks::Seek;
 
-/// How a candidate stands.
+/// The standing of a candidate.
 #[derive(Clone, Copy, Debug, PartialEq, Eq)]
 pub enum Standing {
     /// Without a seat, and waiting for one.
@@ -33,7 +33,7 @@ impl Standing {
     }
 }
 
-/// How a candidate stands after an answer.
+/// Returns the standing of a candidate after an answer.
 pub fn standing_of(choice: Choice) -> Standing
     ensures { result ≡ standing_of choice }
 {
@@ -59,8 +59,8 @@ pub fn allowed(standing: Standing, new: Choice) -> bool
     }
 }
 
-/// What a candidate who stands so at a cut seeks in the next round, with the place of the seat in the choice list. It takes no
-/// memory.
+/// Returns what a candidate with this standing at a cut seeks in the next round.
+/// The place is that of the candidate's seat in the choice list. Allocates nothing.
 pub fn next_seek(standing: Standing, place: Option<u16>) -> Seek
     requires { holds standing ≡ true → IsSome place }
     ensures { result ≡ seek_after standing place }
@@ -74,7 +74,8 @@ pub fn next_seek(standing: Standing, place: Option<u16>) -> Seek
     }
 }
 
-/// How a cut leaves a candidate who stands so at the cut, with the seat that the new round gives. It takes no memory.
+/// Returns the standing after a cut of a candidate with this standing at the cut, by the seat that the new round gives.
+/// Allocates nothing.
 pub fn after_cut(standing: Standing, seat: Option<Seat>) -> Standing
     ensures { result ≡ after_cut standing seat }
 {

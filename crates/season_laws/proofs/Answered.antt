@@ -7,12 +7,12 @@ use Rattle.office_base.specs.declared.asks.Ask.TheVariants.{Answer, Cut, Seat as
 use Rattle.office_base.specs.declared.asks.By.{By}
 use Rattle.office_base.specs.declared.asks.Request.{Request}
 use Rattle.office_base.specs.declared.person.ProgId.{ProgId}
+use Rattle.office_base.proofs.Lists.{there_is}
 use Rattle.keeper_mem.specs.declared.rows.AnswerRow.{AnswerRow}
 use Rattle.keeper_mem.specs.declared.rows.RaiseRow.{RaiseRow}
 use Rattle.programme_lists.specs.declared.programme.Programme.{Programme}
 use Rattle.rounds.specs.Round.{seated}
 use Rattle.rounds.specs.declared.round.Round.{Round}
-use Rattle.round_laws.proofs.People.{there_is}
 use Rattle.office_moves.specs.Facts.{IsSound, SeasonFacts, find_programme}
 use Rattle.office_moves.specs.State.{State, round_at, view_of, with_finals, with_raise, with_round, with_row}
 use Rattle.office_moves.specs.Raised.{matrix_of_round}

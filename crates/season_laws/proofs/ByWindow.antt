@@ -1,9 +1,11 @@
 -- The rounds and the final rows of a history look at the rows of each candidate in each window and at the raises of each window, and at no other order.
-use Rattle.std.proofs.Common.{◌≡◌, ◌≢◌, ◌<◌, ◌≤◌, ◌+◌, inl, inr, ℕ, zero, suc, Bool, true, false, List, [], ◌∷◌, ◌++◌, Option, Some, None, length, map, arith, refl, sym, ap, ◌∙◌, subst, ◌==◌, nat_lt, if◌then◌else◌, append_assoc, append-nil}
-use Rattle.std.specs.Prelude.{◌||◌, slice_get, option_map, IsSome}
-use Rattle.std.proofs.lemmas.Bool.{cases_Bool, cases_lt, cases_order, eq-eqb, eqb-true, ltb-false, ltb-true}
+use Rattle.std.proofs.Common.{◌≡◌, ◌≢◌, ◌<◌, ◌≤◌, ◌+◌, inl, inr, ℕ, zero, suc, Bool, List, [], ◌∷◌, ◌++◌, Option, Some, None, length, map, arith, refl, sym, ap, ◌∙◌, subst, ◌==◌, if◌then◌else◌, append_assoc, append-nil}
+use Rattle.std.specs.Prelude.{slice_get, option_map}
+use Rattle.std.proofs.lemmas.Bool.{cases_lt, cases_order, eq-eqb, ne_eqb, le-ltb}
 use Rattle.office_base.specs.declared.asks.Seat.{Seat}
 use Rattle.office_base.specs.declared.person.Person.{Person}
+use Rattle.office_base.proofs.Lists.{there_is}
+use Rattle.office_base.proofs.Options.{some_value}
 use Rattle.keeper_mem.specs.declared.rows.AllotRow.{AllotRow}
 use Rattle.keeper_mem.specs.declared.rows.AnswerRow.{AnswerRow}
 use Rattle.keeper_mem.specs.declared.rows.RaiseRow.{RaiseRow}
@@ -15,49 +17,39 @@ use Rattle.rounds.specs.Round.{IsRound}
 use Rattle.rounds.specs.declared.round.Round.{Round}
 use Rattle.round_options.specs.Options.{after_cut, holds, seek_after}
 use Rattle.round_options.specs.declared.standing.Standing.{Standing}
-use Rattle.round_laws.proofs.People.{there_is}
 use Rattle.office_moves.specs.Facts.{IsSound, SeasonFacts, lists_in_order}
 use Rattle.office_moves.specs.State.{State, answered, in_window, left_by, opening, rows_of, seat_in, seat_of, view_of}
 use Rattle.office_moves.specs.History.{Reaches, asked}
-use Rattle.office_moves.specs.Judge.{not_open}
 use Rattle.office_moves.specs.Moves.{rows_along}
 use Rattle.office_moves.specs.Promise.{kept_to_the_end, standing_then}
 use Rattle.office_moves.specs.Raised.{matrix_of_round, raised, raised_before}
-use Rattle.office_moves.specs.declared.refusal.Refusal.{Refusal}
-use Rattle.office_moves.specs.declared.refusal.Refusal.TheVariants.{Ahead, Late}
 use Rattle.office_moves.specs.declared.moves.Act.{Act}
 use Rattle.office_moves.specs.declared.moves.Entry.{Entry}
 use Rattle.histories.specs.Course.{seek_then, seeks_then}
 use Rattle.histories.specs.Orderly.{IsOrderly}
 use Rattle.histories.proofs.Changes.{Answered, Finishes, Follows, Publishes, Raised, along, changes}
-use Rattle.histories.proofs.Rows.{before_more, before_same}
+use Rattle.histories.proofs.Rows.{before_more, before_same, lifted_when}
+use Rattle.histories.proofs.Accepted.{is_open}
 use Rattle.season_laws.specs.Laws.{AreSameByWindow, CameToTheSame, OrderWithinWindowsIsFree, answers_among, cuts_among, raises_among, raises_in}
 
 -- ---- the raises of a window
-
-raises_when : (b : Bool) (row : RaiseRow) (rows more : List RaiseRow) → (if b then row ∷ (rows ++ more) else rows ++ more) ≡ (if b then row ∷ rows else rows) ++ more
-raises_when true row rows more = refl
-raises_when false row rows more = refl
 
 in_append : (window : ℕ) (rows more : List RaiseRow) → raises_in window (rows ++ more) ≡ raises_in window rows ++ raises_in window more
 in_append window [] more = refl
 in_append window (row ∷ rows) more =
     ap (λ (z : List RaiseRow). if row.window == window then row ∷ z else z) (in_append window rows more)
-    ∙ raises_when (row.window == window) row (raises_in window rows) (raises_in window more)
+    ∙ lifted_when (row.window == window) row (raises_in window rows) (raises_in window more)
 
 -- a raise of the window is the last one there
 in_more : (window : ℕ) (rows : List RaiseRow) (row : RaiseRow) → row.window ≡ window → raises_in window (rows ++ row ∷ []) ≡ raises_in window rows ++ row ∷ []
 in_more window rows row here =
     in_append window rows (row ∷ []) ∙ ap (λ (b : Bool). raises_in window rows ++ (if b then row ∷ [] else [])) (eq-eqb row.window window here)
 
-not_equal : (m n : ℕ) → m ≢ n → (m == n) ≡ false
-not_equal m n apart = elim (cases_Bool (m == n)) [ inl e ↦ absurd (apart (eqb-true m n e)) | inr other ↦ other ]
-
 -- a raise of another window is not there
 in_same : (window : ℕ) (rows : List RaiseRow) (row : RaiseRow) → row.window ≢ window → raises_in window (rows ++ row ∷ []) ≡ raises_in window rows
 in_same window rows row apart =
     in_append window rows (row ∷ [])
-    ∙ (ap (λ (b : Bool). raises_in window rows ++ (if b then row ∷ [] else [])) (not_equal row.window window apart) ∙ append-nil (raises_in window rows))
+    ∙ (ap (λ (b : Bool). raises_in window rows ++ (if b then row ∷ [] else [])) (ne_eqb row.window window apart) ∙ append-nil (raises_in window rows))
 
 -- ---- the raises of a history are in the order of their windows
 
@@ -105,27 +97,10 @@ one_more now raises row opened here = record { whole = whole; none = none; next 
       ]
     ]
 
-lt_false : (m n : ℕ) → n ≤ m → nat_lt m n ≡ false
-lt_false m n few = elim (cases_Bool (nat_lt m n)) [ inl less ↦ absurd (let f = ltb-true m n less in omega (arith, f, few)) | inr other ↦ other ]
-
-open_tests : (late ahead beyond : Bool) (r s : Refusal) → (if late then Some r else if ahead || beyond then Some s else None) ≡ None → (late ≡ false) × (ahead ≡ false)
-open_tests true ahead beyond r s e = absurd (cc)
-open_tests false true beyond r s e = absurd (cc)
-open_tests false false true r s e = absurd (cc)
-open_tests false false false r s e = (refl, refl)
-
--- an open window is the one of now
-is_now : (now rounds window : ℕ) → not_open now rounds window ≡ None → window ≡ now
-is_now now rounds window e =
-    let tests = open_tests (nat_lt window now) (nat_lt now window) (nat_lt rounds window) (Late now) (Ahead now) e in
-    let low = ltb-false window now tests.0 in
-    let high = ltb-false now window tests.1 in
-    omega (arith, low, high)
-
 in_order : (facts : SeasonFacts) (old new : State) (act : Act) → AreInOrder old.now old.raises → Follows facts old act new → AreInOrder new.now new.raises
 in_order facts old new act here (Answered row asks is n e) = subst (λ (s : State). AreInOrder s.now s.raises) (sym e) here
 in_order facts old new act here (Raised row code asks found known is n e) =
-    subst (λ (s : State). AreInOrder s.now s.raises) (sym e) (one_more old.now old.raises row (is_now old.now facts.rounds row.window n.opened) here)
+    subst (λ (s : State). AreInOrder s.now s.raises) (sym e) (one_more old.now old.raises row (is_open old.now facts.rounds row.window n.opened).0 here)
 in_order facts old new act here (Publishes window round asks is cuts less next e) = subst (λ (s : State). AreInOrder s.now s.raises) (sym e) (later_on old.now old.raises here)
 in_order facts old new act here (Finishes window asks is cuts last e) = subst (λ (s : State). AreInOrder s.now s.raises) (sym e) (later_on old.now old.raises here)
 
@@ -135,7 +110,7 @@ raises_in_order facts entries state reached =
 
 none_before : (raises : List RaiseRow) → raised_before 0 raises ≡ []
 none_before [] = refl
-none_before (row ∷ raises) = ap (λ (b : Bool). if b then row ∷ raised_before 0 raises else raised_before 0 raises) (lt_false row.window 0 (omega arith)) ∙ none_before raises
+none_before (row ∷ raises) = ap (λ (b : Bool). if b then row ∷ raised_before 0 raises else raised_before 0 raises) (le-ltb row.window 0 (omega arith)) ∙ none_before raises
 
 -- so those before a window are the same, where those of each window are
 same_before : (now now' : ℕ) (raises others : List RaiseRow) → AreInOrder now raises → AreInOrder now' others → ((window : ℕ) → raises_in window others ≡ raises_in window raises) → (n : ℕ)
@@ -157,10 +132,6 @@ same_list (x ∷ xs) (y ∷ ys) size each =
     let head : x ≡ y = cc in
     let tail = same_list xs ys (omega (arith, size)) (λ i less. each (suc i) (omega (arith, less))) in
     ap (λ z. z ∷ xs) head ∙ ap (λ zs. y ∷ zs) tail
-
-some_of : {X : Type 0} (o : Option X) → IsSome o → (x : X) × (o ≡ Some x)
-some_of None h = absurd (let e : false ≡ true = h in cc)
-some_of (Some x) h = (x, refl)
 
 -- ---- what a state keeps of its history
 
@@ -305,7 +276,7 @@ module _ (facts : SeasonFacts) (state other : State) (sound : IsSound facts) (or
   rounds_same : other.rounds ≡ state.rounds
   rounds_same = same_list other.rounds state.rounds count (up_to (length state.rounds) (omega arith))
 
-  -- whoever keeps a seat to the end keeps the same
+  -- a candidate who keeps a seat to the end keeps the same
   kept_same : (id : ℕ) → AreSameUpTo facts.rounds → kept_to_the_end facts other id ≡ kept_to_the_end facts state id
   kept_same id up =
       ap (λ (s : Standing). if holds s then seat_in facts other.rounds facts.rounds id else None) (standing_same facts.rounds id up)
@@ -317,8 +288,8 @@ module _ (facts : SeasonFacts) (state other : State) (sound : IsSound facts) (or
         let done = orderly.finished over in
         let done' = orderly'.finished (omega (arith, now, over)) in
         let size = done.0 in
-        let rows = some_of state.finals done.1 in
-        let rows' = some_of other.finals done'.1 in
+        let rows = some_value state.finals done.1 in
+        let rows' = some_value other.finals done'.1 in
         let up : AreSameUpTo facts.rounds = up_to facts.rounds (omega (arith, size)) in
         let along_same : rows_along (facts.rounds + 1) (kept_to_the_end facts other) facts.people ≡ rows_along (facts.rounds + 1) (kept_to_the_end facts state) facts.people =
         λ i. rows_along (facts.rounds + 1) (λ (id : ℕ). kept_same id up i) facts.people in

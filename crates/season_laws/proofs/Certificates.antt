@@ -2,7 +2,6 @@
 use Rattle.std.proofs.Common.{◌≡◌, ◌≤◌, ◌<◌, ◌+◌, ◌⊎◌, inl, inr, ℕ, zero, suc, Bool, true, false, List, [], ◌∷◌, Option, Some, None, length, arith, refl, sym, ap, ◌∙◌, subst}
 use Rattle.std.specs.Prelude.{IsTrue}
 use Rattle.std.proofs.lemmas.Bool.{cases_Bool, cases_lt}
-use Rattle.std.proofs.lemmas.List.{get_or_past}
 use Rattle.office_base.specs.Certificate.{AreNoLater, IsCanonical, slots_of}
 use Rattle.office_base.specs.Person.{has_trait}
 use Rattle.office_base.specs.Placement.{IsPlacement, protected}
@@ -13,33 +12,26 @@ use Rattle.placements.specs.Greatest.{one_less}
 use Rattle.placements.specs.Ranks.{AreDistinct}
 use Rattle.placements.specs.Slots.{AreSlots, filled, pairs_of}
 use Rattle.placements.proofs.Convert.{length-pairs_of, pairs_of-in_order, placement-from_slots, slots-from_placement, slots_of-pairs_of}
-use Rattle.placements.proofs.Greatest.{AreSlots-from_nowhere, AreSlots-from_somewhere, AreSlots-nowhere, AreSlots-somewhere}
+use Rattle.placements.proofs.Greatest.{AreSlots-from_nowhere, AreSlots-from_somewhere, AreSlots-nowhere, AreSlots-somewhere, counted_trait}
 
--- the first of the longest placements, told by slots
+-- the first of the longest placements, given by slots
 record IsFirst (protections : Protections) (people : List Person) (slots : List (Option ℕ)) : Type 0 where
   pub stand : AreSlots protections people slots
   pub most : (others : List (Option ℕ)) → AreSlots protections people others → filled others ≤ filled slots
   pub first : (others : List (Option ℕ)) → AreSlots protections people others → filled others ≡ filled slots → AreNoLater slots others
 
--- the first person stands nowhere, or on a trait from this one on
+-- there is a first person, who is on no trait, or on one from this trait on
 abbrev StandsFrom : ℕ → List (Option ℕ) → Type 0
 StandsFrom bound [] = ⊥
 StandsFrom bound (None ∷ slots) = Unit {0}
 StandsFrom bound (Some t ∷ slots) = bound ≤ t
 
--- the first of the longest placements where the first person stands so
+-- the first of the longest placements where `StandsFrom` holds of the first person
 record IsFirstFrom (bound : ℕ) (protections : Protections) (people : List Person) (slots : List (Option ℕ)) : Type 0 where
   pub stand : AreSlots protections people slots
   pub from : StandsFrom bound slots
   pub most : (others : List (Option ℕ)) → StandsFrom bound others → AreSlots protections people others → filled others ≤ filled slots
   pub first : (others : List (Option ℕ)) → StandsFrom bound others → AreSlots protections people others → filled others ≡ filled slots → AreNoLater slots others
-
--- no trait is protected behind the last count
-none_past : (protections : Protections) (t : ℕ) → 0 < protected protections t → t < length protections.counts
-none_past protections t left = elim (cases_lt t (length protections.counts)) [
-  | inl less ↦ less
-  | inr high ↦ absurd (let e = get_or_past protections.counts t 0 high in omega (arith, e, left))
-]
 
 -- where nobody before the first person's trait may be counted, the others go on as they are the first
 nowhere : (protections : Protections) (person : Person) (people : List Person) (rest : List (Option ℕ)) → IsFirst protections people rest
@@ -55,14 +47,14 @@ nowhere protections person people rest h = record {
     most_of [] from are = absurd from
     most_of (None ∷ others) from are = h.most others (AreSlots-from_nowhere protections person people others are)
     most_of (Some t ∷ others) from are =
-        absurd (let left = none_past protections t (AreSlots-from_somewhere protections person people t others are).1 in omega (arith, left, from))
+        absurd (let left = counted_trait protections t (AreSlots-from_somewhere protections person people t others are).1 in omega (arith, left, from))
 
     first_of : (others : List (Option ℕ)) → StandsFrom (length protections.counts) others → AreSlots protections (person ∷ people) others → filled others ≡ filled rest
         → AreNoLater (None ∷ rest) others
     first_of [] from are same = absurd from
     first_of (None ∷ others) from are same = inr (refl, h.first others (AreSlots-from_nowhere protections person people others are) same)
     first_of (Some t ∷ others) from are same =
-        absurd (let left = none_past protections t (AreSlots-from_somewhere protections person people t others are).1 in omega (arith, left, from))
+        absurd (let left = counted_trait protections t (AreSlots-from_somewhere protections person people t others are).1 in omega (arith, left, from))
 
 -- a trait on which the person cannot stand changes nothing
 passed : (bound : ℕ) (protections : Protections) (person : Person) (people : List Person) (slots : List (Option ℕ)) → IsFirstFrom (suc bound) protections (person ∷ people) slots
@@ -87,7 +79,7 @@ passed bound protections person people slots h none = record {
       | inr high ↦ absurd (none others (subst (λ k. AreSlots protections (person ∷ people) (Some k ∷ others)) (let same : t ≡ bound = omega (arith, high, from) in same) are))
     ]
 
--- the person stands on the trait, where that places no fewer
+-- the person is on the trait, if that places no fewer
 module _ (bound : ℕ) (protections : Protections) (person : Person) (people : List Person) (slots rest : List (Option ℕ))
     (h : IsFirstFrom (suc bound) protections (person ∷ people) slots) (r : IsFirst (one_less protections bound) people rest)
     (holds : IsTrue (has_trait person.traits bound)) (left : 0 < protected protections bound) where

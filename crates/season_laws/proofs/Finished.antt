@@ -1,45 +1,22 @@
 -- A season can always be finished, by cuts alone.
-use Rattle.std.proofs.Common.{◌≡◌, ◌≤◌, ◌+◌, inl, inr, ℕ, zero, suc, Bool, true, false, List, [], ◌∷◌, ◌++◌, Option, Some, map, arith, refl, sym, ap, ◌∙◌, subst, ◌==◌, nat_lt, if◌then◌else◌, append_assoc, append-nil}
-use Rattle.std.specs.Prelude.{◌||◌}
-use Rattle.std.proofs.lemmas.Bool.{cases_Bool, ltb-true}
+use Rattle.std.proofs.Common.{◌≡◌, ◌≤◌, ◌+◌, ℕ, zero, suc, Bool, true, false, List, [], ◌∷◌, ◌++◌, Option, Some, map, arith, refl, sym, ap, ◌∙◌, subst, ◌==◌, if◌then◌else◌, append_assoc, append-nil}
 use Rattle.office_base.specs.Numbered.{last_of}
 use Rattle.office_moves.specs.Facts.{IsSound, SeasonFacts}
 use Rattle.office_moves.specs.State.{State, opening}
 use Rattle.office_moves.specs.Decided.{decided}
 use Rattle.office_moves.specs.History.{IsHistory, Reaches, asked, grown, newly}
-use Rattle.office_moves.specs.Judge.{refuse_if}
 use Rattle.office_moves.specs.Moves.{Does, IsMove}
 use Rattle.office_moves.specs.declared.decide.Decision.{Decision}
-use Rattle.office_moves.specs.declared.decide.Decision.TheVariants.{CutAgain, Finish, Publish}
+use Rattle.office_moves.specs.declared.decide.Decision.TheVariants.{Finish, Publish}
 use Rattle.office_moves.specs.declared.moves.Act.{Act}
 use Rattle.office_moves.specs.declared.moves.Act.TheVariants.{Cut}
 use Rattle.office_moves.specs.declared.moves.Entry.{Entry}
 use Rattle.office_moves.specs.declared.moves.Reply.{Reply}
-use Rattle.office_moves.specs.declared.refusal.Refusal.{Refusal}
-use Rattle.office_moves.specs.declared.refusal.Refusal.TheVariants.{Ahead}
+use Rattle.office_moves.proofs.Cuts.{ends}
 use Rattle.histories.specs.Laws.{HistoryGrows}
 use Rattle.histories.specs.Orderly.{IsOrderly}
 use Rattle.season_laws.specs.Laws.{AreCutsFrom, GoesToItsEnd, SeasonsCanBeFinished}
 use Rattle.season_laws.specs.NextRounds.{EveryRequestIsAnswered}
-
--- ---- the judgment of the cut of the open window
-
-lt_false : (m n : ℕ) → n ≤ m → nat_lt m n ≡ false
-lt_false m n few = elim (cases_Bool (nat_lt m n)) [ inl less ↦ absurd (let f = ltb-true m n less in omega (arith, f, few)) | inr other ↦ other ]
-
-chain : (early ahead last : Bool) (now : ℕ) (refusal : Refusal) → early ≡ false → ahead ≡ false → (if early then CutAgain now else refuse_if ahead refusal (if last then Finish else Publish)) ≡ (if last then Finish else Publish)
-chain true ahead last now refusal e f = absurd (cc)
-chain false true last now refusal e f = absurd (cc)
-chain false false last now refusal e f = refl
-
-neither : (a b : Bool) → a ≡ false → b ≡ false → a || b ≡ false
-neither true b e f = absurd (cc)
-neither false b e f = f
-
-ends : (facts : SeasonFacts) (state : State) → state.now ≤ facts.rounds → decided facts state (asked facts (Cut state.now)) ≡ (if state.now == facts.rounds then Finish else Publish)
-ends facts state few =
-    chain (nat_lt state.now state.now) (nat_lt state.now state.now || nat_lt facts.rounds state.now) (state.now == facts.rounds) state.now (Ahead state.now) (lt_false state.now state.now (omega arith))
-    (neither (nat_lt state.now state.now) (nat_lt facts.rounds state.now) (lt_false state.now state.now (omega arith)) (lt_false facts.rounds state.now few))
 
 -- ---- one cut
 

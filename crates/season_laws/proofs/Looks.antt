@@ -1,4 +1,4 @@
--- What is told of a raise, a list and the state is a function of what it looks at.
+-- The reply to a raise, to a list and to the state is a function of what it looks at.
 use Rattle.std.proofs.Common.{◌≡◌, ◌∙◌, ℕ, List, [], Some, None, length, refl, sym, ap, subst}
 use Rattle.office_base.specs.declared.asks.By.{By}
 use Rattle.office_base.specs.declared.step.StepKind.{StepKind}

@@ -1,12 +1,14 @@
--- Whoever floats does no worse in the next round than by other answers, and raises hurt nobody there.
-use Rattle.std.proofs.Common.{◌≡◌, ◌≢◌, ◌<◌, ◌≤◌, inl, ℕ, zero, suc, true, false, List, [], ◌∷◌, Option, Some, None, length, map, arith, refl, sym, ap, ◌∙◌, subst}
-use Rattle.std.specs.Prelude.{slice_get, option_map, IsSome}
+-- A candidate who floats does no worse in the next round than by other answers, and raises hurt nobody there.
+use Rattle.std.proofs.Common.{◌≡◌, ◌≢◌, ◌<◌, ◌≤◌, inl, ℕ, zero, suc, List, [], ◌∷◌, Option, Some, None, length, map, arith, refl, sym, ap, ◌∙◌, subst}
+use Rattle.std.specs.Prelude.{slice_get, option_map}
 use Rattle.std.specs.Option.{option_and_then}
 use Rattle.std.proofs.lemmas.List.{length-map}
 use Rattle.std.proofs.lemmas.Option.{slice_get_within}
 use Rattle.office_base.proofs.People.{at_person-get}
 use Rattle.office_base.specs.declared.asks.Seat.{Seat}
 use Rattle.office_base.specs.declared.person.Person.{Person}
+use Rattle.office_base.proofs.Lists.{there_is}
+use Rattle.office_base.proofs.Options.{some_value}
 use Rattle.allocations.specs.Fair.{IsBest, IsFair}
 use Rattle.allocations.specs.Market.{place_of, rank_of}
 use Rattle.choice_lists.specs.Choices.{list_of}
@@ -21,7 +23,7 @@ use Rattle.round_options.specs.Options.{after_cut, holds, seek_after}
 use Rattle.round_options.specs.declared.standing.Standing.{Standing}
 use Rattle.round_options.specs.declared.standing.Standing.TheVariants.{Waiting, Offered, Freeze, Float, Slide, Withdrawn, NoShow}
 use Rattle.round_laws.specs.Laws.{AreOtherwise, IsUpTo, MoreSeatsHurtNobody, WiderIsNoWorse}
-use Rattle.round_laws.proofs.People.{one_row, there_is}
+use Rattle.round_laws.proofs.People.{one_row}
 use Rattle.office_moves.specs.Facts.{IsSound, SeasonFacts, lists_in_order}
 use Rattle.office_moves.specs.Moves.{IsNextRound, next_seek, next_seeks}
 use Rattle.office_moves.specs.Promise.{standing_then}
@@ -33,10 +35,6 @@ use Rattle.histories.proofs.Fits.{is_seated, map_at, still_waits}
 use Rattle.season_laws.specs.Otherwise.{AnswersOtherwise, FloatIsNoWorse, IsRaisedAlone, RaisesHurtNobody}
 
 -- ---- one candidate
-
-some_of : {X : Type 0} (o : Option X) → IsSome o → (x : X) × (o ≡ Some x)
-some_of None h = absurd (let e : false ≡ true = h in cc)
-some_of (Some x) h = (x, refl)
 
 -- a cut that leaves a candidate waiting gave no seat
 no_seat_given : (standing : Standing) (seat : Option Seat) → after_cut standing seat ≡ Waiting → seat ≡ None
@@ -53,7 +51,7 @@ left_waiting : (facts : SeasonFacts) (view : View) (id n : ℕ) → left_by fact
 left_waiting facts view id zero e = refl
 left_waiting facts view id (suc window) e = no_seat_given _ (seat_in facts view.rounds (suc window) id) e
 
--- whoever does not wait seeks nothing behind the own seat
+-- a candidate who does not wait seeks nothing behind their own seat
 up_after : (standing : Standing) (k : ℕ) → standing ≢ Waiting → IsUpTo k (seek_after standing (Some k))
 up_after Waiting k apart = absurd (apart refl)
 up_after Offered k apart = tt
@@ -63,7 +61,7 @@ up_after Slide k apart = omega arith
 up_after Withdrawn k apart = tt
 up_after NoShow k apart = tt
 
--- whoever had a seat stands among the people
+-- a candidate who had a seat is among the people
 record Stands (facts : SeasonFacts) (id : ℕ) : Type 0 where
   pub place : ℕ
   pub person : Person
@@ -89,7 +87,7 @@ seeks_same facts state other id n h apart =
     let view : view_of other n ≡ view_of state n = λ i. record { now = h.now i; rounds = h.rounds i; rows = h.others n apart i } in
     λ i. seek_after (standing_at facts (view i) n (h.now i)) (option_map (λ (seat : Seat). place_of (list_of facts.lists n) seat.prog.0) (last_seat facts (h.rounds i) n))
 
--- the place of a seat in the own list
+-- the place of a seat in the candidate's own list
 abbrev place_in : SeasonFacts → ℕ → Option Seat → Option ℕ
 place_in facts id seat = option_map (λ (held : Seat). place_of (list_of facts.lists id) held.prog.0) seat
 
@@ -175,7 +173,7 @@ module _ (wider : WiderIsNoWorse) (facts : SeasonFacts) (state other : State) (f
 
 pub float_is_no_worse : WiderIsNoWorse → (facts : SeasonFacts) → FloatIsNoWorse facts
 float_is_no_worse wider facts state other id first second sound orderly orderly' open_now h floats next next' =
-    let some = some_of (last_seat facts state.rounds id) (orderly.seated id (ap holds floats)) in
+    let some = some_value (last_seat facts state.rounds id) (orderly.seated id (ap holds floats)) in
     let found = stands facts state.rounds (length state.rounds) id some.0 some.1 in
     let P : ℕ → Type 0 = λ n. AnswersOtherwise state other n → standing_then facts state state.now n ≡ Float → last_seat facts state.rounds n ≡ Some some.0
     → rank_of (list_of facts.lists n) (seat_of facts (Some first) n) ≤ rank_of (list_of facts.lists n) (seat_of facts (Some second) n) in

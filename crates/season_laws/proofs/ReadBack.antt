@@ -1,17 +1,17 @@
 -- What is published of a state in which all is in order is read back.
-use Rattle.std.proofs.Common.{◌≡◌, ◌≢◌, ◌≤◌, ◌<◌, ◌+◌, ◌-◌, ◌++◌, ◌^◌, ◌==◌, inl, inr, ℕ, zero, suc, Bool, true, false, not, List, [], ◌∷◌, Option, Some, None, IfSome, length, map, arith, refl, sym, ap, ◌∙◌, subst, if◌then◌else◌}
+use Rattle.std.proofs.Common.{◌≡◌, ◌≢◌, ◌≤◌, ◌<◌, ◌+◌, ◌-◌, ◌++◌, ◌^◌, ◌==◌, inl, inr, ℕ, suc, Bool, true, false, List, [], ◌∷◌, Option, Some, None, IfSome, length, map, arith, refl, sym, ap, ◌∙◌, subst, if◌then◌else◌}
 use Rattle.std.specs.Prelude.{slice_get}
 use Rattle.std.specs.List.{AllByRecursion, AllZip, filter}
 use Rattle.std.specs.Option.{option_and_then}
 use Rattle.std.proofs.lemmas.Bool.{eq-eqb}
 use Rattle.std.proofs.lemmas.Option.{slice_get_within}
-use Rattle.office_base.proofs.Lists.{all-get}
+use Rattle.office_base.proofs.Lists.{all-get, all_from, there_is}
 use Rattle.office_base.proofs.People.{at_person-get}
 use Rattle.office_base.specs.Certificate.{IsCanonical}
 use Rattle.office_base.specs.Lists.{IsAmong, IsSublist, Pairwise}
 use Rattle.office_base.specs.Merit.{in_merit}
 use Rattle.office_base.specs.Person.{at_person, is_common}
-use Rattle.office_base.specs.Placement.{placed_on, protected}
+use Rattle.office_base.specs.Placement.{placed_on}
 use Rattle.office_base.specs.declared.asks.Seat.{Seat}
 use Rattle.office_base.specs.declared.person.Category.{Category}
 use Rattle.office_base.specs.declared.person.Category.TheVariants.{Ews, Obc, Sc, St}
@@ -35,11 +35,13 @@ use Rattle.rank_lists.specs.Register.{find_person}
 use Rattle.seat_matrix.specs.Matrix.{SeatTable, seats_in}
 use Rattle.seat_matrix.specs.Seats.{AreProgrammeSeats, no_protections, seats_of}
 use Rattle.seat_matrix.specs.declared.seats.ProgrammeSeats.{ProgrammeSeats}
+use Rattle.seat_matrix.proofs.Unprotected.{no_position}
 use Rattle.programme_lists.specs.Chosen.{AreApplicants}
 use Rattle.programme_lists.specs.Listing.{ShowsStep, seats_filled}
-use Rattle.programme_lists.specs.Programme.{Admissions, admitted_by, is_of, is_taken, people_of, without}
+use Rattle.programme_lists.specs.Programme.{Admissions, admitted_by, is_of, people_of, without}
 use Rattle.programme_lists.specs.declared.programme.Programme.{Programme}
 use Rattle.programme_lists.specs.declared.programme.StepList.{StepList}
+use Rattle.programme_lists.proofs.Taken.{length-without}
 use Rattle.open_then_category.specs.Laws.{AdmittedOnce, SlotsAreTraits}
 use Rattle.published_texts.specs.Texts.{AreSeatsOf, IsSeatOf, final_text, list_text, round_text}
 use Rattle.publish.specs.Laws.{FinalsAreRead, IsWritten, ListsAreRead, ListsAreTold, RoundsAreRead, row_of, rows_of}
@@ -48,7 +50,8 @@ use Rattle.publish.specs.Rows.{AreRows, IsRoundText}
 use Rattle.rounds.specs.Rule.{MayApplyIn, ProgrammesChooseWell, rule_of, seekers_of}
 use Rattle.rounds.specs.declared.round.Round.{Round}
 use Rattle.rounds.proofs.Entrants.{entered, length_seekers, market}
-use Rattle.round_laws.proofs.People.{found_at, there_is}
+use Rattle.round_laws.proofs.People.{found_at}
+use Rattle.round_laws.proofs.OneRound.{step_distinct}
 use Rattle.office_moves.specs.Facts.{IsSound, SeasonFacts, lists_in_order}
 use Rattle.office_moves.specs.State.{State, seat_in, seat_of}
 use Rattle.office_moves.specs.Promise.{IsJust, kept_to_the_end, standing_then}
@@ -59,7 +62,6 @@ use Rattle.histories.proofs.Entering.{entrants, lists_full}
 use Rattle.histories.proofs.Fits.{full_seeks, placed, seat_there}
 use Rattle.round_options.specs.Options.{holds}
 use Rattle.season_laws.specs.ReadBack.{IsReadBack, PublishedIsRead}
-use Rattle.season_laws.proofs.Shown.{distinct_in}
 
 -- the laws on which this rests
 pub record AreLaws : Type 0 where
@@ -112,10 +114,6 @@ rows_known table number seat (person ∷ people) below = one (seat person.id.0) 
 
 -- ---- numbers of people
 
-all_from : {X : Type 0} (P : X → Type 0) (xs : List X) → ((i : ℕ) (x : X) → slice_get xs i ≡ Some x → P x) → AllByRecursion P xs
-all_from P [] h = tt
-all_from P (x ∷ xs) h = (h 0 x refl, all_from P xs (λ i. h (suc i)))
-
 -- what holds of each of the people holds of all of them
 all_among : (P : Person → Type 0) (people : List Person) → ((x : Person) → IsAmong x people → P x) → AllByRecursion P people
 all_among P [] h = tt
@@ -134,27 +132,24 @@ few_those f (s ∷ seekers) (x ∷ xs) = fewer_if (f s x) s.person (those f seek
 few_filter : (p : Person → Bool) (people : List Person) → length (filter p people) ≤ length people
 few_filter p people = length-sublist (filter p people) people (filter-sublist p people)
 
-few_without : (people taken : List Person) → length (without people taken) ≤ length people
-few_without people taken = few_filter (λ person. not (is_taken taken person)) people
-
 -- no more people stand for a step than there are applicants
 few_people : (list : ListId) (people : List Person) (a : Admissions) (kind : StepKind) → length (people_of list people a kind) ≤ length people
 few_people list people a Open = few_filter (is_common list) people
-few_people list people a EwsStep = let one = few_filter (is_of Ews) (without people a.open_step) in let two = few_without people a.open_step in omega (arith, one, two)
-few_people list people a ObcStep = let one = few_filter (is_of Obc) (without people a.open_step) in let two = few_without people a.open_step in omega (arith, one, two)
-few_people list people a ScStep = let one = few_filter (is_of Sc) (without people a.open_step) in let two = few_without people a.open_step in omega (arith, one, two)
-few_people list people a StStep = let one = few_filter (is_of St) (without people a.open_step) in let two = few_without people a.open_step in omega (arith, one, two)
+few_people list people a EwsStep = let one = few_filter (is_of Ews) (without people a.open_step) in let two = length-without people a.open_step in omega (arith, one, two)
+few_people list people a ObcStep = let one = few_filter (is_of Obc) (without people a.open_step) in let two = length-without people a.open_step in omega (arith, one, two)
+few_people list people a ScStep = let one = few_filter (is_of Sc) (without people a.open_step) in let two = length-without people a.open_step in omega (arith, one, two)
+few_people list people a StStep = let one = few_filter (is_of St) (without people a.open_step) in let two = length-without people a.open_step in omega (arith, one, two)
 few_people list people a Dereserved =
     let l1 = without people a.open_step in
     let l2 = without l1 a.ews in
     let l3 = without l2 a.obc in
     let l4 = without l3 a.sc in
     let l5 = without l4 a.st in
-    let n1 = few_without people a.open_step in
-    let n2 = few_without l1 a.ews in
-    let n3 = few_without l2 a.obc in
-    let n4 = few_without l3 a.sc in
-    let n5 = few_without l4 a.st in
+    let n1 = length-without people a.open_step in
+    let n2 = length-without l1 a.ews in
+    let n3 = length-without l2 a.obc in
+    let n4 = length-without l3 a.sc in
+    let n5 = length-without l4 a.st in
     let n6 = few_filter (is_common list) l5 in
     omega (arith, n1, n2, n3, n4, n5, n6)
 
@@ -172,21 +167,11 @@ few_seats version seats a Dereserved sound =
     two true m i n j first second = omega (arith, first, second)
     two false m i n j first second = omega (arith, first, second)
 
--- nothing is protected for any trait
-none_protected : (t : ℕ) → protected no_protections t ≡ 0
-none_protected zero = refl
-none_protected (suc zero) = refl
-none_protected (suc (suc zero)) = refl
-none_protected (suc (suc (suc zero))) = refl
-none_protected (suc (suc (suc (suc zero)))) = refl
-none_protected (suc (suc (suc (suc (suc zero))))) = refl
-none_protected (suc (suc (suc (suc (suc (suc t)))))) = refl
-
 no_pairs : (people : List Person) (pairs : List Pair) → IsCanonical no_protections people pairs → pairs ≡ []
 no_pairs people [] canonical = refl
 no_pairs people (pair ∷ pairs) canonical = absurd (
     let within = canonical.placement.within pair.slot in
-    let none = none_protected pair.slot in
+    let none = no_position pair.slot in
     let here = one (pair.slot == pair.slot) (placed_on pair.slot pairs) (eq-eqb pair.slot pair.slot refl) in
     omega (arith, within, none, here))
   where
@@ -277,7 +262,7 @@ module _ (laws : AreLaws) (facts : SeasonFacts) (state : State) (sound : IsSound
         length_seekers table facts.people (lists_in_order facts) round.seeks (lists_full facts sound)
         (ap (λ l. length l) (orderly.course.made before round published).sought ∙ full_seeks facts state before sound)
 
-    -- whoever applies is found in the register
+    -- a person who applies is found in the register
     known : (p : ℕ) (person : Person) → IsAmong person (applicants p seekers round.seats) → find_person person.id.0 facts.people ≡ Some person
     known p person applied =
         let found = of_those (λ s seat. applies p s.list seat) seekers round.seats person applied in
@@ -308,7 +293,7 @@ module _ (laws : AreLaws) (facts : SeasonFacts) (state : State) (sound : IsSound
           known = subst (λ l. AllByRecursion (λ (person : Person). find_person person.id.0 facts.people ≡ Some person) l) (sym shown.persons)
               (all_among (λ (person : Person). find_person person.id.0 facts.people ≡ Some person) (admitted_by shows.0 kind)
               (λ person there. known p person ((laws.well facts.version table (orderly.course.seats (suc before))).among p people person kind (may p below) (shows.0, shows.1, there))));
-          distinct = subst (λ l. Pairwise (λ (a b : Person). a.id ≢ b.id) l) (sym shown.persons) (distinct_in shows.0 kind once.0);
+          distinct = subst (λ l. Pairwise (λ (a b : Person). a.id ≢ b.id) l) (sym shown.persons) (step_distinct shows.0 kind once.0);
           in_order = subst (λ l. IsSublist (map (λ (pair : Pair). pair.cand) list.cert.pairs) (map (λ (person : Person). person.id) l)) (sym shown.persons) shown.certificate.in_order;
           slots = slots;
           none = λ e.

@@ -15,13 +15,15 @@ use Rattle.office_base.specs.declared.person.CandId.{CandId}
 use Rattle.office_base.specs.declared.person.Person.{Person}
 use Rattle.office_base.specs.declared.person.ProgId.{ProgId}
 use Rattle.office_base.specs.declared.step.StepKind.{StepKind}
+use Rattle.office_base.proofs.Lists.{there_is, at_among}
 use Rattle.placements.proofs.Ranks.{one_person}
 use Rattle.placements.proofs.Zips.{zip_at, zip_back}
+use Rattle.placements.proofs.Convert.{same_cand}
 use Rattle.allocations.specs.Fair.{IsMarket, IsOwn}
 use Rattle.allocations.specs.Market.{Seeker, applicants, applies, place_of, rank_of, seat_at}
 use Rattle.allocations.proofs.Claims.{applicants_may}
 use Rattle.allocations.proofs.Places.{applies_means, applies_true, holder_applies, place_read, seat_same}
-use Rattle.allocations.proofs.Those.{same_id, those_has}
+use Rattle.allocations.proofs.Those.{those_has}
 use Rattle.choice_lists.specs.Choices.{list_of}
 use Rattle.rank_lists.specs.Register.{find_person}
 use Rattle.seat_matrix.specs.Matrix.{SeatTable, first_list, list_in, seats_in}
@@ -45,7 +47,7 @@ use Rattle.explain.specs.Reason.{admitted_in, reason_from, reason_of, refusal}
 use Rattle.rounds.specs.Rule.{AreEntrants, IsOwnList, MayApplyIn, ProgrammesChooseWell, rule_of, seekers_of}
 use Rattle.rounds.specs.declared.round.Round.{Round}
 use Rattle.rounds.proofs.Entrants.{entered, length_seekers, market}
-use Rattle.round_laws.proofs.People.{found_at, stands_at, there_is}
+use Rattle.round_laws.proofs.People.{found_at, stands_at}
 use Rattle.office_moves.specs.Facts.{IsSound, SeasonFacts, lists_in_order}
 use Rattle.office_moves.specs.State.{State, round_at, seat_of}
 use Rattle.office_moves.specs.Promise.{IsJust}
@@ -129,7 +131,7 @@ left_by_both table other seek progs p same e =
     let left = left_there table seek progs p (listed_placed p (seek_leaves table seek progs) e) in
     there_left other seek progs p left.place left.prog left.there left.is (left_too table other seek progs left.place left.prog same left.left)
 
--- ---- who stands on a list
+-- ---- who is on a list
 
 -- the list that has the person by the id
 taken_in : (lists : List StepList) (person : Person) (step : StepKind) → admitted_in lists person ≡ Some step
@@ -164,7 +166,7 @@ taken_means (other ∷ people) person e = elim (cases_Bool (other.id.0 == person
     later true c h e = absurd (cc)
     later false c h e = e
 
--- whoever is among them is one of the taken
+-- a person among them is one of the taken
 there_taken : (people : List Person) (person : Person) → IsAmong person people → is_taken people person ≡ true
 there_taken [] person there = absurd there
 there_taken (other ∷ people) person there = elim there [
@@ -179,7 +181,7 @@ there_taken (other ∷ people) person there = elim there [
     second true c e = refl
     second false c e = e
 
--- whoever is on a list is on the first that has the person
+-- a person on a list is on the first list that has the person
 somewhere : (lists : List StepList) (person : Person) (shown : StepList) → IsAmong shown lists → IsAmong person shown.admitted → (step : StepKind) × (admitted_in lists person ≡ Some step)
 somewhere [] person shown listed there = absurd listed
 somewhere (list ∷ lists) person shown listed there = elim (cases_Bool (is_taken list.admitted person)) [
@@ -192,14 +194,9 @@ somewhere (list ∷ lists) person shown listed there = elim (cases_Bool (is_take
   ]
 ]
 
-at_among : {X : Type 0} (xs : List X) (n : ℕ) (x : X) → slice_get xs n ≡ Some x → IsAmong x xs
-at_among [] n x at = absurd (cc)
-at_among (y ∷ xs) zero x at = inl (let same : y ≡ x = cc in sym same)
-at_among (y ∷ xs) (suc n) x at = inr (at_among xs n x at)
-
 -- ---- one round
 
--- who stands at a place of the register: the seeker there, with what the own seek leaves of the own list
+-- the person at a place of the register: the seeker there, with what their seek leaves of their own list
 record Entry (facts : SeasonFacts) (table : SeatTable) (seeks : List Seek) (i : ℕ) (person : Person) : Type 0 where
   pub s : Seeker
   pub there : slice_get (seekers_of table facts.people (lists_in_order facts) seeks) i ≡ Some s
@@ -251,7 +248,7 @@ module _ (facts : SeasonFacts) (state : State) (before : ℕ) (round : Round) (l
         leaves = e.leaves ∙ ap (λ l. seek_leaves table e.seek l) (sym mine);
       }
 
-  -- whoever applies to a programme is one of its applicants, and it is one of the matrix
+  -- a person who applies to a programme is one of its applicants, and it is one of the matrix
   applying : (p i : ℕ) (person : Person) (e : Entry facts table round.seeks i person) (seat : Option Seat) → slice_get round.seats i ≡ Some seat → applies p e.s.list seat ≡ true
       → IsAmong person (applicants p seekers round.seats)
   applying p i person e seat has h =
@@ -280,7 +277,7 @@ module _ (facts : SeasonFacts) (state : State) (before : ℕ) (round : Round) (l
         subst (λ l. IsAmong person l) (sym found.2.persons) (subst (λ a. IsAmong person (admitted_by a step)) same among),
       )
 
-  -- whoever is on a list by the id is on it, and is admitted under its step
+  -- a person whose id is on a list is on it, and is admitted under its step
   record Shown (p : ℕ) (programme : Programme) (person : Person) (step : StepKind) : Type 0 where
     pub under : IsShownUnder programme step person
     pub admits : rule_of facts.version table p (applicants p seekers round.seats) person step
@@ -294,7 +291,7 @@ module _ (facts : SeasonFacts) (state : State) (before : ℕ) (round : Round) (l
       let shown = zip_back (ShowsStep facts.version (seats_in table p) (in_merit (seats_in table p).list (applicants p seekers round.seats)) shows.0) kinds programme.steps list.0 list.1 shows.2 list.2 in
       let by : IsAmong other.0 (admitted_by shows.0 shown.0) = subst (λ l. IsAmong other.0 l) shown.2.persons other.1 in
       let came = (laws.well facts.version table (orderly.course.seats (suc before))).among p (applicants p seekers round.seats) other.0 shown.0 (may p below) (shows.0, shows.1, by) in
-      let same : other.0 ≡ person = one_person (applicants p seekers round.seats) (may p below).distinct other.0 person came applied (same_id other.0.id person.id other.2) in
+      let same : other.0 ≡ person = one_person (applicants p seekers round.seats) (may p below).distinct other.0 person came applied (same_cand other.0.id person.id other.2) in
       let kind : shown.0 ≡ step = sym shown.2.of_kind ∙ list.3 in
       record {
         under = (list.1, at_among programme.steps list.0 list.1 list.2, list.3, subst (λ z. IsAmong z list.1.admitted) same other.1);
@@ -311,7 +308,7 @@ module _ (facts : SeasonFacts) (state : State) (before : ℕ) (round : Round) (l
       (laws.well facts.version table (orderly.course.seats (suc before))).one_step p (applicants p seekers round.seats) person first.0 step (may p below) its.admits admits in
       first.1 ∙ ap (λ k. Some k) one
 
-  -- ---- whoever has a seat of the programme
+  -- ---- a candidate who has a seat of the programme
 
   seated : (cand : CandId) (prog : ProgId) (seat : Seat) → at_person cand.0 facts.people round.seats ≡ Some (Some seat) → (seat.prog.0 == prog.0) ≡ true
       → IsJustReason facts table round cand prog (Admitted seat.step)
@@ -348,9 +345,9 @@ module _ (facts : SeasonFacts) (state : State) (before : ℕ) (round : Round) (l
       one_step : (a b : StepKind) → Admitted a ≡ Admitted b → a ≡ b
       one_step a b e = cc
 
-  -- ---- whoever has none
+  -- ---- a candidate who has none
 
-  -- what the own place tells of a seat that does not stand before the programme
+  -- what the candidate's own place says of a seat that is not before the programme
   abbrev NotBefore : CandId → ProgId → Type 0
   NotBefore cand prog = (seat : Seat) → seat_of facts (Some round) cand.0 ≡ Some seat → place_of (list_of facts.lists cand.0) prog.0 ≤ place_of (list_of facts.lists cand.0) seat.prog.0
 
@@ -406,7 +403,7 @@ module _ (facts : SeasonFacts) (state : State) (before : ℕ) (round : Round) (l
         admitted = λ step told. (admitted_shown prog.0 programme person step below listed applied (told_admitted (admitted_in programme.steps person) _ _ _ step told)).under;
       })
     where
-      -- the place of the own seat
+      -- the place of the candidate's own seat
       ranked : (o : Option Seat) → seat_of facts (Some round) cand.0 ≡ o → (seek : Seek) (list : List ProgId) (prog : ProgId)
           → place_of (seek_leaves table seek list) prog.0 < length (seek_leaves table seek list) → Pairwise (λ (a b : ProgId). a.0 ≢ b.0) list
           → ((seat : Seat) → seat_of facts (Some round) cand.0 ≡ Some seat → place_of list prog.0 ≤ place_of list seat.prog.0)
@@ -466,7 +463,7 @@ reasons_just laws facts state zero round cand prog reason sound orderly publishe
 reasons_just laws facts state (suc before) round cand prog reason sound orderly published e =
     beside facts state before round laws sound orderly published cand prog reason (seat_of facts (Some round) cand.0) refl e
 
--- ---- what is told of a request
+-- ---- what the office replies to a request
 
 -- a receipt tells no reason
 no_receipt : (facts : SeasonFacts) (state : State) (window : ℕ) (cand : CandId) (prog : ProgId) (answer : WhyAnswer) → WhyIs cand prog answer ≡ receipt facts state window → ⊥

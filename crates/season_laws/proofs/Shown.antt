@@ -1,7 +1,6 @@
 -- A programme can show its choice from any people who may apply together.
-use Rattle.std.proofs.Common.{◌≡◌, ◌≢◌, ◌++◌, ℕ, List, [], ◌∷◌, length, refl}
-use Rattle.std.specs.List.{AllByRecursion, AllZip}
-use Rattle.office_base.specs.Lists.{Pairwise}
+use Rattle.std.proofs.Common.{◌≡◌, ℕ, List, [], ◌∷◌, length, refl}
+use Rattle.std.specs.List.{AllZip}
 use Rattle.office_base.specs.Merit.{in_merit}
 use Rattle.office_base.specs.declared.person.Person.{Person}
 use Rattle.office_base.specs.declared.step.StepKind.{StepKind}
@@ -15,41 +14,14 @@ use Rattle.programme_lists.specs.Programme.{Admissions, admitted_by, people_of}
 use Rattle.programme_lists.specs.declared.programme.Programme.{Programme}
 use Rattle.programme_lists.specs.declared.programme.StepList.{StepList}
 use Rattle.open_then_category.specs.Laws.{AdmittedOnce, ProgrammeChoiceExists}
+use Rattle.round_laws.proofs.OneRound.{step_distinct}
 use Rattle.season_laws.proofs.Certificates.{certificate}
-
-all_front : {X : Type 0} (P : X → Type 0) (xs ys : List X) → AllByRecursion P (xs ++ ys) → AllByRecursion P xs
-all_front P [] ys all = tt
-all_front P (x ∷ xs) ys all = (all.0, all_front P xs ys all.1)
-
-front : {X : Type 0} (R : X → X → Type 0) (xs ys : List X) → Pairwise R (xs ++ ys) → Pairwise R xs
-front R [] ys all = tt
-front R (x ∷ xs) ys all = (all_front (R x) xs ys all.0, front R xs ys all.1)
-
-back : {X : Type 0} (R : X → X → Type 0) (xs ys : List X) → Pairwise R (xs ++ ys) → Pairwise R ys
-back R [] ys all = all
-back R (x ∷ xs) ys all = back R xs ys all.1
-
-abbrev Apart : Person → Person → Type 0
-Apart a b = a.id ≢ b.id
-
--- those whom one step admits are distinct where all admitted are
-pub distinct_in : (admissions : Admissions) (kind : StepKind) → AreDistinct (everybody admissions) → AreDistinct (admitted_by admissions kind)
-distinct_in a Open all = front Apart a.open_step a.ews (front Apart (a.open_step ++ a.ews) a.obc (front Apart (a.open_step ++ a.ews ++ a.obc) a.sc
-    (front Apart (a.open_step ++ a.ews ++ a.obc ++ a.sc) a.st (front Apart (a.open_step ++ a.ews ++ a.obc ++ a.sc ++ a.st) a.dereserved all))))
-distinct_in a Ews all = back Apart a.open_step a.ews (front Apart (a.open_step ++ a.ews) a.obc (front Apart (a.open_step ++ a.ews ++ a.obc) a.sc
-    (front Apart (a.open_step ++ a.ews ++ a.obc ++ a.sc) a.st (front Apart (a.open_step ++ a.ews ++ a.obc ++ a.sc ++ a.st) a.dereserved all))))
-distinct_in a Obc all = back Apart (a.open_step ++ a.ews) a.obc (front Apart (a.open_step ++ a.ews ++ a.obc) a.sc
-    (front Apart (a.open_step ++ a.ews ++ a.obc ++ a.sc) a.st (front Apart (a.open_step ++ a.ews ++ a.obc ++ a.sc ++ a.st) a.dereserved all)))
-distinct_in a Sc all = back Apart (a.open_step ++ a.ews ++ a.obc) a.sc
-    (front Apart (a.open_step ++ a.ews ++ a.obc ++ a.sc) a.st (front Apart (a.open_step ++ a.ews ++ a.obc ++ a.sc ++ a.st) a.dereserved all))
-distinct_in a St all = back Apart (a.open_step ++ a.ews ++ a.obc ++ a.sc) a.st (front Apart (a.open_step ++ a.ews ++ a.obc ++ a.sc ++ a.st) a.dereserved all)
-distinct_in a Dereserved all = back Apart (a.open_step ++ a.ews ++ a.obc ++ a.sc ++ a.st) a.dereserved all
 
 -- the list of a step
 step_shown : (version : ℕ) (seats : ProgrammeSeats) (applicants : List Person) (admissions : Admissions) (kind : StepKind) → AreDistinct (everybody admissions)
     → (list : StepList) × ShowsStep version seats applicants admissions kind list
 step_shown version seats applicants admissions kind all =
-    let cert = certificate (seats_of seats kind).protections (admitted_by admissions kind) (distinct_in admissions kind all) in (
+    let cert = certificate (seats_of seats kind).protections (admitted_by admissions kind) (step_distinct admissions kind all) in (
       record {
         kind = kind;
         seats = seats_filled version seats admissions kind;

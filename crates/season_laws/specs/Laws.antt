@@ -73,22 +73,23 @@ abbrev pub cuts_among : List Entry → ℕ
 cuts_among [] = 0
 cuts_among (entry ∷ entries) = cuts_with entry.act (cuts_among entries)
 
--- Both have as many cuts, each candidate has the same rows in each window of both, and each window the same raises. How the answers of one candidate and another,
--- and the raises between them, follow each other is left open.
+-- Both have as many cuts, each candidate has the same rows in each window of both, and each window the same raises.
+-- How the answers of one candidate and another, and the raises between them, follow each other is left open.
 pub record AreSameByWindow (entries others : List Entry) : Type 0 where
   pub cuts : cuts_among others ≡ cuts_among entries
   pub answers : (window id : ℕ) → in_window window (rows_of id (answers_among others)) ≡ in_window window (rows_of id (answers_among entries))
   pub raises : (window : ℕ) → raises_in window (raises_among others) ≡ raises_in window (raises_among entries)
 
--- The two states have the same rounds and the same final rows, and each candidate stands alike in both at the cut of each window.
+-- The two states have the same number of cuts, the same rounds and the same final rows.
+-- Each candidate has the same standing in both at the cut of each window.
 pub record CameToTheSame (facts : SeasonFacts) (state other : State) : Type 0 where
   pub now : other.now ≡ state.now
   pub rounds : other.rounds ≡ state.rounds
   pub finals : other.finals ≡ state.finals
   pub standings : (window id : ℕ) → standing_then facts other window id ≡ standing_then facts state window id
 
--- The order within a window does not matter: two histories in which each candidate has the same rows in each window, and each window the same raises, come to the
--- same rounds and the same final rows.
+-- The order within a window does not matter. Two histories in which each candidate has the same rows in each window, and each
+-- window the same raises, result in the same rounds and the same final rows.
 abbrev pub OrderWithinWindowsIsFree : SeasonFacts → Type 0
 OrderWithinWindowsIsFree facts = (entries others : List Entry) (state other : State) → IsSound facts → IsHistory facts entries state → IsHistory facts others other
     → AreSameByWindow entries others → CameToTheSame facts state other

@@ -21,7 +21,7 @@ pub record AnswersOtherwise (state other : State) (id : ℕ) : Type 0 where
   pub raises : other.raises ≡ state.raises
   pub others : (n : ℕ) → n ≢ id → rows_of n other.answers ≡ rows_of n state.answers
 
--- Whoever stands at float has in the next round, by the own choice list, no worse seat than any other answers of this candidate would bring there.
+-- A candidate who floats gets in the next round, by their own choice list, no worse seat than with any other answers.
 abbrev pub FloatIsNoWorse : SeasonFacts → Type 0
 FloatIsNoWorse facts = (state other : State) (id : ℕ) (first second : Round) → IsSound facts → IsOrderly facts state → IsOrderly facts other → state.now < facts.rounds
     → AnswersOtherwise state other id → standing_then facts state state.now id ≡ Float → IsNextRound facts state first → IsNextRound facts other second

@@ -46,9 +46,9 @@ pub record IsJustReason (facts : SeasonFacts) (matrix : SeatTable) (round : Roun
   pub chosen : ShowsFrom facts.version (seats_in matrix prog.0) (applicants prog.0 (seekers_of matrix facts.people (lists_in_order facts) round.seeks) round.seats) programme
   -- it is the reason of the person by these lists
   pub by_lists : reason ≡ reason_of (seats_in matrix prog.0).list programme person
-  -- each step that it tells of stands against the person
+  -- each step that the reason names counts against the person
   pub against : AllByRecursion (StandsAgainst (seats_in matrix prog.0) programme person) (told reason)
-  -- and whoever is told to be admitted stands on the list of that step
+  -- and a person whose reason is an admission is on the list of that step
   pub admitted : (step : StepKind) → reason ≡ Admitted step → IsShownUnder programme step person
 
 -- In a state in which all is in order, each reason by a published round is just, by the matrix of that round.
@@ -57,7 +57,7 @@ OfficeReasonsAreJust facts = (state : State) (number : ℕ) (round : Round) (can
     → round_at state.rounds number ≡ Some round → why_answer facts (Some round) cand prog ≡ Because reason
     → IsJustReason facts (matrix_of_round facts state number) round cand prog reason
 
--- So is each reason that is told of a request in it, by the last published round.
+-- So is each reason in a reply to a request in such a state, by the last published round.
 abbrev pub ToldReasonsAreJust : SeasonFacts → Type 0
 ToldReasonsAreJust facts = (state after : State) (request : Request) (cand : CandId) (prog : ProgId) (reason : Reason) → IsSound facts → IsOrderly facts state
     → IsMove facts state request (WhyIs cand prog (Because reason)) after

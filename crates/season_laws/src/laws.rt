@@ -22,8 +22,9 @@ pub fn state_looks_at_numbers()
     ensures { (facts : SeasonFacts) → StateLooksAtNumbers facts }
 {}
 
-/// A reason that the office gives speaks of an applicant of that programme in that round and of the lists by the matrix of that round; each step that it tells
-/// of stands against the person, and whoever is told to be admitted stands on the list of that step.
+/// A reason that the office gives is about an applicant of that programme in that round. It goes by the lists of the round and
+/// the matrix of that round. Each step that the reason names counts against the person.
+/// A person whose reason is an admission is on the list of that step.
 pub fn office_reasons_are_just()
     ensures { (facts : SeasonFacts) → OfficeReasonsAreJust facts }
 {
@@ -77,7 +78,7 @@ pub fn answers_can_be_exchanged()
     ensures { (facts : SeasonFacts) → AnswersCanBeExchanged facts }
 {}
 
-/// Whoever floats has in the next round no worse seat than other answers of this candidate would bring there.
+/// A candidate who floats gets no worse seat in the next round than with other answers.
 pub fn float_is_no_worse()
     ensures { (facts : SeasonFacts) → FloatIsNoWorse facts }
 {

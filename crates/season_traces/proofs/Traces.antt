@@ -9,6 +9,7 @@ use Rattle.office_base.specs.declared.asks.Choice.TheVariants.{Freeze as ToFreez
 use Rattle.office_base.specs.declared.asks.Seat.{Seat}
 use Rattle.office_base.specs.declared.person.Person.{Person}
 use Rattle.office_base.specs.declared.person.ProgId.{ProgId}
+use Rattle.office_base.proofs.Lists.{there_is}
 use Rattle.allocations.specs.Fair.{IsBest}
 use Rattle.allocations.specs.Market.{Seeker, place_of, rank_of}
 use Rattle.choice_lists.specs.Choices.{list_of}
@@ -21,7 +22,6 @@ use Rattle.rounds.specs.Rule.{AreEntrants, MayApplyIn, ProgrammesChooseWell, rul
 use Rattle.rounds.specs.declared.round.Round.{Round}
 use Rattle.rounds.proofs.Entrants.{entered, length_seekers, market}
 use Rattle.round_laws.specs.Laws.{MoreSeatsHurtNobody, SomeSeekNothing}
-use Rattle.round_laws.proofs.People.{there_is}
 use Rattle.round_options.specs.Options.{after_cut, holds, may_follow, seek_after, standing_of}
 use Rattle.round_options.specs.declared.standing.Standing.{Standing}
 use Rattle.round_options.specs.declared.standing.Standing.TheVariants.{Waiting, Offered, Freeze, Float, Slide, Withdrawn, NoShow}

@@ -24,9 +24,6 @@ pub record LeaveSome (at : ℕ) (old : List Standing) (table : List (List Choice
   pub few : still ≤ at
   pub full : length new ≡ length old
 
-pub leave_none : (old : List Standing) (table : List (List Choice)) (seats : List (Option Seat)) → LeaveSome 0 old table seats old 0
-leave_none old table seats = record { done = refl; rest = refl; count = refl; few = omega arith; full = refl }
-
 one_more : (gone : Bool) (rest : ℕ) → (if gone then rest else rest + 1) ≡ rest + (if gone then 0 else 1)
 one_more true rest = omega arith
 one_more false rest = refl
@@ -78,12 +75,6 @@ leave_whole at old table seats new still end long given h =
     let all = after_length (standings old table) seats (given ∙ sym size) in
     let full = h.full in
     sym (take_all at new (omega (arith, full, end))) ∙ (h.done ∙ take_all at (after_cuts (standings old table) seats) (omega (arith, all, size, end)))
-
-pub leave_count : (at : ℕ) (old : List Standing) (table : List (List Choice)) (seats : List (Option Seat)) (new : List Standing) (still : ℕ)
-    → length old ≤ at → length table ≡ length old → length seats ≡ length old → LeaveSome at old table seats new still → still ≡ still_in new
-leave_count at old table seats new still end long given h =
-    let full = h.full in
-    h.count ∙ ap still_in (sym h.done ∙ take_all at new (omega (arith, full, end)))
 
 -- one more is left
 pub leave_more : (at : ℕ) (old : List Standing) (table : List (List Choice)) (seats : List (Option Seat)) (now : List Standing) (still : ℕ) (e s : Standing) (seat : Option Seat) (v : Standing) (one : ℕ)

@@ -1,6 +1,6 @@
 -- The lists along the people, place by place.
 use Rattle.std.proofs.Common.{◌≡◌, ◌<◌, ◌≤◌, ◌+◌, ◌-◌, ℕ, zero, suc, List, [], ◌∷◌, ◌++◌, Option, Some, None, length, take, get_or, arith, refl, sym, ap, ◌∙◌}
-use Rattle.std.specs.Prelude.{slice_get, option_map, replicate, IsSome, true}
+use Rattle.std.specs.Prelude.{slice_get, option_map, IsSome, true}
 use Rattle.std.proofs.lemmas.List.{take_all, take_more}
 use Rattle.std.proofs.lemmas.Option.{get_or_from_slice_get, same_Some, slice_get-get_or, slice_get_within}
 use Rattle.office_base.specs.declared.asks.Choice.{Choice}
@@ -37,11 +37,6 @@ stood_none None left e = absurd (cc)
 stood_none (Some choices) left e = ap Some (stands_none left choices (same_Some _ _ e))
 
 -- ---- at a place
-
-pub nobody_at : {X : Type 0} (x : X) (count at : ℕ) → at < count → slice_get (replicate count x) at ≡ Some x
-nobody_at x zero at less = absurd (omega arith)
-nobody_at x (suc count) zero less = refl
-nobody_at x (suc count) (suc at) less = nobody_at x count at (omega arith)
 
 pub stood_at : (left : List Standing) (table : List (List Choice)) (at : ℕ) (l s : Standing) → slice_get left at ≡ Some l → option_map (stands l) (slice_get table at) ≡ Some s → slice_get (standings left table) at ≡ Some s
 stood_at [] table at l s a b = absurd (cc)
@@ -108,7 +103,7 @@ seeks_more lists people left table seats at d e s seat list seek done new less f
     let same : seek ≡ seek_for (list_of lists (get_or people at d).id.0) s seat = sought ∙ ap (λ (z : List ProgId). seek_for z s seat) own in
     take_next (seeks_after lists people (standings left table) seats) done new at seek so (here ∙ ap Some (sym same)) made
 
--- whoever stands so is seated
+-- a candidate with this standing is seated
 pub seated_there : (left : List Standing) (table : List (List Choice)) (seats : List (Option Seat)) (at : ℕ) (e s : Standing) (seat : Option Seat) → AreSeated (standings left table) seats → at < length left
     → option_map (stands (get_or left at e)) (slice_get table at) ≡ Some s → slice_get seats at ≡ Some seat → holds s ≡ true → IsSome seat
 seated_there left table seats at e s seat seated less stood given =

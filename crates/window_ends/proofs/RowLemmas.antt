@@ -1,7 +1,6 @@
 -- The rows of seats from a place on.
-use Rattle.std.proofs.Common.{◌≡◌, ◌<◌, ◌≤◌, ◌+◌, ℕ, zero, suc, add-one, List, [], ◌∷◌, ◌++◌, Option, Some, None, length, drop, get_or, arith, refl, sym, ap, ◌∙◌, subst, append_assoc}
+use Rattle.std.proofs.Common.{◌≡◌, ◌<◌, ◌+◌, ℕ, zero, suc, add-one, List, [], ◌∷◌, ◌++◌, Option, Some, None, length, drop, get_or, arith, refl, sym, ap, ◌∙◌, subst, append_assoc}
 use Rattle.std.specs.Prelude.{slice_get, option_map}
-use Rattle.std.proofs.lemmas.List.{append-nil, drop_all}
 use Rattle.std.proofs.lemmas.Option.{same_Some, slice_get-get_or}
 use Rattle.office_base.specs.declared.asks.Choice.{Choice}
 use Rattle.office_base.specs.declared.asks.Seat.{Seat}
@@ -36,12 +35,6 @@ rows_next number people seats at person seat done new whole a b made all =
     subst (λ (k : ℕ). rows_of_seats number (drop at people) (drop at seats) ≡ row_before number person.id seat (rows_of_seats number (drop k people) (drop k seats))) (sym (add-one at)) (next_suc number people seats at person seat a b) in
     ap (λ (z : List AllotRow). z ++ rest) made ∙ (append_assoc done (row_before number person.id seat []) rest
     ∙ (ap (λ (z : List AllotRow). done ++ z) (sym (here ∙ row_first number person.id seat rest)) ∙ all))
-
--- all rows are there
-pub rows_whole : (number : ℕ) (people : List Person) (seats : List (Option Seat)) (at : ℕ) (done whole : List AllotRow) → length people ≤ at
-    → done ++ rows_of_seats number (drop at people) (drop at seats) ≡ whole → done ≡ whole
-rows_whole number people seats at done whole end all =
-    sym (append-nil done) ∙ (ap (λ (z : List Person). done ++ rows_of_seats number z (drop at seats)) (sym (drop_all at people end)) ∙ all)
 
 pub kept_at : (all : List Standing) (seats : List (Option Seat)) (at : ℕ) (s : Standing) (seat : Option Seat) → slice_get all at ≡ Some s → slice_get seats at ≡ Some seat
     → slice_get (kept_seats all seats) at ≡ Some (kept_seat s seat)

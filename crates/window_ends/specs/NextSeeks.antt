@@ -20,7 +20,7 @@ seeks_after lists (person ∷ people) [] seats = []
 seeks_after lists (person ∷ people) (standing ∷ standings) [] = []
 seeks_after lists (person ∷ people) (standing ∷ standings) (seat ∷ seats) = seek_for (list_of lists person.id.0) standing seat ∷ seeks_after lists people standings seats
 
--- whoever keeps a seat has one
+-- each candidate who keeps a seat has one
 pub record AreSeated (standings : List Standing) (seats : List (Option Seat)) : Type 0 where
   pub each : (at : ℕ) (standing : Standing) (seat : Option Seat) → slice_get standings at ≡ Some standing → slice_get seats at ≡ Some seat
       → holds standing ≡ true → IsSome seat

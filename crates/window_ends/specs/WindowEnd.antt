@@ -7,7 +7,7 @@ use Rattle.round_options.specs.Options.{after_cut, standing_of}
 use Rattle.round_options.specs.declared.standing.Standing.{Standing}
 use Rattle.office_moves.specs.Judge.{is_gone}
 
--- how a candidate stands after the choices of a window: as the last of them says, or as before where there is none
+-- the standing of a candidate after the choices of a window: that of the last choice, or unchanged if there is none
 abbrev pub stands : Standing → List Choice → Standing
 stands standing [] = standing
 stands standing (choice ∷ choices) = stands (standing_of choice) choices

@@ -69,8 +69,10 @@ pub fn final_rows(
     requires rounds { rounds ≤ 10 }
     requires left { length left.now ≡ length people.now }
     requires table { length table.now ≡ length people.now }
-    requires seats { length (seats_of (length people.now) (option_copied last)) ≡ length people.now }
-    ensures { IfOk result (λ rows. rows ≡ rows_of_seats (rounds + 1) people.now (kept_seats (standings left.now table.now) (seats_of (length people.now) (option_copied last.entry)))) }
+    requires seats { length (seats_of (length people.now) (option_copied last))
+        ≡ length people.now }
+    ensures { IfOk result (λ rows. rows ≡ rows_of_seats (rounds + 1) people.now (kept_seats
+        (standings left.now table.now) (seats_of (length people.now) (option_copied last.entry)))) }
 {
     let count = people.len();
     let number = rounds + 1;

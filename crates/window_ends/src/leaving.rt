@@ -8,7 +8,7 @@ use office_base::Seat;
 use office_turns::TurnTable;
 use round_options::{Standing, after_cut};
 
-/// One where a candidate who stands so is not out, else nothing.
+/// Returns 0 if a candidate with this standing is out, otherwise 1.
 fn counted(standing: Standing) -> u32
     ensures { result ≡ (if is_gone standing then 0 else 1) }
 {
@@ -23,8 +23,10 @@ fn counted(standing: Standing) -> u32
 pub fn leave_all(left: &mut [Standing], table: &TurnTable, seats: Option<&[Option<Seat>]>) -> u32
     requires few { length left.old < 2 ^ 32 }
     requires table { length table.now ≡ length left.old }
-    requires seats { length (seats_given (length left.old) (option_copied seats)) ≡ length left.old }
-    ensures left { left.new ≡ after_cuts (standings left.old table.now) (seats_given (length left.old) (option_copied seats.entry)) }
+    requires seats { length (seats_given (length left.old) (option_copied seats))
+        ≡ length left.old }
+    ensures left { left.new ≡ after_cuts (standings left.old table.now)
+        (seats_given (length left.old) (option_copied seats.entry)) }
     ensures still { result ≡ still_in left.new }
 {
     let count = left.len();

@@ -14,7 +14,7 @@ use rounds::{Round, Seeks};
 use seeks::Seek;
 use std::alloc::Global;
 
-/// How far down a list a programme stands, from 0; the length of the list where it does not.
+/// Returns the place of a programme on a list, counted from 0, or the length of the list if the programme is not on it.
 pub fn place_of(list: &[ProgId], prog: ProgId) -> usize
     ensures place { result ≡ place_of list.now prog.0 }
     ensures within { result ≤ length list.now }
@@ -58,9 +58,12 @@ pub fn seeks_after(
 ) -> Result<Seeks, OutOfMemory>
     requires left { length left.now ≡ length people.now }
     requires table { length table.now ≡ length people.now }
-    requires seats { length (seats_of (length people.now) (option_copied last)) ≡ length people.now }
-    requires seated { AreSeated (standings left.now table.now) (seats_of (length people.now) (option_copied last)) }
-    ensures { IfOk result (λ seeks. seeks ≡ seeks_after choices.now people.now (standings left.now table.now) (seats_of (length people.now) (option_copied last.entry))) }
+    requires seats { length (seats_of (length people.now) (option_copied last))
+        ≡ length people.now }
+    requires seated { AreSeated (standings left.now table.now)
+        (seats_of (length people.now) (option_copied last)) }
+    ensures { IfOk result (λ seeks. seeks ≡ seeks_after choices.now people.now
+        (standings left.now table.now) (seats_of (length people.now) (option_copied last.entry))) }
 {
     let count = people.len();
     let mut seeks = Vec::with_capacity(alloc, count)?;

@@ -1,4 +1,4 @@
-// How a candidate stands, and with which seat.
+// The standing of a candidate, and the seat.
 ghost use Rattle.std.specs.Prelude.{◌≡◌, ◌<◌, ◌≤◌, Some, length, option_copied, slice_get};
 ghost use Rattle.std.specs.Option.{option_map};
 ghost use Rattle.window_ends.specs.WindowEnd.{seats_given, seats_of, stands};
@@ -8,7 +8,8 @@ use office_turns::TurnTable;
 use round_options::{Standing, standing_of};
 use rounds::Round;
 
-/// How the candidate at this place stands with the answers of the window, by how the last cut left the candidate. It takes no memory.
+/// Returns the standing of the candidate at this place, from how the last cut left the candidate and the answers of the
+/// window. Allocates nothing.
 pub(crate) fn stand(left: Standing, table: &TurnTable, at: usize) -> Standing
     requires { at < length table.now }
     ensures { option_map (stands left) (slice_get table.now at) ≡ Some result }

@@ -7,7 +7,7 @@ use Rattle.office_moves.specs.Stands.{AreRecordsOf}
 use Rattle.replays.specs.Replay.{IsReplayed}
 use Rattle.season_file.specs.Season.{IsSeasonFault}
 use Rattle.std.specs.Prelude.{false}
-use Rattle.round_cut.proofs.Resumed.{rows_alone, rows_fault, text_alone, text_fault}
+use Rattle.round_cut.proofs.Resumed.{rows_fault, text_fault}
 use Rattle.round_cut.proofs.resume.replay_records.Goals as goal
 
 pub returns-clause-led : goal.returns-clause-led

@@ -7,7 +7,7 @@ use Rattle.office_moves.specs.State.{State, with_finals}
 use Rattle.office_moves.specs.declared.decide.Decision.TheVariants.{Finish}
 use Rattle.office_moves.specs.declared.moves.Act.TheVariants.{Cut}
 use Rattle.keeper_mem.specs.Tables.{AreTold, with_cut}
-use Rattle.round_cut.proofs.Asked.{finishes}
+use Rattle.proceedings.proofs.ChangeLemmas.{finished_last}
 use Rattle.round_cut.proofs.Publishing.{stand_finals}
 use Rattle.round_cut.proofs.Standing.{stand_moved, stand_told}
 use Rattle.round_cut.proofs.office.Office.finish_season.Goals as goal
@@ -17,7 +17,7 @@ returns-clause-stands g c =
     let facts = c.self.inside.book.season in
     let state = c.self.inside.book.state in
     let before = subst (λ o. decided o.season o.state (asked o.season (Cut o.state.now)) ≡ Finish) (sym c.self.view_is) c.requires.decided in
-    let last = finishes facts state before in
+    let last = finished_last facts state before in
     let none = c.entries-entries.ensures.orderly.unfinished (omega (arith, last)) in
     let made = ap (λ (f : SeasonFacts). final_rows f c.reserve.new.self.state) c.reserve.ensures.season ∙ ap (λ (s : State). final_rows facts s) c.reserve.ensures.state in
     let rows = c.in_ok-admissions.ensures ∙ made in
@@ -31,7 +31,7 @@ invariant_of-self-2 g c =
     let facts = c.self.inside.book.season in
     let state = c.self.inside.book.state in
     let before = subst (λ o. decided o.season o.state (asked o.season (Cut o.state.now)) ≡ Finish) (sym c.self.view_is) c.requires.decided in
-    let last = finishes facts state before in
+    let last = finished_last facts state before in
     let none = c.entries-entries.ensures.orderly.unfinished (omega (arith, last)) in
     let made = ap (λ (f : SeasonFacts). final_rows f c.reserve.new.self.state) c.reserve.ensures.season ∙ ap (λ (s : State). final_rows facts s) c.reserve.ensures.state in
     let rows = c.in_ok-admissions.ensures ∙ made in

@@ -7,7 +7,7 @@ use Rattle.office_moves.specs.State.{State, with_round}
 use Rattle.office_moves.specs.declared.decide.Decision.TheVariants.{Publish}
 use Rattle.office_moves.specs.declared.moves.Act.TheVariants.{Cut}
 use Rattle.keeper_mem.specs.Tables.{AreTold, with_cut}
-use Rattle.round_cut.proofs.Asked.{publishes}
+use Rattle.proceedings.proofs.ChangeLemmas.{published_early}
 use Rattle.round_cut.proofs.Publishing.{stand_round}
 use Rattle.round_cut.proofs.Standing.{stand_moved, stand_told}
 use Rattle.round_cut.proofs.office.Office.publish_round.Goals as goal
@@ -18,7 +18,7 @@ returns-clause-stands g c =
     let state = c.self.inside.book.state in
     let round = c.in_ok-round.field-0.round in
     let before = subst (λ o. decided o.season o.state (asked o.season (Cut o.state.now)) ≡ Publish) (sym c.self.view_is) c.requires.decided in
-    let less = publishes facts state before in
+    let less = published_early facts state before in
     let order = c.entries-entries.ensures.orderly.course.order (omega (arith, less)) in
     let number = c.in_ok-round.ensures.round.number ∙ ap (λ (s : State). s.now + 1) c.reserve.ensures.state in
     let made = ap (λ (f : SeasonFacts). allot_rows f round) c.reserve.ensures.season in
@@ -34,7 +34,7 @@ invariant_of-self-2 g c =
     let state = c.self.inside.book.state in
     let round = c.in_ok-round.field-0.round in
     let before = subst (λ o. decided o.season o.state (asked o.season (Cut o.state.now)) ≡ Publish) (sym c.self.view_is) c.requires.decided in
-    let less = publishes facts state before in
+    let less = published_early facts state before in
     let order = c.entries-entries.ensures.orderly.course.order (omega (arith, less)) in
     let number = c.in_ok-round.ensures.round.number ∙ ap (λ (s : State). s.now + 1) c.reserve.ensures.state in
     let made = ap (λ (f : SeasonFacts). allot_rows f round) c.reserve.ensures.season in
