@@ -6,13 +6,14 @@ use Rattle.office_base.specs.Lists.{IsAmong, Pairwise}
 use Rattle.office_base.specs.declared.asks.Seat.{Seat}
 use Rattle.office_base.specs.declared.person.Person.{Person}
 use Rattle.office_base.specs.declared.step.StepKind.{StepKind}
+use Rattle.placements.proofs.Convert.{same_cand}
 use Rattle.allocations.specs.Fair.{IsAllocation, IsFair}
 use Rattle.allocations.specs.Market.{Seeker, applicants, applies, seat_at}
 use Rattle.allocations.specs.Rule.{Rule}
-use Rattle.allocations.proofs.Those.{of_those, same_id, same_place}
+use Rattle.allocations.proofs.Those.{of_those, same_place}
 use Rattle.audit_rules.specs.Cut.{is_named}
 
--- whoever is among people is named by the id
+-- a person among people is named by the id
 pub named_by_id : (person : Person) (people : List Person) → IsAmong person people → is_named person.id.0 people ≡ true
 named_by_id person [] there = absurd there
 named_by_id person (other ∷ people) there = elim (cases_Bool (other.id.0 == person.id.0)) [
@@ -23,7 +24,7 @@ named_by_id person (other ∷ people) there = elim (cases_Bool (other.id.0 == pe
   ]
 ]
 
--- and whoever's id is named is somebody there
+-- and a person whose id is named is somebody there
 pub somebody_named : (id : ℕ) (people : List Person) → is_named id people ≡ true → (person : Person) × IsAmong person people × (person.id.0 ≡ id)
 somebody_named id [] e = absurd (cc)
 somebody_named id (other ∷ people) e = elim (cases_Bool (other.id.0 == id)) [
@@ -47,7 +48,7 @@ fair_from_lists rule count seekers seats named own distinct chosen within agree 
     (λ has.
         let who = somebody_named s.person.id.0 (named p kind) ((agree p i s kind less there).1 has) in
         let applied = of_those (λ (t : Seeker) (seat : Option Seat). applies p t.list seat) seekers seats who.0 (within p who.0 kind less who.1) in
-        let id = same_id s.person.id applied.s.person.id (sym who.2 ∙ ap (λ (q : Person). q.id.0) applied.person_is) in
+        let id = same_cand s.person.id applied.s.person.id (sym who.2 ∙ ap (λ (q : Person). q.id.0) applied.person_is) in
         let place = same_place seekers i applied.place s applied.s distinct there applied.there id in
         let one : Some s ≡ Some applied.s = sym there ∙ (ap (λ (n : ℕ). slice_get seekers n) place ∙ applied.there) in
         let same : s ≡ applied.s = cc in

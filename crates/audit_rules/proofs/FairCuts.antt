@@ -1,10 +1,9 @@
 -- A cut at which no clause is broken is fair, and nobody falls.
-use Rattle.std.proofs.Common.{◌≡◌, ◌≢◌, ◌<◌, ◌≤◌, ◌+◌, ◌*◌, ◌↔◌, ◌⊎◌, inl, inr, ℕ, zero, suc, true, false, List, [], ◌∷◌, Option, Some, None, length, map, take, drop, arith, refl, sym, ap, ◌∙◌, subst}
-use Rattle.std.specs.Prelude.{IsSome, IsTrue, min, nat_le, ◌&&◌, option_map, slice_get}
-use Rattle.std.proofs.lemmas.Bool.{and_parts, cases_eq, eqb-true, leb-true}
+use Rattle.std.proofs.Common.{◌≡◌, ◌≢◌, ◌<◌, ◌+◌, ◌*◌, ◌↔◌, ◌⊎◌, inl, inr, ℕ, zero, suc, true, List, [], ◌∷◌, Option, Some, None, length, map, take, drop, arith, refl, sym, ap, ◌∙◌, subst}
+use Rattle.std.specs.Prelude.{IsTrue, min, ◌&&◌, option_map, slice_get}
+use Rattle.std.proofs.lemmas.Bool.{cases_eq}
 use Rattle.std.proofs.lemmas.List.{length-map, length-take, length-drop}
 use Rattle.std.proofs.lemmas.Option.{same_Some, slice_get-map, slice_get_within}
-use Rattle.std.proofs.lemmas.Slice.Eq.{bytes_eq-Decides}
 use Rattle.office_base.specs.Lists.{IsAmong, Pairwise}
 use Rattle.office_base.specs.declared.asks.Request.{Request}
 use Rattle.office_base.specs.declared.asks.Seat.{Seat}
@@ -12,6 +11,8 @@ use Rattle.office_base.specs.declared.person.Person.{Person}
 use Rattle.office_base.specs.declared.person.ProgId.{ProgId}
 use Rattle.office_base.specs.declared.step.StepKind.{StepKind}
 use Rattle.office_base.specs.declared.step.StepKind.TheVariants.{Open, Ews, Obc, Sc, St, Dereserved}
+use Rattle.office_base.proofs.Lists.{there_is}
+use Rattle.office_base.proofs.Options.{some_value}
 use Rattle.allocations.specs.Fair.{IsAllocation, IsFair, IsMarket, IsOwn}
 use Rattle.allocations.specs.Market.{Seeker, applicants, place_of, seat_at}
 use Rattle.allocations.proofs.Claims.{applicants_may}
@@ -25,13 +26,9 @@ use Rattle.programme_lists.specs.Programme.{Admissions, admitted_by}
 use Rattle.programme_lists.specs.declared.programme.Programme.{Programme}
 use Rattle.rounds.specs.Rule.{AreEntrants, MayApplyIn, ProgrammesChooseWell, rule_of}
 use Rattle.rounds.proofs.Entrants.{entered, length_seekers, market}
-use Rattle.round_laws.proofs.People.{there_is}
 use Rattle.round_options.specs.Options.{holds, seek_after}
-use Rattle.round_options.specs.declared.standing.Standing.{Standing}
-use Rattle.round_options.specs.declared.standing.Standing.TheVariants.{Waiting, Offered, Freeze, Float, Slide, Withdrawn, NoShow}
-use Rattle.seat_matrix.specs.Matrix.{SeatTable, seats_in}
-use Rattle.seat_matrix.specs.declared.entry.Home.{Home}
-use Rattle.seeks.specs.Seek.{are_together, is_beside, is_left, same_institute, seek_leaves}
+use Rattle.seat_matrix.specs.Matrix.{seats_in}
+use Rattle.seeks.specs.Seek.{are_together, seek_leaves}
 use Rattle.office_moves.specs.Facts.{IsSound, SeasonFacts, lists_in_order}
 use Rattle.office_moves.specs.Moves.{next_seek, next_seeks}
 use Rattle.office_moves.specs.Promise.{IsNoWorse}
@@ -40,6 +37,7 @@ use Rattle.office_moves.specs.State.{State, last_seat, seat_of, standing_at, vie
 use Rattle.office_moves.proofs.Narrows.{IsLeft, left_there}
 use Rattle.histories.proofs.Entering.{entrants, list_there, lists_full, own_there}
 use Rattle.histories.proofs.Fits.{seat_at_place, the_prog}
+use Rattle.histories.proofs.Falls.{left_kept}
 use Rattle.audit_rules.specs.Cut.{CutHolds, IsSoundList, applicants_at, is_named, lists_at, seat_given, seekers_at, sought_by}
 use Rattle.audit_rules.specs.Fair.{IsFairCut}
 use Rattle.audit_rules.specs.InOrder.{IsInOrder}
@@ -48,7 +46,7 @@ use Rattle.audit_rules.specs.Replay.{round_of}
 use Rattle.audit_rules.proofs.Agreeing.{fair_from_lists}
 use Rattle.audit_rules.proofs.Ordering.{holder_is, seat_of_told}
 
--- ---- who seeks, and the seats told
+-- ---- who seeks, and the seats that the round's text gives
 
 seats_at : (papers : Papers) (facts : SeasonFacts) (state : State) (i : ℕ) (person : Person) → slice_get facts.people i ≡ Some person
     → slice_get (seats_told (rows_after papers state.now) facts.people) i ≡ Some (seat_given papers state person.id.0)
@@ -113,7 +111,7 @@ pub record IsCut (facts : SeasonFacts) (papers : Papers) (state : State) : Type 
 abbrev seats_of : SeasonFacts → Papers → State → List (Option Seat)
 seats_of facts papers state = seats_told (rows_after papers state.now) facts.people
 
--- as many seats are told as there are seekers
+-- the round's text gives as many seats as there are seekers
 pub full_seats : (facts : SeasonFacts) (papers : Papers) (state : State) → IsSound facts → length (seats_of facts papers state) ≡ length (seekers_at facts state)
 full_seats facts papers state sound = length-map facts.people (λ (p : Person). seat_told (rows_after papers state.now) p.id.0) ∙ sym (full_seekers facts state sound)
 
@@ -197,37 +195,7 @@ fair facts papers state cut =
 
 -- ---- nobody falls
 
-turned_together : (a b : Option (List ℕ × Home)) → are_together a b ≡ true → are_together b a ≡ true
-turned_together None b e = absurd (cc)
-turned_together (Some a) None e = absurd (cc)
-turned_together (Some a) (Some b) e = (bytes_eq-Decides b.1.institute a.1.institute).1 (sym ((bytes_eq-Decides a.1.institute b.1.institute).0 e))
-
-record IsKept (table : SeatTable) (standing : Standing) (j k : ℕ) (new old : ProgId) : Type 0 where
-  place : j ≤ k
-  freeze : standing ≡ Freeze → new ≡ old
-  slide : standing ≡ Slide → same_institute table new.0 old.0 ≡ true
-
-left_kept : (table : SeatTable) (list : List ProgId) (standing : Standing) (j k : ℕ) (new old : ProgId) → holds standing ≡ true → slice_get list j ≡ Some new → slice_get list k ≡ Some old
-    → is_left table (seek_after standing (Some k)) list j new ≡ true → IsKept table standing j k new old
-left_kept table list Waiting j k new old keeps there there' left = absurd (cc)
-left_kept table list Offered j k new old keeps there there' left = absurd (cc)
-left_kept table list Freeze j k new old keeps there there' left =
-    let same : j ≡ k = eqb-true j k left in
-    let again : slice_get list k ≡ Some new = subst (λ n. slice_get list n ≡ Some new) same there in
-    record { place = omega (arith, same); freeze = λ e. cc; slide = λ e. absurd (cc) }
-left_kept table list Float j k new old keeps there there' left = record { place = leb-true j k left; freeze = λ e. absurd (cc); slide = λ e. absurd (cc) }
-left_kept table list Slide j k new old keeps there there' left =
-    let parts = and_parts (nat_le j k) (is_beside table (slice_get list k) new) left in
-    let beside : same_institute table old.0 new.0 ≡ true = subst (λ o. is_beside table o new ≡ true) there' parts.1 in
-    record { place = leb-true j k parts.0; freeze = λ e. absurd (cc); slide = λ e. turned_together (slice_get table.programmes old.0) (slice_get table.programmes new.0) beside }
-left_kept table list Withdrawn j k new old keeps there there' left = absurd (cc)
-left_kept table list NoShow j k new old keeps there there' left = absurd (cc)
-
-has_seat : (o : Option Seat) → IsSome o → (seat : Seat) × (o ≡ Some seat)
-has_seat None h = absurd (let e : false ≡ true = h in cc)
-has_seat (Some seat) h = (seat, refl)
-
--- a programme of a list stands at its place there
+-- a programme of a list is at its place there
 listed_at : (list : List ProgId) (p : ProgId) → place_of list p.0 < length list → slice_get list (place_of list p.0) ≡ Some p
 listed_at list p less = let read = place_read list p.0 less in read.1 ∙ ap Some (the_prog read.0 p read.2)
 
@@ -242,8 +210,8 @@ no_worse facts papers state at person cut early there keeps =
     let standing = standing_at facts (view_of state id) id state.now in
     let list = choices_of facts.lists id in
     let table = matrix_at facts state in
-    let old = has_seat (last_seat facts state.rounds id) (cut.order.seated id (omega (arith, early)) keeps) in
-    let new = has_seat (seat_given papers state id) (cut.holds.stayed at person there keeps) in
+    let old = some_value (last_seat facts state.rounds id) (cut.order.seated id (omega (arith, early)) keeps) in
+    let new = some_value (seat_given papers state id) (cut.holds.stayed at person there keeps) in
     let own : IsOwn (sought_by facts state id) (Some new.0) = subst (IsOwn (sought_by facts state id)) new.1 (cut.holds.sought at person there) in
     let seek : next_seek facts state id ≡ seek_after standing (Some (place_of list old.0.prog.0)) =
     ap (λ (o : Option Seat). seek_after standing (option_map (λ (seat : Seat). place_of list seat.prog.0) o)) old.1 in

@@ -9,6 +9,7 @@ use Rattle.office_base.specs.declared.asks.Ask.{Ask}
 use Rattle.office_base.specs.declared.asks.Ask.TheVariants.{Answer as AskAnswer, Cut as AskCut, Seat as AskSeat, Why, List as AskList, State as AskState, Raise as AskRaise}
 use Rattle.office_base.specs.declared.asks.By.{By}
 use Rattle.office_base.specs.declared.asks.Request.{Request}
+use Rattle.office_base.proofs.Lists.{there_is}
 use Rattle.seat_matrix.specs.Laws.{OneStepChanges}
 use Rattle.office_moves.specs.Decided.{decided}
 use Rattle.office_moves.specs.Facts.{IsSound, SeasonFacts}
@@ -20,7 +21,6 @@ use Rattle.office_moves.specs.declared.decide.Decision.TheVariants.{Refuse, Note
 use Rattle.office_moves.specs.declared.moves.Act.{Act}
 use Rattle.office_moves.specs.declared.refusal.Refusal.TheVariants.{Ahead, Denied}
 use Rattle.histories.proofs.Changes.{Accepts, LastCut, NewAnswer, NewCut, NewRaise, accepts}
-use Rattle.round_laws.proofs.People.{there_is}
 use Rattle.audit_rules.specs.Cut.{CutHolds, EndHolds, HoldsAt}
 use Rattle.audit_rules.specs.Fair.{AreFairRounds, AreWhole, IsFairCut, IsFairEnd, cut_by, cuts_of}
 use Rattle.audit_rules.specs.InOrder.{IsInOrder}

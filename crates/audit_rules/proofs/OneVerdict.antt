@@ -2,7 +2,7 @@
 use Rattle.std.proofs.Common.{◌≡◌, ◌<◌, ◌+◌, ◌⊎◌, inl, inr, ℕ, List, Option, Some, None, arith, refl, sym, ap, ◌∙◌, subst}
 use Rattle.std.specs.Prelude.{slice_get}
 use Rattle.std.proofs.lemmas.Bool.{cases_order}
-use Rattle.std.proofs.lemmas.Option.{same_Some}
+use Rattle.std.proofs.lemmas.Option.{same_Some, none-some}
 use Rattle.office_base.specs.declared.asks.Request.{Request}
 use Rattle.office_base.specs.declared.asks.Seat.{Seat}
 use Rattle.office_base.specs.declared.person.CandId.{CandId}
@@ -45,7 +45,7 @@ one_first P people cand other a b = elim (cases_order a.at b.at) [
   ]
 ]
 
--- ---- what is broken at a cut, told apart
+-- ---- what is broken at a cut, distinguished
 
 data Break (facts : SeasonFacts) (papers : Papers) (state : State) (clause : Clause) (prog : Option ProgId) (cand : Option CandId) : Type 0 where
   AsUnsought : (p : ProgId) (c : CandId) → clause ≡ NotSought → prog ≡ Some p → cand ≡ Some c → IsUnsought facts papers state p c → Break facts papers state clause prog cand
@@ -78,16 +78,13 @@ told facts papers state FinalDiffers prog cand breaks = absurd breaks
 
 -- ---- a cut does not hold where a clause is broken
 
-no_fault : {X : Type 0} (x : X) → None ≡ Some x → ⊥
-no_fault x e = cc
-
 not_listed : (facts : SeasonFacts) (papers : Papers) (state : State) (p : ProgId) (c : CandId) (d : Differ facts papers state p c) → IsListed facts papers state p.0 → ⊥
 not_listed facts papers state p c d listed = not_each (Agree papers state p.0 d.programme) facts.people c d.first (listed d.programme d.there)
 
 not_sound : OneListFault → (facts : SeasonFacts) (papers : Papers) (state : State) (clause : Clause) (p : ProgId) (cand : Option CandId) (u : IsUnsound facts papers state clause p cand)
     → IsSoundList facts papers state p.0 → ⊥
 not_sound one facts papers state clause p cand u sound =
-    no_fault (clause, cand) (one facts.version (seats_in (matrix_at facts state) p.0) (applicants_at facts papers state p.0) u.programme None (Some (clause, cand)) (sound u.programme u.there) u.first)
+    none-some (clause, cand) (one facts.version (seats_in (matrix_at facts state) p.0) (applicants_at facts papers state p.0) u.programme None (Some (clause, cand)) (sound u.programme u.there) u.first)
 
 cut_apart : OneListFault → (facts : SeasonFacts) (papers : Papers) (state : State) (clause : Clause) (prog : Option ProgId) (cand : Option CandId) → CutHolds facts papers state
     → Break facts papers state clause prog cand → ⊥

@@ -1,13 +1,12 @@
 -- A replay whose cuts broke no clause stays in order.
-use Rattle.std.proofs.Common.{◌≡◌, ◌≢◌, ◌<◌, ◌≤◌, ◌+◌, ◌⊎◌, inl, inr, ℕ, zero, suc, add-one, Bool, true, false, not, List, [], ◌∷◌, ◌++◌, Option, Some, None, length, map, take, arith, refl, sym, ap, ◌∙◌, subst, nat_lt, ◌==◌, get_or, if◌then◌else◌}
-use Rattle.std.specs.Prelude.{◌||◌, ◌&&◌, ◌-◌, IsSome, is_some, nat_le, option_map, slice_get}
+use Rattle.std.proofs.Common.{◌≡◌, ◌≢◌, ◌<◌, ◌+◌, ◌⊎◌, inl, inr, ℕ, zero, suc, add-one, Bool, true, false, not, List, [], ◌∷◌, ◌++◌, Option, Some, None, length, map, take, arith, refl, sym, ap, ◌∙◌, subst, nat_lt, ◌==◌, get_or}
+use Rattle.std.specs.Prelude.{◌&&◌, IsSome, is_some, option_map, slice_get}
 use Rattle.std.specs.Option.{option_and_then}
-use Rattle.std.proofs.lemmas.Bool.{cases_eq, cases_lt, ltb-false}
-use Rattle.std.proofs.lemmas.Bool.Decides.{nat_tests}
+use Rattle.std.proofs.lemmas.Bool.{cases_eq, cases_lt}
 use Rattle.std.proofs.lemmas.List.{length-append, take_more}
 use Rattle.std.proofs.lemmas.Option.{get_or_from_slice_get, same_Some, slice_get-map, slice_get_within}
 use Rattle.office_base.proofs.People.{at_person-get}
-use Rattle.office_base.specs.Limits.{most_matrix_seats, most_step_seats, most_turns}
+use Rattle.office_base.specs.Limits.{most_turns}
 use Rattle.office_base.specs.Person.{at_person}
 use Rattle.office_base.specs.declared.asks.Choice.{Choice}
 use Rattle.office_base.specs.declared.asks.Choice.TheVariants.{Freeze, Float, Slide, Withdraw}
@@ -15,6 +14,8 @@ use Rattle.office_base.specs.declared.asks.Request.{Request}
 use Rattle.office_base.specs.declared.asks.Seat.{Seat}
 use Rattle.office_base.specs.declared.person.Person.{Person}
 use Rattle.office_base.specs.declared.person.ProgId.{ProgId}
+use Rattle.office_base.proofs.Options.{some_value}
+use Rattle.office_base.proofs.Lists.{get-after}
 use Rattle.allocations.specs.Fair.{IsOwn}
 use Rattle.allocations.specs.Market.{place_of}
 use Rattle.choice_lists.specs.Choices.{list_of}
@@ -23,16 +24,15 @@ use Rattle.keeper_mem.specs.declared.rows.AnswerRow.{AnswerRow}
 use Rattle.keeper_mem.specs.declared.rows.RaiseRow.{RaiseRow}
 use Rattle.seat_matrix.specs.Laws.{OneStepChanges}
 use Rattle.seat_matrix.specs.Matrix.{AreSeats}
-use Rattle.seat_matrix.specs.Seats.{is_dereserved}
 use Rattle.seeks.specs.Seek.{seek_leaves}
 use Rattle.rounds.specs.declared.round.Round.{Round}
 use Rattle.round_laws.proofs.People.{StandsAt, found_at, stands_at}
 use Rattle.round_options.specs.Options.{after_cut, holds, may_follow, standing_of}
 use Rattle.round_options.specs.declared.standing.Standing.{Standing}
-use Rattle.office_moves.specs.Decided.{answer_looks, decided, raise_looks}
+use Rattle.office_moves.specs.Decided.{answer_looks, decided}
 use Rattle.office_moves.specs.Facts.{IsSound, SeasonFacts}
 use Rattle.office_moves.specs.History.{newly}
-use Rattle.office_moves.specs.Judge.{choice_of, is_gone, is_withdraw, judge_new_seats, judge_next_answer, not_open, refuse_if}
+use Rattle.office_moves.specs.Judge.{choice_of, is_gone, is_withdraw, judge_next_answer, refuse_if}
 use Rattle.office_moves.specs.Moves.{next_seek}
 use Rattle.office_moves.specs.Raised.{matrix_at, raised}
 use Rattle.office_moves.specs.State.{State, View, answered, in_window, last_seat, left_by, opening, round_at, rows_of, seat_in, seat_of, standing_at, view_of, with_finals, with_raise, with_round, with_row}
@@ -41,32 +41,18 @@ use Rattle.office_moves.specs.declared.decide.Decision.{Decision}
 use Rattle.office_moves.specs.declared.decide.Decision.TheVariants.{Refuse, NotedAgain, RaisedAgain, CutAgain, Note, Lift, Publish, Finish, TellSeat, TellWhy, TellList, TellState}
 use Rattle.office_moves.specs.declared.moves.Act.{Act}
 use Rattle.office_moves.specs.declared.refusal.Refusal.{Refusal}
-use Rattle.office_moves.specs.declared.refusal.Refusal.TheVariants.{Ahead, Falling, Gone, Late, NoSeat, SeatLimit, StepFixed, TooManyTurns, Widening}
+use Rattle.office_moves.specs.declared.refusal.Refusal.TheVariants.{Gone, NoSeat, TooManyTurns, Widening}
 use Rattle.office_moves.proofs.Rising.{IsLift, raised_append, raised_well}
 use Rattle.histories.proofs.Changes.{Accepts, IsFound, LastCut, NewAnswer, NewCut, NewRaise, accepts}
 use Rattle.histories.proofs.Entering.{own_there}
-use Rattle.histories.proofs.Fits.{held_over, seat_at_place}
+use Rattle.histories.proofs.Fits.{held_over, seat_at_place, seat_of_some}
 use Rattle.histories.proofs.Rows.{answered_last, window_more, window_same}
+pub use Rattle.histories.proofs.Accepted.{is_open}
+pub use Rattle.histories.proofs.Raises.{was_lift}
 use Rattle.audit_rules.specs.Cut.{CutHolds, HoldsAt, seat_given, sought_by}
 use Rattle.audit_rules.specs.InOrder.{IsInOrder}
 use Rattle.audit_rules.specs.Papers.{Papers, rows_after, seat_told, seats_told}
 use Rattle.audit_rules.specs.Replay.{before, finals_of, replayed, round_of, taken}
-
--- ---- an open window
-
-open_tests : (late ahead beyond : Bool) (r s : Refusal) → (if late then Some r else if ahead || beyond then Some s else None) ≡ None → (late ≡ false) × (ahead ≡ false) × (beyond ≡ false)
-open_tests true ahead beyond r s e = absurd (cc)
-open_tests false true beyond r s e = absurd (cc)
-open_tests false false true r s e = absurd (cc)
-open_tests false false false r s e = (refl, refl, refl)
-
-pub is_open : (now rounds window : ℕ) → not_open now rounds window ≡ None → (window ≡ now) × (now ≤ rounds)
-is_open now rounds window e =
-    let tests = open_tests (nat_lt window now) (nat_lt now window) (nat_lt rounds window) (Late now) (Ahead now) e in
-    let low = ltb-false window now tests.0 in
-    let high = ltb-false now window tests.1 in
-    let few = ltb-false rounds window tests.2 in
-    (omega (arith, low, high), omega (arith, low, high, few))
 
 -- ---- an answer that is noted
 
@@ -85,46 +71,12 @@ holder_has false Float e h = absurd (cc)
 holder_has false Slide e h = absurd (cc)
 holder_has false Withdraw e h = absurd (cc)
 
--- whoever keeps a seat by a noted answer has one
+-- a candidate who keeps a seat by a noted answer has one
 noted_seated : (looks : AnswerLooks) (row : AnswerRow) → judge_next_answer looks row ≡ Note row → holds (standing_of row.choice) ≡ true → looks.seated ≡ true
 noted_seated looks row e h =
     let none = next_tests (is_gone looks.standing) (not looks.seated && not (is_withdraw row.choice)) (not (may_follow looks.left row.choice)) (nat_lt most_turns row.turn && not (is_withdraw row.choice))
     (Gone looks.standing) NoSeat (Widening (choice_of looks.left)) TooManyTurns row e in
     holder_has looks.seated row.choice none h
-
--- ---- a raise that is taken
-
-either_false : (a b : Bool) → a || b ≡ false → a ≡ false
-either_false true b e = absurd (cc)
-either_false false b e = refl
-
-record Passes (fixed few many : Bool) : Type 0 where
-  is_own : fixed ≡ false
-  is_more : few ≡ false
-  is_within : many ≡ false
-
-passes : (fixed few many : Bool) (first second third : Refusal) (row : RaiseRow) → refuse_if fixed first (refuse_if few second (refuse_if many third (Lift row))) ≡ Lift row
-    → Passes fixed few many
-passes true few many first second third row h = absurd (cc)
-passes false true many first second third row h = absurd (cc)
-passes false false true first second third row h = absurd (cc)
-passes false false false first second third row h = record { is_own = refl; is_more = refl; is_within = refl }
-
-not_fewer : (m n : ℕ) → nat_le m n ≡ false → n ≤ m
-not_fewer m n e = grind (arith, nat_tests)
-
-pub was_lift : (facts : SeasonFacts) (old : State) (row : RaiseRow) → row.prog.0 < length (matrix_at facts old).programmes → judge_new_seats (raise_looks facts old row) row ≡ Lift row
-    → IsLift (matrix_at facts old) row
-was_lift facts old row below next =
-    let looks = raise_looks facts old row in
-    let passed = passes (is_dereserved row.step) (nat_le row.seats looks.seats) (nat_lt most_step_seats row.seats || nat_lt most_matrix_seats (looks.total - looks.seats + row.seats))
-    StepFixed (Falling looks.seats) (SeatLimit looks.total) row next in
-    record {
-      below = below;
-      own = passed.is_own;
-      more = not_fewer row.seats looks.seats passed.is_more;
-      most = ltb-false 4000 row.seats (either_false (nat_lt 4000 row.seats) (nat_lt most_matrix_seats (looks.total - looks.seats + row.seats)) passed.is_within);
-    }
 
 -- ---- how cuts left a candidate
 
@@ -143,10 +95,6 @@ get_before [] ys i less = absurd (omega arith)
 get_before (x ∷ xs) ys zero less = refl
 get_before (x ∷ xs) ys (suc i) less = get_before xs ys i (omega (arith, less))
 
-get_after : {X : Type 0} (xs : List X) (x : X) → slice_get (xs ++ x ∷ []) (length xs) ≡ Some x
-get_after [] x = refl
-get_after (y ∷ xs) x = get_after xs x
-
 -- an answer of the open window changes nothing of what the cuts left
 pub row_left : (facts : SeasonFacts) (old : State) (row : AnswerRow) (id : ℕ) → row.window ≡ old.now
     → left_by facts (view_of (with_row old row) id) id old.now ≡ left_by facts (view_of old id) id old.now
@@ -157,7 +105,7 @@ row_left facts old row id opened =
 pub last_is : (facts : SeasonFacts) (old : State) (round : Round) (id : ℕ) → last_seat facts (with_round old round).rounds id ≡ seat_of facts (Some round) id
 last_is facts old round id =
     let size : length (old.rounds ++ round ∷ []) ≡ suc (length old.rounds) = length-append old.rounds (round ∷ []) ∙ add-one (length old.rounds) in
-    ap (λ (n : ℕ). seat_in facts (old.rounds ++ round ∷ []) n id) size ∙ ap (λ (o : Option Round). seat_of facts o id) (get_after old.rounds round)
+    ap (λ (n : ℕ). seat_in facts (old.rounds ++ round ∷ []) n id) size ∙ ap (λ (o : Option Round). seat_of facts o id) (get-after old.rounds round [])
 
 -- a cut leaves a candidate by the standing and the seat of the new round
 pub cut_left : (facts : SeasonFacts) (old : State) (round : Round) (id : ℕ) → length old.rounds ≡ old.now
@@ -166,7 +114,7 @@ cut_left facts old round id same =
     let rounds = old.rounds ++ round ∷ [] in
     let view = view_of (with_round old round) id in
     let seat : seat_in facts rounds (suc old.now) id ≡ seat_of facts (Some round) id =
-    ap (λ (n : ℕ). seat_of facts (slice_get rounds n) id) (sym same) ∙ ap (λ (o : Option Round). seat_of facts o id) (get_after old.rounds round) in
+    ap (λ (n : ℕ). seat_of facts (slice_get rounds n) id) (sym same) ∙ ap (λ (o : Option Round). seat_of facts o id) (get-after old.rounds round []) in
     let rest = left_same facts view (view_of old id) id old.now (λ w less. refl)
     (λ w less. ap (λ (o : Option Round). seat_of facts o id) (get_before old.rounds (round ∷ []) w (omega (arith, less, same)))) in
     ap (λ (n : ℕ). left_by facts view id n) (add-one old.now)
@@ -180,7 +128,7 @@ cut_stands facts old round id here less =
     ap (λ (z : List AnswerRow). answered (left_by facts (view_of (with_round old round) id) id (old.now + 1)) z) (here.later (old.now + 1) id (omega arith))
     ∙ cut_left facts old round id (here.order (omega (arith, less)))
 
--- ---- the seats told
+-- ---- the seats that the round's text gives
 
 pub seat_of_told : (facts : SeasonFacts) (papers : Papers) (state : State) (at : ℕ) (person : Person) → IsSound facts → slice_get facts.people at ≡ Some person
     → seat_of facts (Some (round_of facts papers state)) person.id.0 ≡ seat_given papers state person.id.0
@@ -190,11 +138,7 @@ seat_of_told facts papers state at person sound there =
     slice_get-map (λ (p : Person). seat_told (rows_after papers state.now) p.id.0) facts.people at ∙ ap (λ (o : Option Person). option_map (λ (p : Person). seat_told (rows_after papers state.now) p.id.0) o) there in
     ap (λ (o : Option (Option Seat)). option_and_then (λ s. s) o) (at_person-get facts.people seats at person sound.ranks.rising there ∙ mapped)
 
-some_seat : (o : Option (Option Seat)) (seat : Seat) → option_and_then (λ s. s) o ≡ Some seat → o ≡ Some (Some seat)
-some_seat None seat e = absurd (cc)
-some_seat (Some s) seat e = ap Some e
-
--- whoever has a seat of a round is one of the people
+-- a candidate who has a seat of a round is one of the people
 pub record IsPerson (facts : SeasonFacts) (id : ℕ) : Type 0 where
   pub at : ℕ
   pub person : Person
@@ -204,16 +148,12 @@ pub record IsPerson (facts : SeasonFacts) (id : ℕ) : Type 0 where
 seated_person : (facts : SeasonFacts) (o : Option Round) (id : ℕ) (seat : Seat) → seat_of facts o id ≡ Some seat → IsPerson facts id
 seated_person facts None id seat e = absurd (cc)
 seated_person facts (Some round) id seat e =
-    let stands = stands_at id facts.people round.seats (Some seat) (some_seat (at_person id facts.people round.seats) seat e) in
+    let stands = stands_at id facts.people round.seats (Some seat) (seat_of_some (at_person id facts.people round.seats) seat e) in
     record { at = stands.place; person = stands.person; there = stands.person_at; is = stands.is }
 
-has_seat : (o : Option Seat) → IsSome o → (seat : Seat) × (o ≡ Some seat)
-has_seat None h = absurd (let e : false ≡ true = h in cc)
-has_seat (Some seat) h = (seat, refl)
-
--- whoever keeps a seat is one of the people
+-- a candidate who keeps a seat is one of the people
 pub holder_is : (facts : SeasonFacts) (state : State) (id : ℕ) → IsSome (last_seat facts state.rounds id) → IsPerson facts id
-holder_is facts state id has = let seat = has_seat (last_seat facts state.rounds id) has in seated_person facts (round_at state.rounds (length state.rounds)) id seat.0 seat.1
+holder_is facts state id has = let seat = some_value (last_seat facts state.rounds id) has in seated_person facts (round_at state.rounds (length state.rounds)) id seat.0 seat.1
 
 -- ---- one request
 
@@ -267,7 +207,7 @@ with_lift law facts old row here lift =
       programmes = ap (λ z. z.programmes) matrix ∙ (well.1.programmes ∙ here.programmes);
     }
 
--- the seat told is one of the own list
+-- the seat that the round's text gives is of a programme on the candidate's own list
 own_told : (facts : SeasonFacts) (papers : Papers) (old : State) (id : ℕ) (seat : Seat) → IsSound facts → CutHolds facts papers old → seat_of facts (Some (round_of facts papers old)) id ≡ Some seat
     → place_of (list_of facts.lists id) seat.prog.0 < length (list_of facts.lists id)
 own_told facts papers old id seat sound holds e =

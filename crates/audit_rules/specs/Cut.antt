@@ -24,9 +24,9 @@ use Rattle.seat_matrix.specs.Matrix.{seats_in}
 use Rattle.seeks.specs.Seek.{seek_leaves}
 use Rattle.audit_rules.specs.Papers.{Papers, lists_after, rows_after, seat_told, seats_told}
 
--- ---- who seeks what, and the seats told
+-- ---- who seeks what, and the seats that the round's text gives
 
--- what a candidate's seek leaves of the own list at a cut
+-- what a candidate's seek leaves of their own list at a cut
 abbrev pub sought_by : SeasonFacts → State → ℕ → List ProgId
 sought_by facts state id = seek_leaves (matrix_at facts state) (next_seek facts state id) (choices_of facts.lists id)
 
@@ -38,7 +38,7 @@ seekers_at facts state = seekers_of (matrix_at facts state) facts.people (lists_
 abbrev pub seat_given : Papers → State → ℕ → Option Seat
 seat_given papers state id = seat_told (rows_after papers state.now) id
 
--- those who apply to a programme by the seats told
+-- those who apply to a programme, by the seats that the round's text gives
 abbrev pub applicants_at : SeasonFacts → Papers → State → ℕ → List Person
 applicants_at facts papers state p = applicants p (seekers_at facts state) (seats_told (rows_after papers state.now) facts.people)
 
@@ -52,7 +52,7 @@ lists_at facts papers state p = slice_get (lists_after papers (length facts.matr
 abbrev pub IsSought : SeasonFacts → Papers → State → Person → Type 0
 IsSought facts papers state person = IsOwn (sought_by facts state person.id.0) (seat_given papers state person.id.0)
 
--- whoever stands at freeze, float or slide has a seat
+-- a candidate whose standing is freeze, float or slide has a seat
 abbrev pub HasStayed : SeasonFacts → Papers → State → Person → Type 0
 HasStayed facts papers state person = holds (standing_at facts (view_of state person.id.0) person.id.0 state.now) ≡ true → IsSome (seat_given papers state person.id.0)
 
@@ -145,7 +145,7 @@ CutBreaks facts papers state _ _ _ = ⊥
 
 -- ---- the last cut
 
--- the final rows told are those of whoever keeps a seat of the last round
+-- the final rows in the papers are those of the candidates who keep a seat of the last round
 abbrev pub EndHolds : SeasonFacts → Papers → State → Type 0
 EndHolds facts papers state = papers.finals ≡ Some (final_rows facts state)
 

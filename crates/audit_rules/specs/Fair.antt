@@ -49,8 +49,9 @@ pub record AreWhole (facts : SeasonFacts) (script : List Request) (papers : Pape
 
 -- ---- fair rounds
 
--- A round that follows a state is fair: its seats are those of a fair allocation by the matrix as it was raised, on what everybody sought; the lists of each
--- programme name its choice from those who apply to it; and whoever stood at freeze, float or slide had a seat and has one no worse.
+-- A round that follows a state is fair. Its seats are those of a fair allocation by the raised matrix, on what everybody sought.
+-- The lists of each programme name its choice from those who apply to it.
+-- A candidate whose standing was freeze, float or slide had a seat, and has one that is no worse.
 pub record IsFairCut (facts : SeasonFacts) (state : State) (round : Round) : Type 0 where
   pub fair : IsFair (rule_of facts.version (matrix_at facts state)) (length facts.matrix.programmes) (seekers_of (matrix_at facts state) facts.people (lists_in_order facts) round.seeks) round.seats
   pub count : length round.programmes ≡ length facts.matrix.programmes
@@ -61,7 +62,8 @@ pub record IsFairCut (facts : SeasonFacts) (state : State) (round : Round) : Typ
       → (old new : Seat) × (last_seat facts state.rounds id ≡ Some old) × (seat_of facts (Some round) id ≡ Some new)
       × IsNoWorse facts (standing_at facts (view_of state id) id state.now) id old new
 
--- The last cut is fair: the final rows are those of whoever stands at freeze, float or slide, and each of these has a seat of the last round.
+-- The last cut is fair. The final rows are those of the candidates whose standing is freeze, float or slide.
+-- Each of these has a seat of the last round.
 pub record IsFairEnd (facts : SeasonFacts) (state : State) (papers : Papers) : Type 0 where
   pub finals : papers.finals ≡ Some (final_rows facts state)
   pub nobody_falls : (id : ℕ) → holds (standing_at facts (view_of state id) id state.now) ≡ true → IsSome (last_seat facts state.rounds id)

@@ -9,8 +9,8 @@ use Rattle.office_moves.specs.State.{State, in_window, last_seat, rows_of, stand
 use Rattle.round_options.specs.Options.{holds}
 use Rattle.seat_matrix.specs.Matrix.{AreSeats}
 
--- Each cut published a round; nothing was answered in a window to come; whoever stands at freeze, float or slide has a seat; each seat is one of the own list;
--- and the matrix is sound.
+-- Each cut published a round, and nothing was answered in a window to come. A candidate whose standing is freeze, float or
+-- slide has a seat. Each seat is of a programme on the candidate's own list. The matrix is sound, and has the season's programmes.
 pub record IsInOrder (facts : SeasonFacts) (state : State) : Type 0 where
   pub order : state.now ≤ facts.rounds → length state.rounds ≡ state.now
   pub later : (window id : ℕ) → state.now < window → in_window window (rows_of id state.answers) ≡ []

@@ -12,7 +12,7 @@ use Rattle.office_moves.specs.declared.decide.Decision.{Decision}
 use Rattle.office_moves.specs.declared.decide.Decision.TheVariants.{Refuse, NotedAgain, RaisedAgain, CutAgain, Note, Lift, Publish, Finish, TellSeat, TellWhy, TellList, TellState}
 use Rattle.audit_rules.specs.Papers.{Papers, lists_after, rows_after, seats_told}
 
--- The round that the papers tell at a cut: its seeks are those of the state, its seats and its lists are told.
+-- The round that the papers give at a cut. Its seeks are those of the state. Its seats and its lists are those of the papers.
 abbrev pub round_of : SeasonFacts → Papers → State → Round
 round_of facts papers state = record {
   number = state.now + 1;

@@ -1,4 +1,4 @@
--- Lists beside the tables of an office may be handed in or have one fault, never both.
+-- Lists that are checked against the tables of an office may be handed in or have one fault, never both.
 use Rattle.std.proofs.Common.{◌≡◌, ◌≢◌, ◌⊎◌, inl, inr, ℕ, List, Option, Some, None, refl, sym, ap, ◌∙◌, subst}
 use Rattle.section_rows.specs.Rows.{Row, rows_of}
 use Rattle.section_rows.specs.declared.fault.TableFault.{TableFault}
@@ -17,7 +17,7 @@ use Rattle.special_round.specs.Season.{AreRefused, IsRemainingSeason, IsSpecialF
 use Rattle.special_round.specs.declared.fault.SpecialFault.{SpecialFault}
 use Rattle.special_round.specs.declared.fault.SpecialFault.TheVariants.{Admitted, Lists, NotFinal, OutOfMemory}
 
--- beside the season's own people and seats
+-- against the season's own people and seats
 abbrev Reading : SeasonFacts → List ℕ → Type 0
 Reading facts body = HaveOneReading (register_of facts) facts.matrix (rows_of body)
 

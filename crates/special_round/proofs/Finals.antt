@@ -1,6 +1,6 @@
 -- The final rows of a season are seats of its last round, so they fit into the raised matrix.
 use Rattle.std.proofs.Common.{◌≡◌, ◌<◌, ◌≤◌, ◌+◌, ◌-◌, ◌⊎◌, inl, inr, ℕ, zero, suc, Bool, true, false, List, [], ◌∷◌, Option, Some, None, length, arith, refl, sym, ap, ◌∙◌, subst, ◌==◌, ◌&&◌, if◌then◌else◌}
-use Rattle.std.specs.Prelude.{slice_get, IsSome}
+use Rattle.std.specs.Prelude.{slice_get}
 use Rattle.std.proofs.lemmas.Bool.{cases_Bool, cases_lt, cond-false, cond-true}
 use Rattle.office_base.specs.StepNumbers.{step_number}
 use Rattle.office_base.specs.declared.asks.Seat.{Seat}
@@ -8,15 +8,15 @@ use Rattle.office_base.specs.declared.person.CandId.{CandId}
 use Rattle.office_base.specs.declared.person.Person.{Person}
 use Rattle.office_base.specs.declared.step.StepKind.{StepKind}
 use Rattle.office_base.specs.declared.step.StepKind.TheVariants.{Dereserved, Ews, Obc}
+use Rattle.office_base.proofs.Lists.{there_is}
+use Rattle.office_base.proofs.Options.{is_some_from}
 use Rattle.keeper_mem.specs.declared.rows.AllotRow.{AllotRow}
 use Rattle.seat_matrix.specs.Matrix.{SeatTable, seating_in, seats_in}
 use Rattle.seat_matrix.specs.Seats.{is_dereserved}
-use Rattle.rounds.specs.Rule.{AreEntrants, IsRaised}
+use Rattle.rounds.specs.Rule.{IsRaised}
 use Rattle.rounds.specs.declared.round.Round.{Round}
-use Rattle.round_laws.proofs.People.{there_is}
-use Rattle.round_laws.proofs.Season.{entrants, same_choices}
 use Rattle.round_options.specs.Options.{holds}
-use Rattle.office_moves.specs.Facts.{IsSound, SeasonFacts, lists_in_order, register_of}
+use Rattle.office_moves.specs.Facts.{IsSound, SeasonFacts, lists_in_order}
 use Rattle.office_moves.specs.Moves.{row_before, rows_along}
 use Rattle.office_moves.specs.Promise.{kept_to_the_end, standing_then}
 use Rattle.office_moves.specs.Raised.{matrix_at, matrix_of_round}
@@ -24,6 +24,7 @@ use Rattle.office_moves.specs.State.{State, seat_in}
 use Rattle.histories.specs.Course.{IsCourse, seeks_then}
 use Rattle.histories.specs.Orderly.{IsOrderly}
 use Rattle.histories.proofs.Fits.{seat_there}
+use Rattle.histories.proofs.Entering.{entrants}
 use Rattle.special_round.specs.Laws.{FinalsFit, FitInto, RoundsFit}
 use Rattle.special_round.specs.Rows.{is_seat_of, rows_of_step, seats_of_step}
 use Rattle.special_round.proofs.Fitting.{fewer_fit}
@@ -38,7 +39,7 @@ none_less : (b : Bool) (m n : ℕ) → m ≤ n → m ≤ (if b then suc n else n
 none_less true m n less = omega (arith, less)
 none_less false m n less = less
 
--- a row is made of no seat, or of the one that stands at the place
+-- a row is made of no seat, or of the one at the place
 row_less : (number prog : ℕ) (step : StepKind) (cand : CandId) (given seat : Option Seat) (rows : List AllotRow) (n : ℕ) → (given ≡ None) ⊎ (given ≡ seat) → rows_of_step rows prog step ≤ n
     → rows_of_step (row_before number cand given rows) prog step ≤ (if is_seat_of prog step seat then suc n else n)
 row_less number prog step cand given seat rows n (inl none) less =
@@ -78,10 +79,6 @@ kept_or_none facts state id = elim (cases_Bool (holds (standing_then facts state
   | inr away ↦ inl (cond-false (holds (standing_then facts state facts.rounds id)) (seat_in facts state.rounds facts.rounds id) None away)
 ]
 
-some_is : {X : Type 0} (o : Option X) (x : X) → o ≡ Some x → IsSome o
-some_is None x e = absurd (cc)
-some_is (Some y) x e = refl
-
 -- once the final rows are there, all cuts were made
 all_cuts : (facts : SeasonFacts) (state : State) (rows : List AllotRow) → IsOrderly facts state → state.finals ≡ Some rows → state.now ≡ facts.rounds + 1
 all_cuts facts state rows orderly finals = elim (cases_lt facts.rounds state.now) [
@@ -89,21 +86,18 @@ all_cuts facts state rows orderly finals = elim (cases_lt facts.rounds state.now
   | inr before ↦ absurd (let none = orderly.unfinished before in let e : None ≡ Some rows = sym none ∙ finals in cc)
 ]
 
-pub season_entrants : (facts : SeasonFacts) (table : SeatTable) → IsSound facts → table.programmes ≡ facts.matrix.programmes → AreEntrants table facts.people (lists_in_order facts)
-season_entrants facts table sound same = entrants (register_of facts) table facts.lists sound.ranks (same_choices (register_of facts) facts.matrix table facts.lists same sound.choices) sound.aligned
-
 last_fit : (facts : SeasonFacts) (state : State) (rows : List AllotRow) (prog before : ℕ) → RoundsFit → IsSound facts → IsOrderly facts state → state.finals ≡ Some rows
     → prog < length facts.matrix.programmes → facts.rounds ≡ suc before → FitInto (matrix_of_round facts state (suc before)) prog (rows_of_step rows prog)
 last_fit facts state rows prog before fits sound orderly finals below number =
     let course = orderly.course in
-    let published : length state.rounds ≡ facts.rounds = course.last (some_is state.finals rows finals) in
+    let published : length state.rounds ≡ facts.rounds = course.last (is_some_from state.finals rows finals) in
     let last = there_is state.rounds before (omega (arith, published, number)) in
     let round : Round = last.0 in
     let table = matrix_of_round facts state (suc before) in
     let made = course.made before round last.1 in
     let same = course.programmes (suc before) in
     let fit = fits facts.version (before + 1) table facts.people (lists_in_order facts) (seeks_then facts state before) round prog (course.seats (suc before))
-    (season_entrants facts table sound same) made (subst (λ l. prog < length l) (sym same) below) in
+    (entrants facts table sound same) made (subst (λ l. prog < length l) (sym same) below) in
     fewer_fit table prog (rows_of_step rows prog) (seats_of_step round.seats prog)
     (λ step. subst (λ l. rows_of_step l prog step ≤ seats_of_step round.seats prog step) (sym (course.finals rows finals))
     (rows_few (facts.rounds + 1) prog step (kept_to_the_end facts state) facts.people round.seats (orderly.entries before round last.1)

@@ -1,5 +1,5 @@
 -- A round gives no more seats of a programme than there are.
-use Rattle.std.proofs.Common.{◌≡◌, ◌<◌, ◌≤◌, ◌+◌, ◌-◌, ℕ, zero, suc, Bool, true, false, List, [], ◌∷◌, Option, Some, length, take, arith, refl, sym, ap, subst, ◌==◌, if◌then◌else◌}
+use Rattle.std.proofs.Common.{◌<◌, ◌≤◌, ◌+◌, ◌-◌, ℕ, Bool, true, false, List, [], Option, Some, length, arith, refl, sym, ap, subst, ◌==◌, if◌then◌else◌}
 use Rattle.std.specs.Prelude.{slice_get}
 use Rattle.office_base.specs.Lists.{IsAmong}
 use Rattle.office_base.specs.Merit.{in_merit}
@@ -7,41 +7,27 @@ use Rattle.office_base.specs.declared.asks.Seat.{Seat}
 use Rattle.office_base.specs.declared.person.Person.{Person}
 use Rattle.office_base.specs.declared.person.ProgId.{ProgId}
 use Rattle.office_base.specs.declared.step.StepKind.{StepKind}
-use Rattle.office_base.specs.declared.step.StepKind.TheVariants.{Open, Ews, Obc, Sc, St, Dereserved}
+use Rattle.office_base.specs.declared.step.StepKind.TheVariants.{Ews, Obc, Dereserved}
+use Rattle.office_base.proofs.Lists.{there_is, length_take_most}
 use Rattle.allocations.specs.Market.{Seeker, applicants, seat_at}
 use Rattle.allocations.proofs.Claims.{applicants_may}
 use Rattle.seat_matrix.specs.Matrix.{AreSeats, SeatTable, list_in, seating_in, seats_in}
-use Rattle.seat_matrix.specs.Seats.{is_dereserved, seats_of}
+use Rattle.seat_matrix.specs.Seats.{seats_of}
 use Rattle.seat_matrix.specs.Unfilled.{left_unfilled}
 use Rattle.programme_lists.specs.Chosen.{ChoosesFrom}
 use Rattle.programme_lists.specs.Programme.{Admissions, admitted_by, people_of, unfilled}
 use Rattle.open_then_category.specs.Laws.{OneProgrammeChoice}
 use Rattle.seeks.specs.declared.seek.Seek.{Seek}
+use Rattle.programme_lists.proofs.Seats.{own_seats}
 use Rattle.rounds.specs.Round.{IsRound}
 use Rattle.rounds.specs.Rule.{AreEntrants, MayApplyIn, ProgrammesChooseWell, rule_of, seekers_of}
 use Rattle.rounds.specs.declared.round.Round.{Round}
 use Rattle.rounds.proofs.Entrants.{market}
-use Rattle.round_laws.proofs.People.{there_is}
 use Rattle.special_round.specs.Laws.{FitInto, RoundsFit}
 use Rattle.special_round.specs.Rows.{seats_of_step}
 use Rattle.special_round.proofs.Holders.{held_within}
 
 -- ---- whom the steps admit
-
-take_short : {X : Type 0} (n : ℕ) (xs : List X) → length (take n xs) ≤ n
-take_short zero xs = omega arith
-take_short (suc n) [] = omega arith
-take_short (suc n) (x ∷ xs) = let rest = take_short n xs in omega (arith, rest)
-
--- no step admits more than its seats
-own_seats : (version : ℕ) (table : SeatTable) (prog : ℕ) (people : List Person) (admissions : Admissions) (step : StepKind) → ChoosesFrom version (seats_in table prog) people admissions
-    → is_dereserved step ≡ false → length (admitted_by admissions step) ≤ (seating_in table prog step).seats
-own_seats version table prog people admissions Open choice own = choice.open_step.may.seats
-own_seats version table prog people admissions Ews choice own = choice.ews.may.seats
-own_seats version table prog people admissions Obc choice own = choice.obc.may.seats
-own_seats version table prog people admissions Sc choice own = choice.sc.may.seats
-own_seats version table prog people admissions St choice own = choice.st.may.seats
-own_seats version table prog people admissions Dereserved choice own = absurd (cc)
 
 unfilled_of : (version ews held_ews obc held_obc : ℕ) → left_unfilled version ews held_ews obc held_obc ≤ (obc - held_obc) + (ews - held_ews)
 unfilled_of version ews held_ews obc held_obc = within (version == 2)
@@ -58,7 +44,7 @@ dereserved_seats version table prog people admissions choice =
     let list = list_in table prog in
     let empty = unfilled version (seats_in table prog) admissions in
     let first = ap (λ (l : List Person). length l) choice.dereserved in
-    let second = take_short empty (people_of list (in_merit list people) admissions Dereserved) in
+    let second = length_take_most empty (people_of list (in_merit list people) admissions Dereserved) in
     let third = unfilled_of version (seating_in table prog Ews).seats (length admissions.ews) (seating_in table prog Obc).seats (length admissions.obc) in
     omega (arith, first, second, third)
 

@@ -1,8 +1,8 @@
 -- Those who hold seats of a programme under one step are admitted there, so they are no more than those admitted.
-use Rattle.std.proofs.Common.{◌≡◌, ◌≢◌, ◌<◌, ◌≤◌, ◌+◌, inl, inr, ℕ, zero, suc, Bool, true, false, List, [], ◌∷◌, Option, Some, None, length, arith, refl, sym, ap, ◌∙◌, subst, ◌==◌, ◌&&◌, if◌then◌else◌}
+use Rattle.std.proofs.Common.{◌≡◌, ◌≢◌, ◌<◌, ◌≤◌, ◌+◌, inl, inr, ℕ, zero, suc, Bool, true, false, List, [], ◌∷◌, Option, Some, None, length, arith, refl, sym, ap, ◌∙◌, subst, ◌==◌, if◌then◌else◌}
 use Rattle.std.specs.Prelude.{slice_get}
 use Rattle.std.specs.List.{AllByRecursion}
-use Rattle.std.proofs.lemmas.Bool.{cases_Bool, eqb-true}
+use Rattle.std.proofs.lemmas.Bool.{cases_Bool, eqb-true, and_parts}
 use Rattle.office_base.specs.Lists.{AnyByRecursion, IsAmong, Pairwise}
 use Rattle.office_base.specs.declared.asks.Seat.{Seat}
 use Rattle.office_base.specs.declared.person.CandId.{CandId}
@@ -14,6 +14,7 @@ use Rattle.office_base.proofs.StepNumbers.{one_number}
 use Rattle.placements.specs.Ranks.{AreAmong, AreDistinct, without}
 use Rattle.placements.proofs.Without.{among_without, length_without}
 use Rattle.allocations.specs.Market.{Seeker, seat_at, those}
+use Rattle.rounds.proofs.Entrants.{all_when}
 use Rattle.special_round.specs.Rows.{how_many, is_seat_of, seats_of_step}
 
 -- ---- no more distinct people than there are
@@ -38,17 +39,13 @@ no_more (x ∷ xs) ys distinct among =
 
 -- ---- the seat of a step
 
-both : (a b : Bool) → (a && b) ≡ true → (a ≡ true) × (b ≡ true)
-both true b e = (refl, e)
-both false b e = absurd (cc)
-
 same_seat : (seat : Seat) (prog : ℕ) (step : StepKind) → seat.prog.0 ≡ prog → seat.step ≡ step → seat ≡ seat_at prog step
 same_seat seat prog step first second = ap (λ n. seat_at n seat.step) first ∙ ap (λ k. seat_at prog k) second
 
 pub seat_is : (prog : ℕ) (step : StepKind) (seat : Option Seat) → is_seat_of prog step seat ≡ true → seat ≡ Some (seat_at prog step)
 seat_is prog step None e = absurd (cc)
 seat_is prog step (Some seat) e =
-    let parts = both (seat.prog.0 == prog) (step_number seat.step == step_number step) e in
+    let parts = and_parts (seat.prog.0 == prog) (step_number seat.step == step_number step) e in
     ap Some (same_seat seat prog step (eqb-true seat.prog.0 prog parts.0) (one_number seat.step step (eqb-true (step_number seat.step) (step_number step) parts.1)))
 
 -- ---- those who hold one
@@ -68,10 +65,6 @@ length_those prog step [] (seat ∷ seats) full = absurd (omega (arith, full))
 length_those prog step (s ∷ seekers) [] full = absurd (omega (arith, full))
 length_those prog step (s ∷ seekers) (seat ∷ seats) full =
     longer (is_seat_of prog step seat) s.person (those_under prog step seekers seats) (seats_of_step seats prog step) (length_those prog step seekers seats (omega (arith, full)))
-
-all_when : (P : Person → Type 0) (b : Bool) (x : Person) (xs : List Person) → (b ≡ true → P x) → AllByRecursion P xs → AllByRecursion P (if b then x ∷ xs else xs)
-all_when P true x xs here rest = (here refl, rest)
-all_when P false x xs here rest = rest
 
 -- each of them is one of those of whom every holder is one
 pub all_under : (P : Person → Type 0) (prog : ℕ) (step : StepKind) (seekers : List Seeker) (seats : List (Option Seat))

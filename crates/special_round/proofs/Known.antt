@@ -15,8 +15,10 @@ use Rattle.office_base.specs.declared.person.ListId.{ListId}
 use Rattle.office_base.specs.declared.person.Person.{Person}
 use Rattle.office_base.specs.declared.person.ProgId.{ProgId}
 use Rattle.office_base.specs.declared.step.StepKind.{StepKind}
+use Rattle.office_base.proofs.Options.{some_value}
 use Rattle.keeper_mem.specs.declared.rows.AllotRow.{AllotRow}
 use Rattle.rank_lists.specs.Register.{AreRanks, Ranks, find_person}
+use Rattle.rank_lists.proofs.Known.{found_id}
 use Rattle.seat_matrix.specs.Matrix.{SeatTable, list_in}
 use Rattle.seat_matrix.specs.declared.entry.Home.{Home}
 use Rattle.round_laws.proofs.People.{found_at}
@@ -31,7 +33,6 @@ use Rattle.histories.proofs.Fits.{SeatOf, seat_is}
 use Rattle.special_round.specs.Laws.{FinalsAreKnown}
 use Rattle.special_round.specs.Remaining.{AreFinals}
 use Rattle.special_round.specs.Rows.{before_those, finals_of, is_row_of}
-use Rattle.special_round.proofs.Unlisted.{found_is}
 
 -- ---- rows along the people
 
@@ -66,7 +67,7 @@ rows_rise number given (person ∷ people) rising =
 
 -- ---- the final rows of a season
 
--- whoever ends with a seat has that of the last round
+-- a candidate who ends with a seat has that of the last round
 kept_is : (facts : SeasonFacts) (state : State) (id : ℕ) (seat : Seat) → kept_to_the_end facts state id ≡ Some seat → seat_in facts state.rounds facts.rounds id ≡ Some seat
 kept_is facts state id seat e = elim (cases_Bool (holds (standing_then facts state facts.rounds id))) [
   | inl stays ↦ sym (cond-true (holds (standing_then facts state facts.rounds id)) (seat_in facts state.rounds facts.rounds id) None stays) ∙ e
@@ -165,10 +166,6 @@ pairs_when_placed : (P : Person → Type 0) (R : Person → Person → Type 0) (
 pairs_when_placed P R [] all pairs = tt
 pairs_when_placed P R (x ∷ xs) all pairs = (all_when_placed P R x xs all.0 pairs.0, pairs_when_placed P R xs all.1 pairs.1)
 
-some_number : (number : Option ℕ) → IsSome number → (n : ℕ) × (number ≡ Some n)
-some_number None h = absurd (let e : false ≡ true = h in cc)
-some_number (Some n) h = (n, refl)
-
 -- the final persons of a step can be put in merit order
 pub finals_can_be_ranked : (ranks : Ranks) (table : SeatTable) (rows : List AllotRow) (prog : ℕ) (step : StepKind) → AreRanks ranks → AreFinals ranks.people table rows
     → CanBeRanked (list_in table prog) (finals_of ranks.people rows prog step)
@@ -189,13 +186,13 @@ finals_can_be_ranked ranks table rows prog step sound finals =
       numbers = pairs_when_placed Placed (λ x y. number_in list x ≢ number_in list y) (finals_of people rows prog step) placed
           (pairs_finals (λ x y. Placed x → number_in list x ≢ number_in list y) people rows prog step finals.rising
           (λ a b x y less found found' some same.
-          let (n, is) = some_number (number_in list x) some in
+          let (n, is) = some_value (number_in list x) some in
           let one : a ≡ b = sound.apart a b (list.0 - 1) n x y found found' is (sym same ∙ is) in
           omega (arith, less, one)));
       distinct = pairs_finals (λ x y. x.id ≢ y.id) people rows prog step finals.rising
           (λ a b x y less found found' same.
-          let first = found_is a people x found in
-          let second = found_is b people y found' in
+          let first = found_id a people x found in
+          let second = found_id b people y found' in
           let one = ap (λ (c : CandId). c.0) same in
           omega (arith, less, first, second, one));
     }

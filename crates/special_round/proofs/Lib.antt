@@ -8,7 +8,6 @@ mod Placing
 mod Searched
 mod Setting
 mod Sums
-mod Totals
 mod Unlisted
 mod Whole
 mod Within

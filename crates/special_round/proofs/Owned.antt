@@ -1,6 +1,5 @@
 -- The rows of a programme alone say as much of its steps as all rows do.
-use Rattle.std.proofs.Common.{◌≡◌, ◌++◌, inl, inr, ℕ, suc, Bool, true, false, List, [], ◌∷◌, Option, Some, None, Result, Ok, Err, refl, sym, ap, ◌∙◌, subst, ◌==◌, ◌&&◌, if◌then◌else◌}
-use Rattle.std.specs.Prelude.{OnOk}
+use Rattle.std.proofs.Common.{◌≡◌, ◌++◌, inl, inr, ℕ, suc, Bool, true, false, List, [], ◌∷◌, Option, Some, None, refl, sym, ap, ◌∙◌, subst, ◌==◌, ◌&&◌, if◌then◌else◌}
 use Rattle.std.specs.List.{filter}
 use Rattle.office_base.specs.Merit.{CanBeRanked}
 use Rattle.office_base.specs.StepNumbers.{step_number}
@@ -67,8 +66,3 @@ all_own people rows table prog before after set = record {
   steps = λ step own. left_own people rows table prog step (seating_in after prog step) (set.steps step own);
   elsewhere = set.elsewhere;
 }
-
--- where a result is Ok, what follows from what holds then holds
-pub on_ok : {X E : Type 0} (r : Result X E) (P Q : Type 0) → (P → Q) → OnOk r P → OnOk r Q
-on_ok (Ok x) P Q h p = h p
-on_ok (Err e) P Q h p = p

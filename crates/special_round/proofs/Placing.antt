@@ -1,4 +1,4 @@
--- What holds of the final rows of an office holds beside the season and the matrix that it shows.
+-- What holds of the final rows of an office holds for the season and the matrix that it shows.
 use Rattle.std.proofs.Common.{◌≡◌, ◌<◌, ℕ, List, Some, length, sym, subst}
 use Rattle.keeper_mem.specs.declared.rows.AllotRow.{AllotRow}
 use Rattle.season_file.specs.declared.season.Season.{Season}

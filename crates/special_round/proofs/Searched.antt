@@ -1,12 +1,13 @@
 -- A binary search among the ids of final rows finds a candidate's, or the candidate has none.
-use Rattle.std.proofs.Common.{◌≡◌, ◌<◌, ◌≤◌, ℕ, zero, suc, Bool, true, false, List, [], ◌∷◌, Option, Some, Result, Ok, Err, length, map, get_or, refl, sym, ap, subst, inl, inr, ◌∙◌, arith, ◌==◌, ◌||◌}
+use Rattle.std.proofs.Common.{◌≡◌, ◌<◌, ℕ, zero, suc, Bool, true, false, List, [], ◌∷◌, Option, Some, Result, Ok, Err, length, map, get_or, refl, sym, ap, subst, inl, inr, ◌∙◌, arith, ◌==◌, ◌||◌}
 use Rattle.std.specs.Prelude.{is_ok, MatchResult}
 use Rattle.std.specs.List.{AllByRecursion}
 use Rattle.std.specs.List.Sorted.{IsBinarySearchResult}
 use Rattle.std.specs.Ordering.{nat_cmp}
-use Rattle.std.proofs.lemmas.Bool.{cases_Bool, cases_order, eq-eqb, eqb-true, ne_eqb}
+use Rattle.std.proofs.lemmas.Bool.{cases_Bool, cases_order, eq-eqb, eqb-true, ne_eqb, or_right}
 use Rattle.std.proofs.lemmas.List.Sorted.{searched}
 use Rattle.office_base.specs.Lists.{Pairwise}
+use Rattle.choice_lists.proofs.FoundLemmas.{never_falls}
 use Rattle.keeper_mem.specs.declared.rows.AllotRow.{AllotRow}
 use Rattle.special_round.specs.Season.{has_final, is_admitted}
 
@@ -17,35 +18,11 @@ Rising ids = Pairwise (λ a b. a < b) ids
 abbrev ids_of : List AllotRow → List ℕ
 ids_of rows = map (λ row. row.cand.0) rows
 
-all_at : (P : ℕ → Type 0) (ids : List ℕ) (i : ℕ) → AllByRecursion P ids → i < length ids → P (get_or ids i 0)
-all_at P [] i all within = absurd (omega arith)
-all_at P (id ∷ ids) zero all within = all.0
-all_at P (id ∷ ids) (suc i) all within = all_at P ids i all.1 (omega arith)
-
-rising_at : (ids : List ℕ) (i j : ℕ) → Rising ids → i < j → j < length ids → get_or ids i 0 < get_or ids j 0
-rising_at [] i j rising less within = absurd (omega arith)
-rising_at (id ∷ ids) i zero rising less within = absurd (omega arith)
-rising_at (id ∷ ids) zero (suc j) rising less within = all_at (λ b. id < b) ids j rising.0 (omega arith)
-rising_at (id ∷ ids) (suc i) (suc j) rising less within = rising_at ids i j rising.1 (omega arith) (omega arith)
-
-never_falls : (ids : List ℕ) → Rising ids → (i j : ℕ) → i ≤ j → j < length ids → get_or ids i 0 ≤ get_or ids j 0
-never_falls ids rising i j le within = elim (cases_order i j) [
-  | inl same ↦ omega (arith, ap (λ (k : ℕ). get_or ids k 0) same)
-  | inr other ↦ elim other [
-    | inl less ↦ omega (arith, rising_at ids i j rising less within)
-    | inr more ↦ absurd (omega arith)
-  ]
-]
-
 -- ---- the ids of rows
 
 here_or : (first later : Bool) → first ≡ true → (first || later) ≡ true
 here_or true later e = refl
 here_or false later e = absurd (cc)
-
-later_or : (first later : Bool) → later ≡ true → (first || later) ≡ true
-later_or true later e = refl
-later_or false later e = e
 
 neither : (first later : Bool) → first ≡ false → later ≡ false → (first || later) ≡ false
 neither true later e f = e
@@ -54,7 +31,7 @@ neither false later e f = f
 final_at : (rows : List AllotRow) (q i : ℕ) → i < length (ids_of rows) → get_or (ids_of rows) i 0 ≡ q → has_final q rows ≡ true
 final_at [] q i within e = absurd (omega arith)
 final_at (row ∷ rows) q zero within e = here_or (row.cand.0 == q) (has_final q rows) (eq-eqb row.cand.0 q e)
-final_at (row ∷ rows) q (suc i) within e = later_or (row.cand.0 == q) (has_final q rows) (final_at rows q i (omega arith) e)
+final_at (row ∷ rows) q (suc i) within e = or_right (row.cand.0 == q) (has_final q rows) (final_at rows q i (omega arith) e)
 
 final_nowhere : (rows : List AllotRow) (q : ℕ) → ((i : ℕ) → i < length (ids_of rows) → get_or (ids_of rows) i 0 ≡ q → ⊥) → has_final q rows ≡ false
 final_nowhere [] q none = refl

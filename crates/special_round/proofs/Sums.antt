@@ -49,7 +49,7 @@ seats_split (Some seat ∷ seats) prog =
 
 -- ---- numbers
 
--- what is left of OBC and EWS beside the rows of both and of the de-reserved step is the rest of their seats
+-- what remains of OBC and EWS, and the rows of both and of the de-reserved step, add up to the seats of both
 pub left_of_two : (b e rb re rd : ℕ) → rb ≤ b → re ≤ e → rd ≤ (b - rb) + (e - re)
     → ((b - rb) - rd) + ((e - re) - (rd - (b - rb))) + (rb + re + rd) ≡ b + e
 left_of_two b e rb re rd first second third = omega (arith, first, second, third)

@@ -1,70 +1,49 @@
 -- Where lists have no row of a candidate with a final row, such a candidate has no list, and so no seat of a round over them.
-use Rattle.std.proofs.Common.{◌≡◌, ◌≢◌, ◌<◌, ◌+◌, ◌-◌, inl, inr, ℕ, zero, suc, Bool, true, false, List, [], ◌∷◌, ◌++◌, drop, Option, Some, None, Result, Ok, Err, length, map, arith, refl, sym, ap, ◌∙◌, subst, ◌==◌, ◌||◌, if◌then◌else◌}
-use Rattle.std.specs.Prelude.{is_some, nat_lt, slice_get}
+use Rattle.std.proofs.Common.{◌≡◌, ◌≢◌, ◌<◌, ◌+◌, inl, inr, ℕ, zero, suc, Bool, true, false, List, [], ◌∷◌, ◌++◌, drop, Option, Some, None, Result, Ok, Err, length, map, arith, refl, sym, ap, ◌∙◌, subst, ◌==◌, ◌||◌, if◌then◌else◌}
+use Rattle.std.specs.Prelude.{slice_get}
 use Rattle.std.specs.List.{AllByRecursion}
 use Rattle.std.specs.Option.{option_and_then}
-use Rattle.std.proofs.lemmas.Bool.{cases_Bool, cond-false, cond-true, eq-eqb, eqb-true}
+use Rattle.std.proofs.lemmas.Bool.{cases_Bool, eq-eqb, eqb-true}
 use Rattle.std.proofs.lemmas.Option.{slice_get_within}
-use Rattle.office_base.specs.Limits.{last_id, most_choices, most_row_choices}
+use Rattle.office_base.specs.Limits.{last_id}
 use Rattle.office_base.specs.Person.{at_person}
 use Rattle.office_base.specs.declared.asks.Seat.{Seat}
 use Rattle.office_base.specs.declared.person.Person.{Person}
 use Rattle.office_base.specs.declared.person.ProgId.{ProgId}
+use Rattle.office_base.proofs.Lists.{there_is}
 use Rattle.office_text.specs.Number.{number_within}
 use Rattle.section_rows.specs.Rows.{Row, field, rows_of}
-use Rattle.section_rows.specs.Steps.{after, first_of, needs, unless}
+use Rattle.section_rows.specs.Steps.{after, first_of, needs}
 use Rattle.section_rows.specs.Table.{entries_after, entries_of, with_entry}
-use Rattle.section_rows.proofs.StepsLemmas.{after_ok, first_of-other, needs_ok}
+use Rattle.section_rows.proofs.StepsLemmas.{after_ok, first_of-other}
 use Rattle.keeper_mem.specs.declared.rows.AllotRow.{AllotRow}
 use Rattle.rank_lists.specs.Register.{AreRanks, Ranks, find_person}
+use Rattle.rank_lists.proofs.Known.{found_id}
 use Rattle.seat_matrix.specs.Matrix.{SeatTable}
-use Rattle.choice_lists.specs.Choices.{Entry, IsRead, Lists, all_choices, choices, list_at, list_of, listed, new_candidate, person_of, reading}
+use Rattle.choice_lists.specs.Choices.{Entry, IsRead, Lists, choices, list_at, list_of, listed, new_candidate, reading}
 use Rattle.choice_lists.specs.declared.fault.ChoiceKind.{ChoiceKind}
-use Rattle.choice_lists.specs.declared.fault.ChoiceKind.TheVariants.{RepeatedCandidate, TooLong, TooMany, UnknownCandidate}
 use Rattle.seeks.specs.Seek.{seek_leaves}
 use Rattle.seeks.specs.declared.seek.Seek.{Seek}
 use Rattle.seeks.specs.declared.seek.Seek.TheVariants.{Whole}
+use Rattle.choice_lists.proofs.ChoicesLemmas.{new_candidate_ok}
 use Rattle.allocations.specs.Market.{place_of}
 use Rattle.rounds.specs.Round.{IsRound}
 use Rattle.rounds.specs.Rule.{seekers_of}
 use Rattle.rounds.specs.declared.round.Round.{Round}
 use Rattle.rounds.proofs.Entrants.{entered, length_seekers}
 use Rattle.round_laws.specs.Laws.{lists_in}
-use Rattle.round_laws.proofs.People.{stands_at, there_is}
+use Rattle.round_laws.proofs.People.{stands_at}
 use Rattle.round_laws.proofs.Season.{aligned_length, length_lists, list_at_place}
 use Rattle.special_round.specs.Season.{admitted_from, first_admitted, has_final, is_admitted}
 
 -- ---- whose a row is
 
-pub found_is : (id : ℕ) (people : List Person) (person : Person) → find_person id people ≡ Some person → person.id.0 ≡ id
-found_is id [] person e = absurd (cc)
-found_is id (x ∷ people) person e = elim (cases_Bool (id == x.id.0)) [
-  | inl here ↦
-      let taken : Some x ≡ Some person = sym (cond-true (id == x.id.0) (Some x) (find_person id people) here) ∙ e in
-      let same : x ≡ person = cc in
-      ap (λ (z : Person). z.id.0) (sym same) ∙ sym (eqb-true id x.id.0 here)
-  | inr other ↦ found_is id people person (sym (cond-false (id == x.id.0) (Some x) (find_person id people) other) ∙ e)
-]
-
 spelled : (number : Option ℕ) (people : List Person) (person : Person) → option_and_then (λ id. find_person id people) number ≡ Some person → number ≡ Some person.id.0
 spelled None people person e = absurd (cc)
-spelled (Some id) people person e = ap Some (sym (found_is id people person e))
+spelled (Some id) people person e = ap Some (sym (found_id id people person e))
 
 ok_one : {X Kind : Type 0} (r : Result X Kind) (a x : X) → r ≡ Ok a → r ≡ Ok x → a ≡ x
 ok_one r a x e f = cc
-
-passed : (a b c : Bool) (k l m : ChoiceKind) (found person : Person) → unless a k (unless b l (unless c m (Ok found))) ≡ Ok person → found ≡ person
-passed true b c k l m found person e = absurd (cc)
-passed false true c k l m found person e = absurd (cc)
-passed false false true k l m found person e = absurd (cc)
-passed false false false k l m found person e = ok_one (Ok found) found person refl e
-
-candidate_is : (ranks : Ranks) (entries : List Entry) (row : Row) (person : Person) → new_candidate ranks entries row ≡ Ok person → person_of ranks (field row 0) ≡ Some person
-candidate_is ranks entries row person e =
-    let (found, known, rest) = needs_ok (person_of ranks (field row 0)) UnknownCandidate _ person e in
-    let same = passed (is_some (list_at found.id.0 entries)) (nat_lt most_row_choices (length row - 1)) (nat_lt most_choices (all_choices entries + (length row - 1)))
-    RepeatedCandidate TooLong TooMany found person rest in
-    known ∙ ap Some same
 
 -- an entry is of the candidate whose id the first field of its row spells
 entry_is : (ranks : Ranks) (seats : SeatTable) (entries : List Entry) (row : Row) (entry : Entry) → reading ranks seats entries row ≡ Ok entry
@@ -74,7 +53,7 @@ entry_is ranks seats entries row entry e =
     let (person, new, rest) = after_ok (new_candidate ranks entries row) _ entry e in
     let (programmes, all, made) = after_ok (choices seats person [] (drop 1 row)) _ entry rest in
     let same : record { candidate = person.id.0; programmes = programmes } ≡ entry = ok_one (Ok (record { candidate = person.id.0; programmes = programmes })) _ entry refl made in
-    spelled (number_within 1 last_id (field row 0)) ranks.people person (candidate_is ranks entries row person new) ∙ ap (λ (z : Entry). Some z.candidate) same
+    spelled (number_within 1 last_id (field row 0)) ranks.people person (new_candidate_ok ranks entries row person new).found ∙ ap (λ (z : Entry). Some z.candidate) same
 
 -- ---- those without a row
 
@@ -113,7 +92,7 @@ no_list_of : (ranks : Ranks) (seats : SeatTable) (id : ℕ) (finals : List Allot
 no_list_of ranks seats id finals [] final nobody = refl
 no_list_of ranks seats id finals (header ∷ rows) final nobody = no_list_after ranks seats id finals 2 [] rows final nobody refl
 
--- whoever has a final row has the empty list
+-- a candidate who has a final row has the empty list
 pub unlisted : (ranks : Ranks) (seats : SeatTable) (id : ℕ) (finals : List AllotRow) (rows : List Row) (lists : Lists) → has_final id finals ≡ true → first_admitted finals rows ≡ None
     → IsRead ranks seats rows lists → list_of lists id ≡ []
 unlisted ranks seats id finals rows lists final nobody read = read.1 id ∙ ap listed (no_list_of ranks seats id finals rows final nobody)

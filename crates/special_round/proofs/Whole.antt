@@ -1,8 +1,8 @@
 -- The special round, put together from its parts.
-use Rattle.std.proofs.Common.{◌≡◌, ◌<◌, ◌≤◌, ◌+◌, ◌-◌, inl, inr, ℕ, zero, suc, Bool, true, false, List, [], ◌∷◌, Option, Some, None, length, map, refl, sym, ap, ◌∙◌, subst, ◌==◌, ◌||◌}
+use Rattle.std.proofs.Common.{◌≡◌, ◌<◌, ◌≤◌, ◌+◌, ◌-◌, inl, inr, ℕ, zero, suc, Bool, true, List, [], ◌∷◌, Option, Some, None, length, map, refl, sym, ap, ◌∙◌, subst, ◌==◌, ◌||◌}
 use Rattle.std.specs.Prelude.{replicate, slice_get}
 use Rattle.std.specs.List.{AllByRecursion}
-use Rattle.std.proofs.lemmas.Bool.{eq-eqb}
+use Rattle.std.proofs.lemmas.Bool.{eq-eqb, or_right}
 use Rattle.std.proofs.lemmas.List.{length-map}
 use Rattle.office_base.specs.declared.person.Person.{Person}
 use Rattle.office_base.specs.declared.person.ProgId.{ProgId}
@@ -24,12 +24,12 @@ use Rattle.office_moves.specs.Facts.{IsSound, SeasonFacts, register_of}
 use Rattle.office_moves.specs.Raised.{total_seats}
 use Rattle.office_moves.specs.Season.{facts_of}
 use Rattle.office_moves.specs.State.{seat_of}
+use Rattle.histories.proofs.Entering.{entrants}
 use Rattle.special_round.specs.Laws.{FitInto, TogetherWithin}
 use Rattle.special_round.specs.Rows.{rows_of_step}
 use Rattle.special_round.specs.Season.{IsLeftSeason, first_admitted, has_final}
 use Rattle.special_round.specs.Special.{IsSpecialOver, all_whole}
 use Rattle.special_round.specs.declared.round_over.Special.{Special}
-use Rattle.special_round.proofs.Finals.{season_entrants}
 use Rattle.special_round.proofs.Unlisted.{unlisted, unseated}
 
 -- ---- everybody seeks the whole own list
@@ -55,16 +55,12 @@ whole_seeks_fit people lists aligned = record {
 final_there : (id : ℕ) (row : AllotRow) (rows : List AllotRow) (later : Bool) → row.cand.0 ≡ id → (row.cand.0 == id || later) ≡ true
 final_there id row rows later same = rw (eq-eqb row.cand.0 id same) refl
 
-later_there : (first later : Bool) → later ≡ true → (first || later) ≡ true
-later_there true later e = refl
-later_there false later e = e
-
 all_final : (all : List AllotRow) (P : ℕ → Type 0) (rows : List AllotRow) → ((id : ℕ) → has_final id rows ≡ true → has_final id all ≡ true)
     → ((id : ℕ) → has_final id all ≡ true → P id) → AllByRecursion (λ (row : AllotRow). P row.cand.0) rows
 all_final all P [] within each = tt
 all_final all P (row ∷ rows) within each = (
   each row.cand.0 (within row.cand.0 (final_there row.cand.0 row rows (has_final row.cand.0 rows) refl)),
-  all_final all P rows (λ id e. within id (later_there (row.cand.0 == id) (has_final id rows) e)) each,
+  all_final all P rows (λ id e. within id (or_right (row.cand.0 == id) (has_final id rows) e)) each,
 )
 
 pub sit_out : (facts : SeasonFacts) (table : SeatTable) (rows : List AllotRow) (body : List ℕ) (season : Season) (round : Round) → IsSound facts → IsSound (facts_of season)
@@ -96,7 +92,7 @@ is_special facts table rows body season vacant seeks round sound sound' together
     subst (λ (l : List Person). IsRound facts.version season.matrix l (lists_in season.choices) 1 (all_whole l) round) register
     (subst (λ v. IsRound v season.matrix season.register.people (lists_in season.choices) 1 (all_whole season.register.people) round) left.version sought) in
     let enter : AreEntrants season.matrix people (lists_in season.choices) =
-    subst (λ (l : List Person). AreEntrants season.matrix l (lists_in season.choices)) register (season_entrants (facts_of season) season.matrix sound' refl) in
+    subst (λ (l : List Person). AreEntrants season.matrix l (lists_in season.choices)) register (entrants (facts_of season) season.matrix sound' refl) in
     record {
       season = left;
       vacant = many;

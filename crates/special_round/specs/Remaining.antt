@@ -41,7 +41,8 @@ seats_left table rows prog Dereserved = 0
 
 -- ---- protections
 
--- Trait by trait, from this one on: what the pairs left of the protection, as far as seats are left beside the traits before.
+-- What the pairs left of each protection, trait by trait, from this trait on.
+-- Each is at most the seats of `room` that the traits before it do not have.
 abbrev pub protections_left : ℕ → List ℕ → List Pair → ℕ → List ℕ
 protections_left trait [] pairs room = []
 protections_left trait (count ∷ counts) pairs room =

@@ -58,7 +58,8 @@ IsRemainingSeason facts state body season = (rows : List AllotRow) × (state.fin
 
 -- ---- faults
 
--- what lists beside final rows have to be refused for: their own first fault, or else their first row of a candidate with a final row
+-- why lists must be refused, given the final rows: their own first fault; otherwise their first row of a candidate with a
+-- final row; running out of memory is always possible
 abbrev pub AreRefused : SeasonFacts → List AllotRow → List ℕ → SpecialFault → Type 0
 AreRefused facts rows body (NotFinal now) = ⊥
 AreRefused facts rows body (Lists (Bad row kind)) = IsFault (register_of facts) facts.matrix (rows_of body) (Bad row kind)

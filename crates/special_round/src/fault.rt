@@ -11,7 +11,7 @@ pub enum SpecialFault {
     /// The final cut is not made; so many cuts are.
     #[error("the final cut is not made, but {now} cuts are")]
     NotFinal { now: u16 },
-    /// The lists have a fault: their first one by rows, beside the register and the matrix of the season.
+    /// The lists have a fault. It is their first by rows, checked against the register and the matrix of the season.
     #[error("the lists: {0}")]
     Lists(ChoiceFault),
     /// This row of the lists, counted from 1 with the header, is the first whose candidate has a final row.

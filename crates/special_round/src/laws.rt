@@ -44,14 +44,16 @@ pub fn together_within()
 
 /// Over the tables of an office, lists may be handed in or have one fault, and never both.
 pub fn one_remaining()
-    ensures { (facts : SeasonFacts) (state : State) (body : List ℕ) → HaveOneAnswer facts state body }
+    ensures { (facts : SeasonFacts) (state : State) (body : List ℕ)
+        → HaveOneAnswer facts state body }
 {
     choice_lists::laws::one_reading();
 }
 
 /// What is left of protections is within the seats.
 pub fn left_is_within()
-    ensures { (trait room : ℕ) (counts : List ℕ) (pairs : List Pair) → sum (protections_left trait counts pairs room) ≤ room }
+    ensures { (trait room : ℕ) (counts : List ℕ) (pairs : List Pair)
+        → sum (protections_left trait counts pairs room) ≤ room }
 {}
 
 /// The final persons of a step of a programme can be put in merit order, from the rows of the programme alone.
@@ -66,7 +68,8 @@ pub(crate) fn own_rows_say_all()
 
 /// Rows of rising ids have rising ids.
 pub(crate) fn ids_rise()
-    ensures { (rows : List AllotRow) → Pairwise (λ a b. a.cand.0 < b.cand.0) rows → Pairwise (λ a b. a < b) (map (λ row. row.cand.0) rows) }
+    ensures { (rows : List AllotRow) → Pairwise (λ a b. a.cand.0 < b.cand.0) rows
+        → Pairwise (λ a b. a < b) (map (λ row. row.cand.0) rows) }
 {}
 
 /// As many whole lists as there are people are what everybody seeks who seeks the whole own list.
@@ -74,7 +77,8 @@ pub(crate) fn whole_for_all()
     ensures { (people : List Person) → replicate (length people) Whole ≡ all_whole people }
 {}
 
-/// Where everybody seeks the whole own list, that stands in the lists.
+/// If everybody seeks their whole own list, what they seek is in the lists.
 pub(crate) fn whole_seeks_fit()
-    ensures { (people : List Person) (lists : Lists) → map (λ held. held.0) lists ≡ map (λ person. person.id.0) people → AreSeeks (lists_in lists) (all_whole people) }
+    ensures { (people : List Person) (lists : Lists) → map (λ held. held.0) lists
+        ≡ map (λ person. person.id.0) people → AreSeeks (lists_in lists) (all_whole people) }
 {}

@@ -79,7 +79,7 @@ fn count_on(pairs: &[Pair], t: u8) -> usize
     count
 }
 
-// What is left of the protection of one trait beside these pairs, as far as there is room.
+// Returns what these pairs leave of the protection of one trait, as far as there is room.
 fn protection_left(count: u16, pairs: &[Pair], t: u8, room: usize) -> u16
     ensures { result ≡ min (count - placed_on t pairs.now) room }
 {
@@ -88,7 +88,8 @@ fn protection_left(count: u16, pairs: &[Pair], t: u8, room: usize) -> u16
         .min(room) as u16
 }
 
-/// What pairs leave of protections, as far as there are seats: trait by trait, beside the traits before.
+/// Returns what pairs leave of protections, as far as there are seats. It goes trait by trait.
+/// Each trait has at most the seats that the traits before it do not have.
 pub(crate) fn what_is_left(old: &Protections, pairs: &[Pair], seats: usize) -> Protections
     ensures { result.counts ≡ protections_left 0 old.now.counts pairs.now seats }
 {
@@ -102,8 +103,8 @@ pub(crate) fn what_is_left(old: &Protections, pairs: &[Pair], seats: usize) -> P
     Protections { counts }
 }
 
-/// The seats and protections that are left of a step, from its old ones, the persons of its final rows, and its seats that are left. It fails for want of
-/// memory alone.
+/// Returns the seats and protections that remain of a step. It needs the old ones, the persons of the step's final rows,
+/// and the number of seats that remain. Fails only when memory runs out.
 pub(crate) fn seating_left(
     alloc: Global,
     list: ListId,
@@ -114,7 +115,8 @@ pub(crate) fn seating_left(
     requires list { IsList list }
     requires people { CanBeRanked list persons.now }
     ensures left { IfOk result (IsLeft list old.now persons.now seats) }
-    ensures within { IfOk result (λ left. (left.seats ≡ seats) × (sum left.protections.counts ≤ seats)) }
+    ensures within { IfOk result (λ left. (left.seats ≡ seats)
+        × (sum left.protections.counts ≤ seats)) }
 {
     left_is_within();
     let ranked = in_merit_order(alloc, persons, list)?;

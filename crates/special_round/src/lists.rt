@@ -32,7 +32,8 @@ fn ids_of(alloc: Global, rows: &[AllotRow]) -> Result<Vec<u32>, OutOfMemory>
 // Whether a row of lists is of a candidate with one of these ids, which rise.
 fn is_of_admitted(ids: &[u32], row: &Rows<'_>) -> bool
     requires { Pairwise (λ a b. a < b) ids.now }
-    ensures { (finals : List AllotRow) → ids.now ≡ map (λ row. row.cand.0) finals → result ≡ is_admitted (number_within 1 last_id (field row.now.row 0)) finals }
+    ensures { (finals : List AllotRow) → ids.now ≡ map (λ row. row.cand.0) finals
+        → result ≡ is_admitted (number_within 1 last_id (field row.now.row 0)) finals }
 {
     match read_number(row.field(0), 1, LAST_ID) {
         Some(id) => ids.binary_search(&id).is_ok(),

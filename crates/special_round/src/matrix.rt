@@ -45,9 +45,11 @@ fn set_step(
 ) -> Result<(), OutOfMemory>
     requires programme { prog.0 < length table.now.programmes }
     requires step { is_dereserved step ≡ false }
-    requires people { CanBeRanked (list_in table.now prog.0) (finals_of register.now.people rows.now prog.0 step) }
+    requires people { CanBeRanked (list_in table.now prog.0)
+        (finals_of register.now.people rows.now prog.0 step) }
     requires same { left.old.programmes ≡ table.now.programmes }
-    ensures set { OnOk result (IsSetIn register.now.people rows.now table.now prog.0 step left.old left.new) }
+    ensures set { OnOk result
+        (IsSetIn register.now.people rows.now table.now prog.0 step left.old left.new) }
 {
     let seats = step_seats_left(table, rows, prog, step);
     let persons = persons_of_step(alloc, register, rows, prog, step)?;
@@ -67,9 +69,11 @@ fn set_programme(
     left: &mut Matrix,
 ) -> Result<(), OutOfMemory>
     requires programme { prog.0 < length table.now.programmes }
-    requires people { (step : StepKind) → CanBeRanked (list_in table.now prog.0) (finals_of register.now.people rows.now prog.0 step) }
+    requires people { (step : StepKind) → CanBeRanked (list_in table.now prog.0)
+        (finals_of register.now.people rows.now prog.0 step) }
     requires same { left.old.programmes ≡ table.now.programmes }
-    ensures set { OnOk result (AreLeftIn register.now.people rows.now table.now prog.0 left.old left.new) }
+    ensures set { OnOk result
+        (AreLeftIn register.now.people rows.now table.now prog.0 left.old left.new) }
 {
     for number in 0..5 {
         set_step(alloc, register, rows, table, prog, own_step(number), left)?;
@@ -89,7 +93,8 @@ fn set_from(
     requires programme { prog.0 < length table.now.programmes }
     requires finals { AreFinals register.now.people table.now finals.now }
     requires same { left.old.programmes ≡ table.now.programmes }
-    ensures set { OnOk result (AreLeftIn register.now.people finals.now table.now prog.0 left.old left.new) }
+    ensures set { OnOk result
+        (AreLeftIn register.now.people finals.now table.now prog.0 left.old left.new) }
 {
     let _ = register.people();
     own_rows_rank();
@@ -98,7 +103,7 @@ fn set_from(
     set_programme(alloc, register, own.as_slice(), table, prog, left)
 }
 
-/// What final rows leave of a matrix. It fails for want of memory alone.
+/// Returns what final rows leave of a matrix. Fails only when memory runs out.
 pub(crate) fn remaining_matrix(
     alloc: Global,
     register: &Register,

@@ -59,7 +59,9 @@ pub fn special<K: Keeper, L: Ledger>(
 ) -> Result<Special, SpecialFault>
     ensures special { IfOk result (IsSpecial office.now.season office.now.state lists.now) }
     ensures fault { IfErr result (IsSpecialFault office.now.season office.now.state lists.now) }
-    ensures cost { IfOk result (λ special. steps.new ≤ steps.old + places (seekers_of special.season.matrix office.now.season.people (lists_in special.season.choices) (all_whole office.now.season.people))) }
+    ensures cost { IfOk result (λ special.
+        steps.new ≤ steps.old + places (seekers_of special.season.matrix office.now.season.people
+        (lists_in special.season.choices) (all_whole office.now.season.people))) }
 {
     let Some(finals) = office.finals() else {
         return Err(SpecialFault::NotFinal { now: office.now() });

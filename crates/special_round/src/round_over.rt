@@ -33,7 +33,7 @@ pub struct Special {
     pub round: Round,
 }
 
-/// Everybody seeks the whole own list.
+/// Returns seeks with which everybody seeks their whole own list.
 fn whole_seeks(alloc: Global, people: &[Person]) -> Result<Seeks, OutOfMemory>
     ensures { IfOk result (λ seeks. seeks ≡ all_whole people.now) }
 {
@@ -41,8 +41,9 @@ fn whole_seeks(alloc: Global, people: &[Person]) -> Result<Seeks, OutOfMemory>
     Ok(Seeks::from_vec(vec![in alloc; Seek::Whole; people.len()]?))
 }
 
-/// The special round over a season, a matrix of its programmes, final rows that fit into it, and the lists of a body; or what these have to be refused for.
-/// Each seeker goes down the own list once: steps rise at most by the lengths of all lists.
+/// Returns the special round over a season, a matrix of its programmes, final rows that fit into it, and the lists of a body.
+/// If it must refuse these, it returns why. Each seeker goes down their own list once: steps rise at most by the lengths of
+/// all lists.
 pub fn special_over<L: Ledger>(
     alloc: Global,
     season: &Season,
@@ -53,10 +54,14 @@ pub fn special_over<L: Ledger>(
 ) -> Result<Special, SpecialFault>
     requires programmes { table.now.programmes ≡ season.now.matrix.programmes }
     requires finals { AreFinals season.now.register.people table.now finals.now }
-    requires fit { (prog : ℕ) → prog < length season.now.matrix.programmes → FitInto table.now prog (rows_of_step finals.now prog) }
-    ensures special { IfOk result (IsSpecialOver (facts_of season.now) table.now finals.now lists.now) }
+    requires fit { (prog : ℕ) → prog < length season.now.matrix.programmes
+        → FitInto table.now prog (rows_of_step finals.now prog) }
+    ensures special { IfOk result
+        (IsSpecialOver (facts_of season.now) table.now finals.now lists.now) }
     ensures fault { IfErr result (AreRefused (facts_of season.now) finals.now lists.now) }
-    ensures cost { IfOk result (λ special. steps.new ≤ steps.old + places (seekers_of special.season.matrix season.now.register.people (lists_in special.season.choices) (all_whole season.now.register.people))) }
+    ensures cost { IfOk result (λ special.
+        steps.new ≤ steps.old + places (seekers_of special.season.matrix season.now.register.people
+        (lists_in special.season.choices) (all_whole season.now.register.people))) }
 {
     let left = left_season(alloc, season, table, finals, lists)?;
     let seeks = whole_seeks(alloc, left.register.people())?;

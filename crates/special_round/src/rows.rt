@@ -53,7 +53,8 @@ pub(crate) fn persons_of_step(
     prog: ProgId,
     step: StepKind,
 ) -> Result<Vec<Person>, OutOfMemory>
-    ensures { IfOk result (λ persons. persons.items ≡ finals_of register.now.people rows.now prog.0 step) }
+    ensures { IfOk result (λ persons.
+        persons.items ≡ finals_of register.now.people rows.now prog.0 step) }
 {
     let mut persons = Vec::new(alloc);
     for row in rows {

@@ -28,9 +28,11 @@ fn read_lists(
     lists: &[u8],
 ) -> Result<Choices, SpecialFault>
     requires { Pairwise (λ a b. a.cand.0 < b.cand.0) finals.now }
-    ensures read { IfOk result (λ choices. IsRead season.now.register season.now.matrix (rows_of lists.now) choices) }
+    ensures read { IfOk result (λ choices.
+        IsRead season.now.register season.now.matrix (rows_of lists.now) choices) }
     ensures nobody { IfOk result (λ _. first_admitted finals.now (rows_of lists.now) ≡ None) }
-    ensures aligned { IfOk result (λ choices. map (λ held. held.0) choices ≡ map (λ person. person.id.0) season.now.register.people) }
+    ensures aligned { IfOk result (λ choices.
+        map (λ held. held.0) choices ≡ map (λ person. person.id.0) season.now.register.people) }
     ensures fault { IfErr result (AreRefused (facts_of season.now) finals.now lists.now) }
 {
     let choices = match Choices::read(alloc, lists, &season.register, &season.matrix) {
@@ -55,7 +57,8 @@ fn one_round(
     requires people { register ≡ season.now.register }
     requires programmes { matrix.programmes ≡ season.now.matrix.programmes }
     requires lists { (rows : List Row) × IsRead season.now.register season.now.matrix rows choices }
-    requires aligned { map (λ held. held.0) choices ≡ map (λ person. person.id.0) season.now.register.people }
+    requires aligned { map (λ held. held.0) choices
+        ≡ map (λ person. person.id.0) season.now.register.people }
     ensures version { result.version ≡ season.now.version }
     ensures rounds { result.rounds ≡ 1 }
     ensures clerk { result.clerk ≡ season.now.clerk }
@@ -87,7 +90,8 @@ pub fn left_season(
 ) -> Result<Season, SpecialFault>
     requires programmes { table.now.programmes ≡ season.now.matrix.programmes }
     requires finals { AreFinals season.now.register.people table.now finals.now }
-    ensures season { IfOk result (IsLeftSeason (facts_of season.now) table.now finals.now lists.now) }
+    ensures season { IfOk result
+        (IsLeftSeason (facts_of season.now) table.now finals.now lists.now) }
     ensures fault { IfErr result (AreRefused (facts_of season.now) finals.now lists.now) }
 {
     let choices = read_lists(alloc, season, finals, lists)?;

@@ -20,7 +20,7 @@ fn seats_of_programme(matrix: &Matrix, prog: ProgId) -> usize
         + usize::from(steps.st.seats)
 }
 
-/// The seats of a matrix beside so many that are taken. It takes no memory.
+/// Returns how many seats of a matrix remain when `taken` are taken. Allocates nothing.
 pub(crate) fn vacant_seats(matrix: &Matrix, taken: usize) -> u32
     ensures { result ≡ total_seats matrix.now - taken }
 {

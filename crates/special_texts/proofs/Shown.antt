@@ -1,12 +1,12 @@
 -- The round of a special round has an entry for each of the people, and its seats are in programmes of its matrix.
-use Rattle.std.proofs.Common.{◌≡◌, ◌<◌, ℕ, zero, suc, List, [], ◌∷◌, Option, Some, None, length, map, arith, refl, sym, ap, ◌∙◌, subst}
+use Rattle.std.proofs.Common.{◌≡◌, ◌<◌, ℕ, zero, List, [], Option, Some, None, length, map, arith, sym, ap, ◌∙◌, subst}
 use Rattle.std.specs.Prelude.{slice_get}
-use Rattle.std.specs.List.{AllByRecursion}
 use Rattle.std.proofs.lemmas.List.{length-map}
 use Rattle.std.proofs.lemmas.Option.{slice_get_within}
 use Rattle.office_base.specs.declared.asks.Seat.{Seat}
 use Rattle.office_base.specs.declared.person.Person.{Person}
 use Rattle.office_base.specs.declared.person.ProgId.{ProgId}
+use Rattle.office_base.proofs.Lists.{all_from, there_is}
 use Rattle.keeper_mem.specs.declared.rows.AllotRow.{AllotRow}
 use Rattle.rank_lists.specs.Register.{Ranks}
 use Rattle.seat_matrix.specs.Matrix.{SeatTable}
@@ -19,7 +19,6 @@ use Rattle.rounds.specs.Round.{IsRound}
 use Rattle.rounds.specs.Rule.{AreEntrants, seekers_of}
 use Rattle.rounds.proofs.Entrants.{length_seekers, market}
 use Rattle.round_laws.specs.Laws.{lists_in}
-use Rattle.round_laws.proofs.People.{there_is}
 use Rattle.round_laws.proofs.Season.{aligned_length, entrants, length_lists}
 use Rattle.office_moves.specs.Facts.{IsSound, SeasonFacts, register_of}
 use Rattle.office_moves.specs.Season.{facts_of}
@@ -27,10 +26,6 @@ use Rattle.published_texts.specs.Texts.{AreSeatsOf, IsSeatOf}
 use Rattle.special_round.specs.Special.{IsSpecialOver, all_whole}
 use Rattle.special_round.specs.declared.round_over.Special.{Special}
 use Rattle.special_texts.specs.Texts.{CanBeShown}
-
-all_from : {X : Type 0} (P : X → Type 0) (xs : List X) → ((i : ℕ) (x : X) → slice_get xs i ≡ Some x → P x) → AllByRecursion P xs
-all_from P [] h = tt
-all_from P (x ∷ xs) h = (h 0 x refl, all_from P xs (λ i. h (suc i)))
 
 pub can_be_shown : (facts : SeasonFacts) (table : SeatTable) (rows : List AllotRow) (body : List ℕ) (special : Special) → IsSound (facts_of special.season)
     → IsSpecialOver facts table rows body special → CanBeShown special

@@ -10,5 +10,7 @@ ghost use Rattle.special_texts.specs.Texts.{CanBeShown};
 
 /// Every special round can be shown.
 pub fn special_rounds_can_be_shown()
-    ensures { (facts : SeasonFacts) (table : SeatTable) (rows : List AllotRow) (body : List ℕ) (special : Special) → IsSound (facts_of special.season) → IsSpecialOver facts table rows body special → CanBeShown special }
+    ensures { (facts : SeasonFacts) (table : SeatTable) (rows : List AllotRow)
+        (body : List ℕ) (special : Special) → IsSound (facts_of special.season)
+        → IsSpecialOver facts table rows body special → CanBeShown special }
 {}

@@ -1,7 +1,8 @@
 use Rattle.std.proofs.Common.{◌∙◌, List, subst}
+use Rattle.std.proofs.lemmas.Result.{on_ok_weaker}
 use Rattle.keeper_mem.specs.declared.rows.AllotRow.{AllotRow}
 use Rattle.special_round.specs.Set.{AreLeftIn}
-use Rattle.special_round.proofs.Owned.{all_own, on_ok, own_rows}
+use Rattle.special_round.proofs.Owned.{all_own, own_rows}
 use Rattle.special_round.proofs.matrix.set_from.Goals as goal
 
 pub returns : goal.returns
@@ -12,7 +13,7 @@ returns c =
     let after = c.set_programme.new.left in
     let same = c.as_slice.ensures.value ∙ c.in_ok-own.ensures in
     record {
-      set = on_ok c.set_programme.result (AreLeftIn people c.as_slice.result.now table c.args.prog.0 before after) (AreLeftIn people c.args.finals.now table c.args.prog.0 before after)
+      set = on_ok_weaker {P = AreLeftIn people c.as_slice.result.now table c.args.prog.0 before after} {Q = AreLeftIn people c.args.finals.now table c.args.prog.0 before after} c.set_programme.result
           (λ set. all_own people c.args.finals.now table c.args.prog.0 before after
           (subst (λ (rows : List AllotRow). AreLeftIn people rows table c.args.prog.0 before after) same set))
           c.set_programme.ensures.set;

@@ -1,6 +1,6 @@
 use Rattle.std.proofs.Common.{◌≡◌, ◌+◌, ℕ, take, arith, sym, add-one, subst}
 use Rattle.office_moves.specs.Raised.{sum_of_seats}
-use Rattle.special_round.proofs.Totals.{sum_more}
+use Rattle.office_moves.proofs.Sums.{sum_more}
 use Rattle.special_round.proofs.vacant.vacant_seats.Goals as goal
 
 pub loop-number-preserved : goal.loop-number-preserved
