@@ -8,7 +8,7 @@ use Rattle.command_answers.specs.declared.failure.Failure.{Failure}
 use Rattle.command_answers.specs.declared.failure.Failure.TheVariants.{Read, Bad, NoMemory}
 use Rattle.command_answers.specs.declared.status.Status.{Status}
 use Rattle.command_answers.specs.declared.status.Status.TheVariants.{Ok as Done, BadInput, OutOfMemory, Broken}
-use Rattle.command_answers.proofs.Ended.{told_is_written}
+use Rattle.command_answers.proofs.Ended.{told_is_written, status_is_told}
 use Rattle.audit_command.specs.Audit.{AreDossier, AreFaultyDossier, EndsWell, HaveOneAudit, IsAuditOf, IsAuditOutput, IsAuditText, IsDossierFaultLine, audit_answers, status_of_audit, text_of_audit}
 use Rattle.audit_command.specs.declared.answer.Audited.{Audited}
 use Rattle.audit_command.specs.declared.answer.Audited.TheVariants.{Sound as SoundText, Broken as BrokenText}
@@ -28,10 +28,6 @@ pub audit_is_written : (left : Option (List ℕ)) (failed : Type 0) (answer : Re
     → (output : List ℕ) × Appends output before after × Writes (IsAuditText left) result output
 audit_is_written left failed answer result before after broke made cause told =
     told_is_written (IsAuditText left) (status_of_audit answer) result (text_of_audit answer) before after broke (text_of_answer left failed answer made cause) told
-
--- where the sink did not fail, the status is that of the text
-pub status_is_told : (status result : Status) (text : List ℕ) (before after : Option (List ℕ)) (broke : Type 0) → IsTold status text before after broke result → (broke → ⊥) → result ≡ status
-status_is_told status result text before after broke told held = elim told [ inl whole ↦ whole.0 | inr cut ↦ absurd (held cut.1) ]
 
 -- a dossier has no fault's line, and what has a fault has no verdict
 not_faulty : (left : Option (List ℕ)) (line : List ℕ) → ((bytes : List ℕ) → HaveOneAudit bytes) → Tells AreDossier left → HasLeft IsDossierFaultLine left line → ⊥

@@ -12,7 +12,7 @@ use office_base::{OutOfMemory, Source, Text};
 use season_audit::audit;
 use std::alloc::Global;
 
-/// What an audit comes to, told by its lines.
+/// The result of an audit, with its lines.
 #[derive(Debug, Drop)]
 pub enum Audited {
     /// No clause is broken, and under `audit best` every round is the best one.
@@ -23,7 +23,8 @@ pub enum Audited {
 
 /// Returns the verdict on the dossier that the source gives.
 pub fn audit_answer<S: Source>(alloc: Global, source: &mut S) -> Result<Audited, Failure>
-    ensures { Reads audit_answers IsAuditOf (source_of S.Source source.old) (source_of S.Source source.new) result }
+    ensures { Reads audit_answers IsAuditOf (source_of S.Source source.old)
+        (source_of S.Source source.new) result }
 {
     match Dossier::read(alloc, source) {
         Ok(dossier) => Ok(verdict_of(alloc, &dossier)?),

@@ -18,7 +18,8 @@ use std::alloc::Global;
 
 /// Returns the verdict on the dossier that the source gives and, if no clause is broken, whether every published round is the best one.
 pub fn best_answer<S: Source>(alloc: Global, source: &mut S) -> Result<Audited, Failure>
-    ensures { Reads best_answers IsBestOf (source_of S.Source source.old) (source_of S.Source source.new) result }
+    ensures { Reads best_answers IsBestOf (source_of S.Source source.old)
+        (source_of S.Source source.new) result }
 {
     match Dossier::read(alloc, source) {
         Ok(dossier) => Ok(verdicts_of(alloc, &dossier)?),

@@ -1,9 +1,9 @@
-// The command `audit`: it reads a dossier, which is a season bundle with its requests and what was published for it, and answers whether a clause is broken.
-// `audit best` also answers whether every published round is the best one.
+// The command `audit`. It reads a dossier, which is a season bundle with its requests and what was published for it, and
+// answers whether a clause is broken. `audit best` also answers whether every published round is the best one.
 //
-// The program stands on it. `specs/Audit` says what the command answers to the bytes of a dossier and how it ends, `specs/Best` the same of `audit best`,
-// `specs/Texts` its lines. It must never know
-// of the words of a command line, nor how a dossier is read or audited.
+// The program depends on it. `specs/Audit` says what the command answers to the bytes of a dossier and how it ends.
+// `specs/Best` says the same of `audit best`, and `specs/Texts` has its lines.
+// It must never know of the words of a command line, nor how a dossier is read or audited.
 #![tactic(auto)]
 
 pub mod answer;

@@ -14,7 +14,8 @@ use std::alloc::Global;
 /// Reads the dossier that the source gives, and writes the verdict on it, or its first fault.
 /// It returns `Ok` if no clause is broken, and `Broken` if one is.
 pub fn audit_season<S: Source, K: Sink>(alloc: Global, source: &mut S, sink: &mut K) -> Status
-    ensures { Audits (streams_of S.Source K.Sink source.old sink.old) (streams_of S.Source K.Sink source.new sink.new) result }
+    ensures { Audits (streams_of S.Source K.Sink source.old sink.old)
+        (streams_of S.Source K.Sink source.new sink.new) result }
 {
     one_audit();
     let answer = audit_answer(alloc, source);
@@ -24,7 +25,8 @@ pub fn audit_season<S: Source, K: Sink>(alloc: Global, source: &mut S, sink: &mu
 /// Reads the dossier that the source gives, and writes the verdict on it and whether every published round is the best one, or its first fault. `Ok` comes
 /// if no clause is broken and every round is the best one, `Broken` otherwise.
 pub fn audit_best<S: Source, K: Sink>(alloc: Global, source: &mut S, sink: &mut K) -> Status
-    ensures { AuditsBest (streams_of S.Source K.Sink source.old sink.old) (streams_of S.Source K.Sink source.new sink.new) result }
+    ensures { AuditsBest (streams_of S.Source K.Sink source.old sink.old)
+        (streams_of S.Source K.Sink source.new sink.new) result }
 {
     one_audit();
     let answer = best_answer(alloc, source);
@@ -33,7 +35,8 @@ pub fn audit_best<S: Source, K: Sink>(alloc: Global, source: &mut S, sink: &mut 
 
 /// Writes a verdict, or why there is none, and gives its status.
 fn write_audit<K: Sink>(sink: &mut K, answer: Result<Audited, Failure>) -> Status
-    ensures { Told (status_of_audit answer) (text_of_audit answer) (sink_of K.Sink sink.old) (sink_of K.Sink sink.new) result }
+    ensures { Told (status_of_audit answer) (text_of_audit answer)
+        (sink_of K.Sink sink.old) (sink_of K.Sink sink.new) result }
 {
     match answer {
         Ok(Audited::Sound(line)) => write_answer(sink, line.as_slice(), Status::Ok),

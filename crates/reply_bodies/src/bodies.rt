@@ -139,7 +139,8 @@ fn reason_value(
 ) -> Result<Value, OutOfMemory>
     requires programme { prog.0 < length matrix.now.programmes }
     requires answer { IsAnswerOf matrix.now answer.now }
-    ensures { IfOk result (λ value. view value ≡ string (reason_text matrix.now cand.0 prog.0 answer.now)) }
+    ensures { IfOk result (λ value.
+        view value ≡ string (reason_text matrix.now cand.0 prog.0 answer.now)) }
 {
     codes_are_ascii(matrix, prog);
     answers_are_ascii(matrix, answer);
@@ -175,7 +176,8 @@ fn lists_value(
 ) -> Result<Value, OutOfMemory>
     requires programme { prog.0 < length matrix.now.programmes }
     requires slots { HasTraitSlots programme.now }
-    ensures { IfOk result (λ value. view value ≡ string (list_text matrix.now round prog.0 programme.now)) }
+    ensures { IfOk result (λ value.
+        view value ≡ string (list_text matrix.now round prog.0 programme.now)) }
 {
     codes_are_ascii(matrix, prog);
     let text = list_text(alloc, matrix, round, prog, programme)?;

@@ -44,7 +44,8 @@ pub(crate) fn seat_text(
     seat: Option<Seat>,
 ) -> Result<Text, OutOfMemory>
     requires { IsSeatOf matrix.now seat }
-    ensures { IfOk result (λ text. text ≡ compact_text (seat_data matrix.now cand.0 round standing seat)) }
+    ensures { IfOk result (λ text.
+        text ≡ compact_text (seat_data matrix.now cand.0 round standing seat)) }
 {
     let mut text = Text::with_capacity(alloc, LONGEST_BODY)?;
     put_seat(&mut text, matrix, cand, round, standing, seat)?;
@@ -73,7 +74,8 @@ fn put_noted(
     turn: u16,
     choice: Choice,
 ) -> Result<(), OutOfMemory>
-    ensures { OnOk result (out.new ≡ out.old ++ compact_text (noted_data cand.0 window turn choice)) }
+    ensures { OnOk result
+        (out.new ≡ out.old ++ compact_text (noted_data cand.0 window turn choice)) }
 {
     put_count(out, b"{\"cand\":", cand.0)?;
     put_word(out, b",\"choice\":", choice_name(choice))?;
@@ -92,7 +94,8 @@ fn put_seat(
     seat: Option<Seat>,
 ) -> Result<(), OutOfMemory>
     requires { IsSeatOf matrix.now seat }
-    ensures { OnOk result (out.new ≡ out.old ++ compact_text (seat_data matrix.now cand.0 round standing seat)) }
+    ensures { OnOk result
+        (out.new ≡ out.old ++ compact_text (seat_data matrix.now cand.0 round standing seat)) }
 {
     put_count(out, b"{\"cand\":", cand.0)?;
     put_programme(out, matrix, seat)?;
@@ -115,7 +118,8 @@ fn put_state(out: &mut Text, now: u16, rounds: u16, published: u16) -> Result<()
 /// Puts the member of the programme of a seat, or null without one.
 fn put_programme(out: &mut Text, matrix: &Matrix, seat: Option<Seat>) -> Result<(), OutOfMemory>
     requires { IsSeatOf matrix.now seat }
-    ensures { OnOk result (out.new ≡ (out.old ++ codes ",\"programme\":") ++ compact_text (seat_programme matrix.now seat)) }
+    ensures { OnOk result (out.new
+        ≡ (out.old ++ codes ",\"programme\":") ++ compact_text (seat_programme matrix.now seat)) }
 {
     match seat {
         None => put_null(out, b",\"programme\":"),
@@ -128,7 +132,8 @@ fn put_programme(out: &mut Text, matrix: &Matrix, seat: Option<Seat>) -> Result<
 
 /// Puts the member of the step of a seat, or null without one.
 fn put_step(out: &mut Text, seat: Option<Seat>) -> Result<(), OutOfMemory>
-    ensures { OnOk result (out.new ≡ (out.old ++ codes ",\"step\":") ++ compact_text (seat_step seat)) }
+    ensures { OnOk result
+        (out.new ≡ (out.old ++ codes ",\"step\":") ++ compact_text (seat_step seat)) }
 {
     match seat {
         None => put_null(out, b",\"step\":"),

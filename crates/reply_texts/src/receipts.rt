@@ -39,7 +39,8 @@ pub(crate) fn push_raised(
     seats: u16,
 ) -> Result<(), OutOfMemory>
     requires { prog.0 < length matrix.now.programmes }
-    ensures { OnOk result (out.new ≡ out.old ++ raised_line matrix.now window prog.0 (step_name step) seats) }
+    ensures { OnOk result
+        (out.new ≡ out.old ++ raised_line matrix.now window prog.0 (step_name step) seats) }
 {
     let code = matrix.code(prog);
     out.extend_from_slice(b"raised ")?;
@@ -77,7 +78,8 @@ pub(crate) fn push_standing(
     seat: Option<Seat>,
 ) -> Result<(), OutOfMemory>
     requires { IsSeatOf matrix.now seat }
-    ensures { OnOk result (out.new ≡ out.old ++ standing_line matrix.now cand.0 number standing seat) }
+    ensures { OnOk result
+        (out.new ≡ out.old ++ standing_line matrix.now cand.0 number standing seat) }
 {
     push_numbered(out, b"seat ", cand.0)?;
     push_numbered(out, b" round ", u32::from(number))?;

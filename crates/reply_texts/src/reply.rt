@@ -29,7 +29,8 @@ pub fn reply_text(
     reply: &Reply,
 ) -> Result<Text, OutOfMemory>
     requires { IsReplyOf matrix.now people.now (option_copied round) rows.now reply.now }
-    ensures { IfOk result (λ text. text ≡ reply_text matrix.now people.now (option_copied round.entry) rows.now reply.now) }
+    ensures { IfOk result (λ text.
+        text ≡ reply_text matrix.now people.now (option_copied round.entry) rows.now reply.now) }
 {
     match reply {
         Reply::Noted {
@@ -94,7 +95,8 @@ fn raised_text(
     seats: u16,
 ) -> Result<Text, OutOfMemory>
     requires { prog.0 < length matrix.now.programmes }
-    ensures { IfOk result (λ text. text ≡ raised_line matrix.now window prog.0 (step_name step) seats) }
+    ensures { IfOk result (λ text.
+        text ≡ raised_line matrix.now window prog.0 (step_name step) seats) }
 {
     let mut out = Text::new(alloc);
     push_raised(&mut out, matrix, window, prog, step, seats)?;
@@ -111,7 +113,8 @@ fn published_text(
     seated: u32,
 ) -> Result<Text, OutOfMemory>
     requires { IfSome (option_copied round) (IsRoundOf matrix.now people.now) }
-    ensures { IfOk result (λ text. text ≡ published_line number seated ++ text_of_round matrix.now people.now (option_copied round.entry)) }
+    ensures { IfOk result (λ text. text ≡ published_line number seated
+        ++ text_of_round matrix.now people.now (option_copied round.entry)) }
 {
     let mut out = Text::new(alloc);
     push_published(&mut out, number, seated)?;
@@ -136,7 +139,7 @@ fn last_cut_text(
     Ok(out)
 }
 
-/// How a candidate stands, and the seat, whose programme is of the matrix.
+/// Returns the text of a candidate's standing and of the seat, whose programme is of the matrix.
 fn standing_text(
     alloc: Global,
     matrix: &Matrix,
@@ -185,7 +188,8 @@ fn push_round(
     round: Option<&Round>,
 ) -> Result<(), OutOfMemory>
     requires { IfSome (option_copied round) (IsRoundOf matrix.now people.now) }
-    ensures { OnOk result (out.new ≡ out.old ++ text_of_round matrix.now people.now (option_copied round.entry)) }
+    ensures { OnOk result
+        (out.new ≡ out.old ++ text_of_round matrix.now people.now (option_copied round.entry)) }
 {
     let Some(round) = round else { return Ok(()) };
     let text = round_text(alloc, matrix, people, round)?;

@@ -3,7 +3,7 @@ mod Named
 mod OneRun
 mod OneTally
 mod RunLemmas
-mod Running
+pub mod Running
 mod Seats
 mod Shown
 mod Tallying

@@ -18,7 +18,7 @@ use Rattle.office_moves.specs.declared.moves.Reply.{Reply}
 use Rattle.histories.specs.Laws.{HistoryGrows}
 use Rattle.proceedings.specs.Proceeding.{last_of as last_number}
 use Rattle.round_cut.specs.declared.fault.OfficeFault.{OfficeFault}
-use Rattle.script_runs.specs.Runs.{Accepts, AfterSome, Answers, EndsBefore, EndsWell, EndsWithin, Moment, reply_bytes}
+use Rattle.script_runs.specs.Runs.{Accepts, AfterSome, Answers, EndsBefore, EndsWithin, Moment, reply_bytes}
 use Rattle.script_runs.specs.declared.fault.RunFault.{RunFault}
 use Rattle.script_runs.specs.declared.fault.RunFault.TheVariants.{KeeperFault, OutOfMemory, WriteFault}
 use Rattle.script_runs.specs.Steps.{HasAccepted, IsAnswered, IsAnsweredInPart, IsUnanswered}
@@ -204,11 +204,6 @@ stops_within facts script j request season season' n old now new running next so
       },
       appends_on running.output (take n (reply_bytes facts new.state part.reply)) old.written now.written new.written running.written part.written,
     )
-
--- all requests are answered
-pub ends_well : (facts : SeasonFacts) (script : List Request) (j : ℕ) (season : SeasonFacts) (old now : Moment) → IsRunning facts script j season old now → j ≡ length script → EndsWell facts script old now
-ends_well facts script j season old now running whole =
-    (running.output, subst (λ rs. AfterSome facts old.state rs running.output now.state now.tables) (take_all j script (omega (arith, whole))) running.run, running.written)
 
 -- ---- the entries at an end
 

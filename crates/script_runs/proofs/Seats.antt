@@ -9,6 +9,7 @@ use Rattle.allocations.proofs.Claims.{applicants_may}
 use Rattle.allocations.proofs.Places.{place_read}
 use Rattle.office_base.specs.declared.asks.Seat.{Seat}
 use Rattle.office_base.specs.declared.person.Person.{Person}
+use Rattle.office_base.proofs.Lists.{all_from, there_is}
 use Rattle.keeper_mem.specs.declared.rows.AllotRow.{AllotRow}
 use Rattle.programme_lists.specs.declared.programme.Programme.{Programme}
 use Rattle.open_then_category.specs.Laws.{SlotsAreTraits}
@@ -27,13 +28,8 @@ use Rattle.reply_texts.specs.Replies.{HasTraitSlots, IsRoundOf}
 use Rattle.histories.specs.Course.{seeks_then}
 use Rattle.histories.specs.Orderly.{IsOrderly}
 use Rattle.histories.proofs.Entering.{entrants}
-use Rattle.round_laws.proofs.People.{there_is}
 use Rattle.histories.proofs.Fits.{is_seated}
 use Rattle.script_runs.specs.Runs.{rows_shown}
-
-all_from : {X : Type 0} (P : X → Type 0) (xs : List X) → ((i : ℕ) (x : X) → slice_get xs i ≡ Some x → P x) → AllByRecursion P xs
-all_from P [] each = tt
-all_from P (x ∷ xs) each = (each 0 x refl, all_from P xs (λ i. each (suc i)))
 
 -- the laws on which it rests
 pub record ChooseWell : Type 0 where

@@ -94,10 +94,6 @@ list_shows facts state number p programme laws sound orderly e = go (round_at st
 
 -- ---- each decision
 
--- a reply in the state that it leaves
-kept : (facts : SeasonFacts) (old new : State) (reply told : Reply) → (reply ≡ told) × (new ≡ old) → Shows facts new told → Shows facts new reply
-kept facts old new reply told e h = subst (λ r. Shows facts new r) (sym e.0) h
-
 does_shows : (facts : SeasonFacts) (old new : State) (decision : Decision) (reply : Reply) → ChooseWell → IsSound facts → IsOrderly facts new → Names (length facts.matrix.programmes) decision
     → Does facts old decision reply new → Shows facts new reply
 does_shows facts old new (Refuse refusal) reply laws sound orderly names does = subst (λ r. Shows facts new r) (sym does.0) tt

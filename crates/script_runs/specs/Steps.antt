@@ -1,5 +1,5 @@
 -- One request of a run, from the moment before it to the moment after it.
-use Rattle.std.specs.Prelude.{◌≡◌, ◌+◌, ℕ, List, length, take}
+use Rattle.std.specs.Prelude.{◌≡◌, ◌⊎◌, ◌+◌, ℕ, List, length, take}
 use Rattle.keeper_mem.specs.Keeper.{Shelf}
 use Rattle.keeper_mem.specs.Tables.{IsTold}
 use Rattle.office_base.specs.Outside.{Appends}
@@ -37,6 +37,10 @@ pub record IsUnanswered (old new : Moment) : Type 0 where
   pub state : new.state ≡ old.state
   pub entries : new.entries ≡ old.entries
   pub written : new.written ≡ old.written
+
+-- nothing was done for the request, or it is answered and nothing of its reply is written
+abbrev pub IsCutOff : SeasonFacts → Request → Moment → Moment → Type 0
+IsCutOff facts request old new = IsUnanswered old new ⊎ IsAnsweredInPart facts request 0 old new
 
 -- The office of the same season, in a state to which its entries lead, over tables that represent the state.
 -- What is visible of the tables now was visible before.

@@ -20,7 +20,8 @@ pub fn reply_line<P: Keeper>(
     reply: &Reply,
 ) -> Result<Text, OutOfMemory>
     requires { CanBeShown office.now.season office.now.state reply.now }
-    ensures { IfOk result (λ text. text ≡ reply_bytes office.now.season office.now.state reply.now) }
+    ensures { IfOk result (λ text.
+        text ≡ reply_bytes office.now.season office.now.state reply.now) }
 {
     let season = office.season();
     let round = shown_round(office, reply);

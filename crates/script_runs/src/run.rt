@@ -7,7 +7,7 @@ ghost use Rattle.office_moves.specs.Moves.{IsMove};
 ghost use Rattle.office_moves.specs.Stands.{Stand};
 ghost use Rattle.round_cut.specs.Answering.{KeepsOn};
 ghost use Rattle.script_runs.specs.Runs.{Accepts, CameOf, CanBeShown, EndsBefore, EndsCut, EndsShort, EndsWell, moment_of};
-ghost use Rattle.script_runs.specs.Steps.{Continues, HasAccepted, IsAnswered, IsAnsweredInPart, IsUnanswered};
+ghost use Rattle.script_runs.specs.Steps.{Continues, HasAccepted, IsAnswered, IsAnsweredInPart, IsCutOff, IsUnanswered};
 
 use crate::fault::RunFault;
 use crate::laws::replies_can_be_shown;
@@ -41,12 +41,14 @@ pub fn answer_all<P: Keeper, K: Sink>(
     ensures write { IsErrOf result RunFault.WriteFault → EndsCut office.old.season script.now
         (moment_of P.seen office.old (K.written sink.old))
         (moment_of P.seen office.new (K.written sink.new)) }
-    ensures entries { (j : ℕ) × Accepts office.old.season office.old.state office.old.entries (take j script.now) office.new.state office.new.entries }
+    ensures entries { (j : ℕ) × Accepts office.old.season office.old.state office.old.entries
+        (take j script.now) office.new.state office.new.entries }
     ensures continues { Continues P.seen office.old office.new }
-    ensures blamed { Fails (IsErrOf result RunFault.KeeperFault) (P.seen office.old.keeper).faults (P.seen office.new.keeper).faults
+    ensures blamed { Fails (IsErrOf result RunFault.KeeperFault) (P.seen office.old.keeper).faults
+        (P.seen office.new.keeper).faults
         × Fails (IsErrOf result RunFault.WriteFault) (K.faults sink.old) (K.faults sink.new) }
-    ensures complete { ¬ Rose (P.seen office.old.keeper).faults (P.seen office.new.keeper).faults → ¬ Rose (K.faults sink.old) (K.faults sink.new)
-        → IsOkUnless result RunFault.OutOfMemory }
+    ensures complete { ¬ Rose (P.seen office.old.keeper).faults (P.seen office.new.keeper).faults
+        → ¬ Rose (K.faults sink.old) (K.faults sink.new) → IsOkUnless result RunFault.OutOfMemory }
 {
     check_order(office);
     'requests: for request in script {
@@ -79,17 +81,16 @@ fn answer_one<P: Keeper, K: Sink>(
     ensures keeper { IsErrOf result RunFault.KeeperFault → IsUnanswered
         (moment_of P.seen office.old (K.written sink.old))
         (moment_of P.seen office.new (K.written sink.new)) }
-    ensures memory { IsErrOf result RunFault.OutOfMemory → IsUnanswered
-        (moment_of P.seen office.old (K.written sink.old))
-        (moment_of P.seen office.new (K.written sink.new))
-        ⊎ IsAnsweredInPart office.old.season request.now 0 (moment_of P.seen office.old (K.written sink.old))
-        (moment_of P.seen office.new (K.written sink.new)) }
-    ensures write { IsErrOf result RunFault.WriteFault → (n : ℕ) × IsAnsweredInPart office.old.season request.now n
+    ensures memory { IsErrOf result RunFault.OutOfMemory → IsCutOff office.old.season request.now
         (moment_of P.seen office.old (K.written sink.old))
         (moment_of P.seen office.new (K.written sink.new)) }
+    ensures write { IsErrOf result RunFault.WriteFault → (n : ℕ)
+        × IsAnsweredInPart office.old.season request.now n (moment_of P.seen office.old
+        (K.written sink.old)) (moment_of P.seen office.new (K.written sink.new)) }
     ensures orderly { IsOrderly office.new.season office.new.state }
     ensures continues { Continues P.seen office.old office.new }
-    ensures blamed { Fails (IsErrOf result RunFault.KeeperFault) (P.seen office.old.keeper).faults (P.seen office.new.keeper).faults
+    ensures blamed { Fails (IsErrOf result RunFault.KeeperFault) (P.seen office.old.keeper).faults
+        (P.seen office.new.keeper).faults
         × Fails (IsErrOf result RunFault.WriteFault) (K.faults sink.old) (K.faults sink.new) }
 {
     let reply = next_reply(alloc, office, request)?;
@@ -119,8 +120,10 @@ pub(crate) fn next_reply<P: Keeper>(
 ) -> Result<Reply, OfficeFault>
     requires history { IsHistory office.old.season office.old.entries office.old.state }
     requires stands { Stand office.old.season office.old.state (P.seen office.old.keeper).tables }
-    ensures moves { IfOk result (λ reply. IsMove office.old.season office.old.state request.now reply office.new.state) }
-    ensures accepted { OnOk result (HasAccepted office.old.season office.old.state request.now office.old.entries office.new.entries) }
+    ensures moves { IfOk result (λ reply.
+        IsMove office.old.season office.old.state request.now reply office.new.state) }
+    ensures accepted { OnOk result (HasAccepted office.old.season office.old.state
+        request.now office.old.entries office.new.entries) }
     ensures history { IsHistory office.new.season office.new.entries office.new.state }
     ensures orderly { IsOrderly office.new.season office.new.state }
     ensures stands { Stand office.new.season office.new.state (P.seen office.new.keeper).tables }

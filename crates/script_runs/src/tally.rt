@@ -34,10 +34,13 @@ pub fn count_all<P: Keeper>(
 ) -> Result<Tally, OfficeFault>
     requires history { IsHistory office.old.season office.old.entries office.old.state }
     requires stands { Stand office.old.season office.old.state (P.seen office.old.keeper).tables }
-    ensures counted { IfOk result (CountsAll office.old.season office.old.state script.now office.new.state (P.seen office.new.keeper).tables) }
-    ensures stopped { OnErr result (StopsWithin office.old.season office.old.state script.now office.new.state (P.seen office.new.keeper).tables) }
+    ensures counted { IfOk result (CountsAll office.old.season office.old.state
+        script.now office.new.state (P.seen office.new.keeper).tables) }
+    ensures stopped { OnErr result (StopsWithin office.old.season office.old.state
+        script.now office.new.state (P.seen office.new.keeper).tables) }
     ensures continues { Continues P.seen office.old office.new }
-    ensures blamed { Fails (IsErrOf result OfficeFault.KeeperFault) (P.seen office.old.keeper).faults (P.seen office.new.keeper).faults }
+    ensures blamed { Fails (IsErrOf result OfficeFault.KeeperFault)
+        (P.seen office.old.keeper).faults (P.seen office.new.keeper).faults }
 {
     check_order(office);
     let mut tally = Tally {
@@ -64,7 +67,8 @@ fn count_one<P: Keeper>(
     requires stands { Stand office.old.season office.old.state (P.seen office.old.keeper).tables }
     requires noted { tally.noted + 1 < 2 ^ 64 }
     requires refused { tally.refused + 1 < 2 ^ 64 }
-    ensures counted { IfOk result (IsCounted office.old.season office.old.state request.now office.new.state tally) }
+    ensures counted { IfOk result
+        (IsCounted office.old.season office.old.state request.now office.new.state tally) }
     ensures history { IsHistory office.new.season office.new.entries office.new.state }
     ensures orderly { IsOrderly office.new.season office.new.state }
     ensures stands { Stand office.new.season office.new.state (P.seen office.new.keeper).tables }
@@ -82,7 +86,8 @@ impl Tally {
         requires noted { self.noted + 1 < 2 ^ 64 }
         requires refused { self.refused + 1 < 2 ^ 64 }
         ensures noted { result.noted ≡ self.noted + cond (is_receipt reply.now) 1 0 }
-        ensures refused { result.refused ≡ self.refused + cond (is_refused_answer request.now reply.now) 1 0 }
+        ensures refused { result.refused
+            ≡ self.refused + cond (is_refused_answer request.now reply.now) 1 0 }
     {
         if is_receipt(reply) {
             return Tally {

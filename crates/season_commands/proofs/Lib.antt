@@ -1,9 +1,9 @@
-mod CheckFaults
+pub mod CheckFaults
 mod GeneratedEnds
 mod OfficeEnds
 mod OneAnswer
 mod Requests
 mod ResumeEnds
-mod RunEnds
+pub mod RunEnds
 pub mod Still
 pub mod Unresumed

@@ -1,5 +1,5 @@
 -- How requests end that are answered over an office.
-use Rattle.std.proofs.Common.{◌≡◌, inl, inr, ℕ, List, ◌++◌, Option, Some, None, take, refl, sym, ap, subst, ◌∙◌, append_assoc, append-nil}
+use Rattle.std.proofs.Common.{◌≡◌, inl, inr, ℕ, List, ◌++◌, Option, take, refl, sym, subst, append-nil}
 use Rattle.office_base.specs.Outside.{Appends}
 use Rattle.office_base.specs.declared.asks.Request.{Request}
 use Rattle.keeper_mem.specs.Tables.{Tables}
@@ -11,11 +11,7 @@ use Rattle.office_base.specs.FaultLines.{memory_line}
 use Rattle.command_answers.specs.Writes.{IsTold, keeper_line}
 use Rattle.command_answers.specs.declared.status.Status.{Status}
 use Rattle.command_answers.specs.declared.status.Status.TheVariants.{WriteFault, KeeperFault, OutOfMemory}
-
--- what is written in two pieces
-appends_on : (xs ys : List ℕ) (a b c : Option (List ℕ)) → Appends xs a b → Appends ys b c → Appends (xs ++ ys) a c
-appends_on xs ys None b c first second = subst (λ o. Appends ys o c) first second
-appends_on xs ys (Some bytes) b c first second = subst (λ o. Appends ys o c) first second ∙ ap Some (append_assoc bytes xs ys)
+use Rattle.script_runs.proofs.Running.{appends_on}
 
 -- how the requests end, with what was written
 abbrev pub IsEnd : SeasonFacts → State → List Request → Tables → Option (List ℕ) → Option (List ℕ) → Status → Type 0

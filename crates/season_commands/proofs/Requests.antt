@@ -8,7 +8,7 @@ use Rattle.office_base.specs.declared.asks.Request.{Request}
 use Rattle.office_text.specs.Lines.{skip_mark}
 use Rattle.section_rows.specs.Rows.{rows_of}
 use Rattle.request_rows.specs.Requests.{script_of}
-use Rattle.season_file.specs.Script.{GaveScript, IsScriptFault}
+use Rattle.season_file.specs.Script.{IsScriptFault}
 use Rattle.season_file.specs.Season.{IsText}
 use Rattle.season_file.specs.declared.fault.SeasonFault.{SeasonFault}
 use Rattle.season_file.specs.declared.fault.SeasonFault.TheVariants.{ReadFault, TooLong, BadFirstLine, Section, BadSeason, Register, Matrix, Choices, NotUtf8, BadRequest, OutOfMemory}
@@ -18,12 +18,7 @@ use Rattle.command_answers.specs.declared.failure.Failure.{Failure}
 use Rattle.command_answers.specs.declared.failure.Failure.TheVariants.{Read, Bad, NoMemory}
 use Rattle.command_answers.proofs.Ended.{all_left, long_left}
 use Rattle.season_commands.specs.Check.{TellsSeasonFault}
-use Rattle.season_commands.specs.Resume.{AreLeftRequests, AreRequests, HaveRequestFault, IsFaultyScript, IsRequestFaultLine, IsScript, script_answers}
-
--- Requests that a source gave are those that were left.
-pub script_left : (before after : Option (List ℕ)) (script : List Request) → GaveScript before after script → AreLeftRequests before script
-script_left before after script gave =
-    let (bytes, took, end, text, is) = gave in (bytes, all_left bytes before after took end, (text, is))
+use Rattle.season_commands.specs.Resume.{AreRequests, HaveRequestFault, IsFaultyScript, IsRequestFaultLine, IsScript, script_answers}
 
 -- the line of a fault of requests
 line_left : (before after : Option (List ℕ)) (fault : SeasonFault) (line : List ℕ) → (fault ≡ ReadFault → ⊥) → (fault ≡ OutOfMemory → ⊥) → IsScriptFault before after fault → line ≡ fault_line fault

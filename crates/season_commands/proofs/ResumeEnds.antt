@@ -4,8 +4,7 @@ use Rattle.std.specs.Prelude.{IfOk}
 use Rattle.office_base.specs.declared.asks.Seat.{Seat}
 use Rattle.office_base.specs.declared.person.CandId.{CandId}
 use Rattle.office_base.specs.Outside.{Appends}
-use Rattle.office_base.specs.declared.asks.Request.{Request}
-use Rattle.keeper_mem.specs.Tables.{Tables, Untold, NoSeason, Records, AreTold, IsFound, IsLoaded, IsTold as IsTablesTold, still}
+use Rattle.keeper_mem.specs.Tables.{Tables, AreTold, IsFound, IsLoaded, IsTold as IsTablesTold, still}
 use Rattle.keeper_mem.specs.declared.rows.Kept.{Kept}
 use Rattle.office_moves.specs.Facts.{IsSound, SeasonFacts}
 use Rattle.office_moves.specs.State.{State}
@@ -30,8 +29,8 @@ use Rattle.command_answers.specs.declared.status.Status.TheVariants.{Ok as Done,
 use Rattle.command_answers.proofs.Ended.{told_is_written}
 use Rattle.season_commands.proofs.Still.{still_from, still_resumed, still_to}
 use Rattle.seat_matrix.specs.Matrix.{SeatTable}
-use Rattle.season_commands.specs.Office.{EndsOffice}
-use Rattle.season_commands.specs.Resume.{AreLeftRequests, EndsAsked, EndsResume, HaveNoFault, IsScript, IsFaultyScript, IsUnaskedText, IsUnresumedText, HaveRowFault, HaveTextFault, TellsNoOffice, TellsRowFault, TellsSound, TellsTextFault, made_status, made_text, no_season_line, script_answers, unresumed_status}
+use Rattle.round_cut.proofs.Standing.{told_on}
+use Rattle.season_commands.specs.Resume.{EndsAsked, EndsResume, HaveNoFault, IsScript, IsFaultyScript, IsUnaskedText, IsUnresumedText, HaveRowFault, HaveTextFault, TellsNoOffice, TellsRowFault, TellsSound, TellsTextFault, made_status, made_text, no_season_line, script_answers, unresumed_status}
 use Rattle.season_commands.specs.Run.{TellsNoSeason}
 use Rattle.season_commands.specs.Stray.{differs_line, raise_line_of, stray_line}
 
@@ -119,19 +118,7 @@ unasked_ends facts start left failed failure before after written now broke resu
     let (output, appends, writes) = told_is_written (IsUnaskedText left) (status_of (Err failure)) result (text_of (Err failure)) written now broke (text_of_unasked left failed failure cause) is in
     (output, appends, inl (writes, told))
 
--- Requests are read, and answered.
-pub asked_ends : (facts : SeasonFacts) (start : State) (left : Option (List ℕ)) (script shown : List Request) (before after : Tables) (written now : Option (List ℕ)) (status : Status)
-    → AreLeftRequests left script → shown ≡ script → (output : List ℕ) × Appends output written now × EndsOffice facts start shown after status output
-    → (output : List ℕ) × Appends output written now × EndsAsked facts start left before after status output
-asked_ends facts start left script shown before after written now status are same end =
-    (end.0, end.1, inr (script, are, subst (λ (requests : List Request). EndsOffice facts start requests after status end.0) same end.2))
-
 -- ---- what is visible of the tables
-
-told_on : (first second third : Tables) → AreTold first second → AreTold second third → AreTold first third
-told_on first second Untold one other = tt
-told_on first second NoSeason one other = subst (λ (t : Tables). AreTold first t) other one
-told_on first second (Records kept) one other = subst (λ (t : Tables). AreTold first t) other one
 
 -- An office went on from the records.
 pub resumed_ends : (facts : SeasonFacts) (start : State) (left : Option (List ℕ)) (before held after : Tables) (written now : Option (List ℕ)) (status : Status)

@@ -1,10 +1,10 @@
 -- The tables before a command, if the tables after it are visible.
-use Rattle.std.proofs.Common.{◌≡◌, Bool, true, false, refl, sym, subst}
+use Rattle.std.proofs.Common.{◌≡◌, Bool, false, refl, sym, subst}
 use Rattle.keeper_mem.specs.Tables.{Tables, Untold, NoSeason, Records, AreTold, IsFound, IsTold, still}
 use Rattle.office_moves.specs.Facts.{SeasonFacts}
 use Rattle.office_moves.specs.State.{State}
 use Rattle.round_cut.specs.Resume.{IsResumed}
-use Rattle.season_commands.specs.Run.{TellsNoSeason, TellsSeason}
+use Rattle.season_commands.specs.Run.{TellsSeason}
 
 -- if nothing changed, these are the visible tables after it
 pub still_same : (before after : Tables) → AreTold before after → still before after ≡ after
@@ -41,8 +41,3 @@ pub some_apart : (tables : Tables) → IsFound false tables → TellsSeason tabl
 some_apart Untold found tells = tells
 some_apart NoSeason found tells = tells
 some_apart (Records kept) found tells = absurd (cc found)
-
-pub none_apart : (tables : Tables) → IsFound true tables → TellsNoSeason tables → ⊥
-none_apart Untold found tells = tells
-none_apart NoSeason found tells = absurd (cc found)
-none_apart (Records kept) found tells = tells

@@ -17,7 +17,8 @@ pub fn read_bundle<S: Source>(alloc: Global, source: &mut S) -> Result<(Season, 
     ensures bundle { IfOk result (λ read. IsLeftBundle (S.left source.old) read.0 read.1) }
     ensures text { IfOk result (λ read. IsSeason read.0.text read.0) }
     ensures ended { OnOk result (IsAtEnd (S.left source.new)) }
-    ensures failure { IfErr result (IsFailureOf check_answers (S.left source.old) (Rose (S.faults source.old) (S.faults source.new))) }
+    ensures failure { IfErr result (IsFailureOf check_answers (S.left source.old)
+        (Rose (S.faults source.old) (S.faults source.new))) }
     ensures count { S.faults source.old ≤ S.faults source.new }
     ensures steady { ¬ IsErrOf result Failure.Read → S.faults source.new ≡ S.faults source.old }
 {

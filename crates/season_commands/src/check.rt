@@ -14,7 +14,8 @@ use std::alloc::Global;
 pub fn check_answer<S: Source>(alloc: Global, source: &mut S) -> Result<Text, Failure>
     ensures output { IfOk result (HasLeft check_answers.IsOutput (S.left source.old)) }
     ensures ended { OnOk result (IsAtEnd (S.left source.new)) }
-    ensures failure { IfErr result (IsFailureOf check_answers (S.left source.old) (Rose (S.faults source.old) (S.faults source.new))) }
+    ensures failure { IfErr result (IsFailureOf check_answers (S.left source.old)
+        (Rose (S.faults source.old) (S.faults source.new))) }
     ensures count { S.faults source.old ≤ S.faults source.new }
     ensures steady { ¬ IsErrOf result Failure.Read → S.faults source.new ≡ S.faults source.old }
 {

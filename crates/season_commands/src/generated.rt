@@ -85,8 +85,8 @@ fn run_made<K: Sink, P: Keeper>(
     keeper: P,
 ) -> (Status, P)
     requires { IsSeason season.text season }
-    ensures written { Writes (EndsMade n seed season script.now) (outside_of K.Sink P.Keeper sink.old keeper)
-        (outside_of K.Sink P.Keeper sink.new result.1) result.0 }
+    ensures written { Writes (EndsMade n seed season script.now) (outside_of K.Sink P.Keeper
+        sink.old keeper) (outside_of K.Sink P.Keeper sink.new result.1) result.0 }
     ensures runs { RunsScript (outside_of K.Sink P.Keeper sink.old keeper)
         (outside_of K.Sink P.Keeper sink.new result.1) result.0 }
 {
@@ -108,14 +108,15 @@ fn count_office<K: Sink, P: Keeper>(
     requires opening { office.state ≡ opening }
     requires history { IsHistory office.season office.entries office.state }
     requires stands { Stand office.season office.state (P.seen office.keeper).tables }
-    ensures written { WritesFor (IsCountedText n seed office.season script.now (P.seen result.1).tables)
-        (sink_of K.Sink sink.old) (sink_of K.Sink sink.new) result.0 }
+    ensures written { WritesFor (IsCountedText n seed office.season script.now
+        (P.seen result.1).tables) (sink_of K.Sink sink.old) (sink_of K.Sink sink.new) result.0 }
     ensures told_before { IsTold (P.seen result.1).tables → IsTold (P.seen office.keeper).tables }
     ensures no_read_fault { result.0 ≢ Status.ReadFault }
     ensures blamed { BlamesOffice result.0 (outside_of K.Sink P.Keeper sink.old office.keeper)
         (outside_of K.Sink P.Keeper sink.new result.1) }
     ensures complete { ¬ Rose (K.faults sink.old) (K.faults sink.new)
-        → ¬ Rose (P.seen office.keeper).faults (P.seen result.1).faults → EndsWith Status.Ok result.0 }
+        → ¬ Rose (P.seen office.keeper).faults (P.seen result.1).faults
+        → EndsWith Status.Ok result.0 }
 {
     let status = count_script(alloc, n, seed, &mut office, script, sink);
     (status, office.into_keeper())
@@ -134,14 +135,16 @@ fn count_script<K: Sink, P: Keeper>(
     requires opening { office.old.state ≡ opening }
     requires history { IsHistory office.old.season office.old.entries office.old.state }
     requires stands { Stand office.old.season office.old.state (P.seen office.old.keeper).tables }
-    ensures written { WritesFor (IsCountedText n seed office.old.season script.now (P.seen office.new.keeper).tables)
-        (sink_of K.Sink sink.old) (sink_of K.Sink sink.new) result }
-    ensures told_before { IsTold (P.seen office.new.keeper).tables → IsTold (P.seen office.old.keeper).tables }
+    ensures written { WritesFor (IsCountedText n seed office.old.season script.now (P.seen
+        office.new.keeper).tables) (sink_of K.Sink sink.old) (sink_of K.Sink sink.new) result }
+    ensures told_before { IsTold (P.seen office.new.keeper).tables
+        → IsTold (P.seen office.old.keeper).tables }
     ensures no_read_fault { result ≢ Status.ReadFault }
     ensures blamed { BlamesOffice result (outside_of K.Sink P.Keeper sink.old office.old.keeper)
         (outside_of K.Sink P.Keeper sink.new office.new.keeper) }
     ensures complete { ¬ Rose (K.faults sink.old) (K.faults sink.new)
-        → ¬ Rose (P.seen office.old.keeper).faults (P.seen office.new.keeper).faults → EndsWith Status.Ok result }
+        → ¬ Rose (P.seen office.old.keeper).faults (P.seen office.new.keeper).faults
+        → EndsWith Status.Ok result }
 {
     let summary = counted_text(alloc, n, seed, office, script);
     write_summary(sink, summary)
@@ -158,12 +161,17 @@ fn counted_text<P: Keeper>(
     requires opening { office.old.state ≡ opening }
     requires history { IsHistory office.old.season office.old.entries office.old.state }
     requires stands { Stand office.old.season office.old.state (P.seen office.old.keeper).tables }
-    ensures summed { IfOk result (IsSummed n seed office.old.season script.now (P.seen office.new.keeper).tables) }
-    ensures keeper { IsErrOf result OfficeFault.KeeperFault → StandsForFirst office.old.season script.now (P.seen office.new.keeper).tables }
+    ensures summed { IfOk result
+        (IsSummed n seed office.old.season script.now (P.seen office.new.keeper).tables) }
+    ensures keeper { IsErrOf result OfficeFault.KeeperFault
+        → StandsForFirst office.old.season script.now (P.seen office.new.keeper).tables }
     ensures memory { IsErrOf result OfficeFault.OutOfMemory
-        → StandsForFirst office.old.season script.now (P.seen office.new.keeper).tables ⊎ StandsForAll office.old.season script.now (P.seen office.new.keeper).tables }
-    ensures told_before { IsTold (P.seen office.new.keeper).tables → IsTold (P.seen office.old.keeper).tables }
-    ensures blamed { Fails (IsErrOf result OfficeFault.KeeperFault) (P.seen office.old.keeper).faults (P.seen office.new.keeper).faults }
+        → StandsForFirst office.old.season script.now (P.seen office.new.keeper).tables
+        ⊎ StandsForAll office.old.season script.now (P.seen office.new.keeper).tables }
+    ensures told_before { IsTold (P.seen office.new.keeper).tables
+        → IsTold (P.seen office.old.keeper).tables }
+    ensures blamed { Fails (IsErrOf result OfficeFault.KeeperFault)
+        (P.seen office.old.keeper).faults (P.seen office.new.keeper).faults }
 {
     match count_all(alloc, office, script) {
         Ok(tally) => match tallied_text(alloc, n, seed, office, tally) {

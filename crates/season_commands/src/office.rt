@@ -24,12 +24,14 @@ pub(crate) fn run_office<K: Sink, P: Keeper>(
     requires history { IsHistory office.season office.entries office.state }
     requires stands { Stand office.season office.state (P.seen office.keeper).tables }
     ensures written { (output : List ℕ) × Appends output (K.written sink.old) (K.written sink.new)
-        × EndsOffice office.season office.state script.now (P.seen result.1).tables result.0 output }
+        × EndsOffice office.season office.state
+        script.now (P.seen result.1).tables result.0 output }
     ensures told_before { IsTold (P.seen result.1).tables → IsTold (P.seen office.keeper).tables }
     ensures blamed { BlamesOffice result.0 (outside_of K.Sink P.Keeper sink.old office.keeper)
         (outside_of K.Sink P.Keeper sink.new result.1) }
     ensures complete { ¬ Rose (K.faults sink.old) (K.faults sink.new)
-        → ¬ Rose (P.seen office.keeper).faults (P.seen result.1).faults → EndsWith Status.Ok result.0 }
+        → ¬ Rose (P.seen office.keeper).faults (P.seen result.1).faults
+        → EndsWith Status.Ok result.0 }
 {
     let status = answer_script(alloc, &mut office, script, sink);
     (status, office.into_keeper())
@@ -45,12 +47,15 @@ fn answer_script<K: Sink, P: Keeper>(
     requires history { IsHistory office.old.season office.old.entries office.old.state }
     requires stands { Stand office.old.season office.old.state (P.seen office.old.keeper).tables }
     ensures written { (output : List ℕ) × Appends output (K.written sink.old) (K.written sink.new)
-        × EndsOffice office.old.season office.old.state script.now (P.seen office.new.keeper).tables result output }
-    ensures told_before { IsTold (P.seen office.new.keeper).tables → IsTold (P.seen office.old.keeper).tables }
+        × EndsOffice office.old.season office.old.state
+        script.now (P.seen office.new.keeper).tables result output }
+    ensures told_before { IsTold (P.seen office.new.keeper).tables
+        → IsTold (P.seen office.old.keeper).tables }
     ensures blamed { BlamesOffice result (outside_of K.Sink P.Keeper sink.old office.old.keeper)
         (outside_of K.Sink P.Keeper sink.new office.new.keeper) }
     ensures complete { ¬ Rose (K.faults sink.old) (K.faults sink.new)
-        → ¬ Rose (P.seen office.old.keeper).faults (P.seen office.new.keeper).faults → EndsWith Status.Ok result }
+        → ¬ Rose (P.seen office.old.keeper).faults (P.seen office.new.keeper).faults
+        → EndsWith Status.Ok result }
 {
     match answer_all(alloc, office, script, sink) {
         Ok(()) => Status::Ok,

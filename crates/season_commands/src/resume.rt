@@ -37,17 +37,20 @@ pub fn resume_season<S: Source, K: Sink, P: Keeper>(
     sink: &mut K,
     keeper: P,
 ) -> (Status, P)
-    ensures written { Writes (EndsResume (S.left source.old)) (outside_of K.Sink P.Keeper sink.old keeper)
-        (outside_of K.Sink P.Keeper sink.new result.1) result.0 }
+    ensures written { Writes (EndsResume (S.left source.old)) (outside_of K.Sink P.Keeper
+        sink.old keeper) (outside_of K.Sink P.Keeper sink.new result.1) result.0 }
     ensures read_whole { result.0 ≡ Status.Ok → IsAtEnd (S.left source.new) }
-    ensures read_blamed { BlamesSource result.0 (source_of S.Source source.old) (source_of S.Source source.new) }
+    ensures read_blamed { BlamesSource result.0 (source_of S.Source source.old)
+        (source_of S.Source source.new) }
     ensures blamed { BlamesOffice result.0 (outside_of K.Sink P.Keeper sink.old keeper)
         (outside_of K.Sink P.Keeper sink.new result.1) }
     ensures records { JudgesRecords (outside_of K.Sink P.Keeper sink.old keeper)
         (outside_of K.Sink P.Keeper sink.new result.1) result.0 }
-    ensures answers { AnswersAfter IsScript IsFaultyScript (source_of S.Source source.old) (source_of S.Source source.new)
-        (outside_of K.Sink P.Keeper sink.old keeper) (outside_of K.Sink P.Keeper sink.new result.1) result.0 }
-    ensures unread { (result.0 ≡ Status.Differs) ⊎ TellsNoOffice (still (P.seen keeper).tables (P.seen result.1).tables)
+    ensures answers { AnswersAfter IsScript IsFaultyScript (source_of S.Source source.old)
+        (source_of S.Source source.new) (outside_of K.Sink P.Keeper sink.old keeper)
+        (outside_of K.Sink P.Keeper sink.new result.1) result.0 }
+    ensures unread { (result.0 ≡ Status.Differs)
+        ⊎ TellsNoOffice (still (P.seen keeper).tables (P.seen result.1).tables)
         → source.new ≡ source.old }
 {
     one_end();
@@ -71,16 +74,19 @@ fn go_on<S: Source, K: Sink, P: Keeper>(
     requires history { IsHistory office.season office.entries office.state }
     requires stands { Stand office.season office.state (P.seen office.keeper).tables }
     ensures written { Writes (EndsAsked office.season office.state (S.left source.old))
-        (outside_of K.Sink P.Keeper sink.old office.keeper) (outside_of K.Sink P.Keeper sink.new result.1) result.0 }
+        (outside_of K.Sink P.Keeper sink.old office.keeper)
+        (outside_of K.Sink P.Keeper sink.new result.1) result.0 }
     ensures told_before { IsTold (P.seen result.1).tables → IsTold (P.seen office.keeper).tables }
     ensures read_whole { result.0 ≡ Status.Ok → IsAtEnd (S.left source.new) }
-    ensures read_blamed { BlamesSource result.0 (source_of S.Source source.old) (source_of S.Source source.new) }
+    ensures read_blamed { BlamesSource result.0 (source_of S.Source source.old)
+        (source_of S.Source source.new) }
     ensures blamed { BlamesOffice result.0 (outside_of K.Sink P.Keeper sink.old office.keeper)
         (outside_of K.Sink P.Keeper sink.new result.1) }
-    ensures complete { Tells IsScript (S.left source.old) → ¬ Rose (S.faults source.old) (S.faults source.new)
-        → ¬ Rose (K.faults sink.old) (K.faults sink.new) → ¬ Rose (P.seen office.keeper).faults (P.seen result.1).faults
-        → EndsWith Status.Ok result.0 }
-    ensures refused { Tells IsFaultyScript (S.left source.old) → ¬ Rose (S.faults source.old) (S.faults source.new)
+    ensures complete { Tells IsScript (S.left source.old) → ¬ Rose (S.faults source.old)
+        (S.faults source.new) → ¬ Rose (K.faults sink.old) (K.faults sink.new) → ¬ Rose (P.seen
+        office.keeper).faults (P.seen result.1).faults → EndsWith Status.Ok result.0 }
+    ensures refused { Tells IsFaultyScript (S.left source.old)
+        → ¬ Rose (S.faults source.old) (S.faults source.new)
         → ¬ Rose (K.faults sink.old) (K.faults sink.new) → EndsWith Status.BadInput result.0 }
 {
     match read_requests(alloc, source) {
@@ -93,7 +99,8 @@ fn go_on<S: Source, K: Sink, P: Keeper>(
 fn read_requests<S: Source>(alloc: Global, source: &mut S) -> Result<Script, Failure>
     ensures requests { IfOk result (AreLeftRequests (S.left source.old)) }
     ensures ended { OnOk result (IsAtEnd (S.left source.new)) }
-    ensures failure { IfErr result (IsFailureOf script_answers (S.left source.old) (Rose (S.faults source.old) (S.faults source.new))) }
+    ensures failure { IfErr result (IsFailureOf script_answers (S.left source.old)
+        (Rose (S.faults source.old) (S.faults source.new))) }
     ensures count { S.faults source.old ≤ S.faults source.new }
     ensures steady { ¬ IsErrOf result Failure.Read → S.faults source.new ≡ S.faults source.old }
 {
@@ -105,11 +112,15 @@ fn read_requests<S: Source>(alloc: Global, source: &mut S) -> Result<Script, Fai
 
 /// Writes why no office resumes.
 pub fn tell_unresumed<K: Sink>(alloc: Global, sink: &mut K, stopped: &Unresumed) -> Status
-    ensures written { (tables : Tables) → IsUnresumed tables stopped.now
-        → (output : List ℕ) × Appends output (K.written sink.old) (K.written sink.new) × WritesText (IsUnresumedText tables) result output }
-    ensures status { (result ≡ unresumed_status stopped.now) ⊎ ((result ≡ Status.OutOfMemory) ⊎ (result ≡ Status.WriteFault)) }
-    ensures keeper { stopped.now ≡ Unresumed.KeeperFault → (result ≡ Status.KeeperFault) ⊎ (result ≡ Status.WriteFault) }
-    ensures write_fault { result ≡ Status.WriteFault → Rose (K.faults sink.old) (K.faults sink.new) }
+    ensures written { (tables : Tables) → IsUnresumed tables stopped.now → (output : List ℕ)
+        × Appends output (K.written sink.old) (K.written sink.new)
+        × WritesText (IsUnresumedText tables) result output }
+    ensures status { (result ≡ unresumed_status stopped.now)
+        ⊎ ((result ≡ Status.OutOfMemory) ⊎ (result ≡ Status.WriteFault)) }
+    ensures keeper { stopped.now ≡ Unresumed.KeeperFault
+        → (result ≡ Status.KeeperFault) ⊎ (result ≡ Status.WriteFault) }
+    ensures write_fault { result ≡ Status.WriteFault
+        → Rose (K.faults sink.old) (K.faults sink.new) }
     ensures steady { result ≢ Status.WriteFault → K.faults sink.new ≡ K.faults sink.old }
 {
     match stopped {
@@ -148,9 +159,12 @@ pub fn tell_unresumed<K: Sink>(alloc: Global, sink: &mut K, stopped: &Unresumed)
 /// Writes a line that was made, with its status, or that memory ran out for it.
 fn tell_line<K: Sink>(sink: &mut K, line: Result<Text, OutOfMemory>, status: Status) -> Status
     requires { status ≢ Status.WriteFault }
-    ensures told { IsTextTold (made_status status line) (made_text line) (K.written sink.old) (K.written sink.new) (Rose (K.faults sink.old) (K.faults sink.new)) result }
-    ensures status { (result ≡ status) ⊎ ((result ≡ Status.OutOfMemory) ⊎ (result ≡ Status.WriteFault)) }
-    ensures write_fault { result ≡ Status.WriteFault → Rose (K.faults sink.old) (K.faults sink.new) }
+    ensures told { IsTextTold (made_status status line) (made_text line) (K.written sink.old)
+        (K.written sink.new) (Rose (K.faults sink.old) (K.faults sink.new)) result }
+    ensures status { (result ≡ status)
+        ⊎ ((result ≡ Status.OutOfMemory) ⊎ (result ≡ Status.WriteFault)) }
+    ensures write_fault { result ≡ Status.WriteFault
+        → Rose (K.faults sink.old) (K.faults sink.new) }
     ensures steady { result ≢ Status.WriteFault → K.faults sink.new ≡ K.faults sink.old }
 {
     match line {

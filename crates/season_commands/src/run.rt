@@ -30,10 +30,11 @@ pub fn run_season<S: Source, K: Sink, P: Keeper>(
     sink: &mut K,
     keeper: P,
 ) -> (Status, P)
-    ensures written { Writes (EndsRun (S.left source.old)) (outside_of K.Sink P.Keeper sink.old keeper)
+    ensures written { Writes (EndsRun (S.left source.old)) (outside_of K.Sink P.Keeper
+        sink.old keeper) (outside_of K.Sink P.Keeper sink.new result.1) result.0 }
+    ensures runs { RunsInput IsBundle IsFaultyBundle (source_of S.Source source.old)
+        (source_of S.Source source.new) (outside_of K.Sink P.Keeper sink.old keeper)
         (outside_of K.Sink P.Keeper sink.new result.1) result.0 }
-    ensures runs { RunsInput IsBundle IsFaultyBundle (source_of S.Source source.old) (source_of S.Source source.new)
-        (outside_of K.Sink P.Keeper sink.old keeper) (outside_of K.Sink P.Keeper sink.new result.1) result.0 }
 {
     one_answer();
     match read_bundle(alloc, source) {
@@ -51,8 +52,8 @@ pub fn run_script<K: Sink, P: Keeper>(
     keeper: P,
 ) -> (Status, P)
     requires { IsSeason season.text season }
-    ensures written { Writes (EndsSeason season script.now) (outside_of K.Sink P.Keeper sink.old keeper)
-        (outside_of K.Sink P.Keeper sink.new result.1) result.0 }
+    ensures written { Writes (EndsSeason season script.now) (outside_of K.Sink P.Keeper
+        sink.old keeper) (outside_of K.Sink P.Keeper sink.new result.1) result.0 }
     ensures runs { RunsScript (outside_of K.Sink P.Keeper sink.old keeper)
         (outside_of K.Sink P.Keeper sink.new result.1) result.0 }
 {
@@ -64,7 +65,8 @@ pub fn run_script<K: Sink, P: Keeper>(
 
 /// Writes why no office began.
 pub fn tell_unbegun<K: Sink>(sink: &mut K, fault: BeginFault) -> Status
-    ensures told { IsTold (begin_status fault) (begin_text fault) (K.written sink.old) (K.written sink.new) (Rose (K.faults sink.old) (K.faults sink.new)) result }
+    ensures told { IsTold (begin_status fault) (begin_text fault) (K.written sink.old)
+        (K.written sink.new) (Rose (K.faults sink.old) (K.faults sink.new)) result }
     ensures steady { result ≢ Status.WriteFault → K.faults sink.new ≡ K.faults sink.old }
 {
     match fault {

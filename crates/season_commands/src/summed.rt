@@ -41,7 +41,8 @@ fn seated_in_rounds<P: Keeper>(
     alloc: Global,
     office: &Office<P>,
 ) -> Result<Listed<usize>, OutOfMemory>
-    ensures { IfOk result (λ counts. counts ≡ map (λ round. seated round.seats) office.now.state.rounds) }
+    ensures { IfOk result (λ counts.
+        counts ≡ map (λ round. seated round.seats) office.now.state.rounds) }
 {
     let mut counts = Listed::new(alloc);
     for before in 0..office.published() {
@@ -65,7 +66,8 @@ fn final_admissions<P: Keeper>(office: &Office<P>) -> usize
 
 /// Writes the summary, or why there is none.
 pub(crate) fn write_summary<K: Sink>(sink: &mut K, summary: Result<Text, OfficeFault>) -> Status
-    ensures told { IsTold (summed_status summary) (summed_text summary) (K.written sink.old) (K.written sink.new) (Rose (K.faults sink.old) (K.faults sink.new)) result }
+    ensures told { IsTold (summed_status summary) (summed_text summary) (K.written sink.old)
+        (K.written sink.new) (Rose (K.faults sink.old) (K.faults sink.new)) result }
     ensures steady { result ≢ Status.WriteFault → K.faults sink.new ≡ K.faults sink.old }
 {
     match summary {

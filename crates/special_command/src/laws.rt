@@ -9,7 +9,8 @@ ghost use Rattle.special_command.specs.Special.{HaveOneSpecial};
 /// At most one line reports that fault.
 /// No round is made of bytes with a fault.
 pub fn one_special_answer()
-    ensures { (facts : SeasonFacts) (state : State) (bytes : List ℕ) → HaveOneSpecial facts state bytes }
+    ensures { (facts : SeasonFacts) (state : State) (bytes : List ℕ)
+        → HaveOneSpecial facts state bytes }
 {
     special_round::laws::one_remaining();
 }

@@ -43,17 +43,20 @@ pub fn special_season<S: Source, K: Sink, P: Keeper>(
     sink: &mut K,
     keeper: P,
 ) -> (Status, P)
-    ensures written { Writes (EndsSpecial (S.left source.old)) (outside_of K.Sink P.Keeper sink.old keeper)
-        (outside_of K.Sink P.Keeper sink.new result.1) result.0 }
+    ensures written { Writes (EndsSpecial (S.left source.old)) (outside_of K.Sink P.Keeper
+        sink.old keeper) (outside_of K.Sink P.Keeper sink.new result.1) result.0 }
     ensures read_whole { result.0 ≡ Status.Ok → IsAtEnd (S.left source.new) }
-    ensures read_blamed { BlamesSource result.0 (source_of S.Source source.old) (source_of S.Source source.new) }
+    ensures read_blamed { BlamesSource result.0 (source_of S.Source source.old)
+        (source_of S.Source source.new) }
     ensures blamed { BlamesOffice result.0 (outside_of K.Sink P.Keeper sink.old keeper)
         (outside_of K.Sink P.Keeper sink.new result.1) }
     ensures records { JudgesRecords (outside_of K.Sink P.Keeper sink.old keeper)
         (outside_of K.Sink P.Keeper sink.new result.1) result.0 }
-    ensures answers { AnswersLists (source_of S.Source source.old) (source_of S.Source source.new)
-        (outside_of K.Sink P.Keeper sink.old keeper) (outside_of K.Sink P.Keeper sink.new result.1) result.0 }
-    ensures unread { (result.0 ≡ Status.Differs) ⊎ TellsNoOffice (still (P.seen keeper).tables (P.seen result.1).tables)
+    ensures answers { AnswersLists (source_of S.Source source.old)
+        (source_of S.Source source.new) (outside_of K.Sink P.Keeper sink.old keeper)
+        (outside_of K.Sink P.Keeper sink.new result.1) result.0 }
+    ensures unread { (result.0 ≡ Status.Differs)
+        ⊎ TellsNoOffice (still (P.seen keeper).tables (P.seen result.1).tables)
         → source.new ≡ source.old }
 {
     one_end();
@@ -82,11 +85,11 @@ fn tell_round<S: Source, K: Sink, P: Keeper>(
     ensures blamed { BlamesStreams result.0 (streams_of S.Source K.Sink source.old sink.old)
         (streams_of S.Source K.Sink source.new sink.new) }
     ensures complete { Tells (AreSpecialLists office.season office.state) (S.left source.old)
-        → ¬ Rose (S.faults source.old) (S.faults source.new) → ¬ Rose (K.faults sink.old) (K.faults sink.new)
-        → EndsWith Status.Ok result.0 }
+        → ¬ Rose (S.faults source.old) (S.faults source.new)
+        → ¬ Rose (K.faults sink.old) (K.faults sink.new) → EndsWith Status.Ok result.0 }
     ensures refused { Tells (AreFaultyLists office.season office.state) (S.left source.old)
-        → ¬ Rose (S.faults source.old) (S.faults source.new) → ¬ Rose (K.faults sink.old) (K.faults sink.new)
-        → EndsWith Status.BadInput result.0 }
+        → ¬ Rose (S.faults source.old) (S.faults source.new)
+        → ¬ Rose (K.faults sink.old) (K.faults sink.new) → EndsWith Status.BadInput result.0 }
 {
     one_special_answer();
     match special_answer(alloc, &office, source) {
@@ -104,9 +107,11 @@ fn special_answer<S: Source, P: Keeper>(
     office: &Office<P>,
     source: &mut S,
 ) -> Result<Text, Failure>
-    ensures output { IfOk result (HasLeft (IsSpecialOutput office.now.season office.now.state) (S.left source.old)) }
+    ensures output { IfOk result
+        (HasLeft (IsSpecialOutput office.now.season office.now.state) (S.left source.old)) }
     ensures ended { OnOk result (IsAtEnd (S.left source.new)) }
-    ensures failure { IfErr result (IsFailureOf (special_answers office.now.season office.now.state) (S.left source.old) (Rose (S.faults source.old) (S.faults source.new))) }
+    ensures failure { IfErr result (IsFailureOf (special_answers office.now.season office.now.state)
+        (S.left source.old) (Rose (S.faults source.old) (S.faults source.new))) }
     ensures count { S.faults source.old ≤ S.faults source.new }
     ensures steady { ¬ IsErrOf result Failure.Read → S.faults source.new ≡ S.faults source.old }
 {
@@ -122,7 +127,8 @@ fn special_answer<S: Source, P: Keeper>(
 fn lists_answer<P: Keeper>(alloc: Global, office: &Office<P>, lists: &[u8]) -> Result<Text, Failure>
     requires { length lists.now ≤ most_bundle_bytes }
     ensures output { IfOk result (IsSpecialOutput office.now.season office.now.state lists.now) }
-    ensures failure { IfErr result (IsInputFailure (special_answers office.now.season office.now.state) lists.now) }
+    ensures failure { IfErr result
+        (IsInputFailure (special_answers office.now.season office.now.state) lists.now) }
 {
     match round_of::<Brand, P>(alloc, office, lists, Blank::new(1)) {
         Ok(special) => Ok(shown(alloc, &special)?),
@@ -149,7 +155,8 @@ fn round_of<L: Ledger, P: Keeper>(
 
 /// Returns the text of a special round of some office.
 fn shown(alloc: Global, special: &Special) -> Result<Text, OutOfMemory>
-    requires { (facts : SeasonFacts) × (state : State) × (body : List ℕ) × IsSpecial facts state body special.now }
+    requires { (facts : SeasonFacts) × (state : State) × (body : List ℕ)
+        × IsSpecial facts state body special.now }
     ensures { IfOk result (λ text. text ≡ special_text special.now) }
 {
     says_what_is_sound(&special.season);

@@ -81,12 +81,6 @@ text_failed left bytes text failed fault Read are made first told = absurd (no_r
 text_failed left bytes text failed fault (Bad line) are made first told = (bytes, are, inr (text, made, (fault, has_fault text fault first told.1, told.2)))
 text_failed left bytes text failed fault NoMemory are made first told = tt
 
--- it does not report that the source failed
-pub text_held : (text : List ℕ) (fault : SeasonFault) (failure : Failure) → IsSeasonFault true text fault → TellsSeasonFault fault failure → failure ≡ Read → ⊥
-text_held text fault Read first told is = no_read text fault first told
-text_held text fault (Bad line) first told is = absurd cc
-text_held text fault NoMemory first told is = absurd cc
-
 -- ---- how the command ends
 
 -- the text of why no bundle was read goes with its status

@@ -19,7 +19,9 @@ pub fn one_units_answer()
 
 /// Shows that a candidate who has a seat in a unit, in any round, lives where the unit is for.
 pub fn seats_right()
-    ensures { (bytes text : List ℕ) (made : IsExpansion bytes text) (season : Season) (script : List Request) → IsSeasonWith true text season script → IsSound (facts_of season) → AlwaysLiveRight made.units made.states (facts_of season) }
+    ensures { (bytes text : List ℕ) (made : IsExpansion bytes text) (season : Season)
+        (script : List Request) → IsSeasonWith true text season script
+        → IsSound (facts_of season) → AlwaysLiveRight made.units made.states (facts_of season) }
 {
     histories::laws::runs_its_course();
 }

@@ -25,7 +25,8 @@ fn read_units<S: Source>(alloc: Global, source: &mut S) -> Result<(Season, Scrip
     ensures bundle { IfOk result (λ read. IsLeftExpansion (S.left source.old) read.0 read.1) }
     ensures text { IfOk result (λ read. IsSeason read.0.text read.0) }
     ensures ended { OnOk result (IsAtEnd (S.left source.new)) }
-    ensures failure { IfErr result (IsFailureOf units_answers (S.left source.old) (Rose (S.faults source.old) (S.faults source.new))) }
+    ensures failure { IfErr result (IsFailureOf units_answers (S.left source.old)
+        (Rose (S.faults source.old) (S.faults source.new))) }
     ensures count { S.faults source.old ≤ S.faults source.new }
     ensures steady { ¬ IsErrOf result Failure.Read → S.faults source.new ≡ S.faults source.old }
 {
@@ -50,10 +51,11 @@ pub fn units_season<S: Source, K: Sink, P: Keeper>(
     sink: &mut K,
     keeper: P,
 ) -> (Status, P)
-    ensures written { Writes (EndsUnits (S.left source.old)) (outside_of K.Sink P.Keeper sink.old keeper)
+    ensures written { Writes (EndsUnits (S.left source.old)) (outside_of K.Sink P.Keeper
+        sink.old keeper) (outside_of K.Sink P.Keeper sink.new result.1) result.0 }
+    ensures runs { RunsInput IsUnitsInput IsFaultyUnits (source_of S.Source source.old)
+        (source_of S.Source source.new) (outside_of K.Sink P.Keeper sink.old keeper)
         (outside_of K.Sink P.Keeper sink.new result.1) result.0 }
-    ensures runs { RunsInput IsUnitsInput IsFaultyUnits (source_of S.Source source.old) (source_of S.Source source.new)
-        (outside_of K.Sink P.Keeper sink.old keeper) (outside_of K.Sink P.Keeper sink.new result.1) result.0 }
 {
     one_units_answer();
     match read_units(alloc, source) {

@@ -1,6 +1,6 @@
 use Rattle.std.proofs.Common.{Err, ap, sym, ◌∙◌}
 use Rattle.season_commands.proofs.CheckFaults.{season_held}
-use Rattle.season_commands.proofs.Requests.{requests_failed, script_left}
+use Rattle.season_commands.proofs.Requests.{requests_failed}
 use Rattle.season_commands.proofs.resume.read_requests.Goals as goal
 
 pub returns-in-Err-clause-failure : goal.returns-in-Err-clause-failure

@@ -1,5 +1,6 @@
 use Rattle.std.proofs.Common.{rules}
 use Rattle.season_commands.proofs.RunEnds.{begun_ends, unbegun_ends}
+use Rattle.season_commands.proofs.Still.{some_apart, still_none}
 use Rattle.season_commands.proofs.run.run_script.Goals as goal
 
 pub returns-in-Ok-clause-written : goal.returns-in-Ok-clause-written
@@ -16,5 +17,5 @@ returns-in-Ok-clause-runs g c = record {
   no_read_fault = search rules;
   blamed = record { write_fault = search rules; keeper_fault = search rules; sink_steady = search rules; keeper_count = search rules; keeper_steady = search rules };
   complete = search rules;
-  not_empty = search rules;
+  not_empty = λ tells still. absurd (some_apart _ (still_none _ _ _ c.run_office.ensures.told_before c.in-Ok.ensures.ok.empty) tells);
 }
