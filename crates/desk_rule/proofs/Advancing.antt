@@ -16,8 +16,9 @@ use Rattle.desk_rule.specs.Turning.{open_of, held_in, waiting_of, draws_of, held
 use Rattle.desk_rule.specs.Told.{Advances, advanced, after_turn}
 use Rattle.desk_rule.proofs.TotalsLemmas.{total_set, total_same, total_at, total_two, each_set_other}
 use Rattle.desk_rule.proofs.TicketLemmas.{times_here, times_append, within_most, last_from-snoc, rises-snoc}
-use Rattle.desk_rule.proofs.EntryLemmas.{all_weaker, all_append, all_left, all_right, seen_later}
+use Rattle.desk_rule.proofs.EntryLemmas.{seen_later}
 use Rattle.std.proofs.lemmas.List.{map_push}
+use Rattle.office_base.proofs.Lists.{all_left, all_right, all_joined, all_weaker}
 use Rattle.desk_rule.proofs.Calm.{here_set}
 
 module _ {V I B : Type 0} (basis : V → B) (entries : V → List I) (number : I → ℕ) (count : V → ℕ) (key : Snapshot V) where
@@ -45,7 +46,7 @@ module _ {V I B : Type 0} (basis : V → B) (entries : V → List I) (number : I
   fits_later history later serving new most most' u f apart app is le = record {
     about = f.about;
     begins = seen_later number u.tickets u.seen history later serving f.begins f.past app;
-    past = all_weaker (λ t. t < serving) (λ t. t < new) u.tickets (λ t lt. omega (arith, lt, is)) f.past;
+    past = all_weaker (λ t. t < serving) (λ t. t < new) (λ t lt. omega (arith, lt, is)) u.tickets f.past;
     counts = (let seen = f.counts in omega (arith, seen, le));
     spent = f.spent;
     stands = subst (λ k. FitsStage basis entries number count later k most' u u.stage) (sym is) (stage_later history later serving most most' u u.stage f.stands apart f.past app);
@@ -58,7 +59,7 @@ module _ {V I B : Type 0} (basis : V → B) (entries : V → List I) (number : I
   goes_later history later serving le goes (inr more) = (
     goes.0 ++ more.0 ∷ [],
     more.2 ∙ ap (λ l. l ++ more.0 ∷ []) goes.1 ∙ append_assoc (entries key.value) goes.0 (more.0 ∷ []),
-    all_append (λ e. first_ticket entries number key.value ≤ number e) goes.0 (more.0 ∷ []) goes.2 (let is = more.1 in omega (arith, is, le), tt),
+    all_joined (λ e. first_ticket entries number key.value ≤ number e) goes.0 (more.0 ∷ []) goes.2 (let is = more.1 in omega (arith, is, le), tt),
   )
 
   rises_later : (history later : List I) (serving : ℕ) → rises 0 (map number history) ≡ true → last_of (map number history) < serving → AppendsAtMost number serving history later
@@ -124,7 +125,7 @@ module _ {V I B : Type 0} (basis : V → B) (entries : V → List I) (number : I
               record {
                 about = f.about;
                 begins = ([], sym (append-nil (entries x)), refl);
-                past = all_append (λ k. k < new) v.tickets (t ∷ []) (all_weaker (λ k. k < h.serving) (λ k. k < new) v.tickets (λ k lt. omega (arith, lt, is')) f.past) (omega (arith, is), tt);
+                past = all_joined (λ k. k < new) v.tickets (t ∷ []) (all_weaker (λ k. k < h.serving) (λ k. k < new) (λ k lt. omega (arith, lt, is')) v.tickets f.past) (omega (arith, is), tt);
                 counts = omega arith;
                 spent = (λ none. absurd (omega (arith, none, alive)));
                 stands = tt;

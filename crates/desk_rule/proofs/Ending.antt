@@ -10,6 +10,7 @@ use Rattle.atomic_table.proofs.Lists.{at_snoc}
 use Rattle.atomic_table.specs.Table.{State, opening}
 use Rattle.std.specs.declared.snapshot.Snapshot.{Snapshot}
 use Rattle.office_base.specs.Numbered.{rises}
+use Rattle.office_base.proofs.Lists.{all_right, all_weaker}
 use Rattle.desk_rule.specs.declared.view.View.{View}
 use Rattle.desk_rule.specs.declared.view.Stage.TheVariants.{Idle}
 use Rattle.desk_rule.specs.Totals.{total, times, within}
@@ -17,7 +18,7 @@ use Rattle.desk_rule.specs.Own.{among}
 use Rattle.desk_rule.specs.Turning.{open_of, held_in, draws_of, held_of, whole_view, first_ticket, Fits, InTurn}
 use Rattle.desk_rule.proofs.TotalsLemmas.{others_none, total_alone}
 use Rattle.desk_rule.proofs.TicketLemmas.{within_in, within_below, within_empty, all_below, rises_left}
-use Rattle.desk_rule.proofs.EntryLemmas.{all_weaker, all_right, all_from_map, among_none, among_all, among-append}
+use Rattle.desk_rule.proofs.EntryLemmas.{all_from_map, among_none, among_all, among-append}
 
 module _ {V I B : Type 0} (basis : V → B) (entries : V → List I) (number : I → ℕ) (count : V → ℕ) (key : Snapshot V) where
   -- the desk begins with this value
@@ -99,12 +100,12 @@ module _ {V I B : Type 0} (basis : V → B) (entries : V → List I) (number : I
       let goes = h.goes_on in
       let served : h.serving ≤ h.next = (let sum = h.waiting in omega (arith, sum)) in
       let before : among number v.tickets (entries key.value) ≡ [] = among_none number v.tickets (entries key.value)
-      (all_weaker (λ e. number e < first_ticket entries number key.value) (λ e. times (number e) v.tickets ≡ 0) (entries key.value)
-      (λ e lt. drawn (number e) ∙ within_below (first_ticket entries number key.value) h.next (number e) lt) (below_first s h)) in
+      (all_weaker (λ e. number e < first_ticket entries number key.value) (λ e. times (number e) v.tickets ≡ 0)
+      (λ e lt. drawn (number e) ∙ within_below (first_ticket entries number key.value) h.next (number e) lt) (entries key.value) (below_first s h)) in
       let after : among number v.tickets goes.0 ≡ goes.0 = among_all number v.tickets goes.0
-      (all_weaker (λ e. (first_ticket entries number key.value ≤ number e) × (number e < h.serving)) (λ e. 1 ≤ times (number e) v.tickets) goes.0
+      (all_weaker (λ e. (first_ticket entries number key.value ≤ number e) × (number e < h.serving)) (λ e. 1 ≤ times (number e) v.tickets)
       (λ e both. let once = drawn (number e) in let one = within_in (first_ticket entries number key.value) h.next (number e) both.0 (let lt = both.1 in omega (arith, lt, served)) in omega (arith, once, one))
-      (both_hold (λ e. first_ticket entries number key.value ≤ number e) (λ e. number e < h.serving) goes.0 goes.2 (past_serving s h))) in
+      goes.0 (both_hold (λ e. first_ticket entries number key.value ≤ number e) (λ e. number e < h.serving) goes.0 goes.2 (past_serving s h))) in
       let own : among number v.tickets v.seen ≡ goes.0 = ap (among number v.tickets) (seen ∙ goes.1) ∙ among-append number v.tickets (entries key.value) goes.0 ∙ (λ i. before i ++ after i) in
       ⊎_elim (λ out. absurd (let one = out.1 in omega (arith, one, held)))
       (λ home. (

@@ -9,29 +9,13 @@ use Rattle.std.proofs.lemmas.List.Elements.{filter-append}
 use Rattle.std.proofs.lemmas.List.Folds.{list_any-append}
 use mathlib.Core.Logic.{dite}
 use native.Mathlib.Decide.{dec_le}
+use Rattle.office_base.proofs.Lists.{all_weaker}
 use Rattle.desk_rule.specs.Totals.{times}
 use Rattle.desk_rule.specs.Own.{Begins, longer, AreMerged, AppendsAtMost, among, HasSeen}
 use Rattle.desk_rule.proofs.TicketLemmas.{is_ticket, no_ticket, times_append, times_past, times_here, times_else}
 
 -- what holds of each element
-module _ {X : Type 0} (P Q : X → Type 0) where
-  pub all_weaker : (xs : List X) → ((x : X) → P x → Q x) → AllByRecursion P xs → AllByRecursion Q xs
-  all_weaker [] step all = tt
-  all_weaker (x ∷ xs) step all = (step x all.0, all_weaker xs step all.1)
-
 module _ {X : Type 0} (P : X → Type 0) where
-  pub all_append : (xs ys : List X) → AllByRecursion P xs → AllByRecursion P ys → AllByRecursion P (xs ++ ys)
-  all_append [] ys all more = more
-  all_append (x ∷ xs) ys all more = (all.0, all_append xs ys all.1 more)
-
-  pub all_left : (xs ys : List X) → AllByRecursion P (xs ++ ys) → AllByRecursion P xs
-  all_left [] ys all = tt
-  all_left (x ∷ xs) ys all = (all.0, all_left xs ys all.1)
-
-  pub all_right : (xs ys : List X) → AllByRecursion P (xs ++ ys) → AllByRecursion P ys
-  all_right [] ys all = all
-  all_right (x ∷ xs) ys all = all_right xs ys all.1
-
   pub all_from_map : {Y : Type 0} (f : Y → X) (ys : List Y) → AllByRecursion P (map f ys) → AllByRecursion (λ y. P (f y)) ys
   all_from_map f [] all = tt
   all_from_map f (y ∷ ys) all = (all.0, all_from_map f ys all.1)
@@ -138,7 +122,7 @@ module _ {I : Type 0} (number : I → ℕ) where
       (inr (among number us es, refl, back))
   merged_more ts us e es false false is is' le back = rw (among_out (ts ++ us) e es (own-append ts us e false false is is'), among_out ts e es is, among_out us e es is') back
 
-  -- tickets that are apart: the own entries of both are those of the one and those of the other
+  -- tickets that are apart: the entries of both are the entries of the one and the entries of the other
   pub merged : (ts us : List ℕ) → ((n : ℕ) → times n ts + times n us ≤ 1) → (es : List I) → AreMerged (among number ts es) (among number us es) (among number (ts ++ us) es)
   merged ts us apart [] = (refl, refl)
   merged ts us apart (e ∷ es) = merged_more ts us e es (own ts e) (own us e) refl refl (apart (number e)) (merged ts us apart es)
@@ -201,7 +185,7 @@ module _ {I : Type 0} (number : I → ℕ) where
       )
 
   none_at : (n : ℕ) (es : List I) → AllByRecursion (λ e. number e < n) es → AllByRecursion (λ e. times (number e) (n ∷ []) ≡ 0) es
-  none_at n es below = all_weaker (λ e. number e < n) (λ e. times (number e) (n ∷ []) ≡ 0) es (λ e lt. times_else (number e) n [] (λ same. absurd (omega (arith, same, lt)))) below
+  none_at n es below = all_weaker (λ e. number e < n) (λ e. times (number e) (n ∷ []) ≡ 0) (λ e lt. times_else (number e) n [] (λ same. absurd (omega (arith, same, lt)))) es below
 
   own_before : (ts : List ℕ) (seen history : List I) (n : ℕ) → HasSeen number ts seen history → AllByRecursion (λ e. number e < n) history
       → among number (ts ++ n ∷ []) history ≡ among number ts seen
@@ -209,7 +193,7 @@ module _ {I : Type 0} (number : I → ℕ) where
       among_more ts (n ∷ []) history (none_at n history below)
       ∙ ap (among number ts) h.1 ∙ among-append ts seen h.0 ∙ ap (λ l. among number ts seen ++ l) h.2 ∙ append-nil (among number ts seen)
 
-  -- the own entries after a turn
+  -- a pass's own entries after a turn
   pub own_after : (ts : List ℕ) (seen history later : List I) (n : ℕ) → HasSeen number ts seen history → AllByRecursion (λ e. number e < n) history → AppendsAtMost number n history later
       → ((later ≡ history) × (among number (ts ++ n ∷ []) later ≡ among number ts seen))
       ⊎ ((e : I) × (number e ≡ n) × (later ≡ history ++ e ∷ []) × (among number (ts ++ n ∷ []) later ≡ among number ts seen ++ e ∷ []))

@@ -14,8 +14,9 @@ use Rattle.desk_rule.specs.Own.{HasSeen, longer}
 use Rattle.desk_rule.specs.Turning.{open_of, held_in, waiting_of, draws_of, held_of, both_of, spent_view, Fits, InTurn}
 use Rattle.desk_rule.proofs.TotalsLemmas.{each_set, total_join}
 use Rattle.desk_rule.proofs.TicketLemmas.{times_append}
-use Rattle.desk_rule.proofs.EntryLemmas.{all_append, among_no_tickets, both_seen, prefix_whole, longer_length}
+use Rattle.desk_rule.proofs.EntryLemmas.{among_no_tickets, both_seen, prefix_whole, longer_length}
 use Rattle.std.specs.Prelude.{cond, nat_lt}
+use Rattle.office_base.proofs.Lists.{all_joined}
 use Rattle.desk_rule.proofs.Calm.{here_set, place_same}
 
 larger_count : (b : Bool) (m n most : ℕ) → m ≤ most → n ≤ most → cond {A = ℕ} b m n ≤ most
@@ -91,7 +92,7 @@ module _ {V I B : Type 0} (basis : V → B) (entries : V → List I) (number : I
             (each_set (Fits basis entries number count key h.history h.serving h.most) s.views id both h.views record {
               about = (λ _. f.about alive);
               begins = seen.all;
-              past = all_append (λ t. t < h.serving) v.tickets w.tickets f.past g.past;
+              past = all_joined (λ t. t < h.serving) v.tickets w.tickets f.past g.past;
               counts = larger_count (nat_lt v.count w.count) w.count v.count h.most g.counts f.counts;
               spent = (λ nothing. absurd (omega (arith, nothing, alive)));
               stands = (f.begins, g.begins, refl, refl);

@@ -29,7 +29,7 @@ module _ {I : Type 0} where
   ticket_of (Holds t kept n) = t
   ticket_of (Joined seen tickets seen' tickets') = 0
 
-  -- whoever holds the value has drawn the ticket that is served
+  -- the pass that holds the value has drawn the ticket that is served
   pub held_draws : {V B : Type 0} (basis : V → B) (entries : V → List I) (number : I → ℕ) (count : V → ℕ) (history : List I) (serving most : ℕ) (v : View V I) (stage : Stage I)
       → FitsStage basis entries number count history serving most v stage → 1 ≤ held_in stage → 1 ≤ times serving (open_of stage)
   held_draws basis entries number count history serving most v Idle fits held = absurd (omega (arith, held))

@@ -58,7 +58,7 @@ within_more low high n le = dite (ℕ_discrete n high)
     (λ apart. let none : times n (high ∷ []) ≡ 0 = times_else n high [] apart in
     let same : within low (high + 1) n ≡ within low high n = ap (λ b. cond {A = ℕ} (nat_le low n && b) 1 0) (not_at high n apart) in omega (arith, none, same))
 
--- a number that stands among tickets, and one that does not
+-- a number that is among tickets, and one that is not
 pub is_ticket : (n : ℕ) (ms : List ℕ) → 1 ≤ times n ms → list_any (λ t. n == t) ms ≡ true
 is_ticket n [] some_time = absurd (omega (arith, some_time))
 is_ticket n (m ∷ ms) some_time = dite (ℕ_discrete n m)

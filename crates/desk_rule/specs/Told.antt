@@ -1,4 +1,4 @@
--- What each step tells the pass that makes it.
+-- What a pass learns from each of its steps.
 use Rattle.std.specs.Prelude.{◌≡◌, ◌≢◌, ◌-◌, ◌^◌, ◌<◌, ◌≤◌, ◌⊎◌, ℕ, true, List, [], ◌∷◌, ◌++◌, map, Option, Some, None}
 use Rattle.std.specs.List.{AllByRecursion}
 use Rattle.atomic_table.specs.Table.{Me, Step, rest}
@@ -19,8 +19,9 @@ module _ {V I : Type 0} where
   holding entries count v t x = record v { stage = Holds t (entries x) (count x) }
 
   module _ {B : Type 0} (basis : V → B) (entries : V → List I) (number : I → ℕ) (count : V → ℕ) where
-    -- The value x went out to a pass with the view v, whose ticket t is served. It stands on the desk's basis for a history that begins with what the pass has
-    -- seen, without any other entry of its own, and with lower numbers; its count is no lower than the one that was seen.
+    -- The value x went out to a pass with the view v, whose ticket t is served. It has the desk's basis.
+    -- Its history begins with what the pass has seen, and has no other entry of the pass. Its numbers rise and are below t.
+    -- So are the earlier tickets of the pass. Its count is no lower than the one that was seen, and t is below 2 ^ 41.
     pub record IsTaken (t : ℕ) (v : View V I) (x : V) : Type 0 where
       pub about : (key : Snapshot V) → v.about ≡ Some key → basis x ≡ basis key.value
       pub begins : HasSeen number v.tickets v.seen (entries x)

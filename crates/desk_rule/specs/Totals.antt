@@ -12,7 +12,7 @@ total f (x ∷ xs) = f x + total f xs
 abbrev pub Each : {A : Type 0} → (A → Type 0) → List A → Type 0
 Each {A} P xs = (i : ℕ) (x : A) → get_elem? xs i ≡ some x → P x
 
--- how often n stands in the list
+-- how often n is in the list
 abbrev pub times : ℕ → List ℕ → ℕ
 times n [] = 0
 times n (m ∷ ms) = cond (n == m) 1 0 + times n ms

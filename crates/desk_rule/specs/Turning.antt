@@ -88,7 +88,7 @@ module _ {V I : Type 0} where
       pub spent : v.shares ≡ 0 → (v.tickets ≡ []) × (v.left ≡ 0) × (v.stage ≡ Idle)
       pub stands : FitsStage history serving most v v.stage
 
-    -- a value at home stands for the history, on the desk's basis, and no view has seen a larger count
+    -- a value at home has the desk's basis and the whole history, and no view has seen a larger count
     abbrev pub Stands : Snapshot V → List I → ℕ → V → Type 0
     Stands key history most x = (basis x ≡ basis key.value) × (entries x ≡ history) × (most ≤ count x)
 

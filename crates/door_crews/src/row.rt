@@ -7,8 +7,8 @@ ghost use Rattle.door_crews.specs.Rows.{AllServed};
 use std::sync::Wait;
 use std::thread::{Threads, join_mut};
 
-/// Whoever serves doors of type `D`, each with its own buffers of type `B`, beside what all workers share: a worker can be split off, serve a door on
-/// a thread of its own, and be taken in again.
+/// Serves doors of type `D`, each with its own buffers of type `B` and with what all workers share.
+/// A worker can be split off, serve a door on a thread of its own, and be taken in again.
 pub trait Crew<S, D, B> {
     /// The door may be served.
     ghost suits: { D → Type 0 };
@@ -66,7 +66,8 @@ pub fn work_all<S: Sync, D: Send, B: Send, P: Crew<S, D, B> + Send, R: Threads +
     requires suit { AllByRecursion P.suits doors.old }
     requires able { P.able shared.now (length doors.old) crew.old }
     ensures able { P.able shared.now 0 crew.new }
-    ensures served { AllServed (P.hired shared.now) (P.worked shared.now) (P.joined shared.now) from doors.old doors.new crew.old crew.new }
+    ensures served { AllServed (P.hired shared.now) (P.worked shared.now)
+        (P.joined shared.now) from doors.old doors.new crew.old crew.new }
 {
     let Some((door, doors)) = doors.split_first_mut() else {
         return;
@@ -89,7 +90,8 @@ pub fn work_all<S: Sync, D: Send, B: Send, P: Crew<S, D, B> + Send, R: Threads +
     crew.take_in(shared, worker);
 }
 
-// The first door beside all others, each with its worker: a function of its own, so that what the closures require is what it is given.
+// Serves the first door next to all others, each with its worker.
+// It is a function of its own, so that what the closures require is what it is given.
 #[cycle(row)]
 fn both<S: Sync, D: Send, B: Send, P: Crew<S, D, B> + Send, R: Threads + Wait + Sync>(
     rt: &R,
@@ -111,18 +113,22 @@ fn both<S: Sync, D: Send, B: Send, P: Crew<S, D, B> + Send, R: Threads + Wait + 
     ensures one_able { P.able shared.now 0 worker.new }
     ensures one { P.worked shared.now from door.old door.new worker.old worker.new }
     ensures able { P.able shared.now 0 crew.new }
-    ensures others { AllServed (P.hired shared.now) (P.worked shared.now) (P.joined shared.now) (from + 1) doors.old doors.new crew.old crew.new }
+    ensures others { AllServed (P.hired shared.now) (P.worked shared.now)
+        (P.joined shared.now) (from + 1) doors.old doors.new crew.old crew.new }
 {
     let next = from + 1;
     let mut first = ||
         requires { P.suits door.now × P.ready shared.now worker.now }
-        ensures { P.able shared.entry.now 0 worker.exit.now × P.worked shared.entry.now from door.entry.now door.exit.now worker.entry.now worker.exit.now }
+        ensures { P.able shared.entry.now 0 worker.exit.now × P.worked shared.entry.now
+            from door.entry.now door.exit.now worker.entry.now worker.exit.now }
     { worker.work(rt, shared, from, door, buffer) };
     let mut rest = ||
-        requires { IsSync R.row × IsSync S.row × IsSend D.row × IsSend B.row × IsSend P.row × (next + length doors.now < 2 ^ 32)
-            × (length buffers.now ≡ length doors.now) × AllByRecursion P.suits doors.now × P.able shared.now (length doors.now) crew.now }
+        requires { IsSync R.row × IsSync S.row × IsSend D.row × IsSend B.row × IsSend P.row
+            × (next + length doors.now < 2 ^ 32) × (length buffers.now ≡ length doors.now)
+            × AllByRecursion P.suits doors.now × P.able shared.now (length doors.now) crew.now }
         ensures { P.able shared.entry.now 0 crew.exit.now
-            × AllServed (P.hired shared.entry.now) (P.worked shared.entry.now) (P.joined shared.entry.now) next doors.entry.now doors.exit.now crew.entry.now crew.exit.now }
+            × AllServed (P.hired shared.entry.now) (P.worked shared.entry.now) (P.joined
+            shared.entry.now) next doors.entry.now doors.exit.now crew.entry.now crew.exit.now }
     { work_all(rt, shared, next, crew, doors, buffers) };
     join_mut(rt, &mut first, &mut rest);
 }

@@ -6,6 +6,7 @@ use Rattle.std.specs.Option.{option_and_then, option_map}
 use Rattle.std.proofs.lemmas.Bool.{and_parts, cond-true, eqb-true, leb-true}
 use Rattle.std.proofs.lemmas.List.{append-nil}
 use Rattle.std.proofs.lemmas.Slice.Eq.{bytes_eq-Decides}
+use Rattle.std.proofs.lemmas.Option.{none-some}
 use Rattle.office_base.specs.Codes.{is_code}
 use Rattle.office_base.specs.Limits.{last_id, last_window}
 use Rattle.office_base.specs.declared.asks.Ask.TheVariants.{Seat, Why, List as ListOf, State}
@@ -37,14 +38,10 @@ pub slashed-cut : (bytes : List ℕ) → slashed (cut_at 47 bytes) ≡ 47 ∷ by
 slashed-cut [] = refl
 slashed-cut (byte ∷ bytes) = slashed-step byte bytes (cut_at 47 bytes) (byte == 47) refl (slashed-cut bytes)
 
--- nothing is not something
-pub nothing : {X : Type 0} (x : X) → None ≡ Some x → ⊥
-nothing x e = cc
-
 -- what is there under a test
 pub cond-some : {X : Type 0} (is : Bool) (o : Option X) (x : X) → cond is o None ≡ Some x → (is ≡ true) × (o ≡ Some x)
 cond-some true o x e = (refl, e)
-cond-some false o x e = absurd (nothing x e)
+cond-some false o x e = absurd (none-some x e)
 
 -- what is there under a test is one of two
 pub choose : {X : Type 0} (is : Bool) (here other : Option X) (x : X) (G : Type 0) → cond is here other ≡ Some x → (is ≡ true → here ≡ Some x → G) → (other ≡ Some x → G) → G
@@ -72,15 +69,15 @@ coded text code e = ap (λ (o : Option (List ℕ)). unwrap_or o text) (cond-some
 
 seat-text : AreInverse → (first : List ℕ) (page : Page) (id : Option ℕ) → number_within 1 last_id first ≡ id
     → read_page (option_map (λ (cand : CandId). Seat cand) (option_map (λ id. record { 0 = id }) id)) ≡ Some page → codes "/v1/seat/" ++ first ≡ page_text page
-seat-text inverse first page None is e = absurd (nothing page e)
+seat-text inverse first page None is e = absurd (none-some page e)
 seat-text inverse first page (Some id) is e =
     ap (λ (text : List ℕ). codes "/v1/seat/" ++ text) (digits inverse 1 last_id first id (lit< tt) is) ∙ ap page_text (same-page (Reads (Seat (record { 0 = id }))) page e)
 
 why-text : AreInverse → (first second : List ℕ) (page : Page) (id : Option ℕ) (code : Option (List ℕ)) → number_within 1 last_id first ≡ id → code_of second ≡ code
     → read_page (option_and_then (λ (cand : CandId). option_map (λ prog. Why cand prog) code) (option_map (λ id. record { 0 = id }) id)) ≡ Some page
     → codes "/v1/why/" ++ first ++ 47 ∷ second ≡ page_text page
-why-text inverse first second page None code is there e = absurd (nothing page e)
-why-text inverse first second page (Some id) None is there e = absurd (nothing page e)
+why-text inverse first second page None code is there e = absurd (none-some page e)
+why-text inverse first second page (Some id) None is there e = absurd (none-some page e)
 why-text inverse first second page (Some id) (Some code) is there e =
     ap (λ (text : List ℕ). codes "/v1/why/" ++ text ++ 47 ∷ second) (digits inverse 1 last_id first id (lit< tt) is)
     ∙ ap (λ (text : List ℕ). codes "/v1/why/" ++ decimal id ++ 47 ∷ text) (coded second code there)
@@ -88,8 +85,8 @@ why-text inverse first second page (Some id) (Some code) is there e =
 
 list-text : AreInverse → (first second : List ℕ) (page : Page) (round : Option ℕ) (code : Option (List ℕ)) → number_within 0 last_window first ≡ round → code_of second ≡ code
     → read_page (option_and_then (λ round. option_map (λ prog. ListOf round prog) code) round) ≡ Some page → codes "/v1/list/" ++ first ++ 47 ∷ second ≡ page_text page
-list-text inverse first second page None code is there e = absurd (nothing page e)
-list-text inverse first second page (Some round) None is there e = absurd (nothing page e)
+list-text inverse first second page None code is there e = absurd (none-some page e)
+list-text inverse first second page (Some round) None is there e = absurd (none-some page e)
 list-text inverse first second page (Some round) (Some code) is there e =
     ap (λ (text : List ℕ). codes "/v1/list/" ++ text ++ 47 ∷ second) (digits inverse 0 last_window first round (lit< tt) is)
     ∙ ap (λ (text : List ℕ). codes "/v1/list/" ++ decimal round ++ 47 ∷ text) (coded second code there)
@@ -105,7 +102,7 @@ alone-text name page e =
     choose (bytes_eq name (codes "answer")) (Some Answers) _ page G e (λ is here. same-word name (codes "answer") [] is ∙ ap page_text (same-page Answers page here)) (λ e.
     choose (bytes_eq name (codes "cut")) (Some Cuts) _ page G e (λ is here. same-word name (codes "cut") [] is ∙ ap page_text (same-page Cuts page here)) (λ e.
     choose (bytes_eq name (codes "raise")) (Some Raises) _ page G e (λ is here. same-word name (codes "raise") [] is ∙ ap page_text (same-page Raises page here)) (λ e.
-    choose (bytes_eq name (codes "state")) (Some (Reads State)) None page G e (λ is here. same-word name (codes "state") [] is ∙ ap page_text (same-page (Reads State) page here)) (λ e. absurd (nothing page e)))))
+    choose (bytes_eq name (codes "state")) (Some (Reads State)) None page G e (λ is here. same-word name (codes "state") [] is ∙ ap page_text (same-page (Reads State) page here)) (λ e. absurd (none-some page e)))))
 
 one-text : AreInverse → (name first : List ℕ) (page : Page) → page_over_one name first ≡ Some page → codes "/v1" ++ slashed (name ∷ first ∷ []) ≡ page_text page
 one-text inverse name first page e =
@@ -128,15 +125,15 @@ two-text inverse name first second page e =
     ∙ list-text inverse first second page (number_within 0 last_window first) (code_of second) refl refl list)
 
 named-text : AreInverse → (pieces : List (List ℕ)) (page : Page) → page_named pieces ≡ Some page → codes "/v1" ++ slashed pieces ≡ page_text page
-named-text inverse [] page e = absurd (nothing page e)
+named-text inverse [] page e = absurd (none-some page e)
 named-text inverse (name ∷ []) page e = alone-text name page e
 named-text inverse (name ∷ first ∷ []) page e = one-text inverse name first page e
 named-text inverse (name ∷ first ∷ second ∷ []) page e = two-text inverse name first second page e
-named-text inverse (name ∷ first ∷ second ∷ third ∷ pieces) page e = absurd (nothing page e)
+named-text inverse (name ∷ first ∷ second ∷ third ∷ pieces) page e = absurd (none-some page e)
 
 at-text : AreInverse → (pieces : List (List ℕ)) (page : Page) → page_at pieces ≡ Some page → slashed pieces ≡ 47 ∷ page_text page
-at-text inverse [] page e = absurd (nothing page e)
-at-text inverse (root ∷ []) page e = absurd (nothing page e)
+at-text inverse [] page e = absurd (none-some page e)
+at-text inverse (root ∷ []) page e = absurd (none-some page e)
 at-text inverse (root ∷ version ∷ pieces) page e =
     let (tests, named) = cond-some _ (page_named pieces) page e in
     let parts = and_parts _ _ tests in

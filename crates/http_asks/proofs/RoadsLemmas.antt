@@ -10,6 +10,7 @@ use Rattle.matchit.specs.Rows.{RowsOf}
 use Rattle.matchit.specs.Seek.{first, has_slash, seek, param_step}
 use Rattle.matchit.specs.Router.{RouteOf, map_key}
 use Rattle.matchit.proofs.RenameLemmas.{first-rename}
+use Rattle.std.proofs.lemmas.Option.{none-some}
 use Rattle.office_text.specs.Lines.{cut_at, onto_first}
 use Rattle.office_text.proofs.LinesLemmas.{cut_at-filled}
 use Rattle.http_asks.specs.Pages.{candidate_of, first_of_pieces, list_of, page_alone, page_at, page_named, page_over_one, page_over_two, path_of, read_page, round_of, seat_of, why_of}
@@ -18,7 +19,7 @@ use Rattle.office_base.specs.declared.person.CandId.{CandId}
 use Rattle.http_asks.specs.declared.pages.Page.{Page}
 use Rattle.http_asks.specs.declared.roads.Road.{Road}
 use Rattle.http_asks.specs.declared.roads.Road.TheVariants.{Answer, Cut, Raise, Seat, Why, RoundList, State}
-use Rattle.http_asks.proofs.PagesLemmas.{choose, cond-some, nothing, same-word, slashed, slashed-cut}
+use Rattle.http_asks.proofs.PagesLemmas.{choose, cond-some, same-word, slashed, slashed-cut}
 use Rattle.http_asks.proofs.WalkLemmas.{AreBytes, Follows, Matched, along, first-matched, follows-front, last-found, pair-found}
 
 -- ---- a road that is found
@@ -98,29 +99,29 @@ alone-found name page e =
     choose (bytes_eq name (codes "answer")) _ _ page G e (λ is here. found-as _ _ (same-word name (codes "answer") [] is) answer-found) (λ e.
     choose (bytes_eq name (codes "cut")) _ _ page G e (λ is here. found-as _ _ (same-word name (codes "cut") [] is) cut-found) (λ e.
     choose (bytes_eq name (codes "raise")) _ _ page G e (λ is here. found-as _ _ (same-word name (codes "raise") [] is) raise-found) (λ e.
-    choose (bytes_eq name (codes "state")) _ None page G e (λ is here. found-as _ _ (same-word name (codes "state") [] is) state-found) (λ e. absurd (nothing page e)))))
+    choose (bytes_eq name (codes "state")) _ None page G e (λ is here. found-as _ _ (same-word name (codes "state") [] is) state-found) (λ e. absurd (none-some page e)))))
 
 -- a candidate, a round and a code have a byte
 seat-filled : (piece : List ℕ) (page : Page) → read_page (seat_of piece) ≡ Some page → 0 < length piece
-seat-filled [] page e = absurd (nothing page e)
+seat-filled [] page e = absurd (none-some page e)
 seat-filled (byte ∷ piece) page e = omega arith
 
 -- nothing is asked without a code
 why-codeless : (cand : Option CandId) (page : Page) → read_page (option_and_then (λ (cand : CandId). None) cand) ≡ Some page → ⊥
-why-codeless None page e = nothing page e
-why-codeless (Some cand) page e = nothing page e
+why-codeless None page e = none-some page e
+why-codeless (Some cand) page e = none-some page e
 
 list-codeless : (round : Option ℕ) (page : Page) → read_page (option_and_then (λ (round : ℕ). None) round) ≡ Some page → ⊥
-list-codeless None page e = nothing page e
-list-codeless (Some round) page e = nothing page e
+list-codeless None page e = none-some page e
+list-codeless (Some round) page e = none-some page e
 
 why-filled : (cand prog : List ℕ) (page : Page) → read_page (why_of cand prog) ≡ Some page → (0 < length cand) × (0 < length prog)
-why-filled [] prog page e = absurd (nothing page e)
+why-filled [] prog page e = absurd (none-some page e)
 why-filled (byte ∷ cand) [] page e = absurd (why-codeless (candidate_of (byte ∷ cand)) page e)
 why-filled (byte ∷ cand) (other ∷ prog) page e = (omega arith, omega arith)
 
 list-filled : (round prog : List ℕ) (page : Page) → read_page (list_of round prog) ≡ Some page → (0 < length round) × (0 < length prog)
-list-filled [] prog page e = absurd (nothing page e)
+list-filled [] prog page e = absurd (none-some page e)
 list-filled (byte ∷ round) [] page e = absurd (list-codeless (round_of (byte ∷ round)) page e)
 list-filled (byte ∷ round) (other ∷ prog) page e = (omega arith, omega arith)
 
@@ -145,15 +146,15 @@ two-found name one other page plain clear e =
     (along (codes "/v1/list/") road_rows (one ++ 47 ∷ other) (pair-found RoundList one other some plain filled clear)))
 
 named-found : (pieces : List (List ℕ)) (page : Page) → ArePlain pieces → page_named pieces ≡ Some page → IsFound (codes "/v1" ++ slashed pieces)
-named-found [] page plain e = absurd (nothing page e)
+named-found [] page plain e = absurd (none-some page e)
 named-found (name ∷ []) page plain e = alone-found name page e
 named-found (name ∷ one ∷ []) page plain e = one-found name one page plain.1.0 e
 named-found (name ∷ one ∷ other ∷ []) page plain e = two-found name one other page plain.1.0 plain.1.1.0 e
-named-found (name ∷ one ∷ other ∷ third ∷ pieces) page plain e = absurd (nothing page e)
+named-found (name ∷ one ∷ other ∷ third ∷ pieces) page plain e = absurd (none-some page e)
 
 at-found : (pieces : List (List ℕ)) (path : List ℕ) (page : Page) → ArePlain pieces → slashed pieces ≡ 47 ∷ path → page_at pieces ≡ Some page → IsFound path
-at-found [] path page plain same e = absurd (nothing page e)
-at-found (root ∷ []) path page plain same e = absurd (nothing page e)
+at-found [] path page plain same e = absurd (none-some page e)
+at-found (root ∷ []) path page plain same e = absurd (none-some page e)
 at-found (root ∷ version ∷ pieces) path page plain same e =
     let (tests, named) = cond-some _ (page_named pieces) page e in
     let parts = and_parts _ _ tests in
@@ -222,15 +223,3 @@ pub not-two : (rest one after other more : List ℕ) → cut_at 47 rest ≡ one 
 not-two rest one after other more cut again =
     let (third, others, filled) = cut_at-filled 47 more in
     ap two_of (cut ∙ ap (λ (pieces : List (List ℕ)). one ∷ pieces) (again ∙ ap (λ (pieces : List (List ℕ)). other ∷ pieces) filled))
-
-pub why-pieces : (pieces : List (List ℕ)) → two_of pieces ≡ [] → page_named (codes "why" ∷ pieces) ≡ None
-why-pieces [] none = refl
-why-pieces (one ∷ []) none = refl
-why-pieces (one ∷ other ∷ []) none = cc
-why-pieces (one ∷ other ∷ third ∷ pieces) none = refl
-
-pub list-pieces : (pieces : List (List ℕ)) → two_of pieces ≡ [] → page_named (codes "list" ∷ pieces) ≡ None
-list-pieces [] none = refl
-list-pieces (one ∷ []) none = refl
-list-pieces (one ∷ other ∷ []) none = cc
-list-pieces (one ∷ other ∷ third ∷ pieces) none = refl

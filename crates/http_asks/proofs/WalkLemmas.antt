@@ -4,6 +4,7 @@ use Rattle.std.proofs.lemmas.Bool.{and_from, eqb-true, lt-ltb}
 use Rattle.std.specs.Cmp.Lexicographic.{pointwise}
 use Rattle.matchit.specs.Rows.{RowsOf, param_token, catch_all_token}
 use Rattle.matchit.specs.Seek.{own, step, or_else, seek, first, param_step, has_slash, segment, longest_suffix, with_suffix, same_text, cuts}
+use Rattle.std.proofs.lemmas.Option.{none-some}
 
 -- The bytes of the pattern before its first parameter begin the path, and are all of it if it has no parameter.
 abbrev pub Follows : List ℕ → List ℕ → Type 0
@@ -26,10 +27,6 @@ follows-byte byte front pattern path small later (inr (rest, same, it)) =
 pub follows-front : (front pattern path : List ℕ) → AreBytes front → Follows (front ++ pattern) path → (end : List ℕ) × (path ≡ front ++ end) × Follows pattern end
 follows-front [] pattern path bytes it = (path, refl, it)
 follows-front (byte ∷ front) pattern path bytes it = follows-byte byte front pattern path bytes.0 (λ rest it. follows-front front pattern rest bytes.1 it) it
-
--- nothing that is there is not
-none-some : {X : Type 0} (x : X) → None ≡ Some x → ⊥
-none-some x e = cc
 
 same-some : {X : Type 0} (x y : X) → Some x ≡ Some y → x ≡ y
 same-some x y e = cc

@@ -38,7 +38,8 @@ pub fn judge(
     routes: &Routes,
     message: &HeldMessage<'_>,
 ) -> Result<Judged, OutOfMemory>
-    ensures exact { IfOk result (λ judged. told (told_message message.now) judged ≡ verdict_of (told_message message.now)) }
+    ensures exact { IfOk result (λ judged.
+        told (told_message message.now) judged ≡ verdict_of (told_message message.now)) }
     ensures memory { OnErr result (reads_body (told_message message.now) ≡ true) }
 {
     let Some(page) = page_of(routes, target_of(message)) else {

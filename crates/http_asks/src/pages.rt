@@ -129,7 +129,8 @@ fn two_pieces(rest: &[u8]) -> Option<(&[u8], &[u8])>
 /// Returns the bytes before the first separator, and those after it if there is one.
 fn first_piece(bytes: &[u8], separator: u8) -> (&[u8], Option<&[u8]>)
     ensures last { IfNone result.1 (cut_at separator bytes.now ≡ result.0.now ∷ []) }
-    ensures more { IfSome result.1 (λ rest. cut_at separator bytes.now ≡ result.0.now ∷ cut_at separator rest.now) }
+    ensures more { IfSome result.1 (λ rest.
+        cut_at separator bytes.now ≡ result.0.now ∷ cut_at separator rest.now) }
 {
     match memchr(separator, bytes) {
         Some(end) => (&bytes[..end], Some(&bytes[end + 1..])),

@@ -4,7 +4,7 @@ use Rattle.office_text.specs.Lines.{cut_at, onto_first}
 use Rattle.office_text.proofs.LinesLemmas.{IsFilled, cut_at-filled, cut_at-first, cut_at-whole}
 use Rattle.http_heads.specs.HeadEnds.{without_last, closed_lines, is_empty_line, onto_lines, to_empty, head_lines, bytes_of, head_len}
 
--- What stands before other pieces is not the last one.
+-- A piece before other pieces is not the last one.
 kept_before : (piece : List ℕ) (pieces : List (List ℕ)) → IsFilled pieces → without_last (piece ∷ pieces) ≡ piece ∷ without_last pieces
 kept_before piece pieces filled = rw filled.2 refl
 
@@ -122,7 +122,7 @@ pub found_lines : (lines : Option (List (List ℕ))) (len : ℕ) → option_map 
 found_lines None len is = cc
 found_lines (Some found) len is = (found, refl, ap (λ (n : Option ℕ). unwrap_or n 0) is)
 
--- A head stands in the bytes.
+-- A head is in the bytes.
 pub head_len-fits : (bytes : List ℕ) (len : ℕ) → head_len bytes ≡ Some len → len ≤ length bytes
 head_len-fits bytes len is =
     let found = found_lines (head_lines (closed_lines bytes)) len is in
@@ -147,33 +147,3 @@ lines_left false lines = head_lines lines
 -- how many bytes a head takes, of which so many were passed
 abbrev pub len_left : ℕ → Bool → List ℕ → Option ℕ
 len_left passed begun bytes = option_map (λ lines. passed + bytes_of lines) (lines_left begun (closed_lines bytes))
-
-one_more : (passed : ℕ) (line : List ℕ) (lines : Option (List (List ℕ))) → option_map (λ all. passed + bytes_of all) (onto_lines line lines) ≡ option_map (λ all. passed + (length line + 1) + bytes_of all) lines
-one_more passed line None = refl
-one_more passed line (Some lines) = ap (λ (n : ℕ). Some n) (omega arith)
-
--- A line that is not empty begins the head or goes on with it.
-pub len_left-line : (passed : ℕ) (begun : Bool) (bytes line rest : List ℕ) → closed_lines bytes ≡ line ∷ closed_lines rest → is_empty_line line ≡ false → len_left passed begun bytes ≡ len_left (passed + (length line + 1)) true rest
-len_left-line passed true bytes line rest cut filled = rw cut (rw filled (one_more passed line (to_empty (closed_lines rest))))
-len_left-line passed false bytes line rest cut filled = rw cut (rw filled (one_more passed line (to_empty (closed_lines rest))))
-
--- An empty line before is passed.
-pub len_left-blank : (passed : ℕ) (bytes line rest : List ℕ) → closed_lines bytes ≡ line ∷ closed_lines rest → is_empty_line line ≡ true → len_left passed false bytes ≡ len_left (passed + (length line + 1)) false rest
-len_left-blank passed bytes line rest cut empty = rw cut (rw empty (one_more passed line (head_lines (closed_lines rest))))
-
--- An empty line after ends the head.
-pub len_left-end : (passed : ℕ) (bytes line rest : List ℕ) → closed_lines bytes ≡ line ∷ closed_lines rest → is_empty_line line ≡ true → len_left passed true bytes ≡ Some (passed + (length line + 1))
-len_left-end passed bytes line rest cut empty = rw cut (rw empty (ap (λ (n : ℕ). Some n) (omega arith)))
-
--- Without a line no head has ended.
-pub len_left-none : (passed : ℕ) (begun : Bool) (bytes : List ℕ) → closed_lines bytes ≡ [] → len_left passed begun bytes ≡ None
-len_left-none passed true bytes cut = rw cut refl
-len_left-none passed false bytes cut = rw cut refl
-
--- At the start nothing was passed.
-pub len_left-start : (bytes : List ℕ) → len_left 0 false bytes ≡ head_len bytes
-len_left-start bytes = by (head_lines (closed_lines bytes))
-  where
-    by : (lines : Option (List (List ℕ))) → option_map (λ all. 0 + bytes_of all) lines ≡ option_map bytes_of lines
-    by None = refl
-    by (Some lines) = ap (λ (n : ℕ). Some n) (omega arith)

@@ -54,7 +54,8 @@ shared_length (Some first) texts = if is_length first && list_all (is_length_of 
 abbrev pub one_length : List (List ℕ) → Result (Option ℕ) ℕ
 one_length texts = shared_length (first_of texts) texts
 
--- How long a body is, by the method and the length that is told: 411 where a POST tells none, 413 where it is above 4,096.
+-- How long a body is, by the method and the given length, or the status that refuses it. Without a length, a POST is 411, and
+-- other methods have no body. A length above 4,096 is 413. A status that refuses the length stays.
 abbrev pub length_for : List ℕ → Result (Option ℕ) ℕ → Result ℕ ℕ
 length_for method (Err status) = Err status
 length_for method (Ok None) = if bytes_eq method (method_name Post) then Err 411 else Ok 0

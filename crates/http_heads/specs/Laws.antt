@@ -1,4 +1,4 @@
--- What holds of heads and messages, whoever reads them.
+-- What holds of heads and messages, for any reader of them.
 use Rattle.std.specs.Prelude.{◌≡◌, ◌<◌, ◌≤◌, ◌≢◌, ◌↔◌, ◌⊎◌, ℕ, true, false, List, [], ◌∷◌, ◌++◌, length, take, flat_map, Some}
 use Rattle.std.specs.List.{AllByRecursion, list_all, list_any}
 use Rattle.http_heads.specs.HeadEnds.{head_len, is_empty_line}

@@ -1,4 +1,4 @@
--- What the values of the code tell.
+-- What the values of the code represent.
 use Rattle.std.specs.Prelude.{◌≡◌, List, map}
 use Rattle.httparse.specs.Grammar.{RequestHead}
 use Rattle.httparse.specs.Spans.{header_bytes}
@@ -21,7 +21,7 @@ pub record IsHeadOf (read : Head) (head : RequestHead) : Type 0 where
   pub minor : read.minor ≡ head.minor
   pub fields : told_fields read.fields ≡ pairs head
 
--- the message that stands in the held bytes
+-- the message in the held bytes
 abbrev pub told_message : HeldMessage → Message
 told_message held = record { method = held.method.now; target = held.target.now; minor = held.minor; fields = told_fields held.fields; body = held.body.now }
 

@@ -86,7 +86,8 @@ impl<'a> Fields<'a> {
 
     /// Whether each `Content-Length` spells that number.
     fn all_spell(&self, len: u64) -> bool
-        ensures { result ≡ list_all (is_length_of len) (values (codes "content-length") (told_fields self.now)) }
+        ensures { result
+            ≡ list_all (is_length_of len) (values (codes "content-length") (told_fields self.now)) }
     {
         for span in self.spans {
             if is_same_name(span.name.of(self.head), b"content-length")
@@ -100,7 +101,8 @@ impl<'a> Fields<'a> {
 
     /// Whether a `Connection` lists `close`.
     fn lists_close(&self) -> bool
-        ensures { result ≡ list_any lists_close (values (codes "connection") (told_fields self.now)) }
+        ensures { result
+            ≡ list_any lists_close (values (codes "connection") (told_fields self.now)) }
     {
         for span in self.spans {
             if is_same_name(span.name.of(self.head), b"connection")

@@ -26,8 +26,10 @@ pub fn head_len(bytes: &[u8]) -> Option<usize>
 /// The first line that an LF ended, without that LF, and the bytes after it. None where no LF came.
 fn next_line(bytes: &[u8]) -> Option<(&[u8], &[u8])>
     ensures none { IfNone result (closed_lines bytes.now ≡ []) }
-    ensures some { IfSome result (λ cut. closed_lines bytes.now ≡ cut.0.now ∷ closed_lines cut.1.now) }
-    ensures size { IfSome result (λ cut. length bytes.now ≡ length cut.0.now + 1 + length cut.1.now) }
+    ensures some { IfSome result (λ cut.
+        closed_lines bytes.now ≡ cut.0.now ∷ closed_lines cut.1.now) }
+    ensures size { IfSome result (λ cut.
+        length bytes.now ≡ length cut.0.now + 1 + length cut.1.now) }
 {
     match memchr(b'\n', bytes) {
         Some(end) => Some((&bytes[..end], &bytes[end + 1..])),

@@ -11,7 +11,8 @@ use httparse::spans::{HeaderSpan, parse_request};
 
 /// The head that begins the bytes and has at most 64 fields. None where there is none.
 pub fn read_head<'a>(bytes: &'a [u8], room: &'a mut [HeaderSpan; 64]) -> Option<Head<'a>>
-    ensures some { IfSome result (λ read. (head : RequestHead) × Reads bytes.now head × IsHeadOf read head) }
+    ensures some { IfSome result (λ read. (head : RequestHead)
+        × Reads bytes.now head × IsHeadOf read head) }
     ensures none { IfNone result ((head : RequestHead) → Reads bytes.now head → ⊥) }
 {
     match parse_request(bytes, room) {

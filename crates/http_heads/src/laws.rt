@@ -1,4 +1,4 @@
-// What holds of heads and messages, whoever reads them.
+// What holds of heads and messages, for any reader of them.
 ghost use Rattle.std.specs.Prelude.{ℕ, ◌<◌, List, length};
 ghost use Rattle.http_heads.specs.Laws.{AreHeads, HasOneAnswer, IsNoneOrTorn, IsSettled};
 ghost use Rattle.http_heads.specs.Messages.{IsUnfinished};

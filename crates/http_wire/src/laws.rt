@@ -2,7 +2,7 @@
 ghost use Rattle.std.specs.Prelude.{◌≡◌, map};
 ghost use Rattle.http_wire.specs.Statuses.{phrase, phrases};
 
-/// Each status of the table has the phrase that stands beside it there.
+/// Each status of the table has the phrase next to it in the table.
 pub fn phrases_are_these()
     ensures { map (λ row. phrase row.0) phrases ≡ map (λ row. row.1) phrases }
 {}

@@ -113,7 +113,8 @@ pub fn put_head(
 )
     requires status { IsStatusCode status }
     requires room { vec_len out.old + 170 ≤ vec_capacity out.old }
-    ensures items { out.new.items ≡ out.old.items ++ reply_head status len (option_map method_name allow) close }
+    ensures items { out.new.items
+        ≡ out.old.items ++ reply_head status len (option_map method_name allow) close }
     ensures len { vec_len out.new ≤ vec_len out.old + 170 }
     ensures room { vec_capacity out.old ≤ vec_capacity out.new }
 {

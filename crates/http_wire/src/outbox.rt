@@ -19,7 +19,7 @@ pub const BODY_ROOM: usize = 8_192;
 // Room for a head and for such a body.
 const ROOM: usize = 8_448;
 
-/// The bytes of one reply. Its room is taken when it is made: what is put into it is never refused for want of memory.
+/// The bytes of one reply. It reserves its room when it is made, so putting a reply into it never runs out of memory.
 #[derive(Debug, Drop)]
 pub struct Outbox {
     bytes: Vec<u8>,
@@ -58,7 +58,8 @@ impl Outbox {
         requires { IsStatusCode status }
         ensures fits { IsTrue result ↔ (length body.now ≤ BODY_ROOM) }
         ensures whole { OnTrue result (self.new ≡ reply_text status (Some body.now) None close) }
-        ensures head { OnFalse result (self.new ≡ reply_head status (Some (length body.now)) None close) }
+        ensures head { OnFalse result
+            (self.new ≡ reply_head status (Some (length body.now)) None close) }
     {
         self.bytes.clear();
         put_head(&mut self.bytes, status, Some(body.len()), None, close);

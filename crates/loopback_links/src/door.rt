@@ -98,7 +98,8 @@ fn next_stream<L: Listener, R: Clock + Eprint>(
     listener: &mut L,
     edge: &Edge<R>,
 ) -> io::Result<L::Stream>
-    ensures next { IfOk result (λ stream. IsNext (L.coming listener.old) stream (L.coming listener.new)) }
+    ensures next { IfOk result (λ stream.
+        IsNext (L.coming listener.old) stream (L.coming listener.new)) }
     ensures kept { OnErr result (L.coming listener.new ≡ L.coming listener.old) }
 {
     let mut pauses = 0;
@@ -124,7 +125,8 @@ fn take_link<'e, L: Listener, R: Clock + Eprint>(
     listener: &mut L,
     edge: &'e Edge<R>,
 ) -> io::Result<LoopbackLink<'e, L::Stream, R>>
-    ensures next { IfOk result (λ link. IsNext (L.coming listener.old) link.stream (L.coming listener.new)) }
+    ensures next { IfOk result (λ link.
+        IsNext (L.coming listener.old) link.stream (L.coming listener.new)) }
     ensures lost { OnErr result (LosesOne (L.coming listener.old) (L.coming listener.new)) }
 {
     let stream = next_stream(listener, edge)?;
@@ -175,15 +177,20 @@ impl<'e, L: Listener + Drop, R: Clock + Eprint> Door for LoopbackDoor<'e, L, R> 
 
     fn accept(&mut self) -> Result<Option<LoopbackLink<'e, L::Stream, R>>, Failed>
         ensures none { IfOk result (λ r. IfNone r ((self.old.left ≡ 0) × (self.new.left ≡ 0))) }
-        ensures none_same { IfOk result (λ r. IfNone r ((self.new.out ≡ self.old.out) × ◌≡◌ {A = Option (Visits (AnyLink L.Stream R))} None None)) }
+        ensures none_same { IfOk result (λ r. IfNone r ((self.new.out ≡ self.old.out)
+            × ◌≡◌ {A = Option (Visits (AnyLink L.Stream R))} None None)) }
         ensures some { IfOk result (λ r. IfSome r (λ conn. self.old.left ≡ self.new.left + 1)) }
-        ensures gives { IfOk result (λ r. IfSome r (λ conn. (self.new.out ≡ self.old.out + 1) × GivesFirst None conn None)) }
-        ensures kept { OnErr result ((self.new.left ≡ self.old.left) × (self.new.out ≡ self.old.out) × ◌≡◌ {A = Option (Visits (AnyLink L.Stream R))} None None) }
+        ensures gives { IfOk result (λ r.
+            IfSome r (λ conn. (self.new.out ≡ self.old.out + 1) × GivesFirst None conn None)) }
+        ensures kept { OnErr result ((self.new.left ≡ self.old.left) × (self.new.out ≡ self.old.out)
+            × ◌≡◌ {A = Option (Visits (AnyLink L.Stream R))} None None) }
         ensures blamed { FailsIn result self.old.faults self.new.faults }
         // each connection of the listener is given, in its order; a failure loses one at most, and the last call none
-        ensures next { IfOk result (λ r. IfSome r (λ conn. IsNext (L.coming self.old.listener) conn.stream (L.coming self.new.listener))
+        ensures next { IfOk result (λ r. IfSome r (λ conn.
+            IsNext (L.coming self.old.listener) conn.stream (L.coming self.new.listener))
             × IfNone r (L.coming self.new.listener ≡ L.coming self.old.listener)) }
-        ensures lost { OnErr result (LosesOne (L.coming self.old.listener) (L.coming self.new.listener)) }
+        ensures lost { OnErr result
+            (LosesOne (L.coming self.old.listener) (L.coming self.new.listener)) }
     {
         if self.left == 0 {
             return Ok(None);

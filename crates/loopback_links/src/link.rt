@@ -211,7 +211,8 @@ impl<'e, S: Read + Write + OpenStream + Drop, R: Clock + Eprint> Link for Loopba
         ensures apart { ◌≡◌ {A = Option (List ℕ)} None None }
         ensures blamed { FailsIn result self.old.faults self.new.faults }
         // what the stream gives is what is read; an end comes only if nothing is left, and a failure takes nothing
-        ensures bytes { ReadConsumes (S.remaining self.old.stream) (S.remaining self.new.stream) result buf.new }
+        ensures bytes { ReadConsumes (S.remaining self.old.stream)
+            (S.remaining self.new.stream) result buf.new }
     {
         if self.begin_read().is_err() {
             return Err(self.failed());
@@ -233,7 +234,8 @@ impl<'e, S: Read + Write + OpenStream + Drop, R: Clock + Eprint> Link for Loopba
         ensures apart { ◌≡◌ {A = Option (List ℕ)} None None }
         ensures blamed { FailsIn result self.old.faults self.new.faults }
         // what is taken of the piece follows what the stream had, and nothing does at a failure
-        ensures bytes { WriteAppends (S.contents self.old.stream) (S.contents self.new.stream) result piece.now }
+        ensures bytes { WriteAppends (S.contents self.old.stream)
+            (S.contents self.new.stream) result piece.now }
     {
         if self.begin_write(piece).is_err() {
             return Err(self.failed());

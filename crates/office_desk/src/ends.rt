@@ -17,7 +17,9 @@ impl<V: Booked> Desk<V> {
     pub fn begin(alloc: Global, value: V) -> Result<(Desk<V>, Pass<V>), (V, OutOfMemory)>
         requires { last_of (map V.number (V.entries value)) < 2 ^ 40 }
         ensures desk { IfOk result (λ made. (origin_of made.0 ≡ value) × belongs made.0 made.1) }
-        ensures pass { IfOk result (λ made. (shares_of made.1 ≡ 2 ^ 30) × (left_of made.1 ≡ 2 ^ 40) × (tickets_of made.1 ≡ []) × (seen_of made.1 ≡ V.entries value) × (found_of made.1 ≡ V.count value) × (count_of made.1 ≡ V.count value)) }
+        ensures pass { IfOk result (λ made. (shares_of made.1 ≡ 2 ^ 30) × (left_of made.1 ≡ 2 ^ 40)
+            × (tickets_of made.1 ≡ []) × (seen_of made.1 ≡ V.entries value)
+            × (found_of made.1 ≡ V.count value) × (count_of made.1 ≡ V.count value)) }
         ensures refused { IfErr result (λ refused. refused.0 ≡ value) }
     {
         let mut slots = match Vec::with_capacity(alloc, 1) {

@@ -26,7 +26,8 @@ fn cut<V: Booked, P: Portion>(
     requires idle { seat.old.me.0.stage ≡ Idle }
     requires shares { 2 ≤ seat.old.me.0.shares }
     requires left { turns ≤ seat.old.me.0.left }
-    ensures table { (seat.new.table_id ≡ seat.old.table_id) × (result.table_id ≡ seat.old.table_id) }
+    ensures table { (seat.new.table_id ≡ seat.old.table_id)
+        × (result.table_id ≡ seat.old.table_id) }
     ensures kept { seat.new.me ≡ (left_part turns seat.old.me.0, seat.old.me.1) }
     ensures given { result.me ≡ (right_part turns seat.old.me.0, []) }
 {
@@ -79,7 +80,8 @@ impl<V: Booked> Pass<V> {
         requires shares { 2 ≤ shares_of self.old }
         requires turns { turns ≤ left_of self.old }
         ensures made { IsOk result }
-        ensures split { IfOk result (λ pass. belongs desk.now self.new × belongs desk.now pass × IsSplitOff turns self.old self.new pass) }
+        ensures split { IfOk result (λ pass. belongs desk.now self.new
+            × belongs desk.now pass × IsSplitOff turns self.old self.new pass) }
     {
         let seat = cut::<V, Brand>(desk, &mut self.seat, turns);
         self.shares -= 1;
@@ -111,12 +113,14 @@ fn unite<V: Booked>(
     seat: &mut Seat<Option<V>, View<V>>,
     other: Seat<Option<V>, View<V>>,
 )
-    requires table { (seat.old.table_id ≡ desk.now.table.shared.table_id) × (other.table_id ≡ desk.now.table.shared.table_id) }
+    requires table { (seat.old.table_id ≡ desk.now.table.shared.table_id)
+        × (other.table_id ≡ desk.now.table.shared.table_id) }
     requires idle { (seat.old.me.0.stage ≡ Idle) × (other.me.0.stage ≡ Idle) × (other.me.1 ≡ []) }
     requires shares { 1 ≤ seat.old.me.0.shares }
     ensures table { seat.new.table_id ≡ seat.old.table_id }
     ensures view { seat.new.me ≡ (united seat.old.me.0 other.me.0, seat.old.me.1) }
-    ensures settled { IsSettled V.number (both_of seat.old.me.0 other.me.0) seat.old.me.0.seen other.me.0.seen seat.old.me.0.tickets other.me.0.tickets }
+    ensures settled { IsSettled V.number (both_of seat.old.me.0 other.me.0) seat.old.me.0.seen
+        other.me.0.seen seat.old.me.0.tickets other.me.0.tickets }
 {
     desk.table.shared.join_seat::<Union>(seat, other);
     desk.table.shared.load::<Settle>(seat, 0);

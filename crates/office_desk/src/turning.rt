@@ -49,7 +49,9 @@ fn await_turn<W: Wait, V: Booked>(
     requires table { seat.old.table_id ≡ desk.now.table.shared.table_id }
     requires waits { (seat.old.me.0.stage ≡ Waits number) × (seat.old.me.1 ≡ []) }
     ensures table { seat.new.table_id ≡ seat.old.table_id }
-    ensures held { (x : V) × (seat.new.me ≡ (holding V.entries V.count seat.old.me.0 number x, (0, Some x) ∷ [])) × IsTaken V.basis V.entries V.number V.count number seat.old.me.0 x }
+    ensures held { (x : V)
+        × (seat.new.me ≡ (holding V.entries V.count seat.old.me.0 number x, (0, Some x) ∷ []))
+        × IsTaken V.basis V.entries V.number V.count number seat.old.me.0 x }
 {
     let shared = &desk.table.shared;
     for _ in rt.forever() {
@@ -66,9 +68,11 @@ fn await_turn<W: Wait, V: Booked>(
 fn hand_back<V: Booked>(desk: &Desk<V>, seat: &mut Seat<Option<V>, View<V>>, number: u64)
     requires table { seat.old.table_id ≡ desk.now.table.shared.table_id }
     requires small { number < 2 ^ 41 }
-    requires held { (y : V) × (seat.old.me.1 ≡ (0, Some y) ∷ []) × MayReturn V.basis V.entries V.number V.count number seat.old.me.0 y }
+    requires held { (y : V) × (seat.old.me.1 ≡ (0, Some y) ∷ [])
+        × MayReturn V.basis V.entries V.number V.count number seat.old.me.0 y }
     ensures table { seat.new.table_id ≡ seat.old.table_id }
-    ensures view { (y : V) × (seat.old.me.1 ≡ (0, Some y) ∷ []) × (seat.new.me ≡ (after_turn V.entries V.count seat.old.me.0 y seat.old.me.0.stage, [])) }
+    ensures view { (y : V) × (seat.old.me.1 ≡ (0, Some y) ∷ [])
+        × (seat.new.me ≡ (after_turn V.entries V.count seat.old.me.0 y seat.old.me.0.stage, [])) }
 {
     desk.table.shared.store::<Advance>(seat, 1, number + 1);
 }

@@ -35,7 +35,14 @@ impl Model for MemDoor {
 impl MemDoor {
     /// Makes a door that gives these links. The calls of `accept` with the numbers in `fail_at`, from 1, fail.
     pub fn new(alloc: Global, links: Vec<MemLink>, fail_at: &[u32]) -> Result<MemDoor, OutOfMemory>
-        ensures { IfOk result (λ door. door ≡ record { coming = links.items; returned = []; out = 0; calls = 0; fail_at = fail_at.now; faults = 0 }) }
+        ensures { IfOk result (λ door. door ≡ record {
+          coming = links.items;
+          returned = [];
+          out = 0;
+          calls = 0;
+          fail_at = fail_at.now;
+          faults = 0;
+        }) }
     {
         let room = links.len();
         Ok(MemDoor {
@@ -83,14 +90,16 @@ impl Door for MemDoor {
     ghost told_number = { λ door. refl };
 
     fn accept(&mut self) -> Result<Option<MemLink>, Failed>
-        ensures none { IfOk result (λ r. IfNone r ((length self.old.coming ≡ 0) × (length self.new.coming ≡ 0))) }
+        ensures none { IfOk result (λ r.
+            IfNone r ((length self.old.coming ≡ 0) × (length self.new.coming ≡ 0))) }
         ensures none_same { IfOk result (λ r. IfNone r ((self.new.out ≡ self.old.out)
             × (Some (visits self.new) ≡ Some (visits self.old)))) }
-        ensures some { IfOk result (λ r. IfSome r (λ conn. length self.old.coming ≡ length self.new.coming + 1)) }
+        ensures some { IfOk result (λ r.
+            IfSome r (λ conn. length self.old.coming ≡ length self.new.coming + 1)) }
         ensures gives { IfOk result (λ r. IfSome r (λ conn. (self.new.out ≡ self.old.out + 1)
             × GivesFirst (Some (visits self.old)) conn (Some (visits self.new)))) }
-        ensures kept { OnErr result ((length self.new.coming ≡ length self.old.coming) × (self.new.out ≡ self.old.out)
-            × (Some (visits self.new) ≡ Some (visits self.old))) }
+        ensures kept { OnErr result ((length self.new.coming ≡ length self.old.coming)
+            × (self.new.out ≡ self.old.out) × (Some (visits self.new) ≡ Some (visits self.old))) }
         ensures blamed { Fails (IsErr result) self.old.faults self.new.faults }
         ensures memory { IsDoorAccept self.old self.new result }
     {
@@ -107,10 +116,12 @@ impl Door for MemDoor {
 
     fn give_back(&mut self, conn: MemLink)
         requires { 1 ≤ self.old.out }
-        ensures numbers { (self.old.out ≡ self.new.out + 1) × (length self.new.coming ≡ length self.old.coming) }
+        ensures numbers { (self.old.out ≡ self.new.out + 1)
+            × (length self.new.coming ≡ length self.old.coming) }
         ensures told { TakesBack (Some (visits self.old)) conn (Some (visits self.new)) }
         ensures count { self.new.faults ≡ self.old.faults }
-        ensures rest { self.new ≡ record self.old { out = self.new.out; returned = self.old.returned ++ conn ∷ [] } }
+        ensures rest { self.new
+            ≡ record self.old { out = self.new.out; returned = self.old.returned ++ conn ∷ [] } }
     {
         self.returned.push_reserved(conn);
     }

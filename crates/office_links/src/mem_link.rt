@@ -43,7 +43,15 @@ impl MemLink {
         fail_at: &[u32],
     ) -> Result<MemLink, OutOfMemory>
         requires { 0 < piece }
-        ensures { IfOk result (λ link. link ≡ record { left = bytes.now; piece = piece; written = []; room = room; calls = 0; fail_at = fail_at.now; faults = 0 }) }
+        ensures { IfOk result (λ link. link ≡ record {
+          left = bytes.now;
+          piece = piece;
+          written = [];
+          room = room;
+          calls = 0;
+          fail_at = fail_at.now;
+          faults = 0;
+        }) }
     {
         Ok(MemLink {
             source: MemSource::new(alloc, bytes, piece, &[])?,
@@ -79,7 +87,8 @@ impl Link for MemLink {
 
     fn read(&mut self, buf: &mut [u8]) -> Result<usize, Failed>
         ensures within { IfOk result (λ n. n ≤ length buf.old) }
-        ensures taken { IfOk result (λ n. TakesPrefix n (Some self.old.left) (Some self.new.left) buf.new) }
+        ensures taken { IfOk result (λ n.
+            TakesPrefix n (Some self.old.left) (Some self.new.left) buf.new) }
         ensures ended { IfOk result (λ n. ComesAtTheEnd n (length buf.old) (Some self.old.left)) }
         ensures kept { OnErr result (Some self.new.left ≡ Some self.old.left) }
         ensures apart { Some self.new.written ≡ Some self.old.written }
@@ -99,7 +108,8 @@ impl Link for MemLink {
     fn write(&mut self, piece: &[u8]) -> Result<usize, Failed>
         ensures within { IfOk result (λ n. n ≤ length piece.now) }
         ensures some { IfOk result (λ n. 0 < length piece.now → 0 < n) }
-        ensures appended { IfOk result (λ n. AppendsPrefix n piece.now (Some self.old.written) (Some self.new.written)) }
+        ensures appended { IfOk result (λ n.
+            AppendsPrefix n piece.now (Some self.old.written) (Some self.new.written)) }
         ensures kept { OnErr result (Some self.new.written ≡ Some self.old.written) }
         ensures apart { Some self.new.left ≡ Some self.old.left }
         ensures blamed { Fails (IsErr result) self.old.faults self.new.faults }

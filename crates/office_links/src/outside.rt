@@ -35,7 +35,8 @@ pub trait Link {
     fn write(&mut self, piece: &[u8]) -> Result<usize, Failed>
         ensures within { IfOk result (λ n. n ≤ length piece.now) }
         ensures some { IfOk result (λ n. 0 < length piece.now → 0 < n) }
-        ensures appended { IfOk result (λ n. AppendsPrefix n piece.now (written self.old) (written self.new)) }
+        ensures appended { IfOk result (λ n.
+            AppendsPrefix n piece.now (written self.old) (written self.new)) }
         ensures kept { OnErr result (written self.new ≡ written self.old) }
         ensures apart { left self.new ≡ left self.old }
         ensures count { faults self.old ≤ faults self.new }
@@ -63,11 +64,16 @@ pub trait Door {
     /// It returns `Failed` only if the door failed in this call:
     /// its count rose, and then no connection came.
     fn accept(&mut self) -> Result<Option<Self::Conn>, Failed>
-        ensures none { IfOk result (λ r. IfNone r ((to_come self.old ≡ 0) × (to_come self.new ≡ 0))) }
-        ensures none_same { IfOk result (λ r. IfNone r ((out self.new ≡ out self.old) × (told self.new ≡ told self.old))) }
-        ensures some { IfOk result (λ r. IfSome r (λ conn. to_come self.old ≡ to_come self.new + 1)) }
-        ensures gives { IfOk result (λ r. IfSome r (λ conn. (out self.new ≡ out self.old + 1) × GivesFirst (told self.old) conn (told self.new))) }
-        ensures kept { OnErr result ((to_come self.new ≡ to_come self.old) × (out self.new ≡ out self.old) × (told self.new ≡ told self.old)) }
+        ensures none { IfOk result (λ r.
+            IfNone r ((to_come self.old ≡ 0) × (to_come self.new ≡ 0))) }
+        ensures none_same { IfOk result (λ r.
+            IfNone r ((out self.new ≡ out self.old) × (told self.new ≡ told self.old))) }
+        ensures some { IfOk result (λ r.
+            IfSome r (λ conn. to_come self.old ≡ to_come self.new + 1)) }
+        ensures gives { IfOk result (λ r. IfSome r (λ conn. (out self.new ≡ out self.old + 1)
+            × GivesFirst (told self.old) conn (told self.new))) }
+        ensures kept { OnErr result ((to_come self.new ≡ to_come self.old)
+            × (out self.new ≡ out self.old) × (told self.new ≡ told self.old)) }
         ensures count { faults self.old ≤ faults self.new }
         ensures steady { OnOk result (faults self.new ≡ faults self.old) }
         ensures cause { OnErr result (Rose (faults self.old) (faults self.new)) };
@@ -75,7 +81,8 @@ pub trait Door {
     /// Takes a connection back. It allocates nothing.
     fn give_back(&mut self, conn: Self::Conn)
         requires { 1 ≤ out self.old }
-        ensures numbers { (out self.old ≡ out self.new + 1) × (to_come self.new ≡ to_come self.old) }
+        ensures numbers { (out self.old ≡ out self.new + 1)
+            × (to_come self.new ≡ to_come self.old) }
         ensures told { TakesBack (told self.old) conn (told self.new) }
         ensures count { faults self.new ≡ faults self.old };
 

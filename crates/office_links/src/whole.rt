@@ -11,7 +11,8 @@ use office_base::Failed;
 /// What is left to read stays.
 pub fn write_link<L: Link>(link: &mut L, piece: &[u8]) -> Result<(), Failed>
     ensures ok { OnOk result (Appends piece.now (L.written link.old) (L.written link.new)) }
-    ensures err { OnErr result ((n : ℕ) × (n < length piece.now) × Appends (take n piece.now) (L.written link.old) (L.written link.new)) }
+    ensures err { OnErr result ((n : ℕ) × (n < length piece.now)
+        × Appends (take n piece.now) (L.written link.old) (L.written link.new)) }
     ensures apart { L.left link.new ≡ L.left link.old }
     ensures cause { OnErr result (Rose (L.faults link.old) (L.faults link.new)) }
     ensures count { L.faults link.old ≤ L.faults link.new }

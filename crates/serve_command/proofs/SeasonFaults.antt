@@ -32,9 +32,3 @@ pub season_failed : (left after : Option (List ℕ)) (failed : Type 0) (fault : 
 season_failed left after failed fault Read cause first told = cause told
 season_failed left after failed fault (Bad line) cause first told = line_left left after fault line told.0 told.1 first told.2
 season_failed left after failed fault NoMemory cause first told = tt
-
--- If it reports no failed source, the source did not fail.
-pub season_held : (fault : SeasonFault) (failure : Failure) (Held : Type 0) → ((fault ≡ ReadFault → ⊥) → Held) → TellsSeasonFault fault failure → (failure ≡ Read → ⊥) → Held
-season_held fault Read Held steady told other = absurd (other refl)
-season_held fault (Bad line) Held steady told other = steady told.0
-season_held fault NoMemory Held steady told other = steady told

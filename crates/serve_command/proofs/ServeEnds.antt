@@ -11,7 +11,7 @@ use Rattle.office_moves.specs.State.{State}
 use Rattle.office_moves.specs.declared.moves.Entry.{Entry}
 use Rattle.round_cut.specs.Resume.{HoldsTheKept, IsResumed, IsUnresumed}
 use Rattle.round_cut.specs.declared.fault.BeginFault.{BeginFault}
-use Rattle.round_cut.specs.declared.fault.BeginFault.TheVariants.{NotEmpty, KeeperFault as NoKeeper, OutOfMemory as NoMemory}
+use Rattle.round_cut.specs.declared.fault.BeginFault.TheVariants.{NotEmpty}
 use Rattle.round_cut.specs.declared.resume.Unresumed.{Unresumed}
 use Rattle.season_commands.specs.Resume.{IsUnresumedText}
 use Rattle.season_commands.specs.Run.{IsUnbegunText, TellsSeason, begin_status, begin_text}
@@ -22,16 +22,11 @@ use Rattle.command_answers.specs.declared.failure.Failure.TheVariants.{Read, Bad
 use Rattle.command_answers.specs.declared.status.Status.{Status}
 use Rattle.command_answers.proofs.Ended.{told_is_written}
 use Rattle.season_commands.proofs.Still.{still_from, still_later, still_resumed}
+use Rattle.season_commands.proofs.RunEnds.{text_of_begin}
 use Rattle.serve_command.specs.Doors.{Doors}
 use Rattle.serve_command.specs.Serve.{EndsBegun, EndsServe, EndsServeKept, EndsServed, IsFaultySeason, IsLeftSeason, IsSeasonBundle, IsUnreadText, season_answers}
 
 -- ---- an office begins
-
--- the text of why no office began goes with its status
-text_of_begin : (tables : Tables) (fault : BeginFault) → (fault ≡ NotEmpty → IsFound true tables) → IsUnbegunText tables (begin_status fault) (begin_text fault)
-text_of_begin tables NotEmpty held = (held refl, refl)
-text_of_begin tables NoKeeper held = refl
-text_of_begin tables NoMemory held = refl
 
 -- No office began.
 pub unbegun_ends : (season : Season) (before after : Tables) (doors : Doors) (fault : BeginFault) (written now : Option (List ℕ)) (broke : Type 0) (result : Status)

@@ -50,9 +50,9 @@ pub fn serve_kept<R: Threads + Wait + Sync, K: Sink, P: Keeper + Send, D: Door<C
     ensures doors { BlamesDoors (telling D.Door D.Conn.Link) doors.old doors.new result.0 }
     ensures records { JudgesRecords (outside_of K.Sink P.Keeper sink.old keeper)
         (outside_of K.Sink P.Keeper sink.new result.1) result.0 }
-    ensures complete { TellsSound (still (P.seen keeper).tables (P.seen result.1).tables) → ¬ Rose (K.faults sink.old) (K.faults sink.new)
-        → ¬ Rose (P.seen keeper).faults (P.seen result.1).faults
-        → ¬ SomeRose D.faults doors.old doors.new → EndsWith Status.Ok result.0 }
+    ensures complete { TellsSound (still (P.seen keeper).tables (P.seen result.1).tables)
+        → ¬ Rose (K.faults sink.old) (K.faults sink.new) → ¬ Rose (P.seen keeper).faults (P.seen
+        result.1).faults → ¬ SomeRose D.faults doors.old doors.new → EndsWith Status.Ok result.0 }
 {
     one_end();
     one_reading();

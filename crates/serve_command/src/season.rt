@@ -45,12 +45,14 @@ pub fn serve_season<
         (doors_of (telling D.Door D.Conn.Link)
         (P.seen keeper).holds_room (P.seen keeper).faults (P.seen result.1).faults doors.old doors.new)
         result.0 output }
-    ensures read_whole { (result.0 ≡ Status.Ok) ⊎ (result.0 ≡ Status.DoorFault) → IsAtEnd (S.left source.new) }
+    ensures read_whole { (result.0 ≡ Status.Ok) ⊎ (result.0 ≡ Status.DoorFault)
+        → IsAtEnd (S.left source.new) }
     ensures no_difference { result.0 ≢ Status.Differs }
-    ensures read_blamed { BlamesSource result.0 (source_of S.Source source.old) (source_of S.Source source.new) }
+    ensures read_blamed { BlamesSource result.0 (source_of S.Source source.old)
+        (source_of S.Source source.new) }
     ensures sink { BlamesSink result.0 (sink_of K.Sink sink.old) (sink_of K.Sink sink.new) }
-    ensures keeper { BlamesKeeper (λ status. (status ≡ Status.BadInput) ⊎ (status ≡ Status.ReadFault))
-        (P.seen keeper).faults (P.seen result.1).faults result.0 }
+    ensures keeper { BlamesKeeper (λ status. (status ≡ Status.BadInput)
+        ⊎ (status ≡ Status.ReadFault)) (P.seen keeper).faults (P.seen result.1).faults result.0 }
     ensures doors { BlamesDoors (telling D.Door D.Conn.Link) doors.old doors.new result.0 }
     ensures answers { AnswersBundle (source_of S.Source source.old) (source_of S.Source source.new)
         (outside_of K.Sink P.Keeper sink.old keeper) (outside_of K.Sink P.Keeper sink.new result.1)
@@ -68,7 +70,8 @@ fn read_season<S: Source>(alloc: Global, source: &mut S) -> Result<Season, Failu
     ensures season { IfOk result (IsLeftSeason (S.left source.old)) }
     ensures text { IfOk result (λ season. IsSeason season.text season) }
     ensures ended { OnOk result (IsAtEnd (S.left source.new)) }
-    ensures failure { IfErr result (IsFailureOf season_answers (S.left source.old) (Rose (S.faults source.old) (S.faults source.new))) }
+    ensures failure { IfErr result (IsFailureOf season_answers (S.left source.old)
+        (Rose (S.faults source.old) (S.faults source.new))) }
     ensures count { S.faults source.old ≤ S.faults source.new }
     ensures steady { ¬ IsErrOf result Failure.Read → S.faults source.new ≡ S.faults source.old }
 {
@@ -98,13 +101,15 @@ fn begin_and_serve<R: Threads + Wait + Sync, K: Sink, P: Keeper + Send, D: Door<
     ensures no_read_fault { result.0 ≢ Status.ReadFault }
     ensures no_difference { result.0 ≢ Status.Differs }
     ensures sink { BlamesSink result.0 (sink_of K.Sink sink.old) (sink_of K.Sink sink.new) }
-    ensures keeper { BlamesKeeper (λ status. status ≡ Status.BadInput) (P.seen keeper).faults (P.seen result.1).faults result.0 }
+    ensures keeper { BlamesKeeper (λ status. status ≡ Status.BadInput)
+        (P.seen keeper).faults (P.seen result.1).faults result.0 }
     ensures doors { BlamesDoors (telling D.Door D.Conn.Link) doors.old doors.new result.0 }
-    ensures complete { TellsNoSeason (still (P.seen keeper).tables (P.seen result.1).tables) → ¬ Rose (K.faults sink.old) (K.faults sink.new)
-        → ¬ Rose (P.seen keeper).faults (P.seen result.1).faults
-        → ¬ SomeRose D.faults doors.old doors.new → EndsWith Status.Ok result.0 }
-    ensures not_empty { TellsSeason (still (P.seen keeper).tables (P.seen result.1).tables) → ¬ Rose (K.faults sink.old) (K.faults sink.new)
-        → ¬ Rose (P.seen keeper).faults (P.seen result.1).faults → EndsWith Status.BadInput result.0 }
+    ensures complete { TellsNoSeason (still (P.seen keeper).tables (P.seen result.1).tables)
+        → ¬ Rose (K.faults sink.old) (K.faults sink.new) → ¬ Rose (P.seen keeper).faults (P.seen
+        result.1).faults → ¬ SomeRose D.faults doors.old doors.new → EndsWith Status.Ok result.0 }
+    ensures not_empty { TellsSeason (still (P.seen keeper).tables (P.seen result.1).tables)
+        → ¬ Rose (K.faults sink.old) (K.faults sink.new) → ¬ Rose (P.seen keeper).faults
+        (P.seen result.1).faults → EndsWith Status.BadInput result.0 }
 {
     match Office::begin(alloc, season, keeper) {
         Ok(office) => serve_office(rt, alloc, office, sink, doors),

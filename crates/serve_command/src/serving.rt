@@ -49,12 +49,13 @@ pub(crate) fn serve_office<
         (P.seen office.keeper).holds_room (P.seen office.keeper).faults (P.seen result.1).faults doors.old doors.new)
         result.0 output }
     ensures told_before { IsTold (P.seen result.1).tables → IsTold (P.seen office.keeper).tables }
-    ensures own { (result.0 ≡ Status.Ok) ⊎ ((result.0 ≡ Status.WriteFault) ⊎ ((result.0 ≡ Status.OutOfMemory) ⊎ (result.0 ≡ Status.DoorFault))) }
+    ensures own { (result.0 ≡ Status.Ok) ⊎ ((result.0 ≡ Status.WriteFault)
+        ⊎ ((result.0 ≡ Status.OutOfMemory) ⊎ (result.0 ≡ Status.DoorFault))) }
     ensures sink { BlamesSink result.0 (sink_of K.Sink sink.old) (sink_of K.Sink sink.new) }
     ensures doors { BlamesDoors (telling D.Door D.Conn.Link) doors.old doors.new result.0 }
     ensures keeper_count { (P.seen office.keeper).faults ≤ (P.seen result.1).faults }
-    ensures complete { ¬ Rose (K.faults sink.old) (K.faults sink.new) → ¬ SomeRose D.faults doors.old doors.new
-        → EndsWith Status.Ok result.0 }
+    ensures complete { ¬ Rose (K.faults sink.old) (K.faults sink.new)
+        → ¬ SomeRose D.faults doors.old doors.new → EndsWith Status.Ok result.0 }
 {
     let _entries = office.entries();
     if office.last_number() >= MOST_NUMBER {
@@ -69,10 +70,13 @@ pub(crate) fn serve_office<
 /// Writes how far an office is that was served, and returns its keeper.
 fn tell_served<K: Sink, P: Keeper>(alloc: Global, served: Served<P>, sink: &mut K) -> (Status, P)
     ensures written { (output : List ℕ) × Appends output (K.written sink.old) (K.written sink.new)
-        × Writes (IsEndText served.office.season served.office.entries (P.seen result.1).tables served.door_failed) result.0 output }
+        × Writes (IsEndText served.office.season served.office.entries
+        (P.seen result.1).tables served.door_failed) result.0 output }
     ensures same { result.1 ≡ served.office.keeper }
-    ensures status { (result.0 ≡ served_status served.door_failed) ⊎ ((result.0 ≡ Status.OutOfMemory) ⊎ (result.0 ≡ Status.WriteFault)) }
-    ensures write_fault { result.0 ≡ Status.WriteFault → Rose (K.faults sink.old) (K.faults sink.new) }
+    ensures status { (result.0 ≡ served_status served.door_failed)
+        ⊎ ((result.0 ≡ Status.OutOfMemory) ⊎ (result.0 ≡ Status.WriteFault)) }
+    ensures write_fault { result.0 ≡ Status.WriteFault
+        → Rose (K.faults sink.old) (K.faults sink.new) }
     ensures sink_steady { result.0 ≢ Status.WriteFault → K.faults sink.new ≡ K.faults sink.old }
 {
     let Served {

@@ -22,7 +22,8 @@ pub(crate) fn served_text<P: Keeper>(
     office: &Office<P>,
     door_failed: bool,
 ) -> Result<Text, OutOfMemory>
-    ensures { IfOk result (λ text. text ≡ served_text office.now.season office.now.state (length office.now.entries) door_failed) }
+    ensures { IfOk result (λ text. text
+        ≡ served_text office.now.season office.now.state (length office.now.entries) door_failed) }
 {
     let mut out = state_text(alloc, office)?;
     push_entries(&mut out, office.entries().len(), door_failed)?;
@@ -31,7 +32,8 @@ pub(crate) fn served_text<P: Keeper>(
 
 /// Returns the line of how far the office is.
 fn state_text<P: Keeper>(alloc: Global, office: &Office<P>) -> Result<Text, OutOfMemory>
-    ensures { IfOk result (λ text. text ≡ state_line office.now.state.now office.now.season.rounds (length office.now.state.rounds)) }
+    ensures { IfOk result (λ text. text ≡ state_line office.now.state.now
+        office.now.season.rounds (length office.now.state.rounds)) }
 {
     let season = office.season();
     let far = Reply::StateIs {
@@ -44,7 +46,8 @@ fn state_text<P: Keeper>(alloc: Global, office: &Office<P>) -> Result<Text, OutO
 
 /// Puts the line of how many entries there are, and the line of a door that failed.
 fn push_entries(out: &mut Text, entries: usize, door_failed: bool) -> Result<(), OutOfMemory>
-    ensures { OnOk result (out.new ≡ out.old ++ codes "entries " ++ decimal entries ++ codes "\n" ++ door_line door_failed) }
+    ensures { OnOk result (out.new
+        ≡ out.old ++ codes "entries " ++ decimal entries ++ codes "\n" ++ door_line door_failed) }
 {
     let mut buffer = Buffer::new();
     out.extend_from_slice(b"entries ")?;
@@ -66,7 +69,8 @@ pub(crate) fn write_served<K: Sink>(
     text: Result<Text, OutOfMemory>,
     door_failed: bool,
 ) -> Status
-    ensures told { IsTold (told_status door_failed text) (told_text text) (K.written sink.old) (K.written sink.new) (Rose (K.faults sink.old) (K.faults sink.new)) result }
+    ensures told { IsTold (told_status door_failed text) (told_text text) (K.written sink.old)
+        (K.written sink.new) (Rose (K.faults sink.old) (K.faults sink.new)) result }
     ensures steady { result ≢ Status.WriteFault → K.faults sink.new ≡ K.faults sink.old }
 {
     match text {

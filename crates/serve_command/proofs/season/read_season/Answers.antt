@@ -1,6 +1,7 @@
 use Rattle.std.proofs.Common.{Err, ap, sym, ◌∙◌}
-use Rattle.serve_command.proofs.SeasonFaults.{season_failed, season_held}
+use Rattle.serve_command.proofs.SeasonFaults.{season_failed}
 use Rattle.command_answers.proofs.Ended.{all_left}
+use Rattle.season_commands.proofs.CheckFaults.{season_held}
 use Rattle.serve_command.proofs.season.read_season.Goals as goal
 
 pub returns-in-Ok-clause-season : goal.returns-in-Ok-clause-season

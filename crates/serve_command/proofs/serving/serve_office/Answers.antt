@@ -43,3 +43,9 @@ returns-in-Err-clause-sink g c = record { write_fault = search rules; sink_stead
 
 pub returns-in-Err-clause-doors : goal.returns-in-Err-clause-doors
 returns-in-Err-clause-doors g c = record { door_fault = search rules; all_served = search rules; doors_steady = search rules }
+
+pub returns-then-last_number-ge-MOST_NUMBER-clause-sink : goal.returns-then-last_number-ge-MOST_NUMBER-clause-sink
+returns-then-last_number-ge-MOST_NUMBER-clause-sink g c = record { write_fault = search rules; sink_steady = search rules }
+
+pub returns-then-last_number-ge-MOST_NUMBER-clause-doors : goal.returns-then-last_number-ge-MOST_NUMBER-clause-doors
+returns-then-last_number-ge-MOST_NUMBER-clause-doors g c = record { door_fault = search rules; all_served = search rules; doors_steady = search rules }
