@@ -33,7 +33,12 @@ pub const fn applicant(category: Category, traits: u8, common: bool) -> Kind {
 
 /// A general candidate with the number as the common place in list 1.
 pub fn candidate(number: u32, traits: u8) -> Person
-    ensures { result ≡ record { id = record { 0 = number }; category = Category.Gen; traits = record { 0 = traits }; places = Place.Common number ∷ Place.Absent ∷ Place.Absent ∷ Place.Absent ∷ [] } }
+    ensures { result ≡ record {
+      id = record { 0 = number };
+      category = Category.Gen;
+      traits = record { 0 = traits };
+      places = Place.Common number ∷ Place.Absent ∷ Place.Absent ∷ Place.Absent ∷ [];
+    } }
 {
     Person {
         id: CandId(number),
@@ -117,8 +122,8 @@ pub fn may_all_apply(list: ListId, people: &[Person]) -> bool
     is_new(list, others, person) && may_all_apply(list, others)
 }
 
-/// Whether the person is none of these people and has a place of the own in the list, so that a step that holds them may be
-/// offered the person.
+/// Returns whether the person is none of these people and has a place in the list, so that a step that holds them may
+/// be offered the person.
 pub fn is_new(list: ListId, people: &[Person], person: &Person) -> bool
     requires { IsList list }
     ensures { IsTrue result → IsNewTo list people.now person.now }
@@ -129,8 +134,8 @@ pub fn is_new(list: ListId, people: &[Person], person: &Person) -> bool
 // Whether none of these people has the person's number or place.
 fn is_apart(list: ListId, people: &[Person], person: &Person) -> bool
     requires { IsList list }
-    ensures { IsTrue result
-        → AllByRecursion (λ other. person.now.id ≢ other.id) people.now × AllByRecursion (λ other. number_in list person.now ≢ number_in list other) people.now }
+    ensures { IsTrue result → AllByRecursion (λ other. person.now.id ≢ other.id) people.now
+        × AllByRecursion (λ other. number_in list person.now ≢ number_in list other) people.now }
 {
     let [other, others @ ..] = people else {
         return true;

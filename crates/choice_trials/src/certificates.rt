@@ -7,13 +7,13 @@ use std::alloc::Global;
 /// Candidates with slots, and whether they are a certificate: they are one in any order.
 const SHOWN: &[(&[(u32, u8)], bool)] = &[
     (&[(4, 1), (2, 1), (3, 0)], true),
-    // a person stands twice
+    // a person is in two pairs
     (&[(2, 0), (2, 1)], false),
     // a trait is not held
     (&[(2, 0), (3, 1)], false),
-    // one too many stands on a trait
+    // one too many on a trait
     (&[(2, 0), (3, 0)], false),
-    // a stranger stands
+    // a stranger is in a pair
     (&[(2, 0), (5, 1)], false),
     // no trait has this number
     (&[(2, 0), (4, 6)], false),
@@ -30,7 +30,7 @@ fn cert(alloc: Global, shown: &[(u32, u8)]) -> Result<Cert, OutOfMemory> {
     Ok(Cert { pairs })
 }
 
-// Whether the pairs are told to be a certificate, or to be none.
+// Returns whether the check says what is expected of the pairs: that they are a certificate, or that they are none.
 fn is_told(alloc: Global, shown: &[(u32, u8)], holds: bool) -> bool {
     let admitted = [candidate(2, W + D), candidate(3, W), candidate(4, D)];
     let protections = Protections {

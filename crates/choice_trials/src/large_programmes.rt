@@ -78,10 +78,12 @@ fn seekers(alloc: Global, stride: u32) -> Result<Vec<Person>, OutOfMemory>
     Ok(people)
 }
 
-// Offers a person who may apply beside those whom the programme admits; those whom it admits then may apply together too.
+// Offers a person who may apply together with those whom the programme admits. Those whom it admits then may apply
+// together too.
 fn offer_one<L: Ledger>(state: &mut ProgrammeState, steps: &mut Steps<L>, person: &Person)
     requires sound { AreProgrammeSeats state.old.seats }
-    requires may { AreApplicants state.old.seats.list (person.now ∷ everybody state.old.admissions) }
+    requires may { AreApplicants state.old.seats.list
+        (person.now ∷ everybody state.old.admissions) }
     ensures seats { state.new.seats ≡ state.old.seats }
     ensures may { AreApplicants state.old.seats.list (everybody state.new.admissions) }
 {
@@ -90,7 +92,7 @@ fn offer_one<L: Ledger>(state: &mut ProgrammeState, steps: &mut Steps<L>, person
     state.offer(person, steps);
 }
 
-// Offers the person where nobody whom the programme admits has the number or the place, and tells whether it did.
+// Offers the person if nobody whom the programme admits has the number or the place. Returns whether it did.
 fn offer_new<L: Ledger>(
     alloc: Global,
     list: ListId,
@@ -133,7 +135,7 @@ fn offer_all<L: Ledger>(
     Ok(all)
 }
 
-// Offers all of the people, and tells whether the programme then holds the choice from all of them.
+// Offers all of the people, and returns whether the programme then holds the choice from all of them.
 fn holds_choice_after<L: Ledger>(
     alloc: Global,
     chooser: &Chooser<'_>,

@@ -1,4 +1,4 @@
-// What a programme holds after people came to it one at a time, beside its choice from all of them.
+// What a programme holds after people came to it one at a time, compared with its choice from all of them.
 ghost use Rattle.std.specs.Prelude.{◌≡◌, ◌<◌, ◌++◌, IfOk, length};
 ghost use Rattle.office_base.specs.Version.{IsVersion};
 ghost use Rattle.programme_lists.specs.Chosen.{everybody};

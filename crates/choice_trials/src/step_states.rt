@@ -9,7 +9,7 @@ use office_base::{CandId, OutOfMemory, Person, Step};
 use plain_choice::is_step;
 use std::alloc::Global;
 
-// Offers the people to the step one after another, and tells whether it answers as told.
+// Offers the people to the step one after another, and returns whether it answers as expected.
 fn answer_as_told(state: &mut StepState, step: &Step, people: &[Person], told: &[Offered]) -> bool
     requires list { IsList step.now.list }
     requires same { state.old.list ≡ step.now.list }
@@ -25,7 +25,7 @@ fn answer_as_told(state: &mut StepState, step: &Step, people: &[Person], told: &
         && answer_as_told(state, step, later, answers)
 }
 
-// Whether the step answers as told where its people come in the order of this number.
+// Returns whether the step answers as expected when its people come in the order of this number.
 fn order_is_answered(
     alloc: Global,
     step: &Step,
@@ -39,7 +39,8 @@ fn order_is_answered(
     Ok(answer_as_told(&mut state, step, order.as_slice(), told))
 }
 
-// Whether a step of two seats answers as told where its people come from the first to the last, and from the last to the first.
+// Returns whether a step of two seats answers as expected when its people come from the first to the last, and from
+// the last to the first.
 fn both_are_answered(alloc: Global) -> Result<bool, OutOfMemory> {
     let step = step_of(alloc, 2, [1, 1, 0], &[0, W + D, W, D])?;
     let first_to_last = [

@@ -13,7 +13,7 @@ pub struct Row {
     pub nth: u64,
 }
 
-/// Rows with rising numbers, beside the name of the book.
+/// Rows with rising numbers, and the name of the book.
 #[derive(Drop)]
 pub struct Book {
     pub rows: Vec<Row>,

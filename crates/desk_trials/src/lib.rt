@@ -1,6 +1,6 @@
 // The desk over a small book of numbers: what its clauses say of a caller's entries, and two threads that write in turns.
 //
-// Nothing stands on it. Its tests wait and start threads.
+// No crate depends on it. Its tests wait and start threads.
 #![tactic(auto)]
 
 mod book;

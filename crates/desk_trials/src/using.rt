@@ -30,8 +30,8 @@ pub fn write<W: Wait>(
         pass,
         |book: &mut Book, number: u64| -> Result<u64, OutOfMemory>
             requires { last_of (map (λ r. r.number) book.old.rows.items) < number }
-            ensures { (book.new.name ≡ book.old.name)
-                × IfOk result (λ n. (n ≡ number) × (book.new.rows.items ≡ book.old.rows.items ++ row number by nth ∷ []))
+            ensures { (book.new.name ≡ book.old.name) × IfOk result (λ n. (n ≡ number)
+                × (book.new.rows.items ≡ book.old.rows.items ++ row number by nth ∷ []))
                 × OnErr result (book.new.rows.items ≡ book.old.rows.items) }
         {
             book.put(Row { number, by, nth })?;
@@ -55,7 +55,8 @@ pub fn count_rows<W: Wait>(rt: &W, desk: &Desk<Book>, pass: &mut Pass<Book>) -> 
         pass,
         |book: &mut Book, number: u64| -> usize
             requires { last_of (map (λ r. r.number) book.old.rows.items) < number }
-            ensures { (book.new.name ≡ book.old.name) × (book.new.rows.items ≡ book.old.rows.items) × (result ≡ length book.old.rows.items) }
+            ensures { (book.new.name ≡ book.old.name) × (book.new.rows.items ≡ book.old.rows.items)
+                × (result ≡ length book.old.rows.items) }
         {
             let _turn = number;
             book.rows.len()

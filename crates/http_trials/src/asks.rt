@@ -109,7 +109,7 @@ const OTHERS: [(&str, &str, Method); 12] = [
     ("post", "/v1/raise?", Method::Post),
 ];
 
-/// Whether the method of the page is told for all of them.
+/// Returns whether the refusal of each of them names the method of the page.
 fn others_are_refused(alloc: Global) -> bool {
     for (method, target, allowed) in OTHERS {
         if asked(alloc, method, target) != Some(refused(405, Some(allowed))) {

@@ -1,5 +1,5 @@
-// Connections from the bytes of their messages to the bytes of their replies, through links, heads, asks and replies together; an
-// office stands in that knows candidate 2 alone.
+// Connections from the bytes of their messages to the bytes of their replies, through links, heads, asks and replies together.
+// In place of the real office there is one that knows candidate 2 alone.
 use crate::messages::{joined, long_head, many_fields};
 use crate::replies::{answer, refuse};
 use http_asks::{Judged, Routes, judge, token};

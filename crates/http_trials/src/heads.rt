@@ -246,7 +246,7 @@ fn has_fields(message: &HeldMessage<'_>) -> bool {
         && !message.fields.has(b"host")
 }
 
-/// Whether its parts and its fields are told.
+/// Returns whether its parts and its fields are read.
 fn is_told() -> bool {
     let mut room = [EMPTY_HEADER_SPAN; 64];
     match held_message(MESSAGE, &mut room) {
@@ -284,7 +284,7 @@ fn closes(bytes: &[u8]) -> Option<bool> {
     }
 }
 
-/// Whether all of them are told to close or not.
+/// Returns whether each of them is read as closing the connection or not.
 fn closings_are_told() -> bool {
     for (bytes, expected) in CLOSINGS {
         if closes(bytes.as_bytes()) != Some(expected) {

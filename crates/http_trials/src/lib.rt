@@ -1,6 +1,6 @@
 // The layers of HTTP on bytes that a person wrote down, over links and doors that fail.
 //
-// It has tests alone, so nothing stands on it. What each call does is proved in its own layer.
+// It has tests alone, so no crate depends on it. What each call does is proved in its own layer.
 #![tactic(auto)]
 
 #[cfg(test)]

@@ -1,6 +1,8 @@
-// The keeper over a database in memory, asked for what the program never asks: what may not stand is a fault, and leaves the records.
+// The keeper over a database in memory, asked for what the program never asks. What is not allowed is a fault, and leaves the
+// records unchanged.
 //
-// It has tests alone, so nothing stands on it. What the program puts into a file, loads from it, and takes for a fault is told by cases/stores.txt.
+// It has tests alone, so no crate depends on it. cases/stores.txt shows what the program puts into a file, loads from it, and
+// takes for a fault.
 #![tactic(auto)]
 
 #[cfg(test)]

@@ -1,4 +1,4 @@
-// What is refused, and what stands then.
+// What the keeper refuses, and which records it has then.
 use crate::stores::{
     Put, Records, Store, after, allot, answer, empty, holds, holds_nothing, over, puts, raise,
     refuses, refuses_load,

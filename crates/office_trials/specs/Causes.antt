@@ -1,4 +1,5 @@
--- A season of five candidates for a programme of three open seats, two of them protected for women; only the fourth candidate is one. Who asks why is told.
+-- A season of five candidates for a programme of three open seats, two of them protected for women; only the fourth
+-- candidate is one. Anyone who asks why gets an answer.
 use Rattle.std.specs.Prelude.{◌≡◌, ℕ, Bool, true, false, List, [], ◌∷◌, Some, None, codes}
 use Rattle.office_base.specs.declared.asks.Ask.TheVariants.{Why, List as AskList}
 use Rattle.office_base.specs.declared.asks.By.{By}
@@ -71,7 +72,7 @@ own id code = why (Candidate (cand id)) id code
 abbrev pub list : ℕ → List ℕ → Request
 list number code = record { by = Nobody; ask = AskList number code }
 
--- what is told to whoever is refused, by whether somebody worse was admitted to an open seat
+-- the answer to a candidate who is refused, by whether somebody worse was admitted to an open seat
 abbrev pub refused_at : Bool → WhyAnswer
 refused_at worse = Because (RefusedAt (Some (record { kind = Open; seats = 3; worse = worse })) None (Some (record { kind = Dereserved; seats = 0; worse = false })))
 

@@ -121,7 +121,7 @@ SlideStays =
     ≡ refused (Widening Slide) ∷ WhyIs (cand 2) (prog 0) NotSought ∷ Published 2 3 ∷ Noted (cand 4) 1 1 Float ∷ Noted (cand 3) 1 1 Float ∷ Noted (cand 2) 1 1 Slide ∷ Noted (cand 1) 1 1 Withdraw
     ∷ Published 1 4 ∷ [])
 
--- ---- a first seat that is not answered is lost, and whoever waits stays in
+-- ---- a first seat that is not answered is lost, and a candidate who waits stays in
 
 abbrev pub three_answer : List Request
 three_answer = cut 0 ∷ answer 1 1 1 Withdraw ∷ answer 2 1 1 Float ∷ answer 3 1 1 Float ∷ []

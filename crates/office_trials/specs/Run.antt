@@ -14,7 +14,7 @@ use Rattle.office_moves.specs.declared.moves.Reply.{Reply}
 use Rattle.office_moves.specs.declared.moves.Reply.TheVariants.{Published, Final, ListIs, Refused}
 use Rattle.office_moves.specs.declared.refusal.Refusal.TheVariants.{NotChosen}
 
--- where a run stands: the state, the rounds to come, and the replies so far, the last one first
+-- how far a run is: the state, the rounds to come, and the replies so far, the last one first
 pub record Run : Type 0 where
   pub state : State
   pub rounds : List Round

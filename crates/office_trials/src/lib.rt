@@ -15,12 +15,13 @@ pub fn everybody_moves_up()
     ensures { EverybodyMovesUp }
 {}
 
-/// Whoever slides stays in the institute of the seat, and may not float afterwards.
+/// States that a candidate who slides stays in the institute of their seat, and may not float afterwards.
 pub fn slide_stays_in_the_institute()
     ensures { SlideStays }
 {}
 
-/// A first seat without an answer is lost; whoever waits stays in; the last cut gives the final rows.
+/// States that a first seat without an answer is lost, that a candidate who waits stays in, and that the last cut
+/// gives the final rows.
 pub fn no_show_is_lost()
     ensures { NoShowIsLost }
 {}
@@ -35,7 +36,7 @@ pub fn seats_rise()
     ensures { SeatsRise }
 {}
 
-/// Whoever asks why is told the reason of the lists, or why the question is refused.
+/// States that anyone who asks why gets the reason of the lists, or why the question is refused.
 pub fn causes_are_told()
     ensures { CausesAreTold }
 {}

@@ -106,7 +106,7 @@ fn two_workers_wait_for_each_other(rt: HostRuntime) {
     assert!(rt; hand_over(&rt, rt.alloc()) == Some(true));
 }
 
-/// Which call of the door fails, whether it is told that a door failed, and how many links that door gave back.
+/// Which call of the door fails, whether the office reports that a door failed, and how many links that door gave back.
 const FAILING: [(u32, bool, usize); 4] = [
     (1, true, 0),
     (2, true, 1),

@@ -1,7 +1,7 @@
 // The office over HTTP on its calls: how sessions end, what becomes of them where a link, a door or a keeper fails at a call, and two workers who wait for
 // each other. What bytes over a socket can show is tried outside, in checks/.
 //
-// It has tests alone, so nothing stands on it. They wait and start threads.
+// It has tests alone, so no crate depends on it. They wait and start threads.
 #![tactic(auto)]
 
 #[cfg(test)]

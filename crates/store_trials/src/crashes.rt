@@ -1,5 +1,5 @@
-// The season over two files whose disk stops at a call: each later call on that file fails, and a crash leaves what was synced. What is opened then holds
-// the requests that were told as accepted, perhaps one more, and goes on from there.
+// The season over two files whose disk stops at a call. Each later call on that file fails, and a crash leaves what was synced.
+// What is opened then holds the requests that were reported as accepted, perhaps one more, and resumes from there.
 use crate::seasons::{goes_on, run_told, whole};
 use keeper_mem::Kept;
 use keeper_sqlite::SqliteKeeper;
@@ -81,7 +81,7 @@ fn begun(alloc: Global, files: Stopping) -> Result<Store, Stopping> {
 /// What a crash leaves of a run.
 struct Leaving {
     files: Stopping,
-    /// How many requests were told as accepted.
+    /// How many requests were reported as accepted.
     told: usize,
     /// Whether the run ended well.
     is_well: bool,
@@ -111,7 +111,7 @@ fn run_and_crash(alloc: Global, files: Stopping) -> Result<Leaving, Fail> {
     }
 }
 
-// Lets the files go. It stands alone, since what it proves is much.
+// Drops the files. It is a function of its own, because what it proves is much.
 fn let_go(_files: Stopping) {}
 
 // Whether what a crash left is opened again, and goes on.

@@ -79,7 +79,7 @@ fn accepted(output: &str) -> usize {
     count
 }
 
-/// Runs the season with all requests: whether it ends well, how many are told as accepted, and the keeper.
+/// Runs the season with all requests. Returns whether it ends well, how many are reported as accepted, and the keeper.
 pub fn run_told<P: Keeper + Drop>(alloc: Global, keeper: P) -> Result<(bool, usize, P), Fail> {
     let (status, output, keeper) = run(alloc, keeper)?;
     Ok((status == Status::Ok, accepted(&output), keeper))

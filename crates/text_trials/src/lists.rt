@@ -144,7 +144,7 @@ fn is_read(alloc: Global, season: &Season, text: &[u8]) -> bool {
     }
 }
 
-/// Whether another byte at this place is told at this line.
+/// Returns whether another byte at this place is reported at this line.
 fn is_byte_told(alloc: Global, season: &Season, text: &[u8], at: usize, line: u32) -> bool {
     let Ok(mut damaged) = text.to_vec(alloc) else {
         return false;
@@ -155,7 +155,7 @@ fn is_byte_told(alloc: Global, season: &Season, text: &[u8], at: usize, line: u3
     is_line(alloc, season, damaged.as_slice(), line)
 }
 
-/// Whether another byte is told at its line, wherever it stands in a text of 18 lines.
+/// Returns whether another byte is reported at its line, at every place of a text of 18 lines.
 fn are_bytes_told(alloc: Global, season: &Season, text: &[u8]) -> bool {
     let mut told = true;
     let mut line = 1u32;
@@ -168,7 +168,7 @@ fn are_bytes_told(alloc: Global, season: &Season, text: &[u8]) -> bool {
     told && line == 19
 }
 
-/// Whether a text is told after its end, wherever it ends early, and is read where it does not.
+/// Returns whether a text that ends early is reported after its end, at every place, and the whole text is read.
 fn are_ends_told(alloc: Global, season: &Season, text: &[u8]) -> bool {
     let mut told = is_line(alloc, season, text, 0);
     let mut line = 1u32;
@@ -184,7 +184,7 @@ fn are_ends_told(alloc: Global, season: &Season, text: &[u8]) -> bool {
     told
 }
 
-/// Whether the list above is read back, and told where it is damaged or ends early.
+/// Returns whether the list above is read back, and reported if it is damaged or ends early.
 fn is_list_told(alloc: Global, season: &Season) -> bool {
     match joined(alloc, &[OPEN, LATER]) {
         Ok(text) => {
