@@ -8,7 +8,7 @@ import re
 from documents import text_of
 
 WORD = re.compile(r"[^\s(){}\[\],;.]+")
-HEAD = re.compile(r"(?:(?:pub|abbrev|unfoldable|opaque)\s+)*(record|data)?\s*([^\s:(){},;.]+)")
+HEAD = re.compile(r"(?:(?:pub|abbrev|unfoldable|opaque)\s+)*(?:(record|data)\s+)?([^\s:(){},;.]+)")
 USE = re.compile(r"\buse\s+([^\s{;]+?)\.?(?:\{([^}]*)\}|\s+as\s+([^\s;]+))?(?=[\s;]|$)")
 FIELD = re.compile(r"(?<=[^\s(])\.(?=\S)[^\s(){}\[\],;.]+")
 COMMENT = re.compile(r"(?<!\S)--[^\n]*")

@@ -228,7 +228,7 @@ def foreign(nginx, office):
     for label, method, fields in [
         ("a foreign origin", "POST", ["Origin: https://evil.example"]),
         ("the origin null", "POST", ["Origin: null"]),
-        ("the own name without TLS as origin", "POST", [f"Origin: http://{own}"]),
+        ("our name without TLS as origin", "POST", [f"Origin: http://{own}"]),
         ("a page of another site", "POST", ["Sec-Fetch-Site: cross-site", "Sec-Fetch-Mode: no-cors"]),
         ("a page of the same site", "GET", ["Sec-Fetch-Site: same-site"]),
         ("an image of another site", "GET", ["Sec-Fetch-Site: cross-site", "Sec-Fetch-Dest: image"]),
@@ -242,7 +242,7 @@ def foreign(nginx, office):
     tally.holds(len(office.seen) == before, "none of these reaches the office", f"{office.seen[before:]}")
 
     for label, fields in [
-        ("the own origin", [f"Origin: {nginx.origin}", "Sec-Fetch-Site: same-origin"]),
+        ("our origin", [f"Origin: {nginx.origin}", "Sec-Fetch-Site: same-origin"]),
         ("no page", ["Sec-Fetch-Site: none"]),
         ("no such fields", []),
     ]:
@@ -535,7 +535,7 @@ def through_haproxy(cert, port, office):
         ("another Host", 421, {"host": "evil.example"}),
         ("a foreign origin", 403, {"fields": ["Origin: https://evil.example"]}),
         ("a page of another site", 403, {"fields": ["Sec-Fetch-Site: cross-site"]}),
-        ("the own origin", 200, {"fields": [f"Origin: https://{HOST}:{port}"]}),
+        ("our origin", 200, {"fields": [f"Origin: https://{HOST}:{port}"]}),
     ]:
         came = ask("GET", "/v1/state", **how)
         tally.status(came, status, f"haproxy: {label} -> {status}")

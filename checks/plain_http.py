@@ -92,7 +92,7 @@ def replied(text):
 
 
 def seat_told(cand, _, number, standing, code, step=None):
-    """A seat; without one no step is told, and the word `none` stands for its code."""
+    """A seat; without one there is no step, and the word `none` is its code."""
     return {"cand": int(cand), "programme": code if step else None, "round": int(number), "standing": standing, "step": step}
 
 

@@ -20,7 +20,7 @@ OTHER_WORDS = {"GEN-EWS": "EWS", "OBC-NCL": "OBC"}
 
 @functools.lru_cache(maxsize=None)
 def greatest(people, left):
-    """How many of the people, each given by traits, can stand on what is left of the protected positions: the first stands nowhere, or on a trait held."""
+    """How many of the people, each given by traits, can stand on what is left of the protected positions: the first takes none, or on a trait held."""
     if not people:
         return 0
     return max([greatest(people[1:], left), *(1 + greatest(people[1:], rest) for _, rest in stands(people[0], left))])

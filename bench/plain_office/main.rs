@@ -57,7 +57,7 @@ impl Standing {
 
 type Seat = Option<(u16, u8)>;
 
-/// An answer that was kept, and where the one before it of the same candidate stands.
+/// An answer that was kept, and where the one before it of the same candidate is.
 struct AnswerRow {
     cand: u32,
     window: u16,
