@@ -1,19 +1,21 @@
--- Rows have exactly one reading.
-use Rattle.std.proofs.Common.{◌≡◌, ◌<◌, ◌≤◌, ◌⊎◌, inl, inr, ℕ, Bool, true, false, cond, List, [], ◌∷◌, map, Option, Some, None, refl, sym, ap, ◌∙◌, arith}
-use Rattle.std.specs.Prelude.{◌==◌, bytes_eq, nat_lt, if◌then◌else◌}
+-- Rows have exactly one reading, and what they give is sound.
+use Rattle.std.proofs.Common.{◌≡◌, ◌<◌, ◌≤◌, ◌⊎◌, inl, inr, ℕ, suc, Bool, true, false, cond, List, [], ◌∷◌, map, Option, Some, None, Result, Ok, Err, length, refl, sym, ap, ◌∙◌, arith}
+use Rattle.std.specs.Prelude.{◌==◌, bytes_eq, is_some, nat_lt, if◌then◌else◌}
 use Rattle.std.specs.List.{AllByRecursion}
 use Rattle.std.proofs.lemmas.Bool.{cases_order, cond-false, cond-true, eq-eqb, eqb-false, eqb-true, ltb-false, ltb-true, ne_eqb}
 use Rattle.office_base.specs.Lists.{Pairwise}
 use Rattle.office_base.specs.declared.person.CandId.{CandId}
 use Rattle.office_base.specs.declared.person.Person.{Person}
 use Rattle.section_rows.specs.Rows.{Row}
-use Rattle.section_rows.specs.Table.{entries_of}
+use Rattle.section_rows.specs.Table.{entries_after, entries_of, with_entry}
 use Rattle.section_rows.specs.declared.fault.TableFault.TheVariants.{Bad}
 use Rattle.section_rows.proofs.TableLemmas.{one_fault}
 use Rattle.rank_lists.specs.Laws.{AreSame, HaveOneReading}
-use Rattle.rank_lists.specs.Register.{IsFault, IsRead, IsRegister, Ranks, find_holder, find_person, holder_at, judge, person_at, reading}
+use Rattle.rank_lists.specs.Register.{AreEntries, AreRanks, IsFault, IsRead, IsRegister, Ranks, find_holder, find_person, holder_at, judge, person_at, reading}
 use Rattle.rank_lists.specs.declared.entry.Entry.{Entry}
 use Rattle.rank_lists.specs.declared.fault.RankKind.{RankKind}
+use Rattle.rank_lists.proofs.BuilderLemmas.{IsAccepted, accepted}
+use Rattle.rank_lists.proofs.EntriesLemmas.{entries-step}
 
 -- people rise by id
 abbrev Rising : List Person → Type 0
@@ -172,11 +174,59 @@ some_reading rows = elim (one_fault judge rows).some [
   | inr fault ↦ inr fault
 ]
 
+-- ---- what rows give is sound
+
+-- one more person is one more at most
+length-put : (person : Person) (people : List Person) → length (put person people) ≤ suc (length people)
+length-put person [] = omega arith
+length-put person (other ∷ people) = by (nat_lt person.id.0 other.id.0) (person.id.0 == other.id.0) (length-put person people)
+  where
+    by : (less same : Bool) → length (put person people) ≤ suc (length people)
+        → length (cond less (person ∷ other ∷ people) (cond same (person ∷ people) (other ∷ put person people))) ≤ suc (suc (length people))
+    by true same more = omega arith
+    by false true more = omega arith
+    by false false more = omega (arith, more)
+
+people_of-few : (entries : List Entry) → length (people_of entries) ≤ length entries
+people_of-few [] = omega arith
+people_of-few (entry ∷ entries) = omega (arith, length-put entry.person (people_of entries), people_of-few entries)
+
+-- The register of sound entries is sound.
+pub ranks_sound : (entries : List Entry) (ranks : Ranks) → AreEntries entries → IsRegister entries ranks → AreRanks ranks
+ranks_sound entries ranks sound register =
+    let same = (one_register entries ranks _ register (register_of entries)).people in
+    record {
+      few = omega (arith, ap (λ (l : List Person). length l) same, people_of-few entries, sound.few);
+      rising = register.rising;
+      apart = λ i j list n a b ha hb na nb. sound.apart i j list n a b (sym (register.people i) ∙ ha) (sym (register.people j) ∙ hb) na nb;
+      registered = λ id person h. sound.registered id person (sym (register.people id) ∙ h);
+      tokens = λ token h. sound.tokens token (ap is_some (sym (register.holders token)) ∙ h);
+    }
+
+no_entries : AreEntries []
+no_entries = record { few = omega arith; apart = λ i j list n a b ha. cc ha; registered = λ id person e. cc e; tokens = λ token h. cc h }
+
+-- what a row gives is accepted, and a row with a fault gives nothing
+with_sound : (entries : List Entry) (given : Result Entry RankKind) → AreEntries entries → ((entry : Entry) → given ≡ Ok entry → IsAccepted entries entry) → AreEntries (with_entry entries given)
+with_sound entries (Ok entry) sound each = entries-step entries entry sound (each entry refl)
+with_sound entries (Err kind) sound each = sound
+
+after_sound : (entries : List Entry) (rows : List Row) → AreEntries entries → AreEntries (entries_after reading entries rows)
+after_sound entries [] sound = sound
+after_sound entries (row ∷ rows) sound = after_sound (with_entry entries (reading entries row)) rows (with_sound entries (reading entries row) sound (λ entry e. accepted entries row entry e))
+
+entries_sound : (rows : List Row) → AreEntries (entries_of reading rows)
+entries_sound [] = no_entries
+entries_sound (header ∷ rows) = after_sound [] rows no_entries
+
+-- ---- one reading
+
 -- Rows have exactly one reading.
 pub one_reading : (rows : List Row) → HaveOneReading rows
 one_reading rows = record {
   some = some_reading rows;
   apart = λ ranks row kind read fault. (one_fault judge rows).apart row kind read.0 fault;
+  sound = λ ranks read. ranks_sound (entries_of reading rows) ranks (entries_sound rows) read.1;
   one_value = λ ranks other a b. one_register (entries_of reading rows) ranks other a.1 b.1;
   one_fault = (one_fault judge rows).one;
 }

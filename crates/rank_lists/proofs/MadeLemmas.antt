@@ -1,6 +1,6 @@
 -- The register that is made of a builder, and what is found in it.
 use Rattle.std.proofs.Common.{◌≡◌, ◌<◌, ◌≤◌, ℕ, zero, suc, Bool, true, false, cond, List, [], ◌∷◌, Option, Some, None, Result, Ok, Err, length, get_or, refl, sym, ap, inl, inr, ◌∙◌, add-one, arith}
-use Rattle.std.specs.Prelude.{◌==◌, ◌+◌, is_some, IsSome, MatchResult, map, option_map, slice_get}
+use Rattle.std.specs.Prelude.{◌==◌, ◌+◌, IsSome, MatchResult, map, option_map, slice_get}
 use Rattle.std.specs.Option.{option_and_then}
 use Rattle.std.specs.Bool.{one_answer}
 use Rattle.std.specs.BTreeMap as tree
@@ -14,7 +14,6 @@ use Rattle.std.proofs.lemmas.Bool.{cases_order, cond-true, cond-false, eq-eqb, n
 use Rattle.std.proofs.lemmas.Bool.Decides.{nat_tests}
 use Rattle.std.proofs.lemmas.Cmp.{ranked}
 use Rattle.std.proofs.lemmas.List.{get_or-map, length-map}
-use Rattle.std.proofs.lemmas.Map.Entries.{length-values_of}
 use Rattle.std.proofs.lemmas.Map.Text.{is_eq-slice_cmp}
 use Rattle.office_base.specs.Lists.{Pairwise}
 use Rattle.office_base.specs.declared.person.CandId.{CandId}
@@ -23,6 +22,7 @@ use Rattle.rank_lists.specs.Builder.{Keeps}
 use Rattle.rank_lists.specs.Register.{AreRanks, IsKeptRegister, IsRegister, find_holder, find_person, row_of}
 use Rattle.rank_lists.specs.declared.entry.Entry.{Entry}
 use Rattle.rank_lists.specs.declared.builder.RegisterBuilder.{RegisterBuilder}
+use Rattle.rank_lists.proofs.LawsLemmas.{ranks_sound}
 use Rattle.section_rows.proofs.StepsLemmas.{nat_at, number_decides}
 
 -- people rise by id
@@ -77,15 +77,7 @@ made entries builder people keeps e ordered = record {
 -- What is the register of sound entries is sound.
 made_ranks : (entries : List Entry) (builder : RegisterBuilder) (people : List Person) → Keeps entries builder → people ≡ tree.values builder.people → tree.IsOrdered nat_cmp builder.people
     → AreRanks (record { people = people; holders = builder.holders.entries })
-made_ranks entries builder people keeps e ordered =
-    let register = made entries builder people keeps e ordered in
-    record {
-      few = omega (arith, ap (λ (l : List Person). length l) e, length-values_of builder.people.entries, keeps.count, keeps.sound.few);
-      rising = register.rising;
-      apart = λ i j list n a b ha hb na nb. keeps.sound.apart i j list n a b (sym (register.people i) ∙ ha) (sym (register.people j) ∙ hb) na nb;
-      registered = λ id person h. keeps.sound.registered id person (sym (register.people id) ∙ h);
-      tokens = λ token h. keeps.sound.tokens token (ap is_some (sym (register.holders token)) ∙ h);
-    }
+made_ranks entries builder people keeps e ordered = ranks_sound entries _ keeps.sound (made entries builder people keeps e ordered)
 
 -- The register of sound entries, with the ids of its people, is one.
 pub made_sound : (entries : List Entry) (builder : RegisterBuilder) (people : List Person) (ids : List ℕ) → Keeps entries builder → people ≡ tree.values builder.people → tree.IsOrdered nat_cmp builder.people

@@ -22,7 +22,7 @@ use Rattle.choice_lists.specs.Laws as choice_laws
 use Rattle.choice_lists.specs.declared.fault.ChoiceKind.{ChoiceKind}
 use Rattle.season_file.specs.Bundle.{Parts, bundle_of}
 use Rattle.season_file.specs.Head.{head_of}
-use Rattle.season_file.specs.Laws.{AreSame, HasFault, HaveOneReading}
+use Rattle.season_file.specs.Laws.{AreSame, AreSound, HasFault, HaveOneReading}
 use Rattle.season_file.specs.Season.{BundleGives, IsChoiceFault, IsClerkApart, IsHeadFault, IsMatrixFault, IsRegisterFault, IsRequestFault, IsText, SectionsGive, request_rows_of}
 use Rattle.season_file.specs.declared.fault.SeasonFault.{SeasonFault}
 use Rattle.season_file.specs.declared.fault.SeasonFault.TheVariants.{ReadFault, TooLong, BadFirstLine, Section, BadSeason, Register, Matrix, Choices, NotUtf8, BadRequest, OutOfMemory}
@@ -329,11 +329,20 @@ some_reading laws requests bytes = elim (cases_lt most_bundle_bytes (length byte
   ]
 ]
 
+-- What bodies give is sound.
+sound_content : AreLawful → (parts : Parts) (content : Content) → SectionsGive parts content → AreSound content
+sound_content laws parts content give = record {
+  ranks = (laws.register (rows_of parts.register)).sound content.register give.register;
+  seats = (laws.matrix (rows_of parts.matrix)).sound content.matrix give.matrix;
+  spelled = (laws.matrix (rows_of parts.matrix)).spelled content.matrix give.matrix;
+}
+
 -- Bytes have exactly one reading.
 pub one_reading : AreLawful → (requests : Bool) (bytes : List ℕ) → HaveOneReading requests bytes
 one_reading laws requests bytes = record {
   some = some_reading laws requests bytes;
   apart = λ content script fault gives first. apart-bytes laws requests bytes content script fault gives (staged requests bytes fault first);
+  sound = λ content script gives. let (parts, cut, give, scripted) = gives.1 in sound_content laws parts content give;
   one_content = λ content other script more a b.
       let (parts, cut, give, scripted) = a.1 in
       let (pieces, split, gift, asked) = b.1 in

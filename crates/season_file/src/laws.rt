@@ -5,8 +5,8 @@ ghost use Rattle.season_file.specs.Laws.{HaveOneReading};
 ghost use Rattle.season_file.specs.Replaced.{IsReplaceable};
 ghost use Rattle.season_file.specs.Titles.{IsCutAtTitles};
 
-/// Bytes give one season with its requests or have one first fault, and never both: where requests are read, and where they are
-/// not.
+/// Shows that bytes give one season with its requests, which is sound, or have one first fault, and never both: where requests
+/// are read, and where they are not.
 pub fn one_reading()
     ensures { (requests : Bool) (bytes : List ℕ) → HaveOneReading requests bytes }
 {

@@ -1,18 +1,20 @@
--- Rows have exactly one reading.
-use Rattle.std.proofs.Common.{◌≡◌, ◌⊎◌, inl, inr, ℕ, Bool, true, false, cond, List, [], ◌∷◌, ◌++◌, map, Option, Some, None, refl, sym, ap, subst, ◌∙◌}
-use Rattle.std.specs.Prelude.{◌==◌, ◌&&◌, ◌||◌, bytes_eq, is_some, if◌then◌else◌}
+-- Rows have exactly one reading, and what they give is sound.
+use Rattle.std.proofs.Common.{◌≡◌, ◌⊎◌, inl, inr, ℕ, Bool, true, false, cond, List, [], ◌∷◌, ◌++◌, map, Option, Some, None, Result, Ok, Err, refl, sym, ap, subst, ◌∙◌, arith}
+use Rattle.std.specs.Prelude.{◌||◌, bytes_eq, is_some, if◌then◌else◌}
 use Rattle.std.specs.List.{AllByRecursion, list_any}
 use Rattle.std.proofs.lemmas.Bool.{cond-false, cond-true, false_from_ne_true}
 use Rattle.std.proofs.lemmas.Slice.Eq.{bytes_eq-Decides}
+use Rattle.office_base.specs.Codes.{is_code}
 use Rattle.section_rows.specs.Rows.{Row}
 use Rattle.section_rows.specs.declared.fault.TableFault.TheVariants.{Bad}
 use Rattle.section_rows.proofs.TableLemmas.{one_fault}
-use Rattle.section_rows.specs.Table.{entries_of}
+use Rattle.section_rows.specs.Table.{entries_after, entries_of, with_entry}
 use Rattle.section_rows.specs.Steps.{or_else}
 use Rattle.section_rows.proofs.StepsLemmas.{first_of-push}
 use Rattle.seat_matrix.proofs.Codes.{Distinct, codes-distinct}
-use Rattle.seat_matrix.specs.Laws.{AreSame, HaveOneReading}
-use Rattle.seat_matrix.specs.Matrix.{IsFault, IsMatrix, IsRead, SeatTable, codes_after, codes_in, codes_of, find_home, home_at, judge, reading, seatings_in, with_code}
+use Rattle.seat_matrix.proofs.SeatsLemmas as seats
+use Rattle.seat_matrix.specs.Laws.{AreCodes, AreSame, HaveOneReading}
+use Rattle.seat_matrix.specs.Matrix.{AreEntries, IsFault, IsMatrix, IsRead, SeatTable, codes_after, codes_in, codes_of, find_home, home_at, judge, reading, seatings_in, with_code}
 use Rattle.seat_matrix.specs.declared.entry.Entry.{Entry}
 use Rattle.seat_matrix.specs.declared.entry.Home.{Home}
 use Rattle.seat_matrix.specs.declared.fault.MatrixKind.{MatrixKind}
@@ -157,11 +159,58 @@ some_reading rows = elim (one_fault judge rows).some [
   | inr fault ↦ inr fault
 ]
 
+-- ---- what rows give is sound
+
+-- a programme has a home where its code is among the codes
+home_known : (entries : List Entry) (code : List ℕ) → is_some (home_at code entries) ≡ list_any (bytes_eq code) (codes_of entries)
+home_known entries code =
+    ap (λ (o : Option Home). is_some o) (sym (programmes-found code [] entries)) ∙ known_code code (programmes_after [] entries)
+    ∙ ap (λ (codes : List (List ℕ)). list_any (bytes_eq code) codes) (programmes-codes [] entries)
+
+codes-behind : (codes : List (List ℕ)) (code : List ℕ) → AreCodes codes → is_code code ≡ true → AreCodes (codes ++ code ∷ [])
+codes-behind [] code all e = (e, tt)
+codes-behind (first ∷ codes) code all e = (all.0, codes-behind codes code all.1 e)
+
+codes-with : (codes : List (List ℕ)) (code : List ℕ) → AreCodes codes → is_code code ≡ true → AreCodes (with_code codes code)
+codes-with codes code all e = by (list_any (bytes_eq code) codes)
+  where
+    by : (known : Bool) → AreCodes (cond known codes (codes ++ code ∷ []))
+    by true = all
+    by false = codes-behind codes code all e
+
+-- the entries are sound, and their codes are spelled
+abbrev AreSound : List Entry → Type 0
+AreSound entries = AreEntries entries × AreCodes (codes_of entries)
+
+no_entries : AreSound []
+no_entries = (record { seated = λ code step seating e. cc e; lists = λ code home e. cc e; few = omega arith; total = omega arith }, tt)
+
+-- what a row gives is accepted, and a row with a fault gives nothing
+with_sound : (entries : List Entry) (given : Result Entry MatrixKind) → AreSound entries → ((entry : Entry) → given ≡ Ok entry → seats.IsAccepted entries entry) → AreSound (with_entry entries given)
+with_sound entries (Ok entry) sound each =
+    let accepted = each entry refl in (
+      seats.entries-step entries entry sound.0 accepted (home_known entries entry.programme),
+      subst AreCodes (sym (seats.codes-push [] entries entry)) (codes-with (codes_of entries) entry.programme sound.1 accepted.code),
+    )
+with_sound entries (Err kind) sound each = sound
+
+after_sound : (entries : List Entry) (rows : List Row) → AreSound entries → AreSound (entries_after reading entries rows)
+after_sound entries [] sound = sound
+after_sound entries (row ∷ rows) sound = after_sound (with_entry entries (reading entries row)) rows (with_sound entries (reading entries row) sound (λ entry e. seats.accepted entries row entry e))
+
+entries_sound : (rows : List Row) → AreSound (entries_of reading rows)
+entries_sound [] = no_entries
+entries_sound (header ∷ rows) = after_sound [] rows no_entries
+
+-- ---- one reading
+
 -- Rows have exactly one reading.
 pub one_reading : (rows : List Row) → HaveOneReading rows
 one_reading rows = record {
   some = some_reading rows;
   apart = λ table row kind read fault. (one_fault judge rows).apart row kind read.0 fault;
+  sound = λ table read. seats.matrix_sound (entries_of reading rows) table (entries_sound rows).0 read.1;
+  spelled = λ table read. subst AreCodes (sym read.1.programmes) (entries_sound rows).1;
   one_value = λ table other a b. one_matrix (entries_of reading rows) table other a.1 b.1;
   one_fault = (one_fault judge rows).one;
 }

@@ -1,6 +1,6 @@
 -- What one more entry adds.
 use Rattle.std.proofs.Common.{◌≡◌, ◌⊎◌, ◌≢◌, inl, inr, ℕ, zero, suc, Bool, true, false, cond, set, get_or, lit≤, length-set, get_or-set_same, get_or-set_other, take, add-one, List, [], ◌∷◌, ◌++◌, Option, Some, None, Result, Ok, length, map, refl, sym, ap, subst, ◌∙◌, length-append, arith}
-use Rattle.std.specs.Prelude.{◌==◌, ◌&&◌, ◌||◌, ◌<◌, ◌≤◌, ◌+◌, not, sum, nat_le, nat_lt, bytes_eq, is_some, option_map, slice_get, IfSome}
+use Rattle.std.specs.Prelude.{◌==◌, ◌&&◌, ◌||◌, ◌<◌, ◌≤◌, ◌+◌, not, sum, nat_le, nat_lt, bytes_eq, is_some, option_map, slice_get}
 use Rattle.std.specs.Bool.{one_answer}
 use Rattle.std.specs.Cmp.Lexicographic.{slice_cmp}
 use Rattle.std.specs.List.{list_any}
@@ -10,9 +10,11 @@ use Rattle.std.specs.Ordering.{is_eq, nat_cmp}
 use Rattle.std.proofs.lemmas.Bool.{and_parts, cases_eq, cond-false, cond-true, eqb-true, false_from_ne_true, leb-false, ltb-false}
 use Rattle.std.proofs.lemmas.Grind.{get_or-set_at}
 use Rattle.std.proofs.lemmas.List.{length-map}
+use Rattle.std.proofs.lemmas.Option.{cond_some}
 use Rattle.std.proofs.lemmas.Map.Text.{is_eq-slice_cmp}
 use Rattle.std.proofs.lemmas.Slice.Eq.{bytes_eq-Decides}
 use Rattle.indexmap.specs.IndexMap.{insert_entry}
+use Rattle.office_base.specs.Codes.{is_code}
 use Rattle.office_base.specs.Limits.{most_matrix_seats, most_programmes, most_step_seats}
 use Rattle.office_base.specs.Person.{IsList}
 use Rattle.office_base.specs.declared.step.StepKind.{StepKind}
@@ -22,7 +24,7 @@ use Rattle.office_text.specs.Number.{number_within}
 use Rattle.office_text.specs.Names.{code_of, step_of}
 use Rattle.section_rows.specs.Rows.{Row, field}
 use Rattle.section_rows.specs.Steps.{after, needs, unless}
-use Rattle.section_rows.proofs.StepsLemmas.{after_ok, flip, found_cases, nat_at, needs_ok, number_decides, number_found, step, then_found, unless_ok, within_range}
+use Rattle.section_rows.proofs.StepsLemmas.{after_ok, flip, found_cases, needs_ok, number_found, step, then_found, unless_ok, within_range}
 use Rattle.office_base.specs.StepNumbers.{step_number}
 use Rattle.office_base.proofs.Options.{none_from}
 use Rattle.seat_matrix.specs.Fields.{count_of, protections_of, seating_of}
@@ -97,6 +99,7 @@ seating-step entries entry k e none q t =
 -- What a row gave is new to the entries, and within its ranges.
 pub record IsAccepted (entries : List Entry) (entry : Entry) : Type 0 where
   pub fresh : seating_at entry.programme (step_number entry.step) entries ≡ None
+  pub code : is_code entry.programme ≡ true
   pub seated : IsSeated entry.seating
   pub list : IsList entry.home.list
   pub few : home_at entry.programme entries ≡ None → length (codes_of entries) < most_programmes
@@ -118,20 +121,22 @@ with_numbers entries row p seating = unless (nat_lt seating.seats (sum seating.p
 abbrev with_row : List Entry → Row → List ℕ × List ℕ × StepKind → Result Entry MatrixKind
 with_row entries row p = needs (seating_of row) BadNumber (with_numbers entries row p)
 
--- a new row is new
-row_accepted : (entries : List Entry) (row : Row) (p : List ℕ × List ℕ × StepKind) → new_row entries row ≡ Ok p → seating_at p.0 (step_number p.2) entries ≡ None
-row_accepted entries row p e = by (code_of (field row 0)) (code_of (field row 1)) (step_of (field row 3)) e
+-- a new row is new, and its programme has a code
+row_accepted : (entries : List Entry) (row : Row) (p : List ℕ × List ℕ × StepKind) → new_row entries row ≡ Ok p → (seating_at p.0 (step_number p.2) entries ≡ None) × (is_code p.0 ≡ true)
+row_accepted entries row p e = by (code_of (field row 0)) refl (code_of (field row 1)) (step_of (field row 3)) e
   where
-    by : (a b : Option (List ℕ)) (s : Option StepKind)
+    by : (a : Option (List ℕ)) → code_of (field row 0) ≡ a → (b : Option (List ℕ)) (s : Option StepKind)
         → needs a BadCode (λ programme. needs b BadCode (λ institute. needs s BadCode (λ step. unless (is_some (seating_at programme (step_number step) entries)) RepeatedRow (Ok (programme, institute, step))))) ≡ Ok p
-        → seating_at p.0 (step_number p.2) entries ≡ None
-    by None b s h = cc h
-    by (Some a) None s h = cc h
-    by (Some a) (Some b) None h = cc h
-    by (Some a) (Some b) (Some s) h =
+        → (seating_at p.0 (step_number p.2) entries ≡ None) × (is_code p.0 ≡ true)
+    by None f b s h = cc h
+    by (Some a) f None s h = cc h
+    by (Some a) f (Some b) None h = cc h
+    by (Some a) f (Some b) (Some s) h =
         let (fresh, same) = unless_ok (is_some (seating_at a (step_number s) entries)) RepeatedRow (Ok (a, b, s)) p h in
         let one : (a, b, s) ≡ p = cc same in
-        subst (λ (q : List ℕ × List ℕ × StepKind). seating_at q.0 (step_number q.2) entries ≡ None) one (none_from (seating_at a (step_number s) entries) fresh)
+        let (spelled, read) = cond_some (is_code (field row 0)) (field row 0) a f in
+        subst (λ (q : List ℕ × List ℕ × StepKind). (seating_at q.0 (step_number q.2) entries ≡ None) × (is_code q.0 ≡ true)) one
+        (none_from (seating_at a (step_number s) entries) fresh, ap is_code (sym read) ∙ spelled)
 
 -- seats are at most 4,000
 seats_within : (row : Row) (seating : Seating) → seating_of row ≡ Some seating → seating.seats ≤ most_step_seats
@@ -170,7 +175,8 @@ accepted entries row entry e =
     let range = within_range 1 4 list (field row 2) e4 in
     let listed : IsList asked.list = (range.0, range.1) in
     subst (IsAccepted entries) same (record {
-      fresh = row_accepted entries row p e1;
+      fresh = (row_accepted entries row p e1).0;
+      code = (row_accepted entries row p e1).1;
       seated = record { protections = ltb-false seating.seats (sum seating.protections.counts) covered; seats = seats_within row seating e2 };
       list = subst (λ (h : Home). IsList h.list) here.0 listed;
       few = here.1;
@@ -256,21 +262,20 @@ made entries table steps keeps same = record {
   steps = same;
 }
 
--- What is the matrix of sound entries is sound.
-pub made_sound : (entries : List Entry) (table : MatrixBuilder) (steps : List Seatings) → Keeps entries table → steps ≡ map (seatings_in entries) (codes_of entries) → AreSeats (record { programmes = table.programmes.entries; steps = steps })
-made_sound entries table steps keeps same =
-    let matrix = made entries table steps keeps same in
-    let codes : Distinct (codes_in table.programmes.entries) = subst Distinct (sym matrix.programmes) (codes-distinct [] entries tt) in
-    let count : length table.programmes.entries ≡ length (codes_of entries) = omega (arith, ap (λ (l : List (List ℕ)). length l) matrix.programmes, length-map table.programmes.entries (λ (held : List ℕ × Home). held.0)) in
-    let long : length steps ≡ length (codes_of entries) = ap (λ (l : List Seatings). length l) same ∙ length-map (codes_of entries) (seatings_in entries) in
+-- The matrix of sound entries is sound.
+pub matrix_sound : (entries : List Entry) (table : SeatTable) → AreEntries entries → IsMatrix entries table → AreSeats table
+matrix_sound entries table sound matrix =
+    let codes : Distinct (codes_in table.programmes) = subst Distinct (sym matrix.programmes) (codes-distinct [] entries tt) in
+    let count : length table.programmes ≡ length (codes_of entries) = omega (arith, ap (λ (l : List (List ℕ)). length l) matrix.programmes, length-map table.programmes (λ (held : List ℕ × Home). held.0)) in
+    let long : length table.steps ≡ length (codes_of entries) = ap (λ (l : List Seatings). length l) matrix.steps ∙ length-map (codes_of entries) (seatings_in entries) in
     record {
       codes = codes;
-      few = omega (arith, keeps.sound.few);
+      few = omega (arith, sound.few);
       steps = omega arith;
       sound = λ prog below. record {
-        list = list_sound table.programmes.entries prog below (λ held e. keeps.sound.lists held.0 held.1 (sym (matrix.homes held.0) ∙ found_at table.programmes.entries codes prog held e));
-        steps = λ kind. subst (λ (l : List Seatings). IsSeated (of_step (get_or l prog no_seatings) kind)) (sym same)
-            (mapped_at (seatings_in entries) (λ steps. IsSeated (of_step steps kind)) no_seatings (λ code. steps_seated entries keeps.sound code kind) (codes_of entries) prog (omega arith));
+        list = list_sound table.programmes prog below (λ held e. sound.lists held.0 held.1 (sym (matrix.homes held.0) ∙ found_at table.programmes codes prog held e));
+        steps = λ kind. subst (λ (l : List Seatings). IsSeated (of_step (get_or l prog no_seatings) kind)) (sym matrix.steps)
+            (mapped_at (seatings_in entries) (λ steps. IsSeated (of_step steps kind)) no_seatings (λ code. steps_seated entries sound code kind) (codes_of entries) prog (omega arith));
       };
     }
 

@@ -3,7 +3,7 @@ ghost use Rattle.std.specs.Prelude.{List};
 ghost use Rattle.section_rows.specs.Rows.{Row};
 ghost use Rattle.seat_matrix.specs.Laws.{HaveOneReading, OneStepChanges};
 
-/// Rows give one matrix or have one first fault, and never both.
+/// Shows that rows give one matrix, which is sound, or have one first fault, and never both.
 pub fn one_reading()
     ensures { (rows : List Row) → HaveOneReading rows }
 {}

@@ -1,5 +1,4 @@
 use Rattle.std.proofs.Common.{◌≡◌, ◌∷◌, ◌++◌, [], List, ℕ, Some, ap, sym, subst, take, map, ◌∙◌, rules}
-use Rattle.std.specs.Map.{keys_of}
 use Rattle.std.specs.Prelude.{slice_get}
 use Rattle.seat_matrix.specs.Matrix.{codes_of, seatings_in}
 use Rattle.seat_matrix.specs.declared.seats.Seatings.{Seatings}

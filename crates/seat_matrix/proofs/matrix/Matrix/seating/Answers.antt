@@ -1,8 +1,7 @@
-use Rattle.std.proofs.Common.{◌≡◌, ◌<◌, ◌∙◌, ℕ, ap, get_or, length, sym, subst, arith}
+use Rattle.std.proofs.Common.{◌≡◌, ◌<◌, ◌∙◌, ap, get_or, length, sym, subst, arith}
 use Rattle.std.proofs.lemmas.List.{get_or_read}
 use Rattle.seat_matrix.specs.Matrix.{SeatTable}
 use Rattle.seat_matrix.specs.Seats.{IsSeated, no_seatings, of_step}
-use Rattle.seat_matrix.specs.declared.seats.Seating.{Seating}
 use Rattle.seat_matrix.specs.declared.seats.Seatings.{Seatings}
 use Rattle.seat_matrix.proofs.matrix.Matrix.seating.Goals as goal
 
