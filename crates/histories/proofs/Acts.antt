@@ -20,7 +20,7 @@ use Rattle.office_moves.specs.Moves.{Does, IsMove}
 use Rattle.office_moves.specs.History.{IsHistory, asked, grown, newly}
 use Rattle.office_moves.specs.declared.decide.AnswerLooks.{AnswerLooks}
 use Rattle.office_moves.specs.declared.decide.Decision.{Decision}
-use Rattle.office_moves.specs.declared.decide.Decision.TheVariants.{Refuse, NotedAgain, RaisedAgain, CutAgain, Note, Lift, Publish, Finish, TellSeat, TellWhy, TellList, TellState}
+use Rattle.office_moves.specs.declared.decide.Decision.TheVariants.{Refuse, NotedAgain, RaisedAgain, CutAgain, Note, Lift, Publish, Finish, Tell}
 use Rattle.office_moves.specs.declared.refusal.Refusal.TheVariants.{Ahead, Denied, LastWindow, UnknownCandidate}
 use Rattle.office_moves.specs.declared.moves.Act.{Act}
 use Rattle.office_moves.specs.declared.moves.Act.TheVariants.{Cut}
@@ -98,10 +98,7 @@ unmoved facts old (Note row) reply new e does = absurd (cc)
 unmoved facts old (Lift row) reply new e does = absurd (cc)
 unmoved facts old Publish reply new e does = absurd (cc)
 unmoved facts old Finish reply new e does = absurd (cc)
-unmoved facts old (TellSeat cand) reply new e does = does.1
-unmoved facts old (TellWhy cand prog) reply new e does = does.1
-unmoved facts old (TellList number prog) reply new e does = does.3
-unmoved facts old TellState reply new e does = does.1
+unmoved facts old (Tell question) reply new e does = does.1
 
 grows_by : (facts : SeasonFacts) (entries : List Entry) (old new : State) (request : Request) (reply : Reply) (number : ℕ) (found : Option Act) → IsHistory facts entries old
     → last_from 0 (map (λ (entry : Entry). entry.number) entries) < number → IsMove facts old request reply new → newly old.now (decided facts old request) ≡ found

@@ -5,7 +5,7 @@ use Rattle.std.specs.Option.{unwrap_or}
 use Rattle.std.proofs.lemmas.List.Quantifiers.{position-Some}
 use Rattle.std.proofs.lemmas.Slice.Eq.{bytes_eq-Decides}
 use Rattle.office_base.specs.declared.asks.Ask.{Ask}
-use Rattle.office_base.specs.declared.asks.Ask.TheVariants.{Answer as AskAnswer, Cut as AskCut, Seat, Why, List as AskList, State as AskState, Raise as AskRaise}
+use Rattle.office_base.specs.declared.asks.Ask.TheVariants.{Answer as AskAnswer, Cut as AskCut, Raise as AskRaise}
 use Rattle.office_base.specs.declared.asks.By.{By}
 use Rattle.office_base.specs.declared.person.ProgId.{ProgId}
 use Rattle.keeper_mem.specs.declared.rows.AnswerRow.{AnswerRow}
@@ -14,7 +14,7 @@ use Rattle.seat_matrix.specs.declared.entry.Home.{Home}
 use Rattle.rounds.specs.declared.round.Round.{Round}
 use Rattle.office_moves.specs.Facts.{SeasonFacts, code_in, find_programme}
 use Rattle.office_moves.specs.State.{State, view_of, with_finals, with_raise, with_round, with_row}
-use Rattle.office_moves.specs.Decided.{answer_looks, decided_by, is_chosen_by, is_known, raise_looks}
+use Rattle.office_moves.specs.Decided.{answer_looks, decided_by, raise_looks}
 use Rattle.office_moves.specs.Moves.{Does, IsNextRound, final_rows}
 use Rattle.office_moves.specs.History.{Reaches, asked, newly}
 use Rattle.office_moves.specs.declared.decide.Decision.TheVariants.{Note, Lift, Publish, Finish}
@@ -22,7 +22,8 @@ use Rattle.office_moves.specs.declared.moves.Act.{Act}
 use Rattle.office_moves.specs.declared.moves.Act.TheVariants.{Answer, Raise, Cut}
 use Rattle.office_moves.specs.declared.moves.Entry.{Entry}
 use Rattle.office_moves.specs.declared.moves.Reply.{Reply}
-use Rattle.office_moves.proofs.Chains.{IsNewAnswer, IsNewCut, IsNewRaise, answer_new, cut_new, list_old, raise_new, seat_old, why_old, with_new}
+use Rattle.office_moves.proofs.Chains.{IsNewAnswer, IsNewCut, IsNewRaise, answer_new, cut_new, raise_new, with_new}
+use Rattle.office_moves.proofs.Decisions.{by_kind, question_old}
 
 -- ---- codes of programmes
 
@@ -70,27 +71,25 @@ pub same_act : (act other : Act) → Some act ≡ Some other → other ≡ act
 same_act act other e = cc
 
 pub accepts : (facts : SeasonFacts) (old : State) (by : By) (ask : Ask) (act : Act) → newly old.now (decided_by facts old by ask) ≡ Some act → Accepts facts old by ask act
-accepts facts old by (AskAnswer cand window turn choice) act h =
+accepts facts old by ask act =
+    by_kind (λ a. newly old.now (decided_by facts old by a) ≡ Some act → Accepts facts old by a act)
+    (λ cand window turn choice h.
     let row : AnswerRow = record { window = window; cand = cand; turn = turn; choice = choice } in
     let n = answer_new old.now (answer_looks facts (view_of old cand.0) row) by row act h in
-    NewAnswer row refl (same_act _ _ (sym (ap (newly old.now) n.noted) ∙ h)) n n.noted
-accepts facts old by (AskCut window) act h =
+    NewAnswer row refl (same_act _ _ (sym (ap (newly old.now) n.noted) ∙ h)) n n.noted)
+    (λ window h.
     let n = cut_new by old.now facts.rounds window act h in
     elim n.ends [
       | inl e ↦ LastCut window refl (same_act _ _ (sym (ap (newly old.now) e.0) ∙ h)) n e.1 e.0
       | inr e ↦ NewCut window refl (same_act _ _ (sym (ap (newly old.now) e.0) ∙ h)) n e.1 e.0
-    ]
-accepts facts old by (Seat cand) act h = absurd (let e = seat_old old.now (is_known facts cand) by cand in cc)
-accepts facts old by (Why cand code) act h =
-    absurd (let e = why_old old.now (is_known facts cand) (find_programme facts code) (is_chosen_by facts cand (find_programme facts code)) (length old.rounds) by cand in cc)
-accepts facts old by (AskList round code) act h = absurd (let e = list_old old.now (find_programme facts code) (length old.rounds) round in cc)
-accepts facts old by AskState act h = absurd (cc)
-accepts facts old by (AskRaise window code step seats) act h =
+    ])
+    (λ window code step seats h.
     let found = with_new old.now (find_programme facts code) _ act h in
     let row : RaiseRow = record { window = window; prog = found.0; step = step; seats = seats } in
     let n = raise_new old.now (raise_looks facts old row) by row act found.2 in
     let lifted = found.3 ∙ n.lifted in
-    NewRaise row code refl (was_found facts code found.0 found.1) found.1 (same_act _ _ (sym (ap (newly old.now) lifted) ∙ h)) n lifted
+    NewRaise row code refl (was_found facts code found.0 found.1) found.1 (same_act _ _ (sym (ap (newly old.now) lifted) ∙ h)) n lifted)
+    (λ a is h. absurd (let e = question_old facts old old.now by a is in cc)) ask
 
 -- ---- what a decision that newly accepts does
 

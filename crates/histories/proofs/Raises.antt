@@ -19,7 +19,6 @@ use Rattle.office_moves.specs.declared.decide.Decision.TheVariants.{Lift}
 use Rattle.office_moves.specs.declared.moves.Act.{Act}
 use Rattle.office_moves.specs.declared.moves.Entry.{Entry}
 use Rattle.office_moves.specs.declared.refusal.Refusal.{Refusal}
-use Rattle.office_moves.specs.declared.refusal.Refusal.TheVariants.{Falling, SeatLimit, StepFixed}
 use Rattle.office_moves.proofs.Rising.{AreLifts, IsLift, lifts_append, raised_append, raised_well}
 use Rattle.histories.specs.Laws.{SeatsOnlyRise, SeatsRise}
 use Rattle.histories.proofs.Accepted.{is_open}
@@ -77,7 +76,7 @@ pub was_lift : (facts : SeasonFacts) (old : State) (row : RaiseRow) → row.prog
 was_lift facts old row below next =
     let looks = raise_looks facts old row in
     let passed = passes (is_dereserved row.step) (nat_le row.seats looks.seats) (nat_lt most_step_seats row.seats || nat_lt most_matrix_seats (looks.total - looks.seats + row.seats))
-    StepFixed (Falling looks.seats) (SeatLimit looks.total) row next in
+    _ _ _ row next in
     record {
       below = below;
       own = passed.is_own;

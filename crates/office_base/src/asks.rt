@@ -49,6 +49,14 @@ pub enum Ask {
         round: u16,
         prog: Code,
     },
+    /// What was published under a number: the text of a round, or of the final admissions.
+    Round {
+        round: u16,
+    },
+    /// The choice list of a candidate.
+    Choices {
+        cand: CandId,
+    },
     /// How far the office is.
     State,
     /// More seats for a step of a programme, from the cut of a window on: `seats` is their new number.

@@ -8,50 +8,18 @@ use Rattle.round_options.specs.Options.{may_follow}
 use Rattle.office_base.specs.declared.asks.By.{By}
 use Rattle.office_base.specs.declared.asks.Choice.{Choice}
 use Rattle.office_base.specs.declared.asks.Choice.TheVariants.{Freeze, Float, Slide, Withdraw}
-use Rattle.office_base.specs.declared.person.CandId.{CandId}
 use Rattle.office_base.specs.declared.person.ProgId.{ProgId}
 use Rattle.keeper_mem.specs.declared.rows.AnswerRow.{AnswerRow}
 use Rattle.keeper_mem.specs.declared.rows.RaiseRow.{RaiseRow}
-use Rattle.office_moves.specs.Judge.{choice_of, is_candidate, is_clerk, is_gone, is_withdraw, judge_answer, judge_cut, judge_list, judge_new_answer, judge_new_seats, judge_next_answer, judge_raise, judge_seat, judge_why, may_ask, not_open, once_more, refuse_as, refuse_if, same_choice, with_programme}
+use Rattle.office_moves.specs.Judge.{is_candidate, is_clerk, is_gone, is_withdraw, judge_answer, judge_cut, judge_new_answer, judge_new_seats, judge_next_answer, judge_raise, not_open, once_more, refuse_as, refuse_if, same_choice, with_programme}
 use Rattle.office_moves.specs.History.{newly}
 use Rattle.office_moves.specs.declared.decide.AnswerLooks.{AnswerLooks}
 use Rattle.office_moves.specs.declared.decide.Decision.{Decision}
-use Rattle.office_moves.specs.declared.decide.Decision.TheVariants.{Refuse, NotedAgain, RaisedAgain, CutAgain, Note, Lift, Publish, Finish, TellSeat, TellWhy, TellList}
+use Rattle.office_moves.specs.declared.decide.Decision.TheVariants.{Refuse, NotedAgain, RaisedAgain, CutAgain, Note, Lift, Publish, Finish}
 use Rattle.office_moves.specs.declared.decide.RaiseLooks.{RaiseLooks}
 use Rattle.office_moves.specs.declared.moves.Act.{Act}
 use Rattle.office_moves.specs.declared.refusal.Refusal.{Refusal}
-use Rattle.office_moves.specs.declared.refusal.Refusal.TheVariants.{Ahead, Denied, Falling, Gap, Gone, LastWindow, NoSeat, NoSuchRound, NotChosen, SeatLimit, StepFixed, TooManyTurns, TurnUsed, UnknownCandidate, UnknownProgramme, Widening}
-
--- ---- questions are never newly accepted
-
-pub seat_old : (now : ℕ) (known : Bool) (by : By) (cand : CandId) → newly now (judge_seat known by cand) ≡ None
-seat_old now known by cand = seat_chain now known (may_ask by cand) cand
-  where
-    seat_chain : (now : ℕ) (known may : Bool) (cand : CandId) → newly now (refuse_if (not known) UnknownCandidate (refuse_if (not may) (Denied 3) (TellSeat cand))) ≡ None
-    seat_chain now false may cand = refl
-    seat_chain now true false cand = refl
-    seat_chain now true true cand = refl
-
-why_chain : (now : ℕ) (known may chosen none : Bool) (prog : Option ProgId) (published : ℕ) (cand : CandId)
-    → newly now (refuse_if (not known) UnknownCandidate (with_programme prog (λ p. refuse_if (not may) (Denied 3) (refuse_if (not chosen) NotChosen (refuse_if none (NoSuchRound published) (TellWhy cand p)))))) ≡ None
-why_chain now false may chosen none prog published cand = refl
-why_chain now true may chosen none None published cand = refl
-why_chain now true false chosen none (Some prog) published cand = refl
-why_chain now true true false none (Some prog) published cand = refl
-why_chain now true true true true (Some prog) published cand = refl
-why_chain now true true true false (Some prog) published cand = refl
-
-pub why_old : (now : ℕ) (known : Bool) (prog : Option ProgId) (chosen : Bool) (published : ℕ) (by : By) (cand : CandId) → newly now (judge_why known prog chosen published by cand) ≡ None
-why_old now known prog chosen published by cand = why_chain now known (may_ask by cand) chosen (published == 0) prog published cand
-
-list_chain : (now : ℕ) (none : Bool) (prog : Option ProgId) (published round : ℕ)
-    → newly now (with_programme prog (λ p. refuse_if none (NoSuchRound published) (TellList round p))) ≡ None
-list_chain now none None published round = refl
-list_chain now true (Some prog) published round = refl
-list_chain now false (Some prog) published round = refl
-
-pub list_old : (now : ℕ) (prog : Option ProgId) (published round : ℕ) → newly now (judge_list prog published round) ≡ None
-list_old now prog published round = list_chain now (round == 0 || nat_lt published round) prog published round
+use Rattle.office_moves.specs.declared.refusal.Refusal.TheVariants.{Ahead, Denied, Gap, LastWindow, TurnUsed, UnknownCandidate}
 
 -- ---- an answer
 
@@ -77,7 +45,7 @@ next_chain now false false false false how first second third row act h = refl
 next_new : (now : ℕ) (looks : AnswerLooks) (row : AnswerRow) (act : Act) → newly now (judge_next_answer looks row) ≡ Some act → judge_next_answer looks row ≡ Note row
 next_new now looks row act h =
     next_chain now (is_gone looks.standing) (not looks.seated && not (is_withdraw row.choice)) (not (may_follow looks.left row.choice)) (nat_lt most_turns row.turn && not (is_withdraw row.choice))
-    (Gone looks.standing) NoSeat (Widening (choice_of looks.left)) TooManyTurns row act h
+    _ _ _ _ row act h
 
 -- what the tests before the next answer's are
 record Passed (now : ℕ) (known own : Bool) (kept : Option Choice) (opened : Option Refusal) (turn : Bool) (whole rest : Decision) (act : Act) : Type 0 where
@@ -199,7 +167,7 @@ seats_chain now false false false first second third row act h = refl
 seats_new : (now : ℕ) (looks : RaiseLooks) (row : RaiseRow) (act : Act) → newly now (judge_new_seats looks row) ≡ Some act → judge_new_seats looks row ≡ Lift row
 seats_new now looks row act h =
     seats_chain now (is_dereserved row.step) (nat_le row.seats looks.seats) (nat_lt most_step_seats row.seats || nat_lt most_matrix_seats (looks.total - looks.seats + row.seats))
-    StepFixed (Falling looks.seats) (SeatLimit looks.total) row act h
+    _ _ _ row act h
 
 record Raises (now : ℕ) (clerk again : Bool) (opened : Option Refusal) (last : Bool) (whole rest : Decision) (act : Act) : Type 0 where
   is_clerk : clerk ≡ true
@@ -239,54 +207,3 @@ pub with_new : (now : ℕ) (prog : Option ProgId) (rest : ProgId → Decision) (
     → (p : ProgId) × (prog ≡ Some p) × (newly now (rest p) ≡ Some act) × (with_programme prog rest ≡ rest p)
 with_new now None rest act h = absurd (cc)
 with_new now (Some prog) rest act h = (prog, refl, h, refl)
-
--- ---- what holds of every end of a chain holds of what it comes to
-
-pub answer_keeps : (P : Decision → Type 0) (looks : AnswerLooks) (by : By) (row : AnswerRow) → ((r : Refusal) → P (Refuse r)) → P (NotedAgain row) → P (Note row) → P (judge_answer looks by row)
-answer_keeps P looks by row refused again noted =
-    first P looks.known (is_candidate by row.cand) looks.kept (not_open looks.window looks.rounds row.window) (row.turn == looks.last + 1) (Gap looks.last) row (judge_next_answer looks row) refused again
-    (second P (is_gone looks.standing) (not looks.seated && not (is_withdraw row.choice)) (not (may_follow looks.left row.choice)) (nat_lt most_turns row.turn && not (is_withdraw row.choice))
-    (Gone looks.standing) NoSeat (Widening (choice_of looks.left)) TooManyTurns (Note row) refused noted)
-  where
-    once : (P : Decision → Type 0) (same : Bool) (row : AnswerRow) (choice : Choice) → ((r : Refusal) → P (Refuse r)) → P (NotedAgain row) → P (if same then NotedAgain row else Refuse (TurnUsed choice))
-    once P true row choice refused again = again
-    once P false row choice refused again = refused (TurnUsed choice)
-
-    second : (P : Decision → Type 0) (gone none wide many : Bool) (how one two three : Refusal) (rest : Decision) → ((r : Refusal) → P (Refuse r)) → P rest
-        → P (refuse_if gone how (refuse_if none one (refuse_if wide two (refuse_if many three rest))))
-    second P true none wide many how one two three rest refused kept = refused how
-    second P false true wide many how one two three rest refused kept = refused one
-    second P false false true many how one two three rest refused kept = refused two
-    second P false false false true how one two three rest refused kept = refused three
-    second P false false false false how one two three rest refused kept = kept
-
-    first : (P : Decision → Type 0) (known own : Bool) (kept : Option Choice) (opened : Option Refusal) (turn : Bool) (gap : Refusal) (row : AnswerRow) (rest : Decision) → ((r : Refusal) → P (Refuse r))
-        → P (NotedAgain row) → P rest → P (refuse_if (not known) UnknownCandidate (refuse_if (not own) (Denied 1) (once_more kept row (refuse_as opened (refuse_if (not turn) gap rest)))))
-    first P false own kept opened turn gap row rest refused again other = refused UnknownCandidate
-    first P true false kept opened turn gap row rest refused again other = refused (Denied 1)
-    first P true true (Some choice) opened turn gap row rest refused again other = once P (same_choice choice row.choice) row choice refused again
-    first P true true None (Some refusal) turn gap row rest refused again other = refused refusal
-    first P true true None None false gap row rest refused again other = refused gap
-    first P true true None None true gap row rest refused again other = other
-
-pub seat_keeps : (P : Decision → Type 0) (known : Bool) (by : By) (cand : CandId) → ((r : Refusal) → P (Refuse r)) → P (TellSeat cand) → P (judge_seat known by cand)
-seat_keeps P known by cand refused told = chain P known (may_ask by cand) cand refused told
-  where
-    chain : (P : Decision → Type 0) (known may : Bool) (cand : CandId) → ((r : Refusal) → P (Refuse r)) → P (TellSeat cand)
-        → P (refuse_if (not known) UnknownCandidate (refuse_if (not may) (Denied 3) (TellSeat cand)))
-    chain P false may cand refused told = refused UnknownCandidate
-    chain P true false cand refused told = refused (Denied 3)
-    chain P true true cand refused told = told
-
-pub why_keeps : (P : Decision → Type 0) (known : Bool) (prog : Option ProgId) (chosen : Bool) (published : ℕ) (by : By) (cand : CandId) → ((r : Refusal) → P (Refuse r))
-    → ((p : ProgId) → P (TellWhy cand p)) → P (judge_why known prog chosen published by cand)
-why_keeps P known prog chosen published by cand refused told = chain P known (may_ask by cand) chosen (published == 0) prog published cand refused told
-  where
-    chain : (P : Decision → Type 0) (known may chosen none : Bool) (prog : Option ProgId) (published : ℕ) (cand : CandId) → ((r : Refusal) → P (Refuse r)) → ((p : ProgId) → P (TellWhy cand p))
-        → P (refuse_if (not known) UnknownCandidate (with_programme prog (λ p. refuse_if (not may) (Denied 3) (refuse_if (not chosen) NotChosen (refuse_if none (NoSuchRound published) (TellWhy cand p))))))
-    chain P false may chosen none prog published cand refused told = refused UnknownCandidate
-    chain P true may chosen none None published cand refused told = refused UnknownProgramme
-    chain P true false chosen none (Some prog) published cand refused told = refused (Denied 3)
-    chain P true true false none (Some prog) published cand refused told = refused NotChosen
-    chain P true true true true (Some prog) published cand refused told = refused (NoSuchRound published)
-    chain P true true true false (Some prog) published cand refused told = told prog

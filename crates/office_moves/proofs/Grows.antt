@@ -1,7 +1,6 @@
 -- What a history only adds to, and when its windows are cut.
 use Rattle.std.proofs.Common.{◌≡◌, ◌<◌, ◌≤◌, ◌+◌, inl, inr, List, [], ◌∷◌, ◌++◌, Some, length, arith, refl, sym, ap, ◌∙◌, subst, append_assoc, append-nil, length-append}
 use Rattle.office_base.specs.declared.asks.Ask.{Ask}
-use Rattle.office_base.specs.declared.asks.Ask.TheVariants.{Answer, Cut, Seat, Why, List as AskList, State as AskState, Raise}
 use Rattle.office_base.specs.declared.asks.By.{By}
 use Rattle.office_base.specs.declared.asks.Request.{Request}
 use Rattle.keeper_mem.specs.declared.rows.AnswerRow.{AnswerRow}
@@ -9,15 +8,16 @@ use Rattle.keeper_mem.specs.declared.rows.RaiseRow.{RaiseRow}
 use Rattle.rounds.specs.declared.round.Round.{Round}
 use Rattle.office_moves.specs.Facts.{SeasonFacts, find_programme}
 use Rattle.office_moves.specs.State.{State, view_of}
-use Rattle.office_moves.specs.Decided.{answer_looks, decided, decided_by, is_chosen_by, is_known, raise_looks}
+use Rattle.office_moves.specs.Decided.{answer_looks, decided, decided_by, raise_looks}
 use Rattle.office_moves.specs.Moves.{Does, IsMove}
 use Rattle.office_moves.specs.History.{Reaches, asked, newly}
 use Rattle.office_moves.specs.declared.decide.Decision.{Decision}
-use Rattle.office_moves.specs.declared.decide.Decision.TheVariants.{Refuse, NotedAgain, RaisedAgain, CutAgain, Note, Lift, Publish, Finish, TellSeat, TellWhy, TellList, TellState}
+use Rattle.office_moves.specs.declared.decide.Decision.TheVariants.{Refuse, NotedAgain, RaisedAgain, CutAgain, Note, Lift, Publish, Finish, Tell}
 use Rattle.office_moves.specs.declared.moves.Act.{Act}
 use Rattle.office_moves.specs.declared.moves.Entry.{Entry}
 use Rattle.office_moves.specs.declared.moves.Reply.{Reply}
-use Rattle.office_moves.proofs.Chains.{answer_new, cut_new, list_old, raise_new, seat_old, why_old, with_new}
+use Rattle.office_moves.proofs.Chains.{answer_new, cut_new, raise_new, with_new}
+use Rattle.office_moves.proofs.Decisions.{by_kind, question_old}
 
 -- ---- lists that only grow
 
@@ -57,10 +57,7 @@ does_grows facts old Publish reply new d =
     subst (λ s. Grown old s) (sym d.3) (record { answers = ([], sym (append-nil old.answers)); raises = ([], sym (append-nil old.raises)); rounds = (d.0 ∷ [], refl); later = omega arith })
 does_grows facts old Finish reply new d =
     subst (λ s. Grown old s) (sym d.1) (record { answers = ([], sym (append-nil old.answers)); raises = ([], sym (append-nil old.raises)); rounds = ([], sym (append-nil old.rounds)); later = omega arith })
-does_grows facts old (TellSeat cand) reply new d = grown_same old new d.1
-does_grows facts old (TellWhy cand prog) reply new d = grown_same old new d.1
-does_grows facts old (TellList number prog) reply new d = grown_same old new d.3
-does_grows facts old TellState reply new d = grown_same old new d.1
+does_grows facts old (Tell question) reply new d = grown_same old new d.1
 
 pub reaches_grows : (facts : SeasonFacts) (old new : State) (entries : List Entry) → Reaches facts old entries new → Grown old new
 reaches_grows facts old new [] e = grown_same old new e
@@ -78,22 +75,20 @@ pub data Accepted (facts : SeasonFacts) (state : State) (decision : Decision) : 
 
 pub was_accepted : (facts : SeasonFacts) (state : State) (by : By) (ask : Ask) (act : Act) → newly state.now (decided_by facts state by ask) ≡ Some act
     → Accepted facts state (decided_by facts state by ask)
-was_accepted facts state by (Answer cand window turn choice) act h =
+was_accepted facts state by ask act =
+    by_kind (λ a. newly state.now (decided_by facts state by a) ≡ Some act → Accepted facts state (decided_by facts state by a))
+    (λ cand window turn choice h.
     let row : AnswerRow = record { window = window; cand = cand; turn = turn; choice = choice } in
-    Answers row (answer_new state.now (answer_looks facts (view_of state cand.0) row) by row act h).noted
-was_accepted facts state by (Cut window) act h =
+    Answers row (answer_new state.now (answer_looks facts (view_of state cand.0) row) by row act h).noted)
+    (λ window h.
     let cut = cut_new by state.now facts.rounds window act h in
-    elim cut.ends [ inl e ↦ Finishes e.0 e.1 | inr e ↦ Publishes e.0 e.1 ]
-was_accepted facts state by (Seat cand) act h = absurd (let e = seat_old state.now (is_known facts cand) by cand in cc)
-was_accepted facts state by (Why cand code) act h =
-    absurd (let e = why_old state.now (is_known facts cand) (find_programme facts code) (is_chosen_by facts cand (find_programme facts code)) (length state.rounds) by cand in cc)
-was_accepted facts state by (AskList round code) act h = absurd (let e = list_old state.now (find_programme facts code) (length state.rounds) round in cc)
-was_accepted facts state by AskState act h = absurd (cc)
-was_accepted facts state by (Raise window code step seats) act h =
+    elim cut.ends [ inl e ↦ Finishes e.0 e.1 | inr e ↦ Publishes e.0 e.1 ])
+    (λ window code step seats h.
     let found = with_new state.now (find_programme facts code) _ act h in
     let row : RaiseRow = record { window = window; prog = found.0; step = step; seats = seats } in
     let new = raise_new state.now (raise_looks facts state row) by row act found.2 in
-    Raises row (found.3 ∙ new.lifted)
+    Raises row (found.3 ∙ new.lifted))
+    (λ a is h. absurd (let e = question_old facts state state.now by a is in cc)) ask
 
 -- While rounds follow, each cut published one.
 abbrev pub InOrder : SeasonFacts → State → Type 0

@@ -1,9 +1,11 @@
 pub mod Chains
 pub mod Cuts
+pub mod Decisions
 pub mod Grows
 pub mod Narrows
 pub mod OneState
 mod OwnView
 pub mod Repeats
 pub mod Rising
+pub mod Sound
 pub mod Sums

@@ -8,7 +8,6 @@ use Rattle.std.proofs.lemmas.Bool.Decides.{nat_tests}
 use Rattle.std.proofs.lemmas.List.Folds.{list_any-append}
 use Rattle.office_base.proofs.Lists.{get-after}
 use Rattle.office_base.specs.declared.asks.Ask.{Ask}
-use Rattle.office_base.specs.declared.asks.Ask.TheVariants.{Answer, Cut, Seat, Why, List as AskList, State as AskState, Raise}
 use Rattle.office_base.specs.declared.asks.By.{By}
 use Rattle.office_base.specs.declared.asks.Choice.{Choice}
 use Rattle.office_base.specs.declared.person.ProgId.{ProgId}
@@ -22,7 +21,7 @@ use Rattle.rounds.specs.declared.round.Round.{Round}
 use Rattle.office_moves.specs.Facts.{SeasonFacts, find_programme}
 use Rattle.office_moves.specs.State.{State, accepted, opening, round_at, rows_of, view_of, with_finals, with_raise, with_row}
 use Rattle.office_moves.specs.Judge.{with_programme}
-use Rattle.office_moves.specs.Decided.{answer_looks, decide_answer, decide_cut, decide_raise, decided, is_chosen_by, is_known, raise_looks, same_raise}
+use Rattle.office_moves.specs.Decided.{answer_looks, decide_answer, decide_cut, decide_raise, decided, decided_by, raise_looks, same_raise}
 use Rattle.office_moves.specs.Moves.{Does, IsMove, final_rows, noted, raised_reply, receipt, seated_in}
 use Rattle.office_moves.specs.History.{Reaches, newly}
 use Rattle.office_moves.specs.Laws.{RepeatsOnce}
@@ -32,7 +31,8 @@ use Rattle.office_moves.specs.declared.moves.Act.{Act}
 use Rattle.office_moves.specs.declared.moves.Entry.{Entry}
 use Rattle.office_moves.specs.declared.moves.Reply.{Reply}
 use Rattle.office_moves.specs.declared.moves.Reply.TheVariants.{Final, Published}
-use Rattle.office_moves.proofs.Chains.{answer_again, answer_new, cut_again, cut_new, list_old, raise_again, raise_new, seat_old, why_old, with_new}
+use Rattle.office_moves.proofs.Chains.{answer_again, answer_new, cut_again, cut_new, raise_again, raise_new, with_new}
+use Rattle.office_moves.proofs.Decisions.{by_kind, question_old}
 use Rattle.office_moves.proofs.Grows.{InOrder, finals_stay, reaches_grows, reaches_order}
 
 -- the reply and the state of a repeat
@@ -193,18 +193,14 @@ cut_repeats facts more old new later after by window act reply again order accep
 repeats_by : (facts : SeasonFacts) (more : List Entry) (old new later after : State) (by : By) (ask : Ask) (act : Act) (reply again : Reply) → InOrder facts old
     → newly old.now (decided facts old (record { by = by; ask = ask })) ≡ Some act → IsMove facts old (record { by = by; ask = ask }) reply new → Reaches facts new more later
     → IsMove facts later (record { by = by; ask = ask }) again after → Again later reply again after
-repeats_by facts more old new later after by (Answer cand window turn choice) act reply again order accept first reached second =
-    answer_repeats facts more old new later after by (record { window = window; cand = cand; turn = turn; choice = choice }) act reply again accept first reached second
-repeats_by facts more old new later after by (Cut window) act reply again order accept first reached second =
-    cut_repeats facts more old new later after by window act reply again order accept first reached second
-repeats_by facts more old new later after by (Seat cand) act reply again order accept first reached second = absurd (let e = seat_old old.now (is_known facts cand) by cand in cc)
-repeats_by facts more old new later after by (Why cand code) act reply again order accept first reached second =
-    absurd (let e = why_old old.now (is_known facts cand) (find_programme facts code) (is_chosen_by facts cand (find_programme facts code)) (length old.rounds) by cand in cc)
-repeats_by facts more old new later after by (AskList round code) act reply again order accept first reached second =
-    absurd (let e = list_old old.now (find_programme facts code) (length old.rounds) round in cc)
-repeats_by facts more old new later after by AskState act reply again order accept first reached second = absurd (cc)
-repeats_by facts more old new later after by (Raise window code step seats) act reply again order accept first reached second =
-    raise_repeats facts more old new later after by window code step seats act reply again accept first reached second
+repeats_by facts more old new later after by ask act reply again order =
+    by_kind (λ a. newly old.now (decided_by facts old by a) ≡ Some act → Does facts old (decided_by facts old by a) reply new → Reaches facts new more later
+    → Does facts later (decided_by facts later by a) again after → Again later reply again after)
+    (λ cand window turn choice accept first reached second.
+    answer_repeats facts more old new later after by (record { window = window; cand = cand; turn = turn; choice = choice }) act reply again accept first reached second)
+    (λ window accept first reached second. cut_repeats facts more old new later after by window act reply again order accept first reached second)
+    (λ window code step seats accept first reached second. raise_repeats facts more old new later after by window code step seats act reply again accept first reached second)
+    (λ a is accept first reached second. absurd (let e = question_old facts old old.now by a is in cc)) ask
 
 pub repeats_once : (facts : SeasonFacts) → RepeatsOnce facts
 repeats_once facts before more old new later after request act reply again there accept first reached second =

@@ -1,8 +1,8 @@
 -- What each request comes to in a state: what it looks at, and what is judged by that.
-use Rattle.std.specs.Prelude.{ℕ, Bool, false, ◌==◌, ◌&&◌, List, Option, Some, None, length, is_some}
+use Rattle.std.specs.Prelude.{ℕ, Bool, true, false, ◌==◌, ◌&&◌, List, Option, Some, None, length, is_some}
 use Rattle.std.specs.List.{list_any}
 use Rattle.office_base.specs.declared.asks.Ask.{Ask}
-use Rattle.office_base.specs.declared.asks.Ask.TheVariants.{Answer, Cut, Seat as AskSeat, Why, List as AskList, State as AskState, Raise}
+use Rattle.office_base.specs.declared.asks.Ask.TheVariants.{Answer, Cut, Seat as AskSeat, Why, List as AskList, Round as AskRound, Choices as AskChoices, State as AskState, Raise}
 use Rattle.office_base.specs.declared.asks.By.{By}
 use Rattle.office_base.specs.declared.asks.Request.{Request}
 use Rattle.office_base.specs.declared.person.CandId.{CandId}
@@ -18,10 +18,12 @@ use Rattle.seeks.specs.Seek.{is_listed}
 use Rattle.office_moves.specs.Facts.{SeasonFacts, find_programme}
 use Rattle.office_moves.specs.State.{State, View, accepted, in_window, last_seat, last_turn, left_by, standing_at, view_of}
 use Rattle.office_moves.specs.Raised.{matrix_at, total_seats}
-use Rattle.office_moves.specs.Judge.{judge_answer, judge_cut, judge_list, judge_raise, judge_seat, judge_why, with_programme}
+use Rattle.office_moves.specs.Judge.{judge_answer, judge_cut, judge_list, judge_own, judge_raise, judge_round, judge_why, with_programme}
 use Rattle.office_moves.specs.declared.decide.AnswerLooks.{AnswerLooks}
 use Rattle.office_moves.specs.declared.decide.Decision.{Decision}
-use Rattle.office_moves.specs.declared.decide.Decision.TheVariants.{TellState}
+use Rattle.office_moves.specs.declared.decide.Decision.TheVariants.{Tell}
+use Rattle.office_moves.specs.declared.decide.Question.{Question}
+use Rattle.office_moves.specs.declared.decide.Question.TheVariants.{Seat as TheSeat, Choices as TheChoices, State as TheState}
 use Rattle.office_moves.specs.declared.decide.RaiseLooks.{RaiseLooks}
 
 -- ---- requests of a candidate: they look at the season and at the candidate's view
@@ -46,8 +48,8 @@ answer_looks facts view row = record {
 abbrev pub decide_answer : SeasonFacts → View → By → AnswerRow → Decision
 decide_answer facts view by row = judge_answer (answer_looks facts view row) by row
 
-abbrev pub decide_seat : SeasonFacts → By → CandId → Decision
-decide_seat facts by cand = judge_seat (is_known facts cand) by cand
+abbrev pub decide_own : SeasonFacts → By → CandId → Question → Decision
+decide_own facts by cand question = judge_own (is_known facts cand) by cand question
 
 -- the programme is on the candidate's choice list
 abbrev pub is_chosen_by : SeasonFacts → CandId → Option ProgId → Bool
@@ -65,6 +67,9 @@ decide_cut facts state by window = judge_cut by state.now facts.rounds window
 
 abbrev pub decide_list : SeasonFacts → State → ℕ → List ℕ → Decision
 decide_list facts state round code = judge_list (find_programme facts code) (length state.rounds) round
+
+abbrev pub decide_round : State → ℕ → Decision
+decide_round state round = judge_round state.now (length state.rounds) round
 
 -- the two raises are one
 abbrev pub same_raise : RaiseRow → RaiseRow → Bool
@@ -93,11 +98,20 @@ decide_raise facts state by window code step seats =
 abbrev pub decided_by : SeasonFacts → State → By → Ask → Decision
 decided_by facts state by (Answer cand window turn choice) = decide_answer facts (view_of state cand.0) by (record { window = window; cand = cand; turn = turn; choice = choice })
 decided_by facts state by (Cut window) = decide_cut facts state by window
-decided_by facts state by (AskSeat cand) = decide_seat facts by cand
+decided_by facts state by (AskSeat cand) = decide_own facts by cand (TheSeat cand)
 decided_by facts state by (Why cand code) = decide_why facts (view_of state cand.0) by cand code
 decided_by facts state by (AskList round code) = decide_list facts state round code
-decided_by facts state by AskState = TellState
+decided_by facts state by (AskRound round) = decide_round state round
+decided_by facts state by (AskChoices cand) = decide_own facts by cand (TheChoices cand)
+decided_by facts state by AskState = Tell TheState
 decided_by facts state by (Raise window code step seats) = decide_raise facts state by window code step seats
+
+-- the ask is a question: it changes nothing, whatever the state
+abbrev pub is_question : Ask → Bool
+is_question (Answer cand window turn choice) = false
+is_question (Cut window) = false
+is_question (Raise window code step seats) = false
+is_question _ = true
 
 -- What a request comes to in a state.
 abbrev pub decided : SeasonFacts → State → Request → Decision

@@ -9,7 +9,7 @@ use Rattle.office_moves.specs.State.{State, opening}
 use Rattle.office_moves.specs.Decided.{decided}
 use Rattle.office_moves.specs.Moves.{IsMove}
 use Rattle.office_moves.specs.declared.decide.Decision.{Decision}
-use Rattle.office_moves.specs.declared.decide.Decision.TheVariants.{Refuse, NotedAgain, RaisedAgain, CutAgain, Note, Lift, Publish, Finish, TellSeat, TellWhy, TellList, TellState}
+use Rattle.office_moves.specs.declared.decide.Decision.TheVariants.{Refuse, NotedAgain, RaisedAgain, CutAgain, Note, Lift, Publish, Finish, Tell}
 use Rattle.office_moves.specs.declared.moves.Act.{Act}
 use Rattle.office_moves.specs.declared.moves.Act.TheVariants.{Answer, Raise, Cut}
 use Rattle.office_moves.specs.declared.moves.Entry.{Entry}
@@ -31,10 +31,7 @@ newly now (Note row) = Some (Answer row)
 newly now (Lift row) = Some (Raise row)
 newly now Publish = Some (Cut now)
 newly now Finish = Some (Cut now)
-newly now (TellSeat cand) = None
-newly now (TellWhy cand prog) = None
-newly now (TellList number prog) = None
-newly now TellState = None
+newly now (Tell question) = None
 
 -- the entries with an act more, where there is one
 abbrev pub grown : List Entry → ℕ → Option Act → List Entry

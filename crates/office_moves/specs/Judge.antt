@@ -15,7 +15,9 @@ use Rattle.round_options.specs.declared.standing.Standing.{Standing}
 use Rattle.round_options.specs.declared.standing.Standing.TheVariants.{Waiting, Offered, Freeze, Float, Slide, Withdrawn, NoShow}
 use Rattle.office_moves.specs.declared.decide.AnswerLooks.{AnswerLooks}
 use Rattle.office_moves.specs.declared.decide.Decision.{Decision}
-use Rattle.office_moves.specs.declared.decide.Decision.TheVariants.{Refuse, NotedAgain, RaisedAgain, CutAgain, Note, Lift, Publish, Finish, TellSeat, TellWhy, TellList}
+use Rattle.office_moves.specs.declared.decide.Decision.TheVariants.{Refuse, NotedAgain, RaisedAgain, CutAgain, Note, Lift, Publish, Finish, Tell}
+use Rattle.office_moves.specs.declared.decide.Question.{Question}
+use Rattle.office_moves.specs.declared.decide.Question.TheVariants.{Why as TheReason, List as TheList, Round as TheRound}
 use Rattle.office_moves.specs.declared.decide.RaiseLooks.{RaiseLooks}
 use Rattle.office_moves.specs.declared.refusal.Refusal.{Refusal}
 use Rattle.office_moves.specs.declared.refusal.Refusal.TheVariants.{UnknownCandidate, UnknownProgramme, Denied, TurnUsed, Late, Ahead, Gap, Gone, NoSeat, Widening, TooManyTurns, NotChosen, NoSuchRound, LastWindow, StepFixed, Falling, SeatLimit}
@@ -46,7 +48,7 @@ is_candidate Clerk cand = false
 is_candidate (Candidate id) cand = id.0 == cand.0
 is_candidate Nobody cand = false
 
--- the candidate and the clerk may ask for the candidate's seat, and why
+-- the candidate and the clerk may ask for the candidate's seat, for their choice list, and why
 abbrev pub may_ask : By → CandId → Bool
 may_ask by cand = is_clerk by || is_candidate by cand
 
@@ -134,8 +136,9 @@ abbrev pub with_programme : Option ProgId → (ProgId → Decision) → Decision
 with_programme None rest = Refuse UnknownProgramme
 with_programme (Some prog) rest = rest prog
 
-abbrev pub judge_seat : Bool → By → CandId → Decision
-judge_seat known by cand = refuse_if (not known) UnknownCandidate (refuse_if (not (may_ask by cand)) (Denied 3) (TellSeat cand))
+-- what comes of a question that only the candidate and the clerk may ask
+abbrev pub judge_own : Bool → By → CandId → Question → Decision
+judge_own known by cand question = refuse_if (not known) UnknownCandidate (refuse_if (not (may_ask by cand)) (Denied 3) (Tell question))
 
 -- by whether the candidate is known, the programme of the code, whether it is on the candidate's choice list, and the number of published rounds
 abbrev pub judge_why : Bool → Option ProgId → Bool → ℕ → By → CandId → Decision
@@ -145,10 +148,14 @@ judge_why known prog chosen published by cand =
     refuse_if (not (may_ask by cand)) (Denied 3)
     (refuse_if (not chosen) NotChosen
     (refuse_if (published == 0) (NoSuchRound published)
-    (TellWhy cand prog)))))
+    (Tell (TheReason cand prog))))))
 
 abbrev pub judge_list : Option ProgId → ℕ → ℕ → Decision
-judge_list prog published round = with_programme prog (λ prog. refuse_if (round == 0 || nat_lt published round) (NoSuchRound published) (TellList round prog))
+judge_list prog published round = with_programme prog (λ prog. refuse_if (round == 0 || nat_lt published round) (NoSuchRound published) (Tell (TheList round prog)))
+
+-- by the number of cuts, each of which published a text, and the number of published rounds
+abbrev pub judge_round : ℕ → ℕ → ℕ → Decision
+judge_round cuts published round = refuse_if (round == 0 || nat_lt cuts round) (NoSuchRound published) (Tell (TheRound round))
 
 -- ---- a raise
 

@@ -24,9 +24,11 @@ use Rattle.office_moves.specs.Raised.{matrix_at}
 use Rattle.office_moves.specs.Decided.{decided}
 use Rattle.office_moves.specs.Why.{why_answer}
 use Rattle.office_moves.specs.declared.decide.Decision.{Decision}
-use Rattle.office_moves.specs.declared.decide.Decision.TheVariants.{Refuse, NotedAgain, RaisedAgain, CutAgain, Note, Lift, Publish, Finish, TellSeat, TellWhy, TellList, TellState}
+use Rattle.office_moves.specs.declared.decide.Decision.TheVariants.{Refuse, NotedAgain, RaisedAgain, CutAgain, Note, Lift, Publish, Finish, Tell}
+use Rattle.office_moves.specs.declared.decide.Question.{Question}
+use Rattle.office_moves.specs.declared.decide.Question.TheVariants.{Seat as TheSeat, Why as TheReason, List as TheList, Round as TheRound, Choices as TheChoices, State as TheState}
 use Rattle.office_moves.specs.declared.moves.Reply.{Reply}
-use Rattle.office_moves.specs.declared.moves.Reply.TheVariants.{Noted, Raised, Published, Final, SeatIs, WhyIs, ListIs, StateIs, Refused}
+use Rattle.office_moves.specs.declared.moves.Reply.TheVariants.{Noted, Raised, Published, Final, SeatIs, WhyIs, ListIs, RoundIs, ChoicesAre, StateIs, Refused}
 
 -- ---- the next round
 
@@ -115,6 +117,15 @@ abbrev pub programme_in : Option Round → ℕ → Option Programme
 programme_in None prog = None
 programme_in (Some round) prog = slice_get round.programmes prog
 
+-- The reply to a question in a state. The number of a round names what its cut published: the round, or the final admissions.
+abbrev pub Tells : SeasonFacts → State → Question → Reply → Type 0
+Tells facts state (TheSeat cand) reply = reply ≡ seat_reply facts (view_of state cand.0) cand
+Tells facts state (TheReason cand prog) reply = reply ≡ why_reply facts (view_of state cand.0) cand prog
+Tells facts state (TheList number prog) reply = (programme : Programme) × (programme_in (round_at state.rounds number) prog.0 ≡ Some programme) × (reply ≡ ListIs number prog programme)
+Tells facts state (TheRound number) reply = reply ≡ RoundIs number
+Tells facts state (TheChoices cand) reply = reply ≡ ChoicesAre cand (list_of facts.lists cand.0)
+Tells facts state TheState reply = reply ≡ state_reply facts state
+
 -- ---- moves
 
 -- What a decision does to a state. All but an accepted answer, an accepted raise and an accepted cut leave it.
@@ -127,11 +138,7 @@ Does facts old (Note row) reply new = (reply ≡ noted row) × (new ≡ with_row
 Does facts old (Lift row) reply new = (reply ≡ raised_reply row) × (new ≡ with_raise old row)
 Does facts old Publish reply new = (round : Round) × IsNextRound facts old round × (reply ≡ Published (old.now + 1) (seated round.seats)) × (new ≡ with_round old round)
 Does facts old Finish reply new = (reply ≡ Final (length (final_rows facts old))) × (new ≡ with_finals old (final_rows facts old))
-Does facts old (TellSeat cand) reply new = (reply ≡ seat_reply facts (view_of old cand.0) cand) × (new ≡ old)
-Does facts old (TellWhy cand prog) reply new = (reply ≡ why_reply facts (view_of old cand.0) cand prog) × (new ≡ old)
-Does facts old (TellList number prog) reply new =
-    (programme : Programme) × (programme_in (round_at old.rounds number) prog.0 ≡ Some programme) × (reply ≡ ListIs number prog programme) × (new ≡ old)
-Does facts old TellState reply new = (reply ≡ state_reply facts old) × (new ≡ old)
+Does facts old (Tell question) reply new = Tells facts old question reply × (new ≡ old)
 
 -- A request in a state leads to this reply and this state.
 abbrev pub IsMove : SeasonFacts → State → Request → Reply → State → Type 0

@@ -1,6 +1,6 @@
 // What a request comes to, from what it is judged by.
 ghost use Rattle.std.specs.Prelude.{◌≡◌, ◌≤◌};
-ghost use Rattle.office_moves.specs.Judge.{choice_of, is_gone, judge_answer, judge_cut, judge_list, judge_new_answer, judge_new_seats, judge_next_answer, judge_raise, judge_seat, judge_why, may_ask, not_open};
+ghost use Rattle.office_moves.specs.Judge.{choice_of, is_gone, judge_answer, judge_cut, judge_list, judge_new_answer, judge_new_seats, judge_next_answer, judge_own, judge_raise, judge_round, judge_why, may_ask, not_open};
 
 use crate::refusal::Refusal;
 use keeper_mem::{AnswerRow, RaiseRow};
@@ -27,14 +27,25 @@ pub enum Decision {
     Publish,
     /// The cut is accepted, and publishes the final admissions.
     Finish,
-    /// The reply gives the seat of the candidate.
-    TellSeat { cand: CandId },
-    /// The reply says why the candidate has no seat of the programme, or has one.
-    TellWhy { cand: CandId, prog: ProgId },
-    /// The reply gives the lists of the programme in the round.
-    TellList { round: u16, prog: ProgId },
-    /// The reply says how far the office is.
-    TellState,
+    /// The question is answered, and nothing changes.
+    Tell(Question),
+}
+
+/// What a reply tells, where nothing changes. The sender may ask it, and what it names exists.
+#[derive(Clone, Copy, Debug, PartialEq, Eq)]
+pub enum Question {
+    /// The seat of the candidate.
+    Seat { cand: CandId },
+    /// Why the candidate has no seat of the programme, or has one.
+    Why { cand: CandId, prog: ProgId },
+    /// The lists of the programme in the round.
+    List { round: u16, prog: ProgId },
+    /// What was published under the number: the round, or the final admissions.
+    Round { round: u16 },
+    /// The choice list of the candidate.
+    Choices { cand: CandId },
+    /// How far the office is.
+    State,
 }
 
 /// What an answer is judged by.
@@ -148,9 +159,10 @@ pub fn judge_cut(by: By, now: u16, rounds: u16, window: u16) -> Decision
     Decision::Publish
 }
 
-/// What comes of asking for a candidate's seat, who is known or not. It takes no memory.
-pub fn judge_seat(known: bool, by: By, cand: CandId) -> Decision
-    ensures { result ≡ judge_seat known by cand }
+/// Returns what comes of a question that only the candidate and the clerk may ask. The candidate is known or not.
+/// It takes no memory.
+pub fn judge_own(known: bool, by: By, cand: CandId, question: Question) -> Decision
+    ensures { result ≡ judge_own known by cand question }
 {
     if !known {
         return Decision::Refuse(Refusal::UnknownCandidate);
@@ -158,7 +170,7 @@ pub fn judge_seat(known: bool, by: By, cand: CandId) -> Decision
     if !may_ask(by, cand) {
         return Decision::Refuse(Refusal::Denied { rule: 3 });
     }
-    Decision::TellSeat { cand }
+    Decision::Tell(question)
 }
 
 /// What comes of asking why, by whether the candidate is known, the programme of the code, whether it is on the candidate's choice list, and how
@@ -188,7 +200,7 @@ pub fn judge_why(
     if published == 0 {
         return Decision::Refuse(Refusal::NoSuchRound { published });
     }
-    Decision::TellWhy { cand, prog }
+    Decision::Tell(Question::Why { cand, prog })
 }
 
 /// What comes of asking for a list, by the programme of the code and how many rounds are published. It takes no memory.
@@ -201,7 +213,18 @@ pub fn judge_list(prog: Option<ProgId>, published: u16, round: u16) -> Decision
     if round == 0 || published < round {
         return Decision::Refuse(Refusal::NoSuchRound { published });
     }
-    Decision::TellList { round, prog }
+    Decision::Tell(Question::List { round, prog })
+}
+
+/// Returns what comes of asking for what was published under a number, by the cuts that were made and the rounds that are published.
+/// Each cut published a text: of the next round, or of the final admissions. It takes no memory.
+pub fn judge_round(cuts: u16, published: u16, round: u16) -> Decision
+    ensures { result ≡ judge_round cuts published round }
+{
+    if round == 0 || cuts < round {
+        return Decision::Refuse(Refusal::NoSuchRound { published });
+    }
+    Decision::Tell(Question::Round { round })
 }
 
 /// What a raise comes to. It takes no memory.

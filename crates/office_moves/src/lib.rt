@@ -12,8 +12,8 @@ pub mod moves;
 pub mod refusal;
 
 pub use decide::{
-    AnswerLooks, Decision, RaiseLooks, judge_answer, judge_cut, judge_list, judge_raise,
-    judge_seat, judge_why,
+    AnswerLooks, Decision, Question, RaiseLooks, judge_answer, judge_cut, judge_list, judge_own,
+    judge_raise, judge_round, judge_why,
 };
 pub use facts::says_what_is_sound;
 pub use moves::{Act, Entry, Reply};

@@ -4,7 +4,7 @@ ghost use Rattle.office_moves.specs.Moves.{noted, raised_reply};
 
 use crate::refusal::Refusal;
 use keeper_mem::{AnswerRow, RaiseRow};
-use office_base::{CandId, Choice, ProgId, Seat, StepKind};
+use office_base::{CandId, Choice, Listed, ProgId, Seat, StepKind};
 use programme_lists::Programme;
 use reasons::WhyAnswer;
 use round_options::Standing;
@@ -71,6 +71,15 @@ pub enum Reply {
         round: u16,
         prog: ProgId,
         programme: Programme,
+    },
+    /// What was published under a number: its text shows the round, or the final admissions.
+    RoundIs {
+        round: u16,
+    },
+    /// The choice list of a candidate, the most preferred programme first.
+    ChoicesAre {
+        cand: CandId,
+        progs: Listed<ProgId>,
     },
     /// The window that is open now, the rounds of the season, and how many of them are published. After the last cut the window is
     /// the number of rounds plus 1, and takes nothing.

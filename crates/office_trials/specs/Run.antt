@@ -1,6 +1,8 @@
 -- A script of requests, run on the definitions alone: the rounds are given, and all else is computed.
 use Rattle.std.specs.Prelude.{◌+◌, ℕ, List, [], ◌∷◌, Option, Some, None, length}
 use Rattle.office_base.specs.declared.asks.Request.{Request}
+use Rattle.office_base.specs.declared.person.ProgId.{ProgId}
+use Rattle.choice_lists.specs.Choices.{list_of}
 use Rattle.programme_lists.specs.declared.programme.Programme.{Programme}
 use Rattle.rounds.specs.Round.{seated}
 use Rattle.rounds.specs.declared.round.Round.{Round}
@@ -9,9 +11,11 @@ use Rattle.office_moves.specs.State.{State, opening, round_at, view_of, with_fin
 use Rattle.office_moves.specs.Decided.{decided}
 use Rattle.office_moves.specs.Moves.{final_rows, noted, programme_in, raised_reply, receipt, seat_reply, state_reply, why_reply}
 use Rattle.office_moves.specs.declared.decide.Decision.{Decision}
-use Rattle.office_moves.specs.declared.decide.Decision.TheVariants.{Refuse, NotedAgain, RaisedAgain, CutAgain, Note, Lift, Publish, Finish, TellSeat, TellWhy, TellList, TellState}
+use Rattle.office_moves.specs.declared.decide.Decision.TheVariants.{Refuse, NotedAgain, RaisedAgain, CutAgain, Note, Lift, Publish, Finish, Tell}
+use Rattle.office_moves.specs.declared.decide.Question.{Question}
+use Rattle.office_moves.specs.declared.decide.Question.TheVariants.{Seat as TheSeat, Why as TheReason, List as TheList, Round as TheRound, Choices as TheChoices, State as TheState}
 use Rattle.office_moves.specs.declared.moves.Reply.{Reply}
-use Rattle.office_moves.specs.declared.moves.Reply.TheVariants.{Published, Final, ListIs, Refused}
+use Rattle.office_moves.specs.declared.moves.Reply.TheVariants.{Published, Final, ListIs, RoundIs, ChoicesAre, Refused}
 use Rattle.office_moves.specs.declared.refusal.Refusal.TheVariants.{NotChosen}
 
 -- how far a run is: the state, the rounds to come, and the replies so far, the last one first
@@ -34,10 +38,19 @@ published run [] = told run (Refused NotChosen)
 published run (round ∷ rounds) =
     record { state = with_round run.state round; rounds = rounds; replies = Published (run.state.now + 1) (seated round.seats) ∷ run.replies }
 
-abbrev pub listed : Run → ℕ → Option Programme → Decision → Run
-listed run number None decision = told run (Refused NotChosen)
-listed run number (Some programme) (TellList round prog) = told run (ListIs round prog programme)
-listed run number (Some programme) _ = told run (Refused NotChosen)
+-- the lists of a programme, or a wrong reply where there are none
+abbrev pub listed : ℕ → ProgId → Option Programme → Reply
+listed number prog None = Refused NotChosen
+listed number prog (Some programme) = ListIs number prog programme
+
+-- the reply to a question
+abbrev pub reply_to : SeasonFacts → State → Question → Reply
+reply_to facts state (TheSeat cand) = seat_reply facts (view_of state cand.0) cand
+reply_to facts state (TheReason cand prog) = why_reply facts (view_of state cand.0) cand prog
+reply_to facts state (TheList number prog) = listed number prog (programme_in (round_at state.rounds number) prog.0)
+reply_to facts state (TheRound number) = RoundIs number
+reply_to facts state (TheChoices cand) = ChoicesAre cand (list_of facts.lists cand.0)
+reply_to facts state TheState = state_reply facts state
 
 -- what a decision does
 abbrev pub after : SeasonFacts → Run → Decision → Run
@@ -49,10 +62,7 @@ after facts run (Note row) = changed run (with_row run.state row) (noted row)
 after facts run (Lift row) = changed run (with_raise run.state row) (raised_reply row)
 after facts run Publish = published run run.rounds
 after facts run Finish = changed run (with_finals run.state (final_rows facts run.state)) (Final (length (final_rows facts run.state)))
-after facts run (TellSeat cand) = told run (seat_reply facts (view_of run.state cand.0) cand)
-after facts run (TellWhy cand prog) = told run (why_reply facts (view_of run.state cand.0) cand prog)
-after facts run (TellList number prog) = listed run number (programme_in (round_at run.state.rounds number) prog.0) (TellList number prog)
-after facts run TellState = told run (state_reply facts run.state)
+after facts run (Tell question) = told run (reply_to facts run.state question)
 
 -- after some requests
 abbrev pub run_on : SeasonFacts → Run → List Request → Run

@@ -1,11 +1,9 @@
 -- Every request in a state in which all is in order has a reply and a next state.
-use Rattle.std.proofs.Common.{◌≡◌, ◌≤◌, ◌<◌, ◌+◌, ◌||◌, ◌==◌, ℕ, zero, suc, Bool, true, false, List, Option, Some, None, length, arith, refl, sym, ap, ◌∙◌, subst, nat_lt}
-use Rattle.std.specs.Prelude.{slice_get}
-use Rattle.std.proofs.lemmas.Bool.{eq-eqb, ltb-false}
+use Rattle.std.proofs.Common.{◌≡◌, ◌<◌, ◌+◌, ◌||◌, ◌==◌, ℕ, zero, suc, Bool, true, false, Some, length, arith, refl, ap, ◌∙◌, nat_lt}
+use Rattle.std.proofs.lemmas.Bool.{ltb-false}
 use Rattle.office_base.specs.declared.asks.Ask.{Ask}
-use Rattle.office_base.specs.declared.asks.Ask.TheVariants.{Answer, Cut, Seat as AskSeat, Why, List as AskList, State as AskState, Raise}
+use Rattle.office_base.specs.declared.asks.Ask.TheVariants.{Answer, Cut, Seat as AskSeat, Why, List as AskList, Round as AskRound, Choices as AskChoices, State as AskState, Raise}
 use Rattle.office_base.specs.declared.asks.By.{By}
-use Rattle.office_base.specs.declared.asks.Request.{Request}
 use Rattle.office_base.specs.declared.person.ProgId.{ProgId}
 use Rattle.office_base.proofs.Lists.{there_is}
 use Rattle.keeper_mem.specs.declared.rows.AnswerRow.{AnswerRow}
@@ -20,14 +18,15 @@ use Rattle.office_moves.specs.Decided.{answer_looks, decided_by, is_chosen_by, i
 use Rattle.office_moves.specs.Moves.{Does, IsNextRound, final_rows, noted, programme_in, raised_reply, receipt, seat_reply, state_reply, why_reply}
 use Rattle.office_moves.specs.declared.decide.Decision.{Decision}
 use Rattle.office_moves.specs.declared.decide.Decision.TheVariants.{Refuse}
+use Rattle.office_moves.specs.declared.decide.Question.TheVariants.{Choices as TheChoices, Seat as TheSeat}
 use Rattle.office_moves.specs.declared.moves.Reply.{Reply}
-use Rattle.office_moves.specs.declared.moves.Reply.TheVariants.{Final, ListIs, Published, Refused}
+use Rattle.choice_lists.specs.Choices.{list_of}
+use Rattle.office_moves.specs.declared.moves.Reply.TheVariants.{ChoicesAre, Final, ListIs, Published, Refused, RoundIs}
 use Rattle.office_moves.specs.declared.refusal.Refusal.{Refusal}
-use Rattle.office_moves.proofs.Chains.{answer_keeps, seat_keeps, why_keeps}
+use Rattle.office_moves.proofs.Decisions.{answer_keeps, cut_keeps, list_keeps, own_keeps, programme_keeps, raise_keeps, round_keeps, why_keeps}
 use Rattle.histories.specs.Orderly.{IsOrderly}
 use Rattle.histories.proofs.Changes.{was_found}
 use Rattle.season_laws.specs.NextRounds.{EveryRequestIsAnswered}
-use Rattle.season_laws.proofs.Decisions.{cut_keeps, list_keeps, programme_keeps, raise_keeps}
 
 -- what a decision does is there
 abbrev IsDone : SeasonFacts → State → Decision → Type 0
@@ -56,18 +55,22 @@ module _ (facts : SeasonFacts) (state : State) (sound : IsSound facts) (orderly 
   done : (by : By) (ask : Ask) → IsDone facts state (decided_by facts state by ask)
   done by (Answer cand window turn choice) =
       let row : AnswerRow = record { window = window; cand = cand; turn = turn; choice = choice } in
-      answer_keeps (IsDone facts state) (answer_looks facts (view_of state cand.0) row) by row refused (noted row, state, (refl, refl)) (noted row, with_row state row, (refl, refl))
+      answer_keeps (IsDone facts state) refused (answer_looks facts (view_of state cand.0) row) by row (noted row, state, (refl, refl)) (noted row, with_row state row, (refl, refl))
   done by (Cut window) =
       cut_keeps (IsDone facts state) refused by state.now facts.rounds window (receipt facts state window, state, (refl, refl))
       (Final (length (final_rows facts state)), with_finals state (final_rows facts state), (refl, refl))
       (Published (state.now + 1) (seated next.0.seats), with_round state next.0, (next.0, next.1, refl, refl))
-  done by (AskSeat cand) = seat_keeps (IsDone facts state) (is_known facts cand) by cand refused (seat_reply facts (view_of state cand.0) cand, state, (refl, refl))
+  done by (AskSeat cand) =
+      own_keeps (IsDone facts state) refused (is_known facts cand) by cand (TheSeat cand) (λ known. (seat_reply facts (view_of state cand.0) cand, state, (refl, refl)))
   done by (Why cand code) =
-      why_keeps (IsDone facts state) (is_known facts cand) (find_programme facts code) (is_chosen_by facts cand (find_programme facts code)) (length state.rounds) by cand refused
-      (λ prog. (why_reply facts (view_of state cand.0) cand prog, state, (refl, refl)))
+      why_keeps (IsDone facts state) refused (is_known facts cand) (find_programme facts code) (is_chosen_by facts cand (find_programme facts code)) (length state.rounds) by cand
+      (λ known prog is some. (why_reply facts (view_of state cand.0) cand prog, state, (refl, refl)))
   done by (AskList number code) =
       list_keeps (IsDone facts state) refused (find_programme facts code) (length state.rounds) number
-      (λ prog is within. let there = listed number prog (was_found facts code prog is).below within in (ListIs number prog there.0, state, (there.0, there.1, refl, refl)))
+      (λ prog is within. let there = listed number prog (was_found facts code prog is).below within in (ListIs number prog there.0, state, ((there.0, there.1, refl), refl)))
+  done by (AskRound number) = round_keeps (IsDone facts state) refused state.now (length state.rounds) number (λ within. (RoundIs number, state, (refl, refl)))
+  done by (AskChoices cand) =
+      own_keeps (IsDone facts state) refused (is_known facts cand) by cand (TheChoices cand) (λ known. (ChoicesAre cand (list_of facts.lists cand.0), state, (refl, refl)))
   done by AskState = (state_reply facts state, state, (refl, refl))
   done by (Raise window code step seats) =
       programme_keeps (IsDone facts state) refused (find_programme facts code) _

@@ -4,7 +4,7 @@ use Rattle.std.specs.Prelude.{IsTrue}
 use Rattle.std.proofs.lemmas.Bool.{cases_Bool, cases_lt}
 use Rattle.office_base.specs.Certificate.{AreNoLater, IsCanonical, slots_of}
 use Rattle.office_base.specs.Person.{has_trait}
-use Rattle.office_base.specs.Placement.{IsPlacement, protected}
+use Rattle.office_base.specs.Placement.{protected}
 use Rattle.office_base.specs.declared.person.Person.{Person}
 use Rattle.office_base.specs.declared.step.Pair.{Pair}
 use Rattle.office_base.specs.declared.step.Protections.{Protections}

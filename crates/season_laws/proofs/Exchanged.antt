@@ -25,7 +25,7 @@ use Rattle.office_moves.specs.Decided.{decide_answer, decide_raise, decided}
 use Rattle.office_moves.specs.History.{Reaches, asked, newly}
 use Rattle.office_moves.specs.Moves.{Does, IsNextRound, final_rows, next_seeks, noted, rows_along}
 use Rattle.office_moves.specs.declared.decide.Decision.{Decision}
-use Rattle.office_moves.specs.declared.decide.Decision.TheVariants.{Refuse, NotedAgain, RaisedAgain, CutAgain, Note, Lift, Publish, Finish, TellSeat, TellWhy, TellList, TellState}
+use Rattle.office_moves.specs.declared.decide.Decision.TheVariants.{Refuse, NotedAgain, RaisedAgain, CutAgain, Note, Lift, Publish, Finish, Tell}
 use Rattle.office_moves.specs.declared.moves.Act.{Act}
 use Rattle.office_moves.specs.declared.moves.Act.TheVariants.{Answer, Raise, Cut}
 use Rattle.office_moves.specs.declared.moves.Entry.{Entry}
@@ -123,10 +123,7 @@ module _ (facts : SeasonFacts) (state other : State) (alike : AreAlike state oth
       rows = alike.rows;
     }),
   )
-  does_alike (TellSeat cand) act reply after h does = absurd (cc)
-  does_alike (TellWhy cand prog) act reply after h does = absurd (cc)
-  does_alike (TellList number prog) act reply after h does = absurd (cc)
-  does_alike TellState act reply after h does = absurd (cc)
+  does_alike (Tell question) act reply after h does = absurd (cc)
 
   came : CameToTheSame facts state other
   came = record { now = alike.now; rounds = alike.rounds; finals = alike.finals; standings = λ window id. ap (λ (view : View). standing_at facts view id window) (views id) }
@@ -161,10 +158,7 @@ note_of now (Note other) row h = let same : other ≡ row = cc in ap (λ (r : An
 note_of now (Lift other) row h = absurd (cc)
 note_of now Publish row h = absurd (cc)
 note_of now Finish row h = absurd (cc)
-note_of now (TellSeat cand) row h = absurd (cc)
-note_of now (TellWhy cand prog) row h = absurd (cc)
-note_of now (TellList number prog) row h = absurd (cc)
-note_of now TellState row h = absurd (cc)
+note_of now (Tell question) row h = absurd (cc)
 
 -- a row of another candidate changes nothing of the rows of a candidate
 not_own : (id : ℕ) (row : AnswerRow) → row.cand.0 ≢ id → rows_of id (row ∷ []) ≡ []

@@ -1,7 +1,6 @@
 mod Answered
 mod ByWindow
 mod Certificates
-mod Decisions
 mod Exchanged
 mod Finished
 mod Looks

@@ -1,25 +1,17 @@
 -- A state in which all is in order has a next round.
-use Rattle.std.proofs.Common.{◌≡◌, ◌<◌, ◌+◌, ℕ, zero, suc, List, [], ◌∷◌, Option, Some, length, arith, refl, sym, ap, subst}
+use Rattle.std.proofs.Common.{◌≡◌, ◌<◌, ◌+◌, ℕ, zero, suc, List, [], ◌∷◌, Some, length, arith, refl, ap, subst}
 use Rattle.std.specs.Prelude.{slice_get}
-use Rattle.office_base.specs.declared.asks.Seat.{Seat}
-use Rattle.office_base.specs.declared.person.Person.{Person}
-use Rattle.allocations.specs.Fair.{IsBest, IsMarket}
-use Rattle.allocations.specs.Market.{Seeker, applicants}
+use Rattle.allocations.specs.Market.{applicants}
 use Rattle.allocations.proofs.Claims.{applicants_may}
-use Rattle.seat_matrix.specs.Matrix.{SeatTable, seats_in}
-use Rattle.seeks.specs.declared.seek.Seek.{Seek}
+use Rattle.seat_matrix.specs.Matrix.{seats_in}
 use Rattle.programme_lists.specs.Chosen.{ShowsFrom}
 use Rattle.programme_lists.specs.declared.programme.Programme.{Programme}
 use Rattle.open_then_category.specs.Laws.{AdmittedOnce, ProgrammeChoiceExists}
-use Rattle.rounds.specs.Round.{IsRound}
 use Rattle.rounds.specs.Rule.{MayApplyIn, ProgrammesChooseWell, rule_of, seekers_of}
-use Rattle.rounds.specs.declared.round.Round.{Round}
 use Rattle.rounds.proofs.Entrants.{market}
-use Rattle.office_moves.specs.Facts.{IsSound, SeasonFacts, lists_in_order}
-use Rattle.office_moves.specs.State.{State}
+use Rattle.office_moves.specs.Facts.{SeasonFacts, lists_in_order}
 use Rattle.office_moves.specs.Raised.{matrix_at}
-use Rattle.office_moves.specs.Moves.{IsNextRound, next_seeks}
-use Rattle.histories.specs.Orderly.{IsOrderly}
+use Rattle.office_moves.specs.Moves.{next_seeks}
 use Rattle.histories.proofs.Entering.{entrants}
 use Rattle.season_laws.specs.NextRounds.{NextRoundExists}
 use Rattle.allocations.proofs.Best.{best_there}

@@ -1,8 +1,7 @@
 -- What is published of a state in which all is in order is read as nothing else.
-use Rattle.std.proofs.Common.{◌≡◌, ◌≤◌, ◌<◌, ◌+◌, ◌^◌, ℕ, zero, suc, List, [], ◌∷◌, Some, length, arith, refl, sym, ap, ◌∙◌, subst}
+use Rattle.std.proofs.Common.{◌≡◌, ◌<◌, ◌+◌, ◌^◌, ℕ, suc, List, [], ◌∷◌, Some, length, arith, refl}
 use Rattle.std.specs.Prelude.{slice_get}
 use Rattle.std.specs.List.{AllByRecursion}
-use Rattle.std.proofs.lemmas.Option.{slice_get_within}
 use Rattle.office_base.specs.declared.person.Person.{Person}
 use Rattle.publish.specs.Laws.{AreDistinct, FinalsAreOne, ListsAreOne, RoundsAreOne}
 use Rattle.publish.specs.ListReader.{AreKnown}

@@ -1,5 +1,5 @@
 -- What is published of a state in which all is in order is read back.
-use Rattle.std.proofs.Common.{◌≡◌, ◌≢◌, ◌≤◌, ◌<◌, ◌+◌, ◌-◌, ◌++◌, ◌^◌, ◌==◌, inl, inr, ℕ, suc, Bool, true, false, List, [], ◌∷◌, Option, Some, None, IfSome, length, map, arith, refl, sym, ap, ◌∙◌, subst, if◌then◌else◌}
+use Rattle.std.proofs.Common.{◌≡◌, ◌≢◌, ◌≤◌, ◌<◌, ◌+◌, ◌-◌, ◌++◌, ◌^◌, ◌==◌, inl, inr, ℕ, suc, Bool, true, false, List, [], ◌∷◌, Option, Some, None, length, map, arith, refl, sym, ap, ◌∙◌, subst, if◌then◌else◌}
 use Rattle.std.specs.Prelude.{slice_get}
 use Rattle.std.specs.List.{AllByRecursion, AllZip, filter}
 use Rattle.std.specs.Option.{option_and_then}
@@ -10,10 +10,9 @@ use Rattle.office_base.proofs.People.{at_person-get}
 use Rattle.office_base.specs.Certificate.{IsCanonical}
 use Rattle.office_base.specs.Lists.{IsAmong, IsSublist, Pairwise}
 use Rattle.office_base.specs.Merit.{in_merit}
-use Rattle.office_base.specs.Person.{at_person, is_common}
+use Rattle.office_base.specs.Person.{is_common}
 use Rattle.office_base.specs.Placement.{placed_on}
 use Rattle.office_base.specs.declared.asks.Seat.{Seat}
-use Rattle.office_base.specs.declared.person.Category.{Category}
 use Rattle.office_base.specs.declared.person.Category.TheVariants.{Ews, Obc, Sc, St}
 use Rattle.office_base.specs.declared.person.ListId.{ListId}
 use Rattle.office_base.specs.declared.person.Person.{Person}
@@ -36,14 +35,13 @@ use Rattle.seat_matrix.specs.Matrix.{SeatTable, seats_in}
 use Rattle.seat_matrix.specs.Seats.{AreProgrammeSeats, no_protections, seats_of}
 use Rattle.seat_matrix.specs.declared.seats.ProgrammeSeats.{ProgrammeSeats}
 use Rattle.seat_matrix.proofs.Unprotected.{no_position}
-use Rattle.programme_lists.specs.Chosen.{AreApplicants}
 use Rattle.programme_lists.specs.Listing.{ShowsStep, seats_filled}
 use Rattle.programme_lists.specs.Programme.{Admissions, admitted_by, is_of, people_of, without}
 use Rattle.programme_lists.specs.declared.programme.Programme.{Programme}
 use Rattle.programme_lists.specs.declared.programme.StepList.{StepList}
 use Rattle.programme_lists.proofs.Taken.{length-without}
 use Rattle.open_then_category.specs.Laws.{AdmittedOnce, SlotsAreTraits}
-use Rattle.published_texts.specs.Texts.{AreSeatsOf, IsSeatOf, final_text, list_text, round_text}
+use Rattle.published_texts.specs.Texts.{AreSeatsOf, IsSeatOf, list_text, round_text}
 use Rattle.publish.specs.Laws.{FinalsAreRead, IsWritten, ListsAreRead, ListsAreTold, RoundsAreRead, row_of, rows_of}
 use Rattle.publish.specs.Listing.{AreStepLists, IsListText, step_kinds}
 use Rattle.publish.specs.Rows.{AreRows, IsRoundText}
@@ -61,7 +59,7 @@ use Rattle.histories.specs.Orderly.{IsOrderly}
 use Rattle.histories.proofs.Entering.{entrants, lists_full}
 use Rattle.histories.proofs.Fits.{full_seeks, placed, seat_there}
 use Rattle.round_options.specs.Options.{holds}
-use Rattle.season_laws.specs.ReadBack.{IsReadBack, PublishedIsRead}
+use Rattle.season_laws.specs.ReadBack.{PublishedIsRead}
 
 -- the laws on which this rests
 pub record AreLaws : Type 0 where

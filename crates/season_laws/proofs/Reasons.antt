@@ -1,5 +1,5 @@
 -- The reasons that the office gives are just.
-use Rattle.std.proofs.Common.{◌≡◌, ◌≢◌, ◌≤◌, ◌<◌, ◌⊎◌, inl, inr, ◌==◌, ◌&&◌, ℕ, zero, suc, Bool, true, false, List, [], ◌∷◌, Option, Some, None, length, arith, refl, sym, ap, ◌∙◌, ◌+◌, subst, nat_lt, nat_le, if◌then◌else◌}
+use Rattle.std.proofs.Common.{◌≡◌, ◌≢◌, ◌≤◌, ◌<◌, inl, inr, ◌==◌, ◌&&◌, ℕ, zero, suc, Bool, true, false, List, [], ◌∷◌, Option, Some, None, length, arith, refl, sym, ap, ◌∙◌, ◌+◌, subst, nat_lt, nat_le, if◌then◌else◌}
 use Rattle.std.specs.Prelude.{slice_get, option_map, ◌||◌}
 use Rattle.std.specs.Option.{option_and_then, unwrap_or}
 use Rattle.std.proofs.lemmas.Bool.{cases_Bool, cond-false, cond-true, eq-eqb, eqb-true, ltb-false}
@@ -19,19 +19,19 @@ use Rattle.office_base.proofs.Lists.{there_is, at_among}
 use Rattle.placements.proofs.Ranks.{one_person}
 use Rattle.placements.proofs.Zips.{zip_at, zip_back}
 use Rattle.placements.proofs.Convert.{same_cand}
-use Rattle.allocations.specs.Fair.{IsMarket, IsOwn}
+use Rattle.allocations.specs.Fair.{IsMarket}
 use Rattle.allocations.specs.Market.{Seeker, applicants, applies, place_of, rank_of, seat_at}
 use Rattle.allocations.proofs.Claims.{applicants_may}
-use Rattle.allocations.proofs.Places.{applies_means, applies_true, holder_applies, place_read, seat_same}
+use Rattle.allocations.proofs.Places.{applies_true, holder_applies, place_read, seat_same}
 use Rattle.allocations.proofs.Those.{those_has}
 use Rattle.choice_lists.specs.Choices.{list_of}
 use Rattle.rank_lists.specs.Register.{find_person}
 use Rattle.seat_matrix.specs.Matrix.{SeatTable, first_list, list_in, seats_in}
 use Rattle.seat_matrix.specs.declared.entry.Home.{Home}
-use Rattle.seeks.specs.Seek.{are_together, is_beside, is_left, is_listed, same_institute, seek_leaves}
+use Rattle.seeks.specs.Seek.{are_together, is_beside, is_left, is_listed, seek_leaves}
 use Rattle.seeks.specs.declared.seek.Seek.{Seek}
 use Rattle.seeks.specs.declared.seek.Seek.TheVariants.{Whole, UpTo, Within, Only, Nothing}
-use Rattle.programme_lists.specs.Chosen.{AreApplicants, ChoosesFrom, ShowsFrom}
+use Rattle.programme_lists.specs.Chosen.{ChoosesFrom}
 use Rattle.programme_lists.specs.Listing.{ShowsStep}
 use Rattle.programme_lists.specs.Programme.{Admissions, admitted_by, is_taken}
 use Rattle.programme_lists.specs.declared.programme.Programme.{Programme}
@@ -44,7 +44,7 @@ use Rattle.reasons.specs.declared.reason.WhyAnswer.{WhyAnswer}
 use Rattle.reasons.specs.declared.reason.WhyAnswer.TheVariants.{Reason as Because, Better, NotSought}
 use Rattle.explain.specs.Just.{ReasonsAreJust, WasApplicant}
 use Rattle.explain.specs.Reason.{admitted_in, reason_from, reason_of, refusal}
-use Rattle.rounds.specs.Rule.{AreEntrants, IsOwnList, MayApplyIn, ProgrammesChooseWell, rule_of, seekers_of}
+use Rattle.rounds.specs.Rule.{MayApplyIn, ProgrammesChooseWell, rule_of, seekers_of}
 use Rattle.rounds.specs.declared.round.Round.{Round}
 use Rattle.rounds.proofs.Entrants.{entered, length_seekers, market}
 use Rattle.round_laws.proofs.People.{found_at, stands_at}
@@ -53,13 +53,14 @@ use Rattle.office_moves.specs.State.{State, round_at, seat_of}
 use Rattle.office_moves.specs.Promise.{IsJust}
 use Rattle.office_moves.specs.Raised.{matrix_of_round}
 use Rattle.office_moves.specs.Decided.{decided}
-use Rattle.office_moves.specs.Moves.{Does, receipt}
+use Rattle.office_moves.specs.Moves.{Does, Tells, receipt}
 use Rattle.office_moves.specs.declared.decide.Decision.{Decision}
-use Rattle.office_moves.specs.declared.decide.Decision.TheVariants.{Refuse, NotedAgain, RaisedAgain, CutAgain, Note, Lift, Publish, Finish, TellSeat, TellWhy, TellList, TellState}
+use Rattle.office_moves.specs.declared.decide.Decision.TheVariants.{Refuse, NotedAgain, RaisedAgain, CutAgain, Note, Lift, Publish, Finish, Tell}
+use Rattle.office_moves.specs.declared.decide.Question.{Question}
+use Rattle.office_moves.specs.declared.decide.Question.TheVariants.{Seat as TheSeat, Why as TheReason, List as TheList, Round as TheRound, Choices as TheChoices, State as TheState}
 use Rattle.office_moves.specs.declared.moves.Reply.TheVariants.{Final, Published, WhyIs}
 use Rattle.office_moves.specs.Why.{is_sought_by, reason_in, why_answer, why_beside, why_refused}
 use Rattle.office_moves.proofs.Narrows.{left_order, left_there, there_left}
-use Rattle.histories.specs.Course.{IsCourse}
 use Rattle.histories.specs.Orderly.{IsOrderly}
 use Rattle.histories.proofs.Entering.{entrants, list_there, lists_full, own_there}
 use Rattle.histories.proofs.Fits.{full_seeks}
@@ -474,6 +475,21 @@ no_receipt facts state window cand prog answer e = go (nat_lt window facts.round
     go false number seated admitted e = cc
 
 -- an answer to why is that of the last published round
+told_reason : (facts : SeasonFacts) (state : State) (question : Question) (cand : CandId) (prog : ProgId) (answer : WhyAnswer) → Tells facts state question (WhyIs cand prog answer)
+    → answer ≡ why_answer facts (round_at state.rounds (length state.rounds)) cand prog
+told_reason facts state (TheSeat one) cand prog answer e = absurd (cc)
+told_reason facts state (TheReason one other) cand prog answer tells =
+    let e : WhyIs cand prog answer ≡ WhyIs one other (why_answer facts (round_at state.rounds (length state.rounds)) one other) = tells in
+    let who : cand ≡ one = cc in
+    let what : prog ≡ other = cc in
+    let told : answer ≡ why_answer facts (round_at state.rounds (length state.rounds)) one other = cc in
+    told ∙ (ap (λ z. why_answer facts (round_at state.rounds (length state.rounds)) z other) (sym who)
+    ∙ ap (λ z. why_answer facts (round_at state.rounds (length state.rounds)) cand z) (sym what))
+told_reason facts state (TheList number one) cand prog answer tells = absurd (let e = tells.2 in cc)
+told_reason facts state (TheRound number) cand prog answer e = absurd (cc)
+told_reason facts state (TheChoices one) cand prog answer e = absurd (cc)
+told_reason facts state TheState cand prog answer e = absurd (cc)
+
 told_why : (facts : SeasonFacts) (state after : State) (decision : Decision) (cand : CandId) (prog : ProgId) (answer : WhyAnswer) → Does facts state decision (WhyIs cand prog answer) after
     → answer ≡ why_answer facts (round_at state.rounds (length state.rounds)) cand prog
 told_why facts state after (Refuse refusal) cand prog answer does = absurd (let e = does.0 in cc)
@@ -484,16 +500,7 @@ told_why facts state after (Note row) cand prog answer does = absurd (let e = do
 told_why facts state after (Lift row) cand prog answer does = absurd (let e = does.0 in cc)
 told_why facts state after Publish cand prog answer does = absurd (let e = does.2 in cc)
 told_why facts state after Finish cand prog answer does = absurd (let e = does.0 in cc)
-told_why facts state after (TellSeat one) cand prog answer does = absurd (let e = does.0 in cc)
-told_why facts state after (TellWhy one other) cand prog answer does =
-    let e : WhyIs cand prog answer ≡ WhyIs one other (why_answer facts (round_at state.rounds (length state.rounds)) one other) = does.0 in
-    let who : cand ≡ one = cc in
-    let what : prog ≡ other = cc in
-    let told : answer ≡ why_answer facts (round_at state.rounds (length state.rounds)) one other = cc in
-    told ∙ (ap (λ z. why_answer facts (round_at state.rounds (length state.rounds)) z other) (sym who)
-    ∙ ap (λ z. why_answer facts (round_at state.rounds (length state.rounds)) cand z) (sym what))
-told_why facts state after (TellList number one) cand prog answer does = absurd (let e = does.2 in cc)
-told_why facts state after TellState cand prog answer does = absurd (let e = does.0 in cc)
+told_why facts state after (Tell question) cand prog answer does = told_reason facts state question cand prog answer does.0
 
 -- a reason is by a round
 by_round : (facts : SeasonFacts) (o : Option Round) (cand : CandId) (prog : ProgId) (reason : Reason) → Because reason ≡ why_answer facts o cand prog

@@ -1,5 +1,5 @@
 -- A programme can show its choice from any people who may apply together.
-use Rattle.std.proofs.Common.{◌≡◌, ℕ, List, [], ◌∷◌, length, refl}
+use Rattle.std.proofs.Common.{ℕ, List, [], ◌∷◌, length, refl}
 use Rattle.std.specs.List.{AllZip}
 use Rattle.office_base.specs.Merit.{in_merit}
 use Rattle.office_base.specs.declared.person.Person.{Person}

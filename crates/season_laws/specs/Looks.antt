@@ -1,6 +1,6 @@
 -- At what the office looks when it replies to the clerk, and to anybody who asks.
 use Rattle.std.specs.Prelude.{◌≡◌, ℕ, List, length}
-use Rattle.office_base.specs.declared.asks.Ask.TheVariants.{List as AskList, State as AskState, Raise}
+use Rattle.office_base.specs.declared.asks.Ask.TheVariants.{List as AskList, Round as AskRound, State as AskState, Raise}
 use Rattle.office_base.specs.declared.asks.By.{By}
 use Rattle.office_base.specs.declared.step.StepKind.{StepKind}
 use Rattle.office_moves.specs.Facts.{SeasonFacts}
@@ -23,3 +23,8 @@ ListsLookAtTheRound facts = (a b after then : State) (by : By) (number : ℕ) (c
 abbrev pub StateLooksAtNumbers : SeasonFacts → Type 0
 StateLooksAtNumbers facts = (a b after then : State) (by : By) (reply other : Reply) → a.now ≡ b.now → length a.rounds ≡ length b.rounds
     → IsMove facts a (record { by = by; ask = AskState }) reply after → IsMove facts b (record { by = by; ask = AskState }) other then → reply ≡ other
+
+-- Two states that agree in the same way give who asks for what was published under a number equal replies.
+abbrev pub RoundsLookAtNumbers : SeasonFacts → Type 0
+RoundsLookAtNumbers facts = (a b after then : State) (by : By) (number : ℕ) (reply other : Reply) → a.now ≡ b.now → length a.rounds ≡ length b.rounds
+    → IsMove facts a (record { by = by; ask = AskRound number }) reply after → IsMove facts b (record { by = by; ask = AskRound number }) other then → reply ≡ other

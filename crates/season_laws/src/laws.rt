@@ -1,7 +1,7 @@
 // The laws between what is proved of a season. Each is the contract of a function that does nothing.
 ghost use Rattle.office_moves.specs.Facts.{SeasonFacts};
 ghost use Rattle.season_laws.specs.Laws.{AnswersCanBeExchanged, OrderWithinWindowsIsFree, SeasonsCanBeFinished};
-ghost use Rattle.season_laws.specs.Looks.{ListsLookAtTheRound, RaisesLookAtRaises, StateLooksAtNumbers};
+ghost use Rattle.season_laws.specs.Looks.{ListsLookAtTheRound, RaisesLookAtRaises, RoundsLookAtNumbers, StateLooksAtNumbers};
 ghost use Rattle.season_laws.specs.NextRounds.{EveryRequestIsAnswered, NextRoundExists};
 ghost use Rattle.season_laws.specs.Otherwise.{FloatIsNoWorse, RaisesHurtNobody};
 ghost use Rattle.season_laws.specs.ReadBack.{PublishedIsRead, PublishedIsReadAlone};
@@ -20,6 +20,11 @@ pub fn lists_look_at_the_round()
 /// The reply to who asks how far the office is looks at how many cuts were made and how many rounds are published alone.
 pub fn state_looks_at_numbers()
     ensures { (facts : SeasonFacts) → StateLooksAtNumbers facts }
+{}
+
+/// The reply to who asks for what was published under a number looks at these numbers alone.
+pub fn rounds_look_at_numbers()
+    ensures { (facts : SeasonFacts) → RoundsLookAtNumbers facts }
 {}
 
 /// A reason that the office gives is about an applicant of that programme in that round. It goes by the lists of the round and
