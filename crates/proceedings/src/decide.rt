@@ -4,14 +4,14 @@ ghost use Rattle.rank_lists.specs.Register.{row_of};
 ghost use Rattle.seeks.specs.Seek.{is_listed};
 ghost use Rattle.office_moves.specs.Facts.{find_programme};
 ghost use Rattle.office_moves.specs.State.{view_of};
-ghost use Rattle.office_moves.specs.Decided.{answer_looks, decide_answer, decide_list, decide_raise, decide_raise_of, decide_seat, decide_why, decided, is_chosen_by, is_known, raise_looks};
+ghost use Rattle.office_moves.specs.Decided.{answer_looks, decide_answer, decide_list, decide_own, decide_raise, decide_raise_of, decide_why, decided, is_chosen_by, is_known, raise_looks};
 
 use crate::book::Proceedings;
 use keeper_mem::{AnswerRow, RaiseRow};
 use office_base::{Ask, By, CandId, Code, ProgId, Request};
 use office_moves::{
-    AnswerLooks, Decision, RaiseLooks, Refusal, judge_answer, judge_cut, judge_list, judge_raise,
-    judge_seat, judge_why,
+    AnswerLooks, Decision, Question, RaiseLooks, Refusal, judge_answer, judge_cut, judge_list,
+    judge_own, judge_raise, judge_round, judge_why,
 };
 
 impl Proceedings {
@@ -36,10 +36,12 @@ impl Proceedings {
                 },
             ),
             Ask::Cut { window } => judge_cut(by, self.window, self.season.rounds, window),
-            Ask::Seat { cand } => judge_seat(self.is_known(cand), by, cand),
+            Ask::Seat { cand } => self.decide_own(by, cand, Question::Seat { cand }),
             Ask::Why { cand, prog } => self.decide_why(by, cand, prog),
             Ask::List { round, prog } => judge_list(self.find(prog), self.published(), round),
-            Ask::State => Decision::TellState,
+            Ask::Round { round } => judge_round(self.window, self.published(), round),
+            Ask::Choices { cand } => self.decide_own(by, cand, Question::Choices { cand }),
+            Ask::State => Decision::Tell(Question::State),
             Ask::Raise {
                 window,
                 prog,
@@ -58,6 +60,13 @@ impl Proceedings {
                 None => Decision::Refuse(Refusal::UnknownProgramme),
             },
         }
+    }
+
+    /// Decides about a question that only the candidate and the clerk may ask.
+    fn decide_own(&self, by: By, cand: CandId, question: Question) -> Decision
+        ensures { result ≡ decide_own self.now.season by cand question }
+    {
+        judge_own(self.is_known(cand), by, cand, question)
     }
 
     /// Returns whether the candidate is in the register.

@@ -1,24 +1,25 @@
-// The replies that change nothing.
-ghost use Rattle.std.specs.Prelude.{◌≡◌, ◌<◌, ◌≤◌, Some, true, length, option_map, IfOk};
+// The replies to requests that change nothing.
+ghost use Rattle.std.specs.Prelude.{◌≡◌, ◌<◌, ◌≤◌, Some, true, length, option_map, IfOk, IsOk};
 ghost use Rattle.std.specs.Option.{unwrap_or};
 ghost use Rattle.rank_lists.specs.Register.{row_of};
 ghost use Rattle.office_moves.specs.Decided.{decided, is_known};
-ghost use Rattle.office_moves.specs.Moves.{Does, programme_in, receipt, seat_reply, seated_in, told_seat, why_reply};
+ghost use Rattle.office_moves.specs.Moves.{Does, Tells, programme_in, receipt, seat_reply, seated_in, told_seat, why_reply};
 ghost use Rattle.office_moves.specs.State.{round_at, view_of};
-ghost use Rattle.proceedings.specs.Told.{takes_nothing};
+ghost use Rattle.office_moves.specs.declared.decide.Question.TheVariants.{Choices as TheChoices, List as TheList};
+ghost use Rattle.proceedings.specs.Told.{FitsReply, copies_nothing, is_repeat};
 
 use crate::book::Proceedings;
-use office_base::{CandId, OutOfMemory, ProgId, Request, Seat};
-use office_moves::{Decision, Reply};
+use office_base::{CandId, Listed, OutOfMemory, ProgId, Request, Seat};
+use office_moves::{Decision, Question, Reply};
 use programme_lists::Programme;
 use round_options::Standing;
 use std::alloc::Global;
 
 impl Proceedings {
-    /// The reply to a request that comes to this and changes nothing, but for the lists of a programme. It takes no memory.
-    pub fn tell(&self, request: &Request, decision: Decision) -> Reply
-        requires decided { decided self.now.season self.now.state request.now ≡ decision }
-        requires told { takes_nothing decision ≡ true }
+    /// Returns the reply to a request that is refused, or that was accepted before.
+    /// Nothing changes, and it takes no memory.
+    pub fn repeat(&self, decision: Decision) -> Reply
+        requires { is_repeat decision ≡ true }
         ensures { Does self.now.season self.now.state decision result self.now.state }
     {
         match decision {
@@ -26,33 +27,46 @@ impl Proceedings {
             Decision::NotedAgain(row) => Reply::of_answer(row),
             Decision::RaisedAgain(row) => Reply::of_raise(row),
             Decision::CutAgain { window } => self.receipt(window),
-            Decision::TellSeat { cand } => self.seat_reply(cand),
-            Decision::TellWhy { cand, prog } => self.why_reply(cand, prog),
-            Decision::TellState => Reply::StateIs {
-                now: self.now(),
-                rounds: self.season().rounds,
-                published: self.published(),
-            },
             Decision::Note(_)
             | Decision::Lift(_)
             | Decision::Publish
             | Decision::Finish
-            | Decision::TellList { round: _, prog: _ } => unreachable!("it takes nothing"),
+            | Decision::Tell(_) => unreachable!("it was not accepted before"),
         }
     }
 
-    /// The reply to a request that asks for the lists of a programme in a round: they are copied. Nothing changes.
-    pub fn list(
+    /// Answers the question that a request comes to. Nothing changes.
+    /// It takes memory only for a reply that copies what is asked for.
+    pub fn answer(
         &self,
         alloc: Global,
         request: &Request,
-        round: u16,
-        prog: ProgId,
+        question: Question,
     ) -> Result<Reply, OutOfMemory>
-        requires { decided self.now.season self.now.state request.now
-            ≡ Decision.TellList round prog }
-        ensures { IfOk result (λ reply. Does self.now.season self.now.state
-            (Decision.TellList round prog) reply self.now.state) }
+        requires { decided self.now.season self.now.state request.now ≡ Decision.Tell question }
+        ensures reply { IfOk result (λ reply.
+            Tells self.now.season self.now.state question reply) }
+        ensures sure { copies_nothing question ≡ true → IsOk result }
+    {
+        match question {
+            Question::Seat { cand } => Ok(self.seat_reply(cand)),
+            Question::Why { cand, prog } => Ok(self.why_reply(cand, prog)),
+            Question::List { round, prog } => self.list(alloc, round, prog),
+            Question::Round { round } => Ok(Reply::RoundIs { round }),
+            Question::Choices { cand } => self.choice_list(alloc, cand),
+            Question::State => Ok(Reply::StateIs {
+                now: self.now(),
+                rounds: self.season().rounds,
+                published: self.published(),
+            }),
+        }
+    }
+
+    /// Copies the lists of a programme in a published round.
+    fn list(&self, alloc: Global, round: u16, prog: ProgId) -> Result<Reply, OutOfMemory>
+        requires { FitsReply self.now.season self.now.state (TheList round prog) }
+        ensures { IfOk result (λ reply.
+            Tells self.now.season self.now.state (TheList round prog) reply) }
     {
         let programme = self.shown(round, prog).copy(alloc)?;
         Ok(Reply::ListIs {
@@ -60,6 +74,16 @@ impl Proceedings {
             prog,
             programme,
         })
+    }
+
+    /// Copies the choice list of a candidate.
+    fn choice_list(&self, alloc: Global, cand: CandId) -> Result<Reply, OutOfMemory>
+        ensures { IfOk result (λ reply.
+            Tells self.now.season self.now.state (TheChoices cand) reply) }
+    {
+        let mut progs = Listed::new(alloc);
+        progs.extend_from_slice(self.season.choices.list(cand))?;
+        Ok(Reply::ChoicesAre { cand, progs })
     }
 
     /// The lists of a programme in a published round.

@@ -1,11 +1,10 @@
 -- An act that is newly accepted is decided in the same way if its candidate or the clerk asks it by its row.
-use Rattle.std.proofs.Common.{◌≡◌, inl, inr, ℕ, true, List, [], Some, length, refl, sym, ap, ◌∙◌}
+use Rattle.std.proofs.Common.{◌≡◌, inl, inr, ℕ, true, List, [], Some, refl, sym, ap, ◌∙◌}
 use Rattle.std.specs.Prelude.{map, position, bytes_eq}
 use Rattle.std.proofs.lemmas.Bool.{eqb-true}
 use Rattle.std.proofs.lemmas.List.Quantifiers.{position-Some}
 use Rattle.std.proofs.lemmas.Slice.Eq.{bytes_eq-Decides}
 use Rattle.office_base.specs.declared.asks.Ask.{Ask}
-use Rattle.office_base.specs.declared.asks.Ask.TheVariants.{Answer as AskAnswer, Cut as AskCut, Seat, Why, List as AskList, State as AskState, Raise as AskRaise}
 use Rattle.office_base.specs.declared.asks.By.{By}
 use Rattle.office_base.specs.declared.asks.By.TheVariants.{Candidate, Clerk, Nobody}
 use Rattle.office_base.specs.declared.asks.Request.{Request}
@@ -18,12 +17,13 @@ use Rattle.seat_matrix.specs.declared.entry.Home.{Home}
 use Rattle.office_moves.specs.Facts.{SeasonFacts, code_in, find_programme}
 use Rattle.office_moves.specs.Judge.{is_candidate, is_clerk, judge_answer, judge_cut}
 use Rattle.office_moves.specs.State.{State, view_of}
-use Rattle.office_moves.specs.Decided.{answer_looks, decide_raise, decided, decided_by, is_chosen_by, is_known, raise_looks}
+use Rattle.office_moves.specs.Decided.{answer_looks, decide_raise, decided, decided_by, raise_looks}
 use Rattle.office_moves.specs.History.{asked, newly}
 use Rattle.office_moves.specs.declared.decide.Decision.TheVariants.{Finish, Lift, Note, Publish}
 use Rattle.office_moves.specs.declared.moves.Act.{Act}
 use Rattle.office_moves.specs.declared.moves.Act.TheVariants.{Answer, Raise, Cut}
-use Rattle.office_moves.proofs.Chains.{answer_new, cut_new, list_old, raise_new, seat_old, why_old, with_new}
+use Rattle.office_moves.proofs.Chains.{answer_new, cut_new, raise_new, with_new}
+use Rattle.office_moves.proofs.Decisions.{by_kind, question_old}
 use Rattle.histories.proofs.Changes.{code_at, found_number, same_act}
 
 own_by : (by : By) (cand : CandId) → is_candidate by cand ≡ true → by ≡ Candidate cand
@@ -79,14 +79,12 @@ asked_raise facts state by window code step seats act h =
 
 pub asked_by : (facts : SeasonFacts) (state : State) (by : By) (ask : Ask) (act : Act) → newly state.now (decided_by facts state by ask) ≡ Some act
     → decided facts state (asked facts act) ≡ decided_by facts state by ask
-asked_by facts state by (AskAnswer cand window turn choice) act h = asked_answer facts state by (record { window = window; cand = cand; turn = turn; choice = choice }) act h
-asked_by facts state by (AskCut window) act h = asked_cut facts state by window act h
-asked_by facts state by (Seat cand) act h = absurd (let e = seat_old state.now (is_known facts cand) by cand in cc)
-asked_by facts state by (Why cand code) act h =
-    absurd (let e = why_old state.now (is_known facts cand) (find_programme facts code) (is_chosen_by facts cand (find_programme facts code)) (length state.rounds) by cand in cc)
-asked_by facts state by (AskList round code) act h = absurd (let e = list_old state.now (find_programme facts code) (length state.rounds) round in cc)
-asked_by facts state by AskState act h = absurd (cc)
-asked_by facts state by (AskRaise window code step seats) act h = asked_raise facts state by window code step seats act h
+asked_by facts state by ask act =
+    by_kind (λ a. newly state.now (decided_by facts state by a) ≡ Some act → decided facts state (asked facts act) ≡ decided_by facts state by a)
+    (λ cand window turn choice h. asked_answer facts state by (record { window = window; cand = cand; turn = turn; choice = choice }) act h)
+    (λ window h. asked_cut facts state by window act h)
+    (λ window code step seats h. asked_raise facts state by window code step seats act h)
+    (λ a is h. absurd (let e = question_old facts state state.now by a is in cc)) ask
 
 -- ---- each decision that accepts
 

@@ -8,7 +8,7 @@ use Rattle.office_moves.specs.Facts.{SeasonFacts}
 use Rattle.office_moves.specs.Judge.{is_withdraw}
 use Rattle.office_moves.specs.State.{State}
 use Rattle.office_moves.specs.declared.decide.Decision.{Decision}
-use Rattle.office_moves.specs.declared.decide.Decision.TheVariants.{Refuse, NotedAgain, RaisedAgain, CutAgain, Note, Lift, Publish, Finish, TellSeat, TellWhy, TellList, TellState}
+use Rattle.office_moves.specs.declared.decide.Decision.TheVariants.{Refuse, NotedAgain, RaisedAgain, CutAgain, Note, Lift, Publish, Finish, Tell}
 use Rattle.office_moves.specs.declared.moves.Entry.{Entry}
 
 -- An office: the season, what was accepted, the state to which it led, how many candidates are still in,
@@ -34,10 +34,7 @@ withdraws (Note row) = is_withdraw row.choice
 withdraws (Lift row) = false
 withdraws Publish = false
 withdraws Finish = false
-withdraws (TellSeat cand) = false
-withdraws (TellWhy cand prog) = false
-withdraws (TellList number prog) = false
-withdraws TellState = false
+withdraws (Tell question) = false
 
 -- the candidate who holds a token, or nobody
 abbrev pub holder_by : Option CandId → By

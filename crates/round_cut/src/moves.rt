@@ -3,13 +3,13 @@ ghost use Rattle.std.specs.Prelude.{◌≡◌, ◌<◌, ◌≤◌, true, None, I
 ghost use Rattle.office_moves.specs.Decided.{decided};
 ghost use Rattle.office_moves.specs.History.{asked, grown, newly};
 ghost use Rattle.office_moves.specs.Judge.{is_withdraw};
-ghost use Rattle.office_moves.specs.Moves.{Does, IsMove};
+ghost use Rattle.office_moves.specs.Moves.{IsMove, Tells};
 ghost use Rattle.office_moves.specs.Promise.{KeepsItsWord};
 ghost use Rattle.office_moves.specs.Stands.{Stand};
-ghost use Rattle.office_moves.specs.declared.decide.Decision.TheVariants.{Finish, Lift, Note, Publish, TellList};
+ghost use Rattle.office_moves.specs.declared.decide.Decision.TheVariants.{Finish, Lift, Note, Publish, Tell};
 ghost use Rattle.office_moves.specs.declared.moves.Act.TheVariants.{Answer, Cut, Raise};
 ghost use Rattle.proceedings.specs.Proceeding.{last_of};
-ghost use Rattle.proceedings.specs.Told.{takes_nothing};
+ghost use Rattle.proceedings.specs.Told.{copies_nothing, takes_nothing};
 ghost use Rattle.round_cut.specs.Answering.{Accepts, KeepsOn};
 ghost use Rattle.round_cut.specs.Office.{withdraws};
 
@@ -17,8 +17,8 @@ use crate::cut::{MadeCut, count_rows, make_cut, room_wanted};
 use crate::fault::OfficeFault;
 use crate::office::Office;
 use keeper_mem::{AnswerRow, Keeper, RaiseRow};
-use office_base::{Choice, ProgId, Request};
-use office_moves::{Decision, Reply};
+use office_base::{Choice, Request};
+use office_moves::{Decision, Question, Reply};
 use std::alloc::Global;
 
 impl<K: Keeper> Office<K> {
@@ -53,27 +53,27 @@ impl<K: Keeper> Office<K> {
             Decision::Lift(row) => self.accept_raise(number, row),
             Decision::Publish => self.publish_round(alloc, number),
             Decision::Finish => self.finish_season(alloc, number),
-            Decision::TellList { round, prog } => self.tell_list(alloc, request, round, prog),
-            told => Ok(self.book.tell(request, told)),
+            Decision::Tell(question) => self.answer(alloc, request, question),
+            known => Ok(self.book.repeat(known)),
         };
         let _entries = self.book.entries();
         answer
     }
 
-    /// Returns the lists of a programme in a round.
-    fn tell_list(
+    /// Answers the question that a request comes to.
+    fn answer(
         &self,
         alloc: Global,
         request: &Request,
-        round: u16,
-        prog: ProgId,
+        question: Question,
     ) -> Result<Reply, OfficeFault>
-        requires { decided self.now.season self.now.state request.now ≡ TellList round prog }
+        requires { decided self.now.season self.now.state request.now ≡ Tell question }
         ensures reply { IfOk result (λ reply.
-            Does self.now.season self.now.state (TellList round prog) reply self.now.state) }
+            Tells self.now.season self.now.state question reply) }
+        ensures sure { copies_nothing question ≡ true → IsOk result }
         ensures memory { IsErrOf result OfficeFault.KeeperFault → ⊥ }
     {
-        Ok(self.book.list(alloc, request, round, prog)?)
+        Ok(self.book.answer(alloc, request, question)?)
     }
 
     /// Keeps an answer, and accepts it.
