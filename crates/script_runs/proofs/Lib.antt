@@ -1,9 +1,6 @@
 mod Counted
-mod Named
 mod OneRun
 mod OneTally
 mod RunLemmas
 pub mod Running
-mod Seats
-mod Shown
 mod Tallying

@@ -10,7 +10,8 @@ use Rattle.office_moves.specs.declared.moves.Entry.{Entry}
 use Rattle.histories.specs.Laws.{HistoryGrows}
 use Rattle.histories.specs.Orderly.{IsOrderly}
 use Rattle.script_runs.specs.Laws.{OneRun}
-use Rattle.script_runs.specs.Runs.{Answers, reply_bytes}
+use Rattle.shown_replies.specs.Shown.{reply_bytes}
+use Rattle.script_runs.specs.Runs.{Answers}
 
 -- the laws on which it rests
 pub record Determined (facts : SeasonFacts) : Type 0 where

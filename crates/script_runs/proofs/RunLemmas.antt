@@ -4,7 +4,7 @@ use Rattle.office_moves.specs.Facts.{SeasonFacts}
 use Rattle.office_moves.specs.State.{State}
 use Rattle.office_moves.specs.Moves.{IsMove}
 use Rattle.script_runs.specs.Laws.{GoesOn, PrefixIsARun}
-use Rattle.script_runs.specs.Runs.{reply_bytes}
+use Rattle.shown_replies.specs.Shown.{reply_bytes}
 
 pub goes_on : (facts : SeasonFacts) → GoesOn facts
 goes_on facts old mid new [] request reply output before moves =

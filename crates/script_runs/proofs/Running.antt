@@ -18,7 +18,8 @@ use Rattle.office_moves.specs.declared.moves.Reply.{Reply}
 use Rattle.histories.specs.Laws.{HistoryGrows}
 use Rattle.proceedings.specs.Proceeding.{last_of as last_number}
 use Rattle.round_cut.specs.declared.fault.OfficeFault.{OfficeFault}
-use Rattle.script_runs.specs.Runs.{Accepts, AfterSome, Answers, EndsBefore, EndsWithin, Moment, reply_bytes}
+use Rattle.shown_replies.specs.Shown.{reply_bytes}
+use Rattle.script_runs.specs.Runs.{Accepts, AfterSome, Answers, EndsBefore, EndsWithin, Moment}
 use Rattle.script_runs.specs.declared.fault.RunFault.{RunFault}
 use Rattle.script_runs.specs.declared.fault.RunFault.TheVariants.{KeeperFault, OutOfMemory, WriteFault}
 use Rattle.script_runs.specs.Steps.{HasAccepted, IsAnswered, IsAnsweredInPart, IsUnanswered}

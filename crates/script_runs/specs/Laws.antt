@@ -7,8 +7,8 @@ use Rattle.office_moves.specs.Moves.{IsMove}
 use Rattle.office_moves.specs.History.{IsHistory}
 use Rattle.office_moves.specs.declared.moves.Entry.{Entry}
 use Rattle.office_moves.specs.declared.moves.Reply.{Reply}
-use Rattle.histories.specs.Orderly.{IsOrderly}
-use Rattle.script_runs.specs.Runs.{Answers, CameOf, CanBeShown, reply_bytes}
+use Rattle.script_runs.specs.Runs.{Answers}
+use Rattle.shown_replies.specs.Shown.{reply_bytes}
 use Rattle.script_runs.specs.Tally.{AreHandled, Handled, answers_in, noted_in, refused_in, requests_of}
 
 -- A run continues with one request at its end, whose reply follows the others.
@@ -33,10 +33,6 @@ PrefixIsARun facts = (old new : State) (requests more : List Request) (output : 
 abbrev pub OneRun : SeasonFacts → Type 0
 OneRun facts = IsSound facts → (entries : List Entry) (old new then : State) (requests : List Request) (output other : List ℕ) → IsHistory facts entries old
     → Answers facts old requests output new → Answers facts old requests other then → (output ≡ other) × (new ≡ then)
-
--- In a state in which all is in order the reply that led to it can be shown.
-abbrev pub RepliesCanBeShown : SeasonFacts → Type 0
-RepliesCanBeShown facts = IsSound facts → (state : State) (reply : Reply) → IsOrderly facts state → CameOf facts state reply → CanBeShown facts state reply
 
 -- Each answer among the requests is noted or refused, and no other request is counted.
 abbrev pub EachAnswerIsCounted : SeasonFacts → Type 0

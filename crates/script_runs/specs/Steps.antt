@@ -14,7 +14,8 @@ use Rattle.office_moves.specs.declared.moves.Entry.{Entry}
 use Rattle.office_moves.specs.declared.moves.Reply.{Reply}
 use Rattle.proceedings.specs.Proceeding.{last_of}
 use Rattle.round_cut.specs.Office.{Opened}
-use Rattle.script_runs.specs.Runs.{Moment, reply_bytes}
+use Rattle.shown_replies.specs.Shown.{reply_bytes}
+use Rattle.script_runs.specs.Runs.{Moment}
 
 -- the entries have what the request newly accepted, under the number after the last one
 abbrev pub HasAccepted : SeasonFacts → State → Request → List Entry → List Entry → Type 0

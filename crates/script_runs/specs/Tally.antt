@@ -2,7 +2,7 @@
 -- what was asked and replied, and what is counted of it.
 use Rattle.std.specs.Prelude.{◌≡◌, ◌<◌, ◌+◌, ◌&&◌, ℕ, Bool, true, false, List, [], ◌∷◌, cond, count_by, length, map, take}
 use Rattle.office_base.specs.declared.asks.Ask.{Ask}
-use Rattle.office_base.specs.declared.asks.Ask.TheVariants.{Answer, Cut, Seat, Why, List as AskList, State as AskState, Raise}
+use Rattle.office_base.specs.declared.asks.Ask.TheVariants.{Answer}
 use Rattle.office_base.specs.declared.asks.Request.{Request}
 use Rattle.keeper_mem.specs.Tables.{Tables}
 use Rattle.office_moves.specs.Facts.{SeasonFacts}
@@ -13,7 +13,7 @@ use Rattle.office_moves.specs.Promise.{KeepsItsWord}
 use Rattle.office_moves.specs.Stands.{Stand}
 use Rattle.office_moves.specs.declared.moves.Entry.{Entry}
 use Rattle.office_moves.specs.declared.moves.Reply.{Reply}
-use Rattle.office_moves.specs.declared.moves.Reply.TheVariants.{Noted, Raised, Published, Final, SeatIs, WhyIs, ListIs, StateIs, Refused}
+use Rattle.office_moves.specs.declared.moves.Reply.TheVariants.{Noted, Refused}
 use Rattle.script_runs.specs.declared.tally.Tally.{Tally}
 
 -- ---- requests with their replies
@@ -37,36 +37,17 @@ requests_of handled = map (λ one. one.request) handled
 -- the request is an answer
 abbrev pub is_answer : Ask → Bool
 is_answer (Answer cand window turn choice) = true
-is_answer (Cut window) = false
-is_answer (Seat cand) = false
-is_answer (Why cand code) = false
-is_answer (AskList round code) = false
-is_answer AskState = false
-is_answer (Raise window code step seats) = false
+is_answer _ = false
 
 -- the reply is the receipt of an answer
 abbrev pub is_receipt : Reply → Bool
 is_receipt (Noted cand window turn choice) = true
-is_receipt (Raised window prog step seats) = false
-is_receipt (Published number seated) = false
-is_receipt (Final admitted) = false
-is_receipt (SeatIs cand number standing seat) = false
-is_receipt (WhyIs cand prog answer) = false
-is_receipt (ListIs number prog programme) = false
-is_receipt (StateIs window rounds published) = false
-is_receipt (Refused refusal) = false
+is_receipt _ = false
 
 -- the reply is a refusal
 abbrev pub is_refusal : Reply → Bool
-is_refusal (Noted cand window turn choice) = false
-is_refusal (Raised window prog step seats) = false
-is_refusal (Published number seated) = false
-is_refusal (Final admitted) = false
-is_refusal (SeatIs cand number standing seat) = false
-is_refusal (WhyIs cand prog answer) = false
-is_refusal (ListIs number prog programme) = false
-is_refusal (StateIs window rounds published) = false
 is_refusal (Refused refusal) = true
+is_refusal _ = false
 
 -- the request is an answer that was refused
 abbrev pub is_refused_answer : Request → Reply → Bool

@@ -1,6 +1,6 @@
 // The laws of runs. Each is the contract of a function that does nothing.
 ghost use Rattle.office_moves.specs.Facts.{SeasonFacts};
-ghost use Rattle.script_runs.specs.Laws.{EachAnswerIsCounted, GoesOn, OneRun, OneTally, PrefixIsARun, RepliesCanBeShown};
+ghost use Rattle.script_runs.specs.Laws.{EachAnswerIsCounted, GoesOn, OneRun, OneTally, PrefixIsARun};
 
 /// Shows that a run continues with one request at its end.
 pub fn goes_on()
@@ -36,11 +36,3 @@ pub fn one_tally()
 pub fn each_answer_is_counted()
     ensures { (facts : SeasonFacts) → EachAnswerIsCounted facts }
 {}
-
-/// Shows that the reply that led to a state in which all is in order can be shown.
-pub fn replies_can_be_shown()
-    ensures { (facts : SeasonFacts) → RepliesCanBeShown facts }
-{
-    round_laws::laws::choose_well();
-    open_then_category::laws::slots_are_traits();
-}

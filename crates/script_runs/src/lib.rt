@@ -4,17 +4,15 @@
 // The commands that run a season build on it.
 // `specs/Runs` says what a run is, what of it is written, and how it may end.
 // `specs/Tally` says what is counted. The words of `office_moves` say what a request results in, and those of
-// `reply_texts` what a reply looks like.
+// `shown_replies` what the text of a reply is.
 // It must never know where requests come from, how records are kept, nor what a sink is.
 #![tactic(auto)]
 
 mod fault;
 pub mod laws;
-mod line;
 mod run;
 mod tally;
 
 pub use fault::RunFault;
-pub use line::reply_line;
 pub use run::answer_all;
 pub use tally::{Tally, count_all};

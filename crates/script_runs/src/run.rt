@@ -1,21 +1,22 @@
 // A script, answered request after request.
-ghost use Rattle.std.specs.Prelude.{◌≡◌, ◌≤◌, ◌⊎◌, ℕ, IfOk, OnOk, IsErrOf, IsOkUnless, take};
+ghost use Rattle.std.specs.Prelude.{ℕ, IfOk, OnOk, IsErrOf, IsOkUnless, take};
 ghost use Rattle.office_base.specs.Outside.{Fails, Rose};
 ghost use Rattle.histories.specs.Orderly.{IsOrderly};
 ghost use Rattle.office_moves.specs.History.{IsHistory};
 ghost use Rattle.office_moves.specs.Moves.{IsMove};
 ghost use Rattle.office_moves.specs.Stands.{Stand};
 ghost use Rattle.round_cut.specs.Answering.{KeepsOn};
-ghost use Rattle.script_runs.specs.Runs.{Accepts, CameOf, CanBeShown, EndsBefore, EndsCut, EndsShort, EndsWell, moment_of};
+ghost use Rattle.script_runs.specs.Runs.{Accepts, EndsBefore, EndsCut, EndsShort, EndsWell, moment_of};
+ghost use Rattle.shown_replies.specs.Shown.{CameOf, CanBeShown};
 ghost use Rattle.script_runs.specs.Steps.{Continues, HasAccepted, IsAnswered, IsAnsweredInPart, IsCutOff, IsUnanswered};
 
 use crate::fault::RunFault;
-use crate::laws::replies_can_be_shown;
-use crate::line::reply_line;
 use keeper_mem::Keeper;
 use office_base::{Request, Sink, write_whole};
 use office_moves::{Reply, says_what_is_sound};
 use round_cut::{Office, OfficeFault};
+use shown_replies::laws::replies_can_be_shown;
+use shown_replies::reply_line;
 use std::alloc::Global;
 
 /// Answers the requests one after another, each under the number after the last one.

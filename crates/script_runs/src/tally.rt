@@ -1,5 +1,5 @@
 // A script, answered request after request: no reply is written, and answers are counted.
-ghost use Rattle.std.specs.Prelude.{◌≡◌, ◌<◌, ◌≤◌, ◌+◌, ◌^◌, cond, IfOk, OnOk, OnErr, IsErrOf};
+ghost use Rattle.std.specs.Prelude.{◌≡◌, ◌<◌, ◌+◌, ◌^◌, cond, IfOk, OnErr, IsErrOf};
 ghost use Rattle.office_base.specs.Outside.{Fails};
 ghost use Rattle.histories.specs.Orderly.{IsOrderly};
 ghost use Rattle.office_moves.specs.History.{IsHistory};
@@ -115,6 +115,8 @@ fn is_answer(request: &Request) -> bool
         | Ask::Seat { .. }
         | Ask::Why { .. }
         | Ask::List { .. }
+        | Ask::Round { .. }
+        | Ask::Choices { .. }
         | Ask::State
         | Ask::Raise { .. } => false,
     }
@@ -132,6 +134,8 @@ fn is_receipt(reply: &Reply) -> bool
         | Reply::SeatIs { .. }
         | Reply::WhyIs { .. }
         | Reply::ListIs { .. }
+        | Reply::RoundIs { .. }
+        | Reply::ChoicesAre { .. }
         | Reply::StateIs { .. }
         | Reply::Refused(_) => false,
     }
@@ -150,6 +154,8 @@ fn is_refusal(reply: &Reply) -> bool
         | Reply::SeatIs { .. }
         | Reply::WhyIs { .. }
         | Reply::ListIs { .. }
+        | Reply::RoundIs { .. }
+        | Reply::ChoicesAre { .. }
         | Reply::StateIs { .. } => false,
     }
 }

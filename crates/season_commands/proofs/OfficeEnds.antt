@@ -5,7 +5,8 @@ use Rattle.office_base.specs.declared.asks.Request.{Request}
 use Rattle.keeper_mem.specs.Tables.{Tables}
 use Rattle.office_moves.specs.Facts.{SeasonFacts}
 use Rattle.office_moves.specs.State.{State}
-use Rattle.script_runs.specs.Runs.{EndsBefore, EndsCut, EndsShort, EndsWithin, Moment, reply_bytes}
+use Rattle.shown_replies.specs.Shown.{reply_bytes}
+use Rattle.script_runs.specs.Runs.{EndsBefore, EndsCut, EndsShort, EndsWithin, Moment}
 use Rattle.season_commands.specs.Office.{EndsOffice, FollowsOneMore, FollowsSome}
 use Rattle.office_base.specs.FaultLines.{memory_line}
 use Rattle.command_answers.specs.Writes.{IsTold, keeper_line}

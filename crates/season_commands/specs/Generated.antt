@@ -10,7 +10,7 @@ use Rattle.rounds.specs.Round.{seated}
 use Rattle.office_moves.specs.Facts.{SeasonFacts}
 use Rattle.office_moves.specs.Season.{facts_of}
 use Rattle.office_moves.specs.State.{State, opening}
-use Rattle.script_runs.specs.Runs.{rows_shown}
+use Rattle.shown_replies.specs.Shown.{rows_shown}
 use Rattle.script_runs.specs.Tally.{CountsAll, StopsWithin}
 use Rattle.script_runs.specs.declared.tally.Tally.{Tally}
 use Rattle.round_cut.specs.declared.fault.OfficeFault.{OfficeFault}

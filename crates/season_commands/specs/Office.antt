@@ -4,7 +4,8 @@ use Rattle.office_base.specs.declared.asks.Request.{Request}
 use Rattle.keeper_mem.specs.Tables.{Tables}
 use Rattle.office_moves.specs.Facts.{SeasonFacts}
 use Rattle.office_moves.specs.State.{State}
-use Rattle.script_runs.specs.Runs.{AfterOneMore, AfterSome, reply_bytes}
+use Rattle.shown_replies.specs.Shown.{reply_bytes}
+use Rattle.script_runs.specs.Runs.{AfterOneMore, AfterSome}
 use Rattle.office_base.specs.FaultLines.{memory_line}
 use Rattle.command_answers.specs.Writes.{keeper_line}
 use Rattle.command_answers.specs.declared.status.Status.{Status}

@@ -2,7 +2,7 @@
 ghost use Rattle.std.specs.Prelude.{◌≡◌, ◌≢◌, IfOk, length, map};
 ghost use Rattle.office_base.specs.Outside.{Rose};
 ghost use Rattle.rounds.specs.Round.{seated};
-ghost use Rattle.script_runs.specs.Runs.{rows_shown};
+ghost use Rattle.shown_replies.specs.Shown.{rows_shown};
 ghost use Rattle.season_generator.specs.Summary.{summary_text};
 ghost use Rattle.command_answers.specs.Writes.{IsTold};
 ghost use Rattle.season_commands.specs.Generated.{summary_of, summed_status, summed_text};

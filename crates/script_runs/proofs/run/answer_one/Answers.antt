@@ -1,6 +1,6 @@
 use Rattle.std.proofs.Common.{◌≡◌, ap, subst, ◌∙◌}
 use Rattle.office_base.specs.Outside.{Appends}
-use Rattle.script_runs.specs.Runs.{reply_bytes}
+use Rattle.shown_replies.specs.Shown.{reply_bytes}
 use Rattle.script_runs.proofs.Running.{answered_whole}
 use Rattle.script_runs.proofs.run.answer_one.Goals as goal
 

@@ -16,20 +16,22 @@ use Rattle.rounds.specs.declared.round.Round.{Round}
 use Rattle.round_options.specs.declared.standing.Standing.{Standing}
 use Rattle.round_options.specs.declared.standing.Standing.TheVariants.{Waiting, Offered, Freeze, Float, Slide, Withdrawn, NoShow}
 use Rattle.office_moves.specs.Facts.{IsSound, SeasonFacts}
-use Rattle.office_moves.specs.Moves.{Does, told_seat, programme_in, receipt, seat_reply, why_reply}
+use Rattle.office_moves.specs.Moves.{Does, Tells, told_seat, programme_in, receipt}
 use Rattle.office_moves.specs.State.{State, last_seat, round_at, seat_of, standing_at, view_of}
 use Rattle.office_moves.specs.Why.{is_sought_by, reason_in, why_answer, why_beside, why_refused}
 use Rattle.office_moves.specs.Decided.{decided}
 use Rattle.office_moves.specs.declared.decide.Decision.{Decision}
-use Rattle.office_moves.specs.declared.decide.Decision.TheVariants.{Refuse, NotedAgain, RaisedAgain, CutAgain, Note, Lift, Publish, Finish, TellSeat, TellWhy, TellList, TellState}
+use Rattle.office_moves.specs.declared.decide.Decision.TheVariants.{Refuse, NotedAgain, RaisedAgain, CutAgain, Note, Lift, Publish, Finish, Tell}
+use Rattle.office_moves.specs.declared.decide.Question.{Question}
+use Rattle.office_moves.specs.declared.decide.Question.TheVariants.{Seat as TheSeat, Why as TheReason, List as TheList, Round as TheRound, Choices as TheChoices, State as TheState}
 use Rattle.office_moves.specs.declared.moves.Reply.{Reply}
 use Rattle.office_moves.specs.declared.moves.Reply.TheVariants.{Published, Final}
 use Rattle.published_texts.specs.Texts.{IsAnswerOf, IsSeatOf}
 use Rattle.histories.specs.Orderly.{IsOrderly}
 use Rattle.reply_texts.specs.Replies.{HasTraitSlots, IsReplyOf}
-use Rattle.script_runs.specs.Runs.{CameOf, CanBeShown, round_shown, rows_shown}
-use Rattle.script_runs.proofs.Named.{Names, decided_names}
-use Rattle.script_runs.proofs.Seats.{ChooseWell, finals_show, is_round_shown, round_at_shows, seat_shows}
+use Rattle.shown_replies.specs.Shown.{CameOf, CanBeShown, round_shown, rows_shown}
+use Rattle.shown_replies.proofs.Named.{Names, decided_names}
+use Rattle.shown_replies.proofs.Seats.{ChooseWell, finals_show, is_round_shown, round_at_shows, seat_shows}
 
 abbrev Shows : SeasonFacts → State → Reply → Type 0
 Shows facts state reply = IsReplyOf facts.matrix facts.people (round_shown state reply) (rows_shown state) reply
@@ -92,6 +94,23 @@ list_shows facts state number p programme laws sound orderly e = go (round_at st
     go None is e = absurd (cc)
     go (Some round) is e = (round_at_shows facts state number round laws sound orderly is).slots p programme e
 
+-- ---- each question
+
+tells_shows : (facts : SeasonFacts) (state : State) (question : Question) (reply : Reply) → ChooseWell → IsSound facts → IsOrderly facts state → Names (length facts.matrix.programmes) (Tell question)
+    → Tells facts state question reply → Shows facts state reply
+tells_shows facts state (TheSeat cand) reply laws sound orderly names e =
+    subst (λ r. Shows facts state r) (sym e)
+    (told_shows facts (standing_at facts (view_of state cand.0) cand.0 state.now) (last_seat facts state.rounds cand.0) (seat_shows facts state (length state.rounds) cand.0 laws sound orderly))
+tells_shows facts state (TheReason cand prog) reply laws sound orderly names e =
+    subst (λ r. Shows facts state r) (sym e)
+    (names, why_shows facts (round_at state.rounds (length state.rounds)) cand prog (seat_shows facts state (length state.rounds) cand.0 laws sound orderly))
+tells_shows facts state (TheList number prog) reply laws sound orderly names tells =
+    subst (λ r. Shows facts state r) (sym tells.2) (names, list_shows facts state number prog.0 tells.0 laws sound orderly tells.1)
+tells_shows facts state (TheRound number) reply laws sound orderly names e =
+    subst (λ r. Shows facts state r) (sym e) (is_round_shown facts state number laws sound orderly, finals_show facts state laws sound orderly)
+tells_shows facts state (TheChoices cand) reply laws sound orderly names e = subst (λ r. Shows facts state r) (sym e) (sound.choices cand.0).numbers
+tells_shows facts state TheState reply laws sound orderly names e = subst (λ r. Shows facts state r) (sym e) tt
+
 -- ---- each decision
 
 does_shows : (facts : SeasonFacts) (old new : State) (decision : Decision) (reply : Reply) → ChooseWell → IsSound facts → IsOrderly facts new → Names (length facts.matrix.programmes) decision
@@ -105,16 +124,8 @@ does_shows facts old new (Note row) reply laws sound orderly names does = subst 
 does_shows facts old new (Lift row) reply laws sound orderly names does = subst (λ r. Shows facts new r) (sym does.0) names
 does_shows facts old new Publish reply laws sound orderly names does = subst (λ r. Shows facts new r) (sym does.2) (is_round_shown facts new (old.now + 1) laws sound orderly)
 does_shows facts old new Finish reply laws sound orderly names does = subst (λ r. Shows facts new r) (sym does.0) (finals_show facts new laws sound orderly)
-does_shows facts old new (TellSeat cand) reply laws sound orderly names does =
-    subst (λ r. Shows facts new r) (sym (does.0 ∙ ap (λ s. seat_reply facts (view_of s cand.0) cand) (sym does.1)))
-    (told_shows facts (standing_at facts (view_of new cand.0) cand.0 new.now) (last_seat facts new.rounds cand.0) (seat_shows facts new (length new.rounds) cand.0 laws sound orderly))
-does_shows facts old new (TellWhy cand prog) reply laws sound orderly names does =
-    subst (λ r. Shows facts new r) (sym (does.0 ∙ ap (λ s. why_reply facts (view_of s cand.0) cand prog) (sym does.1)))
-    (names, why_shows facts (round_at new.rounds (length new.rounds)) cand prog (seat_shows facts new (length new.rounds) cand.0 laws sound orderly))
-does_shows facts old new (TellList number prog) reply laws sound orderly names does =
-    subst (λ r. Shows facts new r) (sym does.2)
-    (names, list_shows facts new number prog.0 does.0 laws sound orderly (subst (λ s. programme_in (round_at s.rounds number) prog.0 ≡ Some does.0) (sym does.3) does.1))
-does_shows facts old new TellState reply laws sound orderly names does = subst (λ r. Shows facts new r) (sym does.0) tt
+does_shows facts old new (Tell question) reply laws sound orderly names does =
+    tells_shows facts new question reply laws sound orderly names (subst (λ s. Tells facts s question reply) (sym does.1) does.0)
 
 pub shows : (facts : SeasonFacts) (state : State) (reply : Reply) → ChooseWell → IsSound facts → IsOrderly facts state → CameOf facts state reply → CanBeShown facts state reply
 unfolding CanBeShown

@@ -29,7 +29,7 @@ use Rattle.histories.specs.Course.{seeks_then}
 use Rattle.histories.specs.Orderly.{IsOrderly}
 use Rattle.histories.proofs.Entering.{entrants}
 use Rattle.histories.proofs.Fits.{is_seated}
-use Rattle.script_runs.specs.Runs.{rows_shown}
+use Rattle.shown_replies.specs.Shown.{rows_shown}
 
 -- the laws on which it rests
 pub record ChooseWell : Type 0 where

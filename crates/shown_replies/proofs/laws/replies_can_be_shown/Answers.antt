@@ -1,5 +1,5 @@
-use Rattle.script_runs.proofs.Shown.{shows}
-use Rattle.script_runs.proofs.laws.replies_can_be_shown.Goals as goal
+use Rattle.shown_replies.proofs.Shown.{shows}
+use Rattle.shown_replies.proofs.laws.replies_can_be_shown.Goals as goal
 
 pub returns : goal.returns
 returns c = λ facts sound state reply orderly came.

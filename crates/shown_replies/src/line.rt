@@ -1,6 +1,6 @@
 // The text of a reply of an office.
 ghost use Rattle.std.specs.Prelude.{◌≡◌, IfOk, option_copied};
-ghost use Rattle.script_runs.specs.Runs.{CanBeShown, reply_bytes, round_shown, rows_shown};
+ghost use Rattle.shown_replies.specs.Shown.{CanBeShown, reply_bytes, round_shown, rows_shown};
 
 use keeper_mem::{AllotRow, Keeper};
 use office_base::{OutOfMemory, Text};
@@ -11,9 +11,9 @@ use rounds::Round;
 use std::alloc::Global;
 
 /// Returns the text of a reply that can be shown in the office's state: its programmes are of the matrix.
-/// The round of a cut that published one is there, and the programmes of the final rows are of the matrix too.
-/// The text of a cut shows what it published.
-#[tactic(auto, unfolding(crate::specs::Runs::reply_bytes, crate::specs::Runs::CanBeShown))]
+/// The round that it shows is there, and the programmes of the final rows are of the matrix too.
+/// The text of a cut shows what the cut published.
+#[tactic(auto, unfolding(crate::specs::Shown::reply_bytes, crate::specs::Shown::CanBeShown))]
 pub fn reply_line<P: Keeper>(
     alloc: Global,
     office: &Office<P>,
@@ -36,25 +36,26 @@ pub fn reply_line<P: Keeper>(
     )
 }
 
-/// Returns the round that the text of a reply shows.
-fn shown_round<'a, P: Keeper>(office: &'a Office<P>, reply: &Reply) -> Option<&'a Round>
+/// Returns the round that the text of a reply shows: the one that its cut published, or that was asked for. It takes no memory.
+pub fn shown_round<'a, P: Keeper>(office: &'a Office<P>, reply: &Reply) -> Option<&'a Round>
     ensures { option_copied result ≡ round_shown office.now.state reply.now }
 {
     match reply {
-        Reply::Published { round, .. } => office.round(*round),
+        Reply::Published { round, .. } | Reply::RoundIs { round } => office.round(*round),
         Reply::Noted { .. }
         | Reply::Raised { .. }
         | Reply::Final { .. }
         | Reply::SeatIs { .. }
         | Reply::WhyIs { .. }
         | Reply::ListIs { .. }
+        | Reply::ChoicesAre { .. }
         | Reply::StateIs { .. }
         | Reply::Refused(_) => None,
     }
 }
 
-/// Returns the final rows, once there are any.
-fn shown_rows<P: Keeper>(office: &Office<P>) -> &[AllotRow]
+/// Returns the final rows, once there are any, and otherwise none. It takes no memory.
+pub fn shown_rows<P: Keeper>(office: &Office<P>) -> &[AllotRow]
     ensures { result.now ≡ rows_shown office.now.state }
 {
     match office.finals() {

@@ -1,0 +1,3 @@
+mod Named
+mod Seats
+mod Shown
