@@ -9,7 +9,7 @@ use Rattle.std.proofs.lemmas.List.Folds.{list_all-append}
 use Rattle.office_base.specs.Codes.{is_code, is_code_byte}
 use Rattle.office_base.specs.Limits.{last_id, last_window, longest_code, shortest_code}
 use Rattle.office_base.specs.declared.asks.Ask.{Ask}
-use Rattle.office_base.specs.declared.asks.Ask.TheVariants.{Answer, Cut, Seat, Why, List as ListOf, State, Raise}
+use Rattle.office_base.specs.declared.asks.Ask.TheVariants.{Answer, Cut, Seat, Why, List as ListOf, Round, Choices, State, Raise}
 use Rattle.office_base.specs.declared.person.CandId.{CandId}
 use Rattle.office_text.specs.Lines.{cut_at, onto_first}
 use Rattle.office_text.specs.Names.{code_of}
@@ -121,6 +121,16 @@ list-at number code round is spelled =
     rw two (ap (λ (o : Option ℕ). read_page (option_and_then (λ round. option_map (λ prog. ListOf round prog) (code_of code)) o)) is.within
     ∙ ap (λ (o : Option (List ℕ)). read_page (option_map (λ prog. ListOf round prog) o)) (coded code spelled))
 
+round-at : (number : List ℕ) (round : ℕ) → IsDecimal 0 last_window round number → page_at (cut_at 47 (codes "/v1/round/" ++ number)) ≡ Some (Reads (Round round))
+round-at number round is =
+    let one : cut_at 47 number ≡ number ∷ [] = uncut is_ascii_digit 47 refl number is.digits in
+    rw one (ap (λ (o : Option ℕ). read_page (option_map (λ round. Round round) o)) is.within)
+
+choices-at : (number : List ℕ) (id : ℕ) → IsDecimal 1 last_id id number → page_at (cut_at 47 (codes "/v1/choices/" ++ number)) ≡ Some (Reads (Choices (record { 0 = id })))
+choices-at number id is =
+    let one : cut_at 47 number ≡ number ∷ [] = uncut is_ascii_digit 47 refl number is.digits in
+    rw one (ap (λ (o : Option ℕ). read_page (option_map (λ (cand : CandId). Choices cand) (option_map (λ id. record { 0 = id }) o))) is.within)
+
 -- what the path of a page names, and that it has no query
 record IsPathOf (page : Page) : Type 0 where
   names : page_at (cut_at 47 (page_text page)) ≡ Some page
@@ -139,6 +149,14 @@ read-path inverse (ListOf round prog) range =
     let is = decimals inverse 0 last_window round (omega arith) range.0 (lit< tt) in
     let one : cut_at 63 (decimal round ++ 47 ∷ prog) ≡ (decimal round ++ 47 ∷ prog) ∷ [] = two_unqueried (decimal round) prog is.digits (code_bytes prog range.1) in
     record { names = list-at (decimal round) prog round is range.1; bare = rw one refl }
+read-path inverse (Round round) range =
+    let is = decimals inverse 0 last_window round (omega arith) range (lit< tt) in
+    let one : cut_at 63 (decimal round) ≡ decimal round ∷ [] = uncut is_ascii_digit 63 refl (decimal round) is.digits in
+    record { names = round-at (decimal round) round is; bare = rw one refl }
+read-path inverse (Choices cand) range =
+    let is = decimals inverse 1 last_id cand.0 range.0 range.1 (lit< tt) in
+    let one : cut_at 63 (decimal cand.0) ≡ decimal cand.0 ∷ [] = uncut is_ascii_digit 63 refl (decimal cand.0) is.digits in
+    record { names = choices-at (decimal cand.0) cand.0 is; bare = rw one refl }
 read-path inverse State range = record { names = refl; bare = refl }
 read-path inverse (Answer cand window turn choice) range = absurd range
 read-path inverse (Cut window) range = absurd range

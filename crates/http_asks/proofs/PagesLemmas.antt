@@ -9,13 +9,14 @@ use Rattle.std.proofs.lemmas.Slice.Eq.{bytes_eq-Decides}
 use Rattle.std.proofs.lemmas.Option.{none-some}
 use Rattle.office_base.specs.Codes.{is_code}
 use Rattle.office_base.specs.Limits.{last_id, last_window}
-use Rattle.office_base.specs.declared.asks.Ask.TheVariants.{Seat, Why, List as ListOf, State}
+use Rattle.office_base.specs.declared.asks.Ask.{Ask}
+use Rattle.office_base.specs.declared.asks.Ask.TheVariants.{Seat, Why, List as ListOf, Round, Choices, State}
 use Rattle.office_base.specs.declared.person.CandId.{CandId}
 use Rattle.office_text.specs.Lines.{cut_at, onto_first}
 use Rattle.office_text.specs.Names.{code_of}
 use Rattle.office_text.specs.Number.{AreInverse, is_number, number_within, value_of}
-use Rattle.http_asks.specs.Laws.{page_text}
-use Rattle.http_asks.specs.Pages.{page_alone, page_at, page_named, page_of, page_over_one, page_over_two, path_of, read_page}
+use Rattle.http_asks.specs.Laws.{asked_text, page_text}
+use Rattle.http_asks.specs.Pages.{candidate_of, page_alone, page_at, page_named, page_of, page_over_one, page_over_two, path_of, read_page}
 use Rattle.http_asks.specs.declared.pages.Page.{Page}
 use Rattle.http_asks.specs.declared.pages.Page.TheVariants.{Answers, Cuts, Raises, Reads}
 
@@ -67,11 +68,23 @@ digits inverse low high text n small e =
 coded : (text code : List ℕ) → code_of text ≡ Some code → text ≡ code
 coded text code e = ap (λ (o : Option (List ℕ)). unwrap_or o text) (cond-some (is_code text) (Some text) code e).1
 
-seat-text : AreInverse → (first : List ℕ) (page : Page) (id : Option ℕ) → number_within 1 last_id first ≡ id
-    → read_page (option_map (λ (cand : CandId). Seat cand) (option_map (λ id. record { 0 = id }) id)) ≡ Some page → codes "/v1/seat/" ++ first ≡ page_text page
-seat-text inverse first page None is e = absurd (none-some page e)
-seat-text inverse first page (Some id) is e =
-    ap (λ (text : List ℕ). codes "/v1/seat/" ++ text) (digits inverse 1 last_id first id (lit< tt) is) ∙ ap page_text (same-page (Reads (Seat (record { 0 = id }))) page e)
+-- what is asked with one number has its path
+number-text : AreInverse → (low high : ℕ) → high < 2 ^ 64 → (before : List ℕ) (ask : ℕ → Ask) → ((n : ℕ) → asked_text (ask n) ≡ before ++ decimal n)
+    → (first : List ℕ) (page : Page) (n : Option ℕ) → number_within low high first ≡ n → read_page (option_map ask n) ≡ Some page → before ++ first ≡ page_text page
+number-text inverse low high small before ask asked first page None is e = absurd (none-some page e)
+number-text inverse low high small before ask asked first page (Some n) is e =
+    ap (λ (text : List ℕ). before ++ text) (digits inverse low high first n small is) ∙ sym (asked n) ∙ ap page_text (same-page (Reads (ask n)) page e)
+
+-- what is asked of a candidate is asked with their number
+by-number : (ask : CandId → Ask) (id : Option ℕ) → option_map ask (option_map (λ id. record { 0 = id }) id) ≡ option_map (λ id. ask (record { 0 = id })) id
+by-number ask None = refl
+by-number ask (Some id) = refl
+
+candidate-text : AreInverse → (before : List ℕ) (ask : CandId → Ask) → ((cand : CandId) → asked_text (ask cand) ≡ before ++ decimal cand.0)
+    → (first : List ℕ) (page : Page) → read_page (option_map ask (candidate_of first)) ≡ Some page → before ++ first ≡ page_text page
+candidate-text inverse before ask asked first page e =
+    number-text inverse 1 last_id (lit< tt) before (λ id. ask (record { 0 = id })) (λ id. asked (record { 0 = id })) first page (number_within 1 last_id first) refl
+    (ap read_page (sym (by-number ask (number_within 1 last_id first))) ∙ e)
 
 why-text : AreInverse → (first second : List ℕ) (page : Page) (id : Option ℕ) (code : Option (List ℕ)) → number_within 1 last_id first ≡ id → code_of second ≡ code
     → read_page (option_and_then (λ (cand : CandId). option_map (λ prog. Why cand prog) code) (option_map (λ id. record { 0 = id }) id)) ≡ Some page
@@ -106,10 +119,20 @@ alone-text name page e =
 
 one-text : AreInverse → (name first : List ℕ) (page : Page) → page_over_one name first ≡ Some page → codes "/v1" ++ slashed (name ∷ first ∷ []) ≡ page_text page
 one-text inverse name first page e =
-    let (is, seat) = cond-some (bytes_eq name (codes "seat")) _ page e in
-    same-word name (codes "seat") (first ∷ []) is
+    let G : Type 0 = codes "/v1" ++ slashed (name ∷ first ∷ []) ≡ page_text page in
+    choose (bytes_eq name (codes "seat")) _ _ page G e
+    (λ is seat. same-word name (codes "seat") (first ∷ []) is
     ∙ ap (λ (text : List ℕ). codes "/v1/seat/" ++ text) (append-nil first)
-    ∙ seat-text inverse first page (number_within 1 last_id first) refl seat
+    ∙ candidate-text inverse (codes "/v1/seat/") (λ cand. Seat cand) (λ cand. refl) first page seat)
+    (λ e. choose (bytes_eq name (codes "round")) _ _ page G e
+    (λ is round. same-word name (codes "round") (first ∷ []) is
+    ∙ ap (λ (text : List ℕ). codes "/v1/round/" ++ text) (append-nil first)
+    ∙ number-text inverse 0 last_window (lit< tt) (codes "/v1/round/") (λ n. Round n) (λ n. refl) first page (number_within 0 last_window first) refl round)
+    (λ e.
+    let (is, choices) = cond-some (bytes_eq name (codes "choices")) _ page e in
+    same-word name (codes "choices") (first ∷ []) is
+    ∙ ap (λ (text : List ℕ). codes "/v1/choices/" ++ text) (append-nil first)
+    ∙ candidate-text inverse (codes "/v1/choices/") (λ cand. Choices cand) (λ cand. refl) first page choices))
 
 two-text : AreInverse → (name first second : List ℕ) (page : Page) → page_over_two name first second ≡ Some page → codes "/v1" ++ slashed (name ∷ first ∷ second ∷ []) ≡ page_text page
 two-text inverse name first second page e =

@@ -13,12 +13,12 @@ use Rattle.matchit.proofs.RenameLemmas.{first-rename}
 use Rattle.std.proofs.lemmas.Option.{none-some}
 use Rattle.office_text.specs.Lines.{cut_at, onto_first}
 use Rattle.office_text.proofs.LinesLemmas.{cut_at-filled}
-use Rattle.http_asks.specs.Pages.{candidate_of, first_of_pieces, list_of, page_alone, page_at, page_named, page_over_one, page_over_two, path_of, read_page, round_of, seat_of, why_of}
-use Rattle.http_asks.specs.Roads.{IsOn, road_parameters, road_rows, road_start, roads_of, two_of}
+use Rattle.http_asks.specs.Pages.{candidate_of, first_of_pieces, list_of, page_alone, page_at, page_named, page_over_one, page_over_two, path_of, read_page, round_of, why_of}
+use Rattle.http_asks.specs.Roads.{IsOn, one_of, road_parameters, road_rows, road_start, roads_of, two_of}
 use Rattle.office_base.specs.declared.person.CandId.{CandId}
 use Rattle.http_asks.specs.declared.pages.Page.{Page}
 use Rattle.http_asks.specs.declared.roads.Road.{Road}
-use Rattle.http_asks.specs.declared.roads.Road.TheVariants.{Answer, Cut, Raise, Seat, Why, RoundList, State}
+use Rattle.http_asks.specs.declared.roads.Road.TheVariants.{Answer, Choices, Cut, Raise, Round, Seat, Why, RoundList, State}
 use Rattle.http_asks.proofs.PagesLemmas.{choose, cond-some, same-word, slashed, slashed-cut}
 use Rattle.http_asks.proofs.WalkLemmas.{AreBytes, Follows, Matched, along, first-matched, follows-front, last-found, pair-found}
 
@@ -43,13 +43,15 @@ row-on known road path same on = subst (λ (it : Road). (rest : List ℕ) × IsO
 
 matched-on : (road : Road) (path : List ℕ) → Matched road_rows road path → (rest : List ℕ) × IsOn road path rest
 matched-on road path (inl (same, it)) = row-on Answer road path same (alone Answer (codes "/v1/answer") path refl (grind arith) it)
-matched-on road path (inr (inl (same, it))) = row-on Cut road path same (alone Cut (codes "/v1/cut") path refl (grind arith) it)
-matched-on road path (inr (inr (inl (same, it)))) = row-on RoundList road path same (begun RoundList (codes "/v1/list/") (256 ∷ 47 ∷ 256 ∷ []) path refl (λ e. cc) (grind arith) it)
-matched-on road path (inr (inr (inr (inl (same, it))))) = row-on Raise road path same (alone Raise (codes "/v1/raise") path refl (grind arith) it)
-matched-on road path (inr (inr (inr (inr (inl (same, it)))))) = row-on Seat road path same (begun Seat (codes "/v1/seat/") (256 ∷ []) path refl (λ e. cc) (grind arith) it)
-matched-on road path (inr (inr (inr (inr (inr (inl (same, it))))))) = row-on State road path same (alone State (codes "/v1/state") path refl (grind arith) it)
-matched-on road path (inr (inr (inr (inr (inr (inr (inl (same, it)))))))) = row-on Why road path same (begun Why (codes "/v1/why/") (256 ∷ 47 ∷ 256 ∷ []) path refl (λ e. cc) (grind arith) it)
-matched-on road path (inr (inr (inr (inr (inr (inr (inr none))))))) = absurd none
+matched-on road path (inr (inl (same, it))) = row-on Choices road path same (begun Choices (codes "/v1/choices/") (256 ∷ []) path refl (λ e. cc) (grind arith) it)
+matched-on road path (inr (inr (inl (same, it)))) = row-on Cut road path same (alone Cut (codes "/v1/cut") path refl (grind arith) it)
+matched-on road path (inr (inr (inr (inl (same, it))))) = row-on RoundList road path same (begun RoundList (codes "/v1/list/") (256 ∷ 47 ∷ 256 ∷ []) path refl (λ e. cc) (grind arith) it)
+matched-on road path (inr (inr (inr (inr (inl (same, it)))))) = row-on Raise road path same (alone Raise (codes "/v1/raise") path refl (grind arith) it)
+matched-on road path (inr (inr (inr (inr (inr (inl (same, it))))))) = row-on Round road path same (begun Round (codes "/v1/round/") (256 ∷ []) path refl (λ e. cc) (grind arith) it)
+matched-on road path (inr (inr (inr (inr (inr (inr (inl (same, it)))))))) = row-on Seat road path same (begun Seat (codes "/v1/seat/") (256 ∷ []) path refl (λ e. cc) (grind arith) it)
+matched-on road path (inr (inr (inr (inr (inr (inr (inr (inl (same, it))))))))) = row-on State road path same (alone State (codes "/v1/state") path refl (grind arith) it)
+matched-on road path (inr (inr (inr (inr (inr (inr (inr (inr (inl (same, it)))))))))) = row-on Why road path same (begun Why (codes "/v1/why/") (256 ∷ 47 ∷ 256 ∷ []) path refl (λ e. cc) (grind arith) it)
+matched-on road path (inr (inr (inr (inr (inr (inr (inr (inr (inr none))))))))) = absurd none
 
 -- ---- each page's path is found
 
@@ -102,9 +104,12 @@ alone-found name page e =
     choose (bytes_eq name (codes "state")) _ None page G e (λ is here. found-as _ _ (same-word name (codes "state") [] is) state-found) (λ e. absurd (none-some page e)))))
 
 -- a candidate, a round and a code have a byte
-seat-filled : (piece : List ℕ) (page : Page) → read_page (seat_of piece) ≡ Some page → 0 < length piece
-seat-filled [] page e = absurd (none-some page e)
-seat-filled (byte ∷ piece) page e = omega arith
+one-filled : (name piece : List ℕ) (page : Page) → page_over_one name piece ≡ Some page → 0 < length piece
+one-filled name [] page e =
+    choose (bytes_eq name (codes "seat")) None _ page (0 < 0) e (λ is here. absurd (none-some page here)) (λ e.
+    choose (bytes_eq name (codes "round")) None _ page (0 < 0) e (λ is here. absurd (none-some page here)) (λ e.
+    absurd (none-some page (cond-some (bytes_eq name (codes "choices")) None page e).1)))
+one-filled name (byte ∷ piece) page e = omega arith
 
 -- nothing is asked without a code
 why-codeless : (cand : Option CandId) (page : Page) → read_page (option_and_then (λ (cand : CandId). None) cand) ≡ Some page → ⊥
@@ -127,9 +132,20 @@ list-filled (byte ∷ round) (other ∷ prog) page e = (omega arith, omega arith
 
 one-found : (name piece : List ℕ) (page : Page) → has_slash piece ≡ false → page_over_one name piece ≡ Some page → IsFound (codes "/v1" ++ slashed (name ∷ piece ∷ []))
 one-found name piece page plain e =
-    let (is, seat) = cond-some (bytes_eq name (codes "seat")) _ page e in
+    let G : Type 0 = IsFound (codes "/v1" ++ slashed (name ∷ piece ∷ [])) in
+    let filled = one-filled name piece page e in
+    choose (bytes_eq name (codes "seat")) _ _ page G e
+    (λ is here.
     found-as _ (codes "/v1/seat/" ++ piece) (same-word name (codes "seat") (piece ∷ []) is ∙ ap (λ (text : List ℕ). codes "/v1/seat/" ++ text) (append-nil piece))
-    (along (codes "/v1/seat/") road_rows piece (last-found Seat piece (seat-filled piece page seat) plain))
+    (along (codes "/v1/seat/") road_rows piece (last-found Seat piece filled plain)))
+    (λ e. choose (bytes_eq name (codes "round")) _ _ page G e
+    (λ is here.
+    found-as _ (codes "/v1/round/" ++ piece) (same-word name (codes "round") (piece ∷ []) is ∙ ap (λ (text : List ℕ). codes "/v1/round/" ++ text) (append-nil piece))
+    (along (codes "/v1/round/") road_rows piece (last-found Round piece filled plain)))
+    (λ e.
+    let (is, here) = cond-some (bytes_eq name (codes "choices")) _ page e in
+    found-as _ (codes "/v1/choices/" ++ piece) (same-word name (codes "choices") (piece ∷ []) is ∙ ap (λ (text : List ℕ). codes "/v1/choices/" ++ text) (append-nil piece))
+    (along (codes "/v1/choices/") road_rows piece (last-found Choices piece filled plain))))
 
 two-found : (name one other : List ℕ) (page : Page) → has_slash one ≡ false → has_slash other ≡ false → page_over_two name one other ≡ Some page
     → IsFound (codes "/v1" ++ slashed (name ∷ one ∷ other ∷ []))
@@ -209,14 +225,11 @@ path-whole bytes none = path-before bytes ∙ take_all _ bytes (omega (arith, no
 
 -- ---- how many pieces a page has
 
-many-none : (one more : List ℕ) (pieces : List (List ℕ)) → page_named (codes "seat" ∷ one ∷ more ∷ pieces) ≡ None
-many-none one more [] = refl
-many-none one more (third ∷ pieces) = refl
-
-pub seat-pieces : (rest one more : List ℕ) → cut_at 47 rest ≡ one ∷ cut_at 47 more → None ≡ page_named (codes "seat" ∷ cut_at 47 rest)
-seat-pieces rest one more cut =
+-- two pieces are not one
+pub not-one : (rest one more : List ℕ) → cut_at 47 rest ≡ one ∷ cut_at 47 more → one_of (cut_at 47 rest) ≡ None
+not-one rest one more cut =
     let (second, others, filled) = cut_at-filled 47 more in
-    sym (ap (λ (pieces : List (List ℕ)). page_named (codes "seat" ∷ pieces)) (cut ∙ ap (λ (pieces : List (List ℕ)). one ∷ pieces) filled) ∙ many-none one second others)
+    ap one_of (cut ∙ ap (λ (pieces : List (List ℕ)). one ∷ pieces) filled)
 
 -- three pieces are not two
 pub not-two : (rest one after other more : List ℕ) → cut_at 47 rest ≡ one ∷ cut_at 47 after → cut_at 47 after ≡ other ∷ cut_at 47 more → two_of (cut_at 47 rest) ≡ []

@@ -3,7 +3,7 @@ use Rattle.std.specs.Prelude.{ℕ, ◌&&◌, Bool, true, false, List, [], ◌∷
 use Rattle.std.specs.Option.{option_and_then, option_map}
 use Rattle.office_base.specs.Limits.{last_id, last_window}
 use Rattle.office_base.specs.declared.asks.Ask.{Ask}
-use Rattle.office_base.specs.declared.asks.Ask.TheVariants.{Seat, Why, List as ListOf, State}
+use Rattle.office_base.specs.declared.asks.Ask.TheVariants.{Seat, Why, List as ListOf, Round, Choices, State}
 use Rattle.office_base.specs.declared.person.CandId.{CandId}
 use Rattle.office_text.specs.Lines.{cut_at}
 use Rattle.office_text.specs.Names.{code_of}
@@ -30,7 +30,8 @@ candidate_of piece = option_map (λ id. record { 0 = id }) (number_within 1 last
 abbrev pub round_of : List ℕ → Option ℕ
 round_of piece = number_within 0 last_window piece
 
--- what is asked of a candidate's seat, of why a candidate has a seat or none, and of the list of a round
+-- what is asked of a candidate's seat, of why a candidate has a seat or none, of the list of a round, of what was published
+-- under a number, and of a candidate's choice list
 abbrev pub seat_of : List ℕ → Option Ask
 seat_of cand = option_map (λ cand. Seat cand) (candidate_of cand)
 
@@ -39,6 +40,12 @@ why_of cand prog = option_and_then (λ cand. option_map (λ prog. Why cand prog)
 
 abbrev pub list_of : List ℕ → List ℕ → Option Ask
 list_of round prog = option_and_then (λ round. option_map (λ prog. ListOf round prog) (code_of prog)) (round_of round)
+
+abbrev pub published_of : List ℕ → Option Ask
+published_of round = option_map (λ round. Round round) (round_of round)
+
+abbrev pub choices_of : List ℕ → Option Ask
+choices_of cand = option_map (λ cand. Choices cand) (candidate_of cand)
 
 -- the page that is read and asks this, if it asks something
 abbrev pub read_page : Option Ask → Option Page
@@ -55,7 +62,11 @@ page_alone name =
 
 -- the page of a name and one piece after it
 abbrev pub page_over_one : List ℕ → List ℕ → Option Page
-page_over_one name first = if bytes_eq name (codes "seat") then read_page (seat_of first) else None
+page_over_one name first =
+    if bytes_eq name (codes "seat") then read_page (seat_of first)
+    else if bytes_eq name (codes "round") then read_page (published_of first)
+    else if bytes_eq name (codes "choices") then read_page (choices_of first)
+    else None
 
 -- the page of a name and two pieces after it
 abbrev pub page_over_two : List ℕ → List ℕ → List ℕ → Option Page

@@ -1,8 +1,8 @@
 // The pages of the office, and which of them a target names.
-ghost use Rattle.std.specs.Prelude.{◌≡◌, ◌∷◌, ◌++◌, [], IfNone, IfSome, codes};
+ghost use Rattle.std.specs.Prelude.{◌≡◌, ◌∷◌, ◌++◌, [], IfNone, IfSome, codes, option_copied};
 ghost use Rattle.office_text.specs.Lines.{cut_at};
 ghost use Rattle.http_asks.specs.Pages.{candidate_of, method_of, page_at, page_named, page_of, path_of, round_of, takes_body};
-ghost use Rattle.http_asks.specs.Roads.{road_parameters, road_start, two_of};
+ghost use Rattle.http_asks.specs.Roads.{one_of, road_parameters, road_start, two_of};
 
 use crate::roads::{Road, Routes};
 use http_heads::Method;
@@ -75,22 +75,20 @@ fn page_on(road: Road, rest: &[u8]) -> Option<Page>
         Road::Cut => Some(Page::Cuts),
         Road::Raise => Some(Page::Raises),
         Road::State => Some(Page::Reads(Ask::State)),
-        Road::Seat => seat_page(rest),
-        Road::Why => why_page(rest),
-        Road::RoundList => list_page(rest),
-    }
-}
-
-/// Returns the page of a candidate's seat.
-fn seat_page(rest: &[u8]) -> Option<Page>
-    ensures { result ≡ page_named (codes "seat" ∷ cut_at 47 rest.now) }
-{
-    match first_piece(rest, b'/') {
-        (cand, None) => {
-            let cand = read_candidate(cand)?;
+        Road::Seat => {
+            let cand = read_candidate(one_piece(rest)?)?;
             Some(Page::Reads(Ask::Seat { cand }))
         }
-        (_, Some(_)) => None,
+        Road::Why => why_page(rest),
+        Road::RoundList => list_page(rest),
+        Road::Round => {
+            let round = read_round(one_piece(rest)?)?;
+            Some(Page::Reads(Ask::Round { round }))
+        }
+        Road::Choices => {
+            let cand = read_candidate(one_piece(rest)?)?;
+            Some(Page::Reads(Ask::Choices { cand }))
+        }
     }
 }
 
@@ -112,6 +110,16 @@ fn list_page(rest: &[u8]) -> Option<Page>
     let round = read_round(round)?;
     let prog = Code::read(prog)?;
     Some(Page::Reads(Ask::List { round, prog }))
+}
+
+/// Returns the one piece. None if there is a slash.
+fn one_piece(rest: &[u8]) -> Option<&[u8]>
+    ensures { option_copied result ≡ one_of (cut_at 47 rest.now) }
+{
+    match first_piece(rest, b'/') {
+        (piece, None) => Some(piece),
+        (_, Some(_)) => None,
+    }
 }
 
 /// Returns the two pieces on both sides of the one slash. None if there is none, or more than one.

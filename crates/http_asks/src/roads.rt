@@ -19,6 +19,8 @@ pub enum Road {
     Seat,
     Why,
     RoundList,
+    Round,
+    Choices,
     State,
 }
 
@@ -34,6 +36,8 @@ impl Road {
             Road::Seat => b"/v1/seat/",
             Road::Why => b"/v1/why/",
             Road::RoundList => b"/v1/list/",
+            Road::Round => b"/v1/round/",
+            Road::Choices => b"/v1/choices/",
             Road::State => b"/v1/state",
         }
     }
@@ -56,6 +60,8 @@ impl Routes {
         add(&mut router, "/v1/seat/{cand}", Road::Seat)?;
         add(&mut router, "/v1/why/{cand}/{prog}", Road::Why)?;
         add(&mut router, "/v1/list/{round}/{prog}", Road::RoundList)?;
+        add(&mut router, "/v1/round/{round}", Road::Round)?;
+        add(&mut router, "/v1/choices/{cand}", Road::Choices)?;
         add(&mut router, "/v1/state", Road::State)?;
         Ok(Routes { router })
     }

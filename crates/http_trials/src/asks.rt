@@ -38,7 +38,7 @@ fn posted(alloc: Global, target: &str, body: &[u8]) -> Option<Judged> {
 }
 
 /// Targets that name no page, whatever the method.
-const UNKNOWN: [&str; 34] = [
+const UNKNOWN: [&str; 46] = [
     "/",
     "*",
     "/v1",
@@ -73,6 +73,18 @@ const UNKNOWN: [&str; 34] = [
     "/v1/why/1/ABCDEFGHIJKLMNOPQ",
     "/v1/list/65536/A",
     "/v1/list/1/A.B",
+    "/v1/list/1",
+    "/v1/round",
+    "/v1/round/",
+    "/v1/round/01",
+    "/v1/round/65536",
+    "/v1/round/1/",
+    "/v1/round/1/A",
+    "/v1/rounds/1",
+    "/v1/choices",
+    "/v1/choices/0",
+    "/v1/choices/1/A",
+    "/v1/choices/1000000000",
 ];
 
 /// Whether a target names no page, whatever the method.
@@ -94,7 +106,7 @@ fn others_are_none(alloc: Global) -> bool {
 }
 
 /// Methods and targets of which the page has another method, and that method.
-const OTHERS: [(&str, &str, Method); 12] = [
+const OTHERS: [(&str, &str, Method); 14] = [
     ("HEAD", "/v1/state", Method::Get),
     ("POST", "/v1/state", Method::Get),
     ("get", "/v1/state?x=1", Method::Get),
@@ -102,6 +114,8 @@ const OTHERS: [(&str, &str, Method); 12] = [
     ("OPTIONS", "/v1/seat/1", Method::Get),
     ("DELETE", "/v1/why/1/A", Method::Get),
     ("PUT", "/v1/list/0/A", Method::Get),
+    ("POST", "/v1/round/1", Method::Get),
+    ("HEAD", "/v1/choices/2?x", Method::Get),
     ("GET", "/v1/answer", Method::Post),
     ("PUT", "/v1/answer", Method::Post),
     ("HEAD", "/v1/cut", Method::Post),
@@ -186,6 +200,40 @@ fn lists_are_asked(alloc: Global) -> bool {
     true
 }
 
+/// Targets that ask for what was published under a number, and the number.
+const ROUNDS: [(&str, u16); 3] = [
+    ("/v1/round/0", 0),
+    ("/v1/round/1?x=2", 1),
+    ("/v1/round/65535", 65_535),
+];
+
+/// Returns whether each of them does.
+fn rounds_are_asked(alloc: Global) -> bool {
+    for (target, round) in ROUNDS {
+        if asked(alloc, "GET", target) != Some(Judged::Asked(Ask::Round { round })) {
+            return false;
+        }
+    }
+    true
+}
+
+/// Targets that ask for a candidate's choice list, and the candidate.
+const CHOICES: [(&str, u32); 2] = [
+    ("/v1/choices/7", 7),
+    ("/v1/choices/999999999?", 999_999_999),
+];
+
+/// Returns whether each of them does.
+fn choices_are_asked(alloc: Global) -> bool {
+    for (target, id) in CHOICES {
+        let choices = Ask::Choices { cand: CandId(id) };
+        if asked(alloc, "GET", target) != Some(Judged::Asked(choices)) {
+            return false;
+        }
+    }
+    true
+}
+
 #[test]
 fn pages_and_methods_are_told(rt: HostRuntime) {
     let alloc = rt.alloc();
@@ -198,6 +246,8 @@ fn gets_are_read(alloc: Global) -> bool {
         && seats_are_asked(alloc)
         && reasons_are_asked(alloc)
         && lists_are_asked(alloc)
+        && rounds_are_asked(alloc)
+        && choices_are_asked(alloc)
 }
 
 #[test]

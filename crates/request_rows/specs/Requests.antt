@@ -3,7 +3,7 @@ use Rattle.std.specs.Prelude.{◌≡◌, ◌+◌, ℕ, Bool, ◌==◌, ◌&&◌,
 use Rattle.std.specs.Option.{option_and_then, option_map}
 use Rattle.office_base.specs.Limits.{last_id, last_turn, last_window, most_step_seats}
 use Rattle.office_base.specs.declared.asks.Ask.{Ask}
-use Rattle.office_base.specs.declared.asks.Ask.TheVariants.{Answer, Cut, Seat, Why, List as ListOf, State, Raise}
+use Rattle.office_base.specs.declared.asks.Ask.TheVariants.{Answer, Cut, Seat, Why, List as ListOf, Round, Choices, State, Raise}
 use Rattle.office_base.specs.declared.asks.By.{By}
 use Rattle.office_base.specs.declared.asks.By.TheVariants.{Clerk, Candidate, Nobody}
 use Rattle.office_base.specs.declared.asks.Request.{Request}
@@ -56,6 +56,12 @@ why_of row = option_and_then (λ cand. option_and_then (λ prog. Some (Why cand 
 abbrev pub list_of : Row → Option Ask
 list_of row = option_and_then (λ round. option_and_then (λ prog. Some (ListOf round prog)) (code_of (field row 3))) (window_of (field row 2))
 
+abbrev pub round_of : Row → Option Ask
+round_of row = option_and_then (λ round. Some (Round round)) (window_of (field row 2))
+
+abbrev pub choices_of : Row → Option Ask
+choices_of row = option_and_then (λ cand. Some (Choices cand)) (candidate_of (field row 2))
+
 abbrev pub raise_of : Row → Option Ask
 raise_of row =
     option_and_then (λ window. option_and_then (λ prog. option_and_then (λ step. option_and_then (λ seats. Some (Raise window prog step seats))
@@ -73,6 +79,8 @@ ask_of row =
     else if is_kind (codes "seat") 3 row then seat_of row
     else if is_kind (codes "why") 4 row then why_of row
     else if is_kind (codes "list") 4 row then list_of row
+    else if is_kind (codes "round") 3 row then round_of row
+    else if is_kind (codes "choices") 3 row then choices_of row
     else if is_kind (codes "state") 2 row then Some State
     else if is_kind (codes "raise") 6 row then raise_of row
     else None

@@ -1,6 +1,6 @@
 // The fields of a request's row.
 ghost use Rattle.std.specs.Prelude.{◌≡◌};
-ghost use Rattle.request_rows.specs.Requests.{answer_of, ask_of, by_of, candidate_of, cut_of, is_kind, list_of, raise_of, request_of, seat_of, seats_of, turn_of, why_of, window_of};
+ghost use Rattle.request_rows.specs.Requests.{answer_of, ask_of, by_of, candidate_of, choices_of, cut_of, is_kind, list_of, raise_of, request_of, round_of, seat_of, seats_of, turn_of, why_of, window_of};
 
 use office_base::limits::{LAST_ID, LAST_TURN, LAST_WINDOW, MOST_STEP_SEATS};
 use office_base::{Ask, By, CandId, Code, Request};
@@ -103,6 +103,22 @@ fn read_list(row: &Rows<'_>) -> Option<Ask>
     Some(Ask::List { round, prog })
 }
 
+/// Returns what a row of the kind `round` asks.
+fn read_round(row: &Rows<'_>) -> Option<Ask>
+    ensures { result ≡ round_of row.now.row }
+{
+    let round = read_window(row.field(2))?;
+    Some(Ask::Round { round })
+}
+
+/// Returns what a row of the kind `choices` asks.
+fn read_choices(row: &Rows<'_>) -> Option<Ask>
+    ensures { result ≡ choices_of row.now.row }
+{
+    let cand = read_candidate(row.field(2))?;
+    Some(Ask::Choices { cand })
+}
+
 /// What a row of the kind `raise` asks.
 fn read_raise(row: &Rows<'_>) -> Option<Ask>
     ensures { result ≡ raise_of row.now.row }
@@ -140,6 +156,10 @@ fn read_ask(row: &Rows<'_>) -> Option<Ask>
         read_why(row)
     } else if is_kind(row, b"list".as_slice(), 4) {
         read_list(row)
+    } else if is_kind(row, b"round".as_slice(), 3) {
+        read_round(row)
+    } else if is_kind(row, b"choices".as_slice(), 3) {
+        read_choices(row)
     } else if is_kind(row, b"state".as_slice(), 2) {
         Some(Ask::State)
     } else if is_kind(row, b"raise".as_slice(), 6) {

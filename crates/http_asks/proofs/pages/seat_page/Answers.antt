@@ -1,6 +1,0 @@
-use Rattle.http_asks.proofs.RoadsLemmas.{seat-pieces}
-use Rattle.http_asks.proofs.pages.seat_page.Goals as goal
-
-pub returns-in_default-Some : goal.returns-in_default-Some
-returns-in_default-Some c =
-    seat-pieces c.args.rest.now c.first_piece.result.0.now c.in_default-Some.field-0-1.now (rw c.in_default-Some.is-1 at c.first_piece.ensures.more)
