@@ -19,6 +19,7 @@ use Rattle.proceedings.specs.Told.{takes_nothing}
 use Rattle.reply_bodies.specs.Bodies.{reply_body}
 use Rattle.reply_bodies.specs.Status.{status_of}
 use Rattle.round_cut.specs.Office.{Opened, who_by, withdraws}
+use Rattle.shown_replies.specs.Shown.{round_shown, rows_shown}
 use Rattle.http_wire.specs.declared.faults.Fault.{Fault}
 use Rattle.http_wire.specs.declared.faults.Fault.TheVariants.{Keeper, Memory}
 use Rattle.http_sessions.specs.declared.counter.Answered.{Answered}
@@ -41,9 +42,11 @@ request_of facts token ask = record { by = by_token facts token; ask = ask }
 
 -- ---- one ask after a history
 
--- The status is that of the reply, and so is the body, if there is one.
-abbrev pub IsAnswerOf : SeasonFacts → Reply → Answered → Type 0
-IsAnswerOf facts reply answered = (answered.status ≡ status_of reply) × IfOk answered.body (λ text. text ≡ reply_body facts.matrix reply)
+-- The status is that of the reply, and so is the body, if there is one. The body shows what the state after the reply has.
+abbrev pub IsAnswerOf : SeasonFacts → State → Reply → Answered → Type 0
+IsAnswerOf facts state reply answered =
+    (answered.status ≡ status_of reply)
+    × IfOk answered.body (λ text. text ≡ reply_body facts.matrix facts.people (round_shown state reply) (rows_shown state) reply)
 
 -- A request after a history is answered: it is the move of the state to which the history leads.
 -- The answer is that of the move's reply.
@@ -56,7 +59,7 @@ pub record IsAnsweredAt (facts : SeasonFacts) (place : List Entry) (request : Re
   pub moves : IsMove facts old request reply new
   pub number : ℕ
   pub grows : place ++ added ≡ grown place number (newly old.now (decided facts old request))
-  pub answer : IsAnswerOf facts reply answered
+  pub answer : IsAnswerOf facts new reply answered
 
 -- A request after a history is not answered. It is none of those that take nothing.
 -- Over a keeper that holds room in advance, it is no withdrawal for which memory runs out.
@@ -89,7 +92,7 @@ module _ {K : Type 0} (seen : K → Shelf) where
     pub season : new.season ≡ old.season
     pub stands : Stand new.season new.state (seen new.keeper).tables
     pub told_before : IsTold (seen new.keeper).tables → IsTold (seen old.keeper).tables
-    pub answer : IsAnswerOf old.season reply answered
+    pub answer : IsAnswerOf old.season new.state reply answered
     pub room : (seen new.keeper).holds_room ≡ (seen old.keeper).holds_room
     pub steady : (seen new.keeper).faults ≡ (seen old.keeper).faults
 

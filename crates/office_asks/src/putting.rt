@@ -1,10 +1,9 @@
 // An ask with its token, put to an office.
-ghost use Rattle.std.specs.Prelude.{◌≡◌, ◌<◌, [], None, option_copied};
+ghost use Rattle.std.specs.Prelude.{◌≡◌, ◌<◌, option_copied};
 ghost use Rattle.keeper_mem.specs.Tables.{IsTold};
 ghost use Rattle.office_asks.specs.Asking.{AsksOffice, IsAnswerOf, request_of, token_of};
 ghost use Rattle.proceedings.specs.Proceeding.{last_of};
-ghost use Rattle.reply_texts.specs.Replies.{IsReplyOf};
-ghost use Rattle.script_runs.specs.Runs.{CameOf};
+ghost use Rattle.shown_replies.specs.Shown.{CameOf, CanBeShown};
 
 use http::StatusCode;
 use http_sessions::Answered;
@@ -14,7 +13,8 @@ use office_base::{Ask, By, Request};
 use office_moves::{Reply, says_what_is_sound};
 use reply_bodies::{reply_json, status_of};
 use round_cut::{Office, OfficeFault};
-use script_runs::laws::replies_can_be_shown;
+use shown_replies::laws::replies_can_be_shown;
+use shown_replies::{shown_round, shown_rows};
 use std::alloc::Global;
 
 /// Returns a token in two parts: whether there is one, and its bytes.
@@ -68,22 +68,26 @@ fn request_by<K: Keeper>(office: &Office<K>, has_token: bool, token: &[u8], ask:
 }
 
 /// Returns the status and the body of a reply that led to the office's state.
+#[tactic(auto, unfolding(shown_replies::specs::Shown::CanBeShown))]
 fn answer_of<K: Keeper>(alloc: Global, office: &Office<K>, reply: &Reply) -> Answered
     requires { CameOf office.now.season office.now.state reply.now }
-    ensures { IsAnswerOf office.now.season reply.now result }
+    ensures { IsAnswerOf office.now.season office.now.state reply.now result }
 {
     let Ok(status) = StatusCode::from_u16(status_of(reply)) else {
         unreachable!("it is a status")
     };
     can_be_written(office, reply);
-    let body = reply_json(alloc, office.season(), reply);
+    let season = office.season();
+    let round = shown_round(office, reply);
+    let rows = shown_rows(office);
+    let body = reply_json(alloc, season, round, rows, reply);
     Answered { status, body }
 }
 
-/// Shows that a reply that led to the office's state has a body. It allocates nothing.
+/// Shows that a reply that led to the office's state can be shown. It allocates nothing.
 fn can_be_written<K: Keeper>(office: &Office<K>, reply: &Reply)
     requires { CameOf office.now.season office.now.state reply.now }
-    ensures { IsReplyOf office.now.season.matrix [] None [] reply.now }
+    ensures { CanBeShown office.now.season office.now.state reply.now }
 {
     let _entries = office.entries();
     histories::laws::orderly();

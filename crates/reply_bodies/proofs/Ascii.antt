@@ -1,14 +1,16 @@
--- The texts of reasons and lists are all ASCII, if the codes of programmes are.
+-- The texts of reasons, lists, rounds and final admissions are all ASCII, if the codes of programmes are.
 use Rattle.std.proofs.Common.{◌≡◌, ◌<◌, ◌+◌, ◌/◌, ◌%◌, ◌==◌, ◌&&◌, ℕ, zero, suc, Bool, true, false, List, [], ◌∷◌, ◌++◌, Option, Some, None, arith, refl, sym, subst, codes, if◌then◌else◌, nat_lt, nat_le, length, ap, slice_get, unwrap_or, option_map}
 use Rattle.std.specs.Str.{IsAscii}
-use Rattle.std.specs.List.{flat_map, list_all}
+use Rattle.std.specs.List.{AllByRecursion, flat_map, list_all}
 use Rattle.std.specs.Fmt.{decimal, digits, digits_onto, digit_glyph}
 use Rattle.std.proofs.lemmas.Str.{IsAscii-append}
 use Rattle.std.proofs.lemmas.Str.Ascii.{IsAscii-nil, IsAscii-cons}
 use Rattle.std.proofs.lemmas.List.Concat.{flat_map-cons}
+use Rattle.keeper_mem.specs.declared.rows.AllotRow.{AllotRow}
 use Rattle.office_base.specs.Certificate.{slot_of}
 use Rattle.office_base.specs.Codes.{is_code, is_code_byte}
 use Rattle.office_base.specs.Limits.{longest_code, shortest_code}
+use Rattle.office_base.specs.declared.asks.Seat.{Seat}
 use Rattle.office_base.specs.declared.person.Person.{Person}
 use Rattle.office_base.specs.declared.step.Pair.{Pair}
 use Rattle.office_base.specs.declared.step.StepKind.{StepKind}
@@ -16,13 +18,16 @@ use Rattle.office_base.specs.declared.step.StepKind.TheVariants.{Open, Ews, Obc,
 use Rattle.office_text.specs.Traits.{letters}
 use Rattle.programme_lists.specs.declared.programme.Programme.{Programme}
 use Rattle.programme_lists.specs.declared.programme.StepList.{StepList}
-use Rattle.published_texts.specs.Texts.{code_in, list_head, list_step, list_text, worse_words, step_why, why_line, reason_lines, better_line, answer_lines, reason_head, reason_text}
+use Rattle.published_texts.specs.Texts.{AreSeatsOf, IsSeatOf, admit_line, allot_line, allot_lines, answer_lines, better_line, code_in, final_head, final_text, list_head, list_step, list_text, reason_head, reason_lines, reason_text, round_head, round_text, seat_line, step_why, why_line, worse_words}
 use Rattle.reasons.specs.declared.reason.Reason.{Reason}
 use Rattle.reasons.specs.declared.reason.Reason.TheVariants.{Admitted, Refused}
 use Rattle.reasons.specs.declared.reason.StepWhy.{StepWhy}
 use Rattle.reasons.specs.declared.reason.WhyAnswer.{WhyAnswer}
 use Rattle.reasons.specs.declared.reason.WhyAnswer.TheVariants.{Reason as ReasonIs, Better, NotSought}
-use Rattle.reply_bodies.specs.Plain.{HasPlainCode}
+use Rattle.reply_bodies.specs.Plain.{ArePlainCodes, HasPlainCode}
+use Rattle.reply_texts.specs.Replies.{AreShownOf, shown_text}
+use Rattle.rounds.specs.Round.{seated}
+use Rattle.rounds.specs.declared.round.Round.{Round}
 use Rattle.seat_matrix.specs.Matrix.{SeatTable}
 use Rattle.step_lines.specs.Lines.{step_name, slot_letter, admitted_line, count_lines, step_lines}
 
@@ -127,6 +132,67 @@ pub ascii_list : (table : SeatTable) (round prog : ℕ) (programme : Programme) 
 ascii_list table round prog programme code =
     let a = list_head table round prog ++ flat_map list_step programme.steps in
     say a (codes "end list\n") (then_text (list_head table round prog) (flat_map list_step programme.steps) (head_of_list table round prog code) (each list_step a_step programme.steps)) refl
+
+-- ---- rounds and final admissions
+
+line_of_seat : (table : SeatTable) (cand prog : ℕ) (kind : StepKind) → IsAscii (code_in table prog) → IsAscii (seat_line table cand prog kind)
+line_of_seat table cand prog kind code =
+    let a = decimal cand ++ codes " " in
+    let b = a ++ code_in table prog in
+    let c = b ++ codes " " in
+    let d = c ++ step_name kind in
+    let sa : IsAscii a = say (decimal cand) (codes " ") (number cand) refl in
+    let sb : IsAscii b = then_text a (code_in table prog) sa code in
+    let sd : IsAscii d = then_text c (step_name kind) (say b (codes " ") sb refl) (step kind) in
+    say d (codes "\n") sd refl
+
+an_allot : (table : SeatTable) (cand : ℕ) (seat : Option Seat) → ArePlainCodes table → IsSeatOf table seat → IsAscii (allot_line table cand seat)
+an_allot table cand None plain is = IsAscii-nil
+an_allot table cand (Some seat) plain is =
+    then_text (codes "allot ") (seat_line table cand seat.prog.0 seat.step) (words (codes "allot ") refl) (line_of_seat table cand seat.prog.0 seat.step (plain seat.prog.0 is))
+
+all_allots : (table : SeatTable) (people : List Person) (seats : List (Option Seat)) → ArePlainCodes table → AreSeatsOf table seats → IsAscii (allot_lines table people seats)
+all_allots table [] seats plain are = IsAscii-nil
+all_allots table (person ∷ people) [] plain are = IsAscii-nil
+all_allots table (person ∷ people) (seat ∷ seats) plain are =
+    then_text (allot_line table person.id.0 seat) (allot_lines table people seats) (an_allot table person.id.0 seat plain are.0) (all_allots table people seats plain are.1)
+
+head_of_round : (n m : ℕ) → IsAscii (round_head n m)
+head_of_round n m =
+    let a = codes "round " ++ decimal n in
+    let b = a ++ codes " seated " in
+    let c = b ++ decimal m in
+    let sa : IsAscii a = count (codes "round ") n (words (codes "round ") refl) in
+    let sc : IsAscii c = count b m (say a (codes " seated ") sa refl) in
+    say c (codes "\n") sc refl
+
+ascii_round : (table : SeatTable) (people : List Person) (round : Round) → ArePlainCodes table → AreSeatsOf table round.seats → IsAscii (round_text table people round)
+ascii_round table people round plain are =
+    let head = round_head round.number (seated round.seats) in
+    let lines = allot_lines table people round.seats in
+    say (head ++ lines) (codes "end round\n") (then_text head lines (head_of_round round.number (seated round.seats)) (all_allots table people round.seats plain are)) refl
+
+an_admit : (table : SeatTable) (row : AllotRow) → IsAscii (code_in table row.prog.0) → IsAscii (admit_line table row)
+an_admit table row code =
+    then_text (codes "admit ") (seat_line table row.cand.0 row.prog.0 row.step) (words (codes "admit ") refl) (line_of_seat table row.cand.0 row.prog.0 row.step code)
+
+all_admits : (table : SeatTable) (rows : List AllotRow) → ArePlainCodes table → AllByRecursion (λ row. row.prog.0 < length table.programmes) rows → IsAscii (flat_map (admit_line table) rows)
+all_admits table [] plain are = IsAscii-nil
+all_admits table (row ∷ rows) plain are =
+    subst IsAscii (sym (flat_map-cons (admit_line table) row rows))
+    (then_text (admit_line table row) (flat_map (admit_line table) rows) (an_admit table row (plain row.prog.0 are.0)) (all_admits table rows plain are.1))
+
+ascii_final : (table : SeatTable) (rows : List AllotRow) → ArePlainCodes table → AllByRecursion (λ row. row.prog.0 < length table.programmes) rows → IsAscii (final_text table rows)
+ascii_final table rows plain are =
+    let head = final_head (length rows) in
+    let lines = flat_map (admit_line table) rows in
+    let first : IsAscii head = say (codes "final " ++ decimal (length rows)) (codes "\n") (count (codes "final ") (length rows) (words (codes "final ") refl)) refl in
+    say (head ++ lines) (codes "end final\n") (then_text head lines first (all_admits table rows plain are)) refl
+
+pub ascii_shown : (table : SeatTable) (people : List Person) (round : Option Round) (rows : List AllotRow) → ArePlainCodes table → AreShownOf table people round rows
+    → IsAscii (shown_text table people round rows)
+ascii_shown table people None rows plain are = ascii_final table rows plain are.1
+ascii_shown table people (Some round) rows plain are = ascii_round table people round plain are.0.programmes
 
 -- ---- reasons
 

@@ -1,13 +1,17 @@
 -- No body has a number that is not whole.
-use Rattle.std.proofs.Common.{◌≡◌, ℕ, false, Option, Some, None, refl}
+use Rattle.std.proofs.Common.{◌≡◌, ℕ, false, List, [], ◌∷◌, Option, Some, None, refl}
 use Rattle.serde_json.specs.Written.{has_float}
+use Rattle.keeper_mem.specs.declared.rows.AllotRow.{AllotRow}
 use Rattle.office_base.specs.declared.asks.Seat.{Seat}
+use Rattle.office_base.specs.declared.person.Person.{Person}
+use Rattle.office_base.specs.declared.person.ProgId.{ProgId}
 use Rattle.office_moves.specs.declared.moves.Reply.{Reply}
-use Rattle.office_moves.specs.declared.moves.Reply.TheVariants.{Noted, Raised, Published, Final, SeatIs, WhyIs, ListIs, StateIs, Refused}
+use Rattle.office_moves.specs.declared.moves.Reply.TheVariants.{Noted, Raised, Published, Final, SeatIs, WhyIs, ListIs, RoundIs, ChoicesAre, StateIs, Refused}
 use Rattle.office_moves.specs.declared.refusal.Refusal.{Refusal}
 use Rattle.office_moves.specs.declared.refusal.Refusal.TheVariants.{UnknownCandidate, UnknownProgramme, Denied, TurnUsed, Late, Ahead, Gap, Gone, NoSeat, Widening, TooManyTurns, NotChosen, NoSuchRound, LastWindow, StepFixed, Falling, SeatLimit}
-use Rattle.reply_bodies.specs.Bodies.{reply_data, refused_data, seat_data}
+use Rattle.reply_bodies.specs.Bodies.{choices_data, codes_data, reply_data, refused_data, seat_data}
 use Rattle.round_options.specs.declared.standing.Standing.{Standing}
+use Rattle.rounds.specs.declared.round.Round.{Round}
 use Rattle.seat_matrix.specs.Matrix.{SeatTable}
 
 of_refusal : (refusal : Refusal) → has_float (refused_data refusal) ≡ false
@@ -33,13 +37,22 @@ of_seat : (table : SeatTable) (cand round : ℕ) (standing : Standing) (seat : O
 of_seat table cand round standing None = refl
 of_seat table cand round standing (Some seat) = refl
 
-pub no_floats : (table : SeatTable) (reply : Reply) → has_float (reply_data table reply) ≡ false
-no_floats table (Noted cand window turn choice) = refl
-no_floats table (Raised window prog step seats) = refl
-no_floats table (Published round seated) = refl
-no_floats table (Final admitted) = refl
-no_floats table (SeatIs cand round standing seat) = of_seat table cand.0 round standing seat
-no_floats table (WhyIs cand prog answer) = refl
-no_floats table (ListIs round prog programme) = refl
-no_floats table (StateIs now rounds published) = refl
-no_floats table (Refused refusal) = of_refusal refusal
+of_codes : (table : SeatTable) (progs : List ProgId) → has_float (codes_data table progs) ≡ false
+of_codes table [] = refl
+of_codes table (prog ∷ progs) = of_codes table progs
+
+of_choices : (table : SeatTable) (cand : ℕ) (progs : List ProgId) → has_float (choices_data table cand progs) ≡ false
+of_choices table cand progs = rw (of_codes table progs) refl
+
+pub no_floats : (table : SeatTable) (people : List Person) (round : Option Round) (rows : List AllotRow) (reply : Reply) → has_float (reply_data table people round rows reply) ≡ false
+no_floats table people round rows (Noted cand window turn choice) = refl
+no_floats table people round rows (Raised window prog step seats) = refl
+no_floats table people round rows (Published number seated) = refl
+no_floats table people round rows (Final admitted) = refl
+no_floats table people round rows (SeatIs cand number standing seat) = of_seat table cand.0 number standing seat
+no_floats table people round rows (WhyIs cand prog answer) = refl
+no_floats table people round rows (ListIs number prog programme) = refl
+no_floats table people round rows (RoundIs number) = refl
+no_floats table people round rows (ChoicesAre cand progs) = of_choices table cand.0 progs
+no_floats table people round rows (StateIs now rounds published) = refl
+no_floats table people round rows (Refused refusal) = of_refusal refusal

@@ -1,20 +1,25 @@
 -- The bodies of replies in JSON. The members of an object are in the rising order of their keys.
-use Rattle.std.specs.Prelude.{ℕ, List, Option, Some, None, codes}
-use Rattle.serde_json.specs.Data.{Data, Members, null, number, unsigned, string, object, member, no_members, put}
+use Rattle.std.specs.Prelude.{ℕ, List, Option, Some, None, codes, map}
+use Rattle.serde_json.specs.Data.{Data, Members, null, number, unsigned, string, array, object, member, no_members, put}
+use Rattle.serde_json.specs.View.{items_of}
 use Rattle.serde_json.specs.Written.{compact_text}
+use Rattle.keeper_mem.specs.declared.rows.AllotRow.{AllotRow}
 use Rattle.office_base.specs.declared.asks.Choice.{Choice}
 use Rattle.office_base.specs.declared.asks.Seat.{Seat}
+use Rattle.office_base.specs.declared.person.Person.{Person}
+use Rattle.office_base.specs.declared.person.ProgId.{ProgId}
 use Rattle.office_base.specs.declared.step.StepKind.{StepKind}
 use Rattle.office_moves.specs.Refusals.{name_of, number_of}
 use Rattle.office_moves.specs.declared.moves.Reply.{Reply}
-use Rattle.office_moves.specs.declared.moves.Reply.TheVariants.{Noted, Raised, Published, Final, SeatIs, WhyIs, ListIs, StateIs, Refused}
+use Rattle.office_moves.specs.declared.moves.Reply.TheVariants.{Noted, Raised, Published, Final, SeatIs, WhyIs, ListIs, RoundIs, ChoicesAre, StateIs, Refused}
 use Rattle.office_moves.specs.declared.refusal.Refusal.{Refusal}
 use Rattle.office_moves.specs.declared.refusal.Refusal.TheVariants.{UnknownCandidate, UnknownProgramme, Denied, TurnUsed, Late, Ahead, Gap, Gone, NoSeat, Widening, TooManyTurns, NotChosen, NoSuchRound, LastWindow, StepFixed, Falling, SeatLimit}
 use Rattle.programme_lists.specs.declared.programme.Programme.{Programme}
 use Rattle.published_texts.specs.Texts.{code_in, list_text, reason_text}
 use Rattle.reasons.specs.declared.reason.WhyAnswer.{WhyAnswer}
-use Rattle.reply_texts.specs.Replies.{choice_name, standing_name}
+use Rattle.reply_texts.specs.Replies.{choice_name, shown_text, standing_name}
 use Rattle.round_options.specs.declared.standing.Standing.{Standing}
+use Rattle.rounds.specs.declared.round.Round.{Round}
 use Rattle.seat_matrix.specs.Matrix.{SeatTable}
 use Rattle.step_lines.specs.Lines.{step_name}
 
@@ -83,6 +88,20 @@ list_data table round prog programme =
     object (member (codes "programme") (code table prog) (member (codes "reply") (word (codes "list")) (member (codes "round") (count round)
     (member (codes "text") (string (list_text table round prog programme)) no_members))))
 
+-- what was published under a number: the text of the round or of the final admissions, with its line ends
+abbrev pub round_data : SeatTable → List Person → Option Round → List AllotRow → ℕ → Data
+round_data table people round rows n =
+    object (member (codes "reply") (word (codes "round")) (member (codes "round") (count n) (member (codes "text") (string (shown_text table people round rows)) no_members)))
+
+-- the codes of programmes
+abbrev pub codes_data : SeatTable → List ProgId → Data
+codes_data table progs = array (items_of (map (λ prog. code table prog.0) progs))
+
+-- the choice list of a candidate
+abbrev pub choices_data : SeatTable → ℕ → List ProgId → Data
+choices_data table cand progs =
+    object (member (codes "cand") (count cand) (member (codes "programmes") (codes_data table progs) (member (codes "reply") (word (codes "choices")) no_members)))
+
 -- how far the office is
 abbrev pub state_data : ℕ → ℕ → ℕ → Data
 state_data now rounds published =
@@ -122,18 +141,20 @@ refused_data (SeatLimit total) = refused_with (SeatLimit total) (codes "total") 
 
 -- ---- replies
 
--- the object of a reply
-abbrev pub reply_data : SeatTable → Reply → Data
-reply_data table (Noted cand window turn choice) = noted_data cand.0 window turn choice
-reply_data table (Raised window prog step seats) = raised_data table window prog.0 step seats
-reply_data table (Published round seated) = published_data round seated
-reply_data table (Final admitted) = final_data admitted
-reply_data table (SeatIs cand round standing seat) = seat_data table cand.0 round standing seat
-reply_data table (WhyIs cand prog answer) = why_data table cand.0 prog.0 answer
-reply_data table (ListIs round prog programme) = list_data table round prog.0 programme
-reply_data table (StateIs now rounds published) = state_data now rounds published
-reply_data table (Refused refusal) = refused_data refusal
+-- The object of a reply. The round and the rows are those that its text shows.
+abbrev pub reply_data : SeatTable → List Person → Option Round → List AllotRow → Reply → Data
+reply_data table people round rows (Noted cand window turn choice) = noted_data cand.0 window turn choice
+reply_data table people round rows (Raised window prog step seats) = raised_data table window prog.0 step seats
+reply_data table people round rows (Published n seated) = published_data n seated
+reply_data table people round rows (Final admitted) = final_data admitted
+reply_data table people round rows (SeatIs cand n standing seat) = seat_data table cand.0 n standing seat
+reply_data table people round rows (WhyIs cand prog answer) = why_data table cand.0 prog.0 answer
+reply_data table people round rows (ListIs n prog programme) = list_data table n prog.0 programme
+reply_data table people round rows (RoundIs n) = round_data table people round rows n
+reply_data table people round rows (ChoicesAre cand progs) = choices_data table cand.0 progs
+reply_data table people round rows (StateIs now rounds published) = state_data now rounds published
+reply_data table people round rows (Refused refusal) = refused_data refusal
 
 -- the body of a reply
-abbrev pub reply_body : SeatTable → Reply → List ℕ
-reply_body table reply = compact_text (reply_data table reply)
+abbrev pub reply_body : SeatTable → List Person → Option Round → List AllotRow → Reply → List ℕ
+reply_body table people round rows reply = compact_text (reply_data table people round rows reply)

@@ -1,7 +1,7 @@
 -- The status of each reply over HTTP.
 use Rattle.std.specs.Prelude.{ℕ}
 use Rattle.office_moves.specs.declared.moves.Reply.{Reply}
-use Rattle.office_moves.specs.declared.moves.Reply.TheVariants.{Noted, Raised, Published, Final, SeatIs, WhyIs, ListIs, StateIs, Refused}
+use Rattle.office_moves.specs.declared.moves.Reply.TheVariants.{Noted, Raised, Published, Final, SeatIs, WhyIs, ListIs, RoundIs, ChoicesAre, StateIs, Refused}
 use Rattle.office_moves.specs.declared.refusal.Refusal.{Refusal}
 use Rattle.office_moves.specs.declared.refusal.Refusal.TheVariants.{UnknownCandidate, UnknownProgramme, Denied, TurnUsed, Late, Ahead, Gap, Gone, NoSeat, Widening, TooManyTurns, NotChosen, NoSuchRound, LastWindow, StepFixed, Falling, SeatLimit}
 
@@ -35,5 +35,7 @@ status_of (Final admitted) = 200
 status_of (SeatIs cand number standing seat) = 200
 status_of (WhyIs cand prog answer) = 200
 status_of (ListIs number prog programme) = 200
+status_of (RoundIs number) = 200
+status_of (ChoicesAre cand progs) = 200
 status_of (StateIs window rounds published) = 200
 status_of (Refused refusal) = refusal_status refusal

@@ -1,5 +1,5 @@
 // The body of a reply: its object, and the compact text of it.
-ghost use Rattle.std.specs.Prelude.{◌≡◌, ◌<◌, IfOk, [], None, false, length};
+ghost use Rattle.std.specs.Prelude.{◌≡◌, ◌<◌, IfOk, false, length, option_copied};
 ghost use Rattle.serde_json.specs.Data.{string};
 ghost use Rattle.serde_json.specs.View.{view};
 ghost use Rattle.serde_json.specs.Written.{compact_text, has_float};
@@ -8,14 +8,18 @@ ghost use Rattle.reply_texts.specs.Replies.{HasTraitSlots, IsReplyOf};
 ghost use Rattle.reply_bodies.specs.Bodies.{final_data, list_data, published_data, raised_data, reply_body, reply_data, why_data};
 ghost use Rattle.reply_bodies.specs.Built.{IsBuilt};
 
+use crate::choices::choices_value;
 use crate::refusals::refused_value;
+use crate::shown::round_value;
 use crate::spelled::{noted_text, seat_text, state_text};
 use crate::texts::{answers_are_ascii, code_value, codes_are_ascii, text_value};
+use keeper_mem::AllotRow;
 use office_base::{CandId, OutOfMemory, ProgId, StepKind, Text};
 use office_moves::Reply;
 use programme_lists::Programme;
 use published_texts::{list_text, reason_text};
 use reasons::WhyAnswer;
+use rounds::Round;
 use season_file::Season;
 use seat_matrix::Matrix;
 use serde_json::{Value, json};
@@ -24,9 +28,18 @@ use step_lines::step_name;
 
 /// Returns the body of a reply. The programmes that it names are of the season's matrix,
 /// and each slot of its lists is the number of a trait.
-pub fn reply_json(alloc: Global, season: &Season, reply: &Reply) -> Result<Text, OutOfMemory>
-    requires { IsReplyOf season.now.matrix [] None [] reply.now }
-    ensures { IfOk result (λ text. text ≡ reply_body season.now.matrix reply.now) }
+/// The round and the rows are those that its text shows, if it has one.
+pub fn reply_json(
+    alloc: Global,
+    season: &Season,
+    round: Option<&Round>,
+    rows: &[AllotRow],
+    reply: &Reply,
+) -> Result<Text, OutOfMemory>
+    requires { IsReplyOf season.now.matrix season.now.register.people
+        (option_copied round) rows.now reply.now }
+    ensures { IfOk result (λ text. text ≡ reply_body season.now.matrix
+        season.now.register.people (option_copied round.entry) rows.now reply.now) }
 {
     match reply {
         Reply::Noted {
@@ -37,26 +50,34 @@ pub fn reply_json(alloc: Global, season: &Season, reply: &Reply) -> Result<Text,
         } => noted_text(alloc, *cand, *window, *turn, *choice),
         Reply::SeatIs {
             cand,
-            round,
+            round: number,
             standing,
             seat,
-        } => seat_text(alloc, &season.matrix, *cand, *round, *standing, *seat),
+        } => seat_text(alloc, &season.matrix, *cand, *number, *standing, *seat),
         Reply::StateIs {
             now,
             rounds,
             published,
         } => state_text(alloc, *now, *rounds, *published),
-        _ => built_text(alloc, &season.matrix, reply),
+        _ => built_text(alloc, season, round, rows, reply),
     }
 }
 
 /// Returns the body of a reply whose object is built first.
-fn built_text(alloc: Global, matrix: &Matrix, reply: &Reply) -> Result<Text, OutOfMemory>
+fn built_text(
+    alloc: Global,
+    season: &Season,
+    round: Option<&Round>,
+    rows: &[AllotRow],
+    reply: &Reply,
+) -> Result<Text, OutOfMemory>
     requires built { IsBuilt reply.now }
-    requires of { IsReplyOf matrix.now [] None [] reply.now }
-    ensures { IfOk result (λ text. text ≡ reply_body matrix.now reply.now) }
+    requires of { IsReplyOf season.now.matrix season.now.register.people
+        (option_copied round) rows.now reply.now }
+    ensures { IfOk result (λ text. text ≡ reply_body season.now.matrix
+        season.now.register.people (option_copied round.entry) rows.now reply.now) }
 {
-    let value = reply_value(alloc, matrix, reply)?;
+    let value = reply_value(alloc, season, round, rows, reply)?;
     text_of(alloc, &value)
 }
 
@@ -69,11 +90,20 @@ fn text_of(alloc: Global, value: &Value) -> Result<Text, OutOfMemory>
 }
 
 /// Returns the object of a reply that is not spelled straight into its text.
-fn reply_value(alloc: Global, matrix: &Matrix, reply: &Reply) -> Result<Value, OutOfMemory>
+fn reply_value(
+    alloc: Global,
+    season: &Season,
+    round: Option<&Round>,
+    rows: &[AllotRow],
+    reply: &Reply,
+) -> Result<Value, OutOfMemory>
     requires built { IsBuilt reply.now }
-    requires of { IsReplyOf matrix.now [] None [] reply.now }
-    ensures { IfOk result (λ value. view value ≡ reply_data matrix.now reply.now) }
+    requires of { IsReplyOf season.now.matrix season.now.register.people
+        (option_copied round) rows.now reply.now }
+    ensures { IfOk result (λ value. view value ≡ reply_data season.now.matrix
+        season.now.register.people (option_copied round.entry) rows.now reply.now) }
 {
+    let matrix = &season.matrix;
     match reply {
         Reply::Raised {
             window,
@@ -81,14 +111,19 @@ fn reply_value(alloc: Global, matrix: &Matrix, reply: &Reply) -> Result<Value, O
             step,
             seats,
         } => raised_value(alloc, matrix, *window, *prog, *step, *seats),
-        Reply::Published { round, seated } => published_value(alloc, *round, *seated),
+        Reply::Published {
+            round: number,
+            seated,
+        } => published_value(alloc, *number, *seated),
         Reply::Final { admitted } => final_value(alloc, *admitted),
         Reply::WhyIs { cand, prog, answer } => why_value(alloc, matrix, *cand, *prog, answer),
         Reply::ListIs {
-            round,
+            round: number,
             prog,
             programme,
-        } => list_value(alloc, matrix, *round, *prog, programme),
+        } => list_value(alloc, matrix, *number, *prog, programme),
+        Reply::RoundIs { round: number } => round_value(alloc, season, round, rows, *number),
+        Reply::ChoicesAre { cand, progs } => choices_value(alloc, matrix, *cand, progs.as_slice()),
         Reply::Refused(refusal) => refused_value(alloc, *refusal),
         Reply::Noted { .. } | Reply::SeatIs { .. } | Reply::StateIs { .. } => {
             unreachable!("it is spelled straight into its text")

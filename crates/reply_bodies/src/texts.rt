@@ -5,7 +5,7 @@ ghost use Rattle.serde_json.specs.Data.{string};
 ghost use Rattle.serde_json.specs.View.{view};
 ghost use Rattle.published_texts.specs.Texts.{IsAnswerOf, code_in};
 ghost use Rattle.reply_bodies.specs.Bodies.{code};
-ghost use Rattle.reply_bodies.specs.Plain.{HasPlainCode};
+ghost use Rattle.reply_bodies.specs.Plain.{ArePlainCodes, HasPlainCode};
 
 use office_base::{OutOfMemory, ProgId};
 use reasons::WhyAnswer;
@@ -40,6 +40,15 @@ pub(crate) fn codes_are_ascii(matrix: &Matrix, prog: ProgId)
 {
     let code = matrix.code(prog);
     let _ = code.bytes();
+}
+
+/// Shows that the codes of all programmes are ASCII. It reads each of them.
+pub(crate) fn all_codes_are_ascii(matrix: &Matrix)
+    ensures { ArePlainCodes matrix.now }
+{
+    for number in 0..matrix.count() {
+        codes_are_ascii(matrix, ProgId(number));
+    }
 }
 
 /// Shows that the codes that an answer names are all ASCII.

@@ -1,12 +1,13 @@
 -- The texts of replies. Each line ends with LF.
-use Rattle.std.specs.Prelude.{◌≡◌, ◌<◌, ℕ, List, [], ◌∷◌, ◌++◌, length, Option, Some, None, IfSome, codes}
+use Rattle.std.specs.Prelude.{◌≡◌, ◌<◌, ℕ, List, [], ◌++◌, length, Option, Some, None, IfSome, codes}
 use Rattle.std.specs.Fmt.{decimal}
-use Rattle.std.specs.List.{AllByRecursion}
+use Rattle.std.specs.List.{AllByRecursion, flat_map}
 use Rattle.keeper_mem.specs.declared.rows.AllotRow.{AllotRow}
 use Rattle.office_base.specs.declared.asks.Choice.{Choice}
 use Rattle.office_base.specs.declared.asks.Choice.TheVariants.{Freeze as ToFreeze, Float as ToFloat, Slide as ToSlide, Withdraw as ToWithdraw}
 use Rattle.office_base.specs.declared.asks.Seat.{Seat}
 use Rattle.office_base.specs.declared.person.Person.{Person}
+use Rattle.office_base.specs.declared.person.ProgId.{ProgId}
 use Rattle.programme_lists.specs.declared.programme.Programme.{Programme}
 use Rattle.published_texts.specs.Texts.{AreSeatsOf, IsAnswerOf, IsSeatOf, code_in, final_text, list_text, reason_text, round_text}
 use Rattle.round_options.specs.declared.standing.Standing.{Standing}
@@ -16,7 +17,7 @@ use Rattle.seat_matrix.specs.Matrix.{SeatTable}
 use Rattle.step_lines.specs.Lines.{step_name}
 use Rattle.office_moves.specs.Refusals.{name_of, number_of}
 use Rattle.office_moves.specs.declared.moves.Reply.{Reply}
-use Rattle.office_moves.specs.declared.moves.Reply.TheVariants.{Noted, Raised, Published, Final, SeatIs, WhyIs, ListIs, StateIs, Refused}
+use Rattle.office_moves.specs.declared.moves.Reply.TheVariants.{Noted, Raised, Published, Final, SeatIs, WhyIs, ListIs, RoundIs, ChoicesAre, StateIs, Refused}
 use Rattle.office_moves.specs.declared.refusal.Refusal.{Refusal}
 use Rattle.office_moves.specs.declared.refusal.Refusal.TheVariants.{UnknownCandidate, UnknownProgramme, Denied, TurnUsed, Late, Ahead, Gap, Gone, NoSeat, Widening, TooManyTurns, NotChosen, NoSuchRound, LastWindow, StepFixed, Falling, SeatLimit}
 
@@ -88,6 +89,14 @@ abbrev pub standing_line : SeatTable → ℕ → ℕ → Standing → Option Sea
 standing_line table cand number standing seat =
     codes "seat " ++ decimal cand ++ codes " round " ++ decimal number ++ codes " " ++ standing_name standing ++ seat_words table seat
 
+-- a programme of a choice list
+abbrev pub choice_word : SeatTable → ProgId → List ℕ
+choice_word table prog = codes " " ++ code_in table prog.0
+
+-- the line of a candidate's choice list
+abbrev pub choices_line : SeatTable → ℕ → List ProgId → List ℕ
+choices_line table cand progs = codes "choices " ++ decimal cand ++ flat_map (choice_word table) progs ++ codes "\n"
+
 -- the line of how far the office is
 abbrev pub state_line : ℕ → ℕ → ℕ → List ℕ
 state_line window rounds published = codes "state window " ++ decimal window ++ codes " rounds " ++ decimal rounds ++ codes " published " ++ decimal published ++ codes "\n"
@@ -104,7 +113,13 @@ abbrev pub text_of_round : SeatTable → List Person → Option Round → List �
 text_of_round table people None = []
 text_of_round table people (Some round) = round_text table people round
 
--- The text of a reply. The round is the one that a cut published, and the rows are the final admissions; only the replies to these cuts show them.
+-- what was published under a number: the round, or else the final admissions
+abbrev pub shown_text : SeatTable → List Person → Option Round → List AllotRow → List ℕ
+shown_text table people None rows = final_text table rows
+shown_text table people (Some round) rows = round_text table people round
+
+-- The text of a reply. The round is the one that a cut published or that was asked for, and the rows are the final admissions.
+-- Only the replies to cuts, and to the question what was published, show them.
 abbrev pub reply_text : SeatTable → List Person → Option Round → List AllotRow → Reply → List ℕ
 reply_text table people round rows (Noted cand window turn choice) = noted_line cand.0 window turn choice
 reply_text table people round rows (Raised window prog step seats) = raised_line table window prog.0 (step_name step) seats
@@ -113,6 +128,8 @@ reply_text table people round rows (Final admitted) = final_line admitted ++ fin
 reply_text table people round rows (SeatIs cand number standing seat) = standing_line table cand.0 number standing seat
 reply_text table people round rows (WhyIs cand prog answer) = reason_text table cand.0 prog.0 answer
 reply_text table people round rows (ListIs number prog programme) = list_text table number prog.0 programme
+reply_text table people round rows (RoundIs number) = shown_text table people round rows
+reply_text table people round rows (ChoicesAre cand progs) = choices_line table cand.0 progs
 reply_text table people round rows (StateIs window rounds published) = state_line window rounds published
 reply_text table people round rows (Refused refusal) = refusal_line refusal
 
@@ -127,6 +144,10 @@ pub record IsRoundOf (table : SeatTable) (people : List Person) (round : Round) 
   pub entries : length round.seats ≡ length people
   pub programmes : AreSeatsOf table round.seats
 
+-- the round and the rows can be shown
+abbrev pub AreShownOf : SeatTable → List Person → Option Round → List AllotRow → Type 0
+AreShownOf table people round rows = IfSome round (IsRoundOf table people) × AllByRecursion (λ row. row.prog.0 < length table.programmes) rows
+
 -- The programmes that a reply names are of the matrix; so are those of the round or of the rows that its text shows.
 abbrev pub IsReplyOf : SeatTable → List Person → Option Round → List AllotRow → Reply → Type 0
 IsReplyOf table people round rows (Noted cand window turn choice) = Unit {0}
@@ -136,5 +157,7 @@ IsReplyOf table people round rows (Final admitted) = AllByRecursion (λ row. row
 IsReplyOf table people round rows (SeatIs cand number standing seat) = IsSeatOf table seat
 IsReplyOf table people round rows (WhyIs cand prog answer) = (prog.0 < length table.programmes) × IsAnswerOf table answer
 IsReplyOf table people round rows (ListIs number prog programme) = (prog.0 < length table.programmes) × HasTraitSlots programme
+IsReplyOf table people round rows (RoundIs number) = AreShownOf table people round rows
+IsReplyOf table people round rows (ChoicesAre cand progs) = AllByRecursion (λ prog. prog.0 < length table.programmes) progs
 IsReplyOf table people round rows (StateIs window rounds published) = Unit {0}
 IsReplyOf table people round rows (Refused refusal) = Unit {0}

@@ -4,10 +4,11 @@
 // that text. It decides nothing, and must never know how a reply came about, of commands or of sinks.
 #![tactic(auto)]
 
+mod choices;
 mod receipts;
 mod refusals;
 mod reply;
 mod words;
 
-pub use reply::reply_text;
+pub use reply::{reply_text, shown_text};
 pub use words::{choice_name, standing_name};

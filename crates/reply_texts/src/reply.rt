@@ -2,9 +2,10 @@
 ghost use Rattle.std.specs.Prelude.{◌≡◌, ◌<◌, ◌++◌, IfOk, IfSome, OnOk, length, option_copied};
 ghost use Rattle.std.specs.List.{AllByRecursion};
 ghost use Rattle.published_texts.specs.Texts.{IsSeatOf, final_text};
-ghost use Rattle.reply_texts.specs.Replies.{IsReplyOf, IsRoundOf, final_line, noted_line, published_line, raised_line, refusal_line, reply_text, standing_line, state_line, text_of_round};
+ghost use Rattle.reply_texts.specs.Replies.{AreShownOf, IsReplyOf, IsRoundOf, final_line, noted_line, published_line, raised_line, refusal_line, reply_text, shown_text, standing_line, state_line, text_of_round};
 ghost use Rattle.step_lines.specs.Lines.{step_name};
 
+use crate::choices::choices_text;
 use crate::receipts::{
     push_final, push_noted, push_published, push_raised, push_standing, push_state,
 };
@@ -18,8 +19,9 @@ use rounds::Round;
 use seat_matrix::Matrix;
 use std::alloc::Global;
 
-/// The text of a reply: the round is the one that a cut published, and the rows are the final admissions. Only the replies to these cuts show
-/// them. All programmes that the text shows are of the matrix, and the round has an entry for each of the people.
+/// The text of a reply: the round is the one that a cut published or that was asked for, and the rows are the final admissions.
+/// Only the replies to cuts, and to the question what was published, show them.
+/// All programmes that the text shows are of the matrix, and the round has an entry for each of the people.
 pub fn reply_text(
     alloc: Global,
     matrix: &Matrix,
@@ -61,6 +63,8 @@ pub fn reply_text(
             prog,
             programme,
         } => list_text(alloc, matrix, *number, *prog, programme),
+        Reply::RoundIs { .. } => shown_text(alloc, matrix, people, round, rows),
+        Reply::ChoicesAre { cand, progs } => choices_text(alloc, matrix, *cand, progs.as_slice()),
         Reply::StateIs {
             now,
             rounds,
@@ -137,6 +141,25 @@ fn last_cut_text(
     let text = final_text(alloc, matrix, rows)?;
     out.extend_from_slice(text.as_slice())?;
     Ok(out)
+}
+
+/// Returns what was published under a number: the text of the round, or of the final admissions if there is no round.
+/// Their programmes are of the matrix, and the round has an entry for each of the people.
+pub fn shown_text(
+    alloc: Global,
+    matrix: &Matrix,
+    people: &[Person],
+    round: Option<&Round>,
+    rows: &[AllotRow],
+) -> Result<Text, OutOfMemory>
+    requires { AreShownOf matrix.now people.now (option_copied round) rows.now }
+    ensures { IfOk result (λ text.
+        text ≡ shown_text matrix.now people.now (option_copied round.entry) rows.now) }
+{
+    match round {
+        Some(round) => round_text(alloc, matrix, people, round),
+        None => final_text(alloc, matrix, rows),
+    }
 }
 
 /// Returns the text of a candidate's standing and of the seat, whose programme is of the matrix.

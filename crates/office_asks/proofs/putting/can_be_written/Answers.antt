@@ -1,6 +1,5 @@
 use Rattle.std.proofs.Common.{subst}
 use Rattle.office_moves.specs.Facts.{IsSound}
-use Rattle.office_asks.proofs.Written.{body_of_shown}
 use Rattle.office_asks.proofs.putting.can_be_written.Goals as goal
 
 pub returns : goal.returns
@@ -8,4 +7,4 @@ returns g c =
     let office = c.args.office.now in
     let sound = subst IsSound c.season.ensures c.says_what_is_sound.ensures in
     let orderly = c.orderly.ensures office.season office.entries office.state sound c.entries-entries.ensures.history.reached in
-    body_of_shown office.season office.state c.args.reply.now (c.replies_can_be_shown.ensures office.season sound office.state c.args.reply.now orderly c.requires)
+    c.replies_can_be_shown.ensures office.season sound office.state c.args.reply.now orderly c.requires
