@@ -13,9 +13,9 @@ use Rattle.office_base.specs.declared.step.StepKind.{StepKind}
 use Rattle.office_base.specs.declared.step.StepKind.TheVariants.{Open, Ews, Obc, Sc, St, Dereserved}
 use Rattle.office_base.proofs.Lists.{there_is}
 use Rattle.office_base.proofs.Options.{some_value}
-use Rattle.allocations.specs.Fair.{IsAllocation, IsFair, IsMarket, IsOwn}
+use Rattle.allocations.specs.Fair.{HasClaim, IsAllocation, IsFair, IsMarket, IsOwn}
 use Rattle.allocations.specs.Market.{Seeker, applicants, place_of, seat_at}
-use Rattle.allocations.proofs.Claims.{applicants_may}
+use Rattle.allocations.proofs.Claims.{applicants_may, fair_justified}
 use Rattle.allocations.proofs.Places.{place_read}
 use Rattle.choice_lists.specs.Choices.{list_of as choices_of}
 use Rattle.list_audit.specs.Clauses.{list_of, named_by}
@@ -193,6 +193,16 @@ fair facts papers state cut =
     (λ p person kind less among. well.among p (applicants_at facts papers state p) person kind (may facts papers state p cut less) ((chosen facts papers state p person kind cut less).1 among))
     (λ p i s kind less there. agrees facts papers state p i s kind cut less there)
 
+-- and so nobody has a justified claim
+no_claim : (facts : SeasonFacts) (papers : Papers) (state : State) → IsCut facts papers state → (p i : ℕ) → p < length facts.matrix.programmes
+    → HasClaim (rule_of facts.version (matrix_at facts state)) (seekers_at facts state) (seats_of facts papers state) i p → ⊥
+no_claim facts papers state cut =
+    let table = matrix_at facts state in
+    let enter = market table facts.people (lists_in_order facts) (next_seeks facts state) cut.order.seats (entrants facts table cut.sound cut.order.programmes) in
+    let justified = fair_justified (rule_of facts.version table) (MayApplyIn table) (length facts.matrix.programmes) (seekers_at facts state) (seats_of facts papers state)
+    (subst (λ z. IsMarket (MayApplyIn table) (length z) (seekers_at facts state)) cut.order.programmes enter) (cut.laws.well facts.version table cut.order.seats) (fair facts papers state cut) in
+    justified.no_claim
+
 -- ---- nobody falls
 
 -- a programme of a list is at its place there
@@ -248,5 +258,6 @@ fair_cut facts papers state cut early = record {
       let full : length (lists_after papers (length facts.matrix.programmes) state.now) ≡ length facts.matrix.programmes = cut.listed in
       let less = slice_get_within (lists_after papers (length facts.matrix.programmes) state.now) p programme there in
       chooses facts papers state p programme cut (omega (arith, full, less)) there;
+  no_claim = no_claim facts papers state cut;
   nobody_falls = λ id keeps. nobody_falls facts papers state id cut early keeps;
 }

@@ -1,34 +1,35 @@
 -- Where no clause is broken along a script, every round is fair.
-use Rattle.std.proofs.Common.{◌≡◌, ◌<◌, ◌≤◌, ◌+◌, ◌*◌, ◌⊎◌, inl, inr, ℕ, zero, suc, add-one, Bool, true, false, List, [], ◌∷◌, ◌++◌, Option, Some, None, length, take, drop, arith, refl, sym, ap, ◌∙◌, subst, ◌==◌, not, nat_lt, if◌then◌else◌}
-use Rattle.std.specs.Prelude.{◌&&◌, ◌||◌, ◌-◌, IsSome, min, nat_le, slice_get}
+use Rattle.std.proofs.Common.{◌≡◌, ◌<◌, ◌≤◌, ◌+◌, ◌*◌, inl, inr, ℕ, zero, suc, add-one, Bool, true, false, List, [], ◌∷◌, ◌++◌, Option, Some, None, length, take, drop, arith, refl, sym, ap, ◌∙◌, subst, ◌==◌, not, nat_lt, if◌then◌else◌}
+use Rattle.std.specs.Prelude.{◌&&◌, ◌||◌, ◌-◌, min, nat_le, slice_get}
 use Rattle.std.proofs.lemmas.Nat.{mul-le}
-use Rattle.std.proofs.lemmas.Bool.{cases_Bool, cases_lt, eqb-true}
+use Rattle.std.proofs.lemmas.Bool.{cases_lt}
 use Rattle.std.proofs.lemmas.Bool.Decides.{nat_tests}
 use Rattle.std.proofs.lemmas.List.{length-drop, length-take, take-append-drop, take_all}
 use Rattle.office_base.specs.declared.asks.Ask.{Ask}
-use Rattle.office_base.specs.declared.asks.Ask.TheVariants.{Answer as AskAnswer, Cut as AskCut, Seat as AskSeat, Why, List as AskList, State as AskState, Raise as AskRaise}
+use Rattle.office_base.specs.declared.asks.Ask.TheVariants.{Answer as AskAnswer, Cut as AskCut, Seat as AskSeat, Why, List as AskList, Round as AskRound, Choices as AskChoices, State as AskState, Raise as AskRaise}
 use Rattle.office_base.specs.declared.asks.By.{By}
 use Rattle.office_base.specs.declared.asks.Request.{Request}
 use Rattle.office_base.proofs.Lists.{there_is}
 use Rattle.seat_matrix.specs.Laws.{OneStepChanges}
-use Rattle.office_moves.specs.Decided.{decided}
+use Rattle.office_moves.specs.Decided.{decided, decided_by, is_question}
+use Rattle.office_moves.proofs.Decisions.{by_kind, question_old}
 use Rattle.office_moves.specs.Facts.{IsSound, SeasonFacts}
 use Rattle.office_moves.specs.History.{newly}
-use Rattle.office_moves.specs.Judge.{is_clerk, judge_cut, refuse_if}
+use Rattle.office_moves.specs.Judge.{is_clerk, refuse_if}
 use Rattle.office_moves.specs.State.{State, opening}
 use Rattle.office_moves.specs.declared.decide.Decision.{Decision}
-use Rattle.office_moves.specs.declared.decide.Decision.TheVariants.{Refuse, NotedAgain, RaisedAgain, CutAgain, Note, Lift, Publish, Finish, TellSeat, TellWhy, TellList, TellState}
+use Rattle.office_moves.specs.declared.decide.Decision.TheVariants.{CutAgain, Publish, Finish}
 use Rattle.office_moves.specs.declared.moves.Act.{Act}
 use Rattle.office_moves.specs.declared.refusal.Refusal.TheVariants.{Ahead, Denied}
 use Rattle.histories.proofs.Changes.{Accepts, LastCut, NewAnswer, NewCut, NewRaise, accepts}
 use Rattle.audit_rules.specs.Cut.{CutHolds, EndHolds, HoldsAt}
-use Rattle.audit_rules.specs.Fair.{AreFairRounds, AreWhole, IsFairCut, IsFairEnd, cut_by, cuts_of}
+use Rattle.audit_rules.specs.Fair.{cut_by, cuts_of}
 use Rattle.audit_rules.specs.InOrder.{IsInOrder}
-use Rattle.audit_rules.specs.Laws.{SoundIsFair}
+use Rattle.audit_rules.specs.Laws.{EveryTextIsTaken, SoundIsFair}
 use Rattle.audit_rules.specs.Papers.{Papers, lists_after}
-use Rattle.audit_rules.specs.Replay.{before, replayed, round_of, taken}
+use Rattle.audit_rules.specs.Replay.{before, replayed, taken}
 use Rattle.audit_rules.specs.Verdict.{HoldsThere}
-use Rattle.audit_rules.proofs.FairCuts.{AreLawful, AreListed, fair_cut}
+use Rattle.audit_rules.proofs.FairCuts.{AreLawful, fair_cut}
 use Rattle.audit_rules.proofs.Ordering.{before_next, in_order_at_first, in_order_next, nothing_new}
 
 -- ---- how many windows are cut
@@ -67,17 +68,28 @@ not_cut facts papers state request other = go (newly state.now (decided facts st
     go None e = ap (λ (s : State). s.now) (nothing_new facts papers state (decided facts state request) e)
     go (Some act) e = accepted act (accepts facts state request.by request.ask act e)
 
+-- a question cuts no window
+asks_cut_none : (rounds now : ℕ) (clerk : Bool) (ask : Ask) → is_question ask ≡ true → cut_by rounds now clerk ask ≡ now
+asks_cut_none rounds now clerk (AskAnswer cand window turn choice) is = absurd (cc)
+asks_cut_none rounds now clerk (AskCut window) is = absurd (cc)
+asks_cut_none rounds now clerk (AskRaise window code step seats) is = absurd (cc)
+asks_cut_none rounds now clerk (AskSeat cand) is = refl
+asks_cut_none rounds now clerk (Why cand code) is = refl
+asks_cut_none rounds now clerk (AskList round code) is = refl
+asks_cut_none rounds now clerk (AskRound round) is = refl
+asks_cut_none rounds now clerk (AskChoices cand) is = refl
+asks_cut_none rounds now clerk AskState is = refl
+
 step_counts : (facts : SeasonFacts) (papers : Papers) (state : State) (by : By) (ask : Ask)
     → (taken facts papers state (decided facts state (record { by = by; ask = ask }))).now ≡ cut_by facts.rounds state.now (is_clerk by) ask
-step_counts facts papers state by (AskAnswer cand window turn choice) = not_cut facts papers state (record { by = by; ask = AskAnswer cand window turn choice }) (λ w e. absurd (cc))
-step_counts facts papers state by (AskCut window) =
+step_counts facts papers state by =
+    by_kind (λ a. (taken facts papers state (decided_by facts state by a)).now ≡ cut_by facts.rounds state.now (is_clerk by) a)
+    (λ cand window turn choice. not_cut facts papers state (record { by = by; ask = AskAnswer cand window turn choice }) (λ w e. absurd (cc)))
+    (λ window.
     cut_counts facts papers state (is_clerk by) (nat_lt window state.now) (nat_lt state.now window || nat_lt facts.rounds window) (window == facts.rounds) window
-    ∙ both_tests (is_clerk by) _ _ (state.now + 1) state.now (same_cut state.now facts.rounds window)
-step_counts facts papers state by (AskSeat cand) = not_cut facts papers state (record { by = by; ask = AskSeat cand }) (λ w e. absurd (cc))
-step_counts facts papers state by (Why cand code) = not_cut facts papers state (record { by = by; ask = Why cand code }) (λ w e. absurd (cc))
-step_counts facts papers state by (AskList round code) = not_cut facts papers state (record { by = by; ask = AskList round code }) (λ w e. absurd (cc))
-step_counts facts papers state by AskState = not_cut facts papers state (record { by = by; ask = AskState }) (λ w e. absurd (cc))
-step_counts facts papers state by (AskRaise window code step seats) = not_cut facts papers state (record { by = by; ask = AskRaise window code step seats }) (λ w e. absurd (cc))
+    ∙ both_tests (is_clerk by) _ _ (state.now + 1) state.now (same_cut state.now facts.rounds window))
+    (λ window code step seats. not_cut facts papers state (record { by = by; ask = AskRaise window code step seats }) (λ w e. absurd (cc)))
+    (λ a is. ap (λ (s : State). s.now) (nothing_new facts papers state (decided_by facts state by a) (question_old facts state state.now by a is)) ∙ sym (asks_cut_none facts.rounds state.now (is_clerk by) a is))
 
 pub replay_counts : (facts : SeasonFacts) (papers : Papers) (state : State) (script : List Request) → (replayed facts papers state script).now ≡ cuts_of facts.rounds state.now script
 replay_counts facts papers state [] = refl
@@ -90,17 +102,13 @@ cuts_append rounds now [] more = refl
 cuts_append rounds now (request ∷ some) more = cuts_append rounds (cut_by rounds now (is_clerk request.by) request.ask) some more
 
 step_grows : (rounds now : ℕ) (clerk : Bool) (ask : Ask) → now ≤ cut_by rounds now clerk ask
-step_grows rounds now clerk (AskAnswer cand window turn choice) = omega arith
-step_grows rounds now clerk (AskCut window) = by (clerk && (window == now && nat_le now rounds))
+step_grows rounds now clerk =
+    by_kind (λ a. now ≤ cut_by rounds now clerk a) (λ cand window turn choice. omega arith) (λ window. by (clerk && (window == now && nat_le now rounds))) (λ window code step seats. omega arith)
+    (λ a is. let e = asks_cut_none rounds now clerk a is in omega (arith, e))
   where
     by : (b : Bool) → now ≤ (if b then now + 1 else now)
     by true = omega arith
     by false = omega arith
-step_grows rounds now clerk (AskSeat cand) = omega arith
-step_grows rounds now clerk (Why cand code) = omega arith
-step_grows rounds now clerk (AskList round code) = omega arith
-step_grows rounds now clerk AskState = omega arith
-step_grows rounds now clerk (AskRaise window code step seats) = omega arith
 
 cuts_grow : (rounds now : ℕ) (script : List Request) → now ≤ cuts_of rounds now script
 cuts_grow rounds now [] = omega arith
@@ -176,8 +184,8 @@ in_order law facts script papers sound (suc j) holds =
       | inr end ↦ subst (IsInOrder facts) (sym (past_end facts script papers j end)) here
     ]
 
-pub sound_is_fair : OneStepChanges → AreLawful → SoundIsFair
-sound_is_fair law laws facts script papers rounds sound whole verdict = record {
+pub sound_is_fair : OneStepChanges → AreLawful → EveryTextIsTaken → SoundIsFair
+sound_is_fair law laws taken_all facts script papers rounds sound whole verdict = record {
   rounds = λ j request there publishes.
       let state = before facts script papers j in
       let early = publishes_early facts state request publishes in
@@ -195,4 +203,5 @@ sound_is_fair law laws facts script papers rounds sound whole verdict = record {
       let order = in_order law facts script papers sound j (λ i other less at. verdict.1 i other at) in
       let holds' : EndHolds facts papers state = subst (λ (d : Decision). HoldsAt facts papers state d) finishes (verdict.1 j request there) in
       record { finals = holds'; nobody_falls = λ id keeps. order.seated id (omega (arith, last)) keeps };
+  taken = taken_all facts script papers whole;
 }

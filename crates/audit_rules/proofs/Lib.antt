@@ -1,5 +1,6 @@
 pub mod Agreeing
 pub mod FairCuts
-pub mod FairSeasons
+mod FairSeasons
 mod OneVerdict
 pub mod Ordering
+mod Taken

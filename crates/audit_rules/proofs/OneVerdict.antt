@@ -16,7 +16,7 @@ use Rattle.office_moves.specs.Facts.{SeasonFacts}
 use Rattle.office_moves.specs.Raised.{matrix_at}
 use Rattle.office_moves.specs.State.{State}
 use Rattle.office_moves.specs.declared.decide.Decision.{Decision}
-use Rattle.office_moves.specs.declared.decide.Decision.TheVariants.{Refuse, NotedAgain, RaisedAgain, CutAgain, Note, Lift, Publish, Finish, TellSeat, TellWhy, TellList, TellState}
+use Rattle.office_moves.specs.declared.decide.Decision.TheVariants.{Refuse, NotedAgain, RaisedAgain, CutAgain, Note, Lift, Publish, Finish, Tell}
 use Rattle.programme_lists.specs.declared.programme.Programme.{Programme}
 use Rattle.seat_matrix.specs.Matrix.{seats_in}
 use Rattle.audit_rules.specs.Cut.{Agree, BreaksAt, ComesTo, CutBreaks, CutHolds, Differ, EndBreaks, EndHolds, HasFallen, HasStayed, HoldsAt, IsFirstWithout, IsListed, IsSought, IsSoundList, IsUnsound, IsUnsought, OfEach, applicants_at, lists_at}
@@ -116,10 +116,7 @@ apart one facts papers state Finish clause prog cand holds breaks = end_apart cl
     end_apart WrongSize prog cand breaks = breaks
     end_apart BadCertificate prog cand breaks = breaks
     end_apart Overtaken prog cand breaks = breaks
-apart one facts papers state (TellSeat who) clause prog cand holds breaks = breaks
-apart one facts papers state (TellWhy who which) clause prog cand holds breaks = breaks
-apart one facts papers state (TellList number which) clause prog cand holds breaks = breaks
-apart one facts papers state TellState clause prog cand holds breaks = breaks
+apart one facts papers state (Tell question) clause prog cand holds breaks = breaks
 
 -- ---- what is broken first is one
 
@@ -239,10 +236,7 @@ one_break one facts papers state Finish clause other prog prog' cand cand' a b =
     let e = end_is facts papers state clause prog cand a in
     let f = end_is facts papers state other prog' cand' b in
     record { clause = e.is ∙ sym f.is; prog = e.by ∙ sym f.by; cand = e.of ∙ sym f.of }
-one_break one facts papers state (TellSeat who) clause other prog prog' cand cand' a b = absurd a
-one_break one facts papers state (TellWhy who which) clause other prog prog' cand cand' a b = absurd a
-one_break one facts papers state (TellList number which) clause other prog prog' cand cand' a b = absurd a
-one_break one facts papers state TellState clause other prog prog' cand cand' a b = absurd a
+one_break one facts papers state (Tell question) clause other prog prog' cand cand' a b = absurd a
 
 -- ---- the verdict
 

@@ -38,7 +38,7 @@ use Rattle.office_moves.specs.Raised.{matrix_at, raised}
 use Rattle.office_moves.specs.State.{State, View, answered, in_window, last_seat, left_by, opening, round_at, rows_of, seat_in, seat_of, standing_at, view_of, with_finals, with_raise, with_round, with_row}
 use Rattle.office_moves.specs.declared.decide.AnswerLooks.{AnswerLooks}
 use Rattle.office_moves.specs.declared.decide.Decision.{Decision}
-use Rattle.office_moves.specs.declared.decide.Decision.TheVariants.{Refuse, NotedAgain, RaisedAgain, CutAgain, Note, Lift, Publish, Finish, TellSeat, TellWhy, TellList, TellState}
+use Rattle.office_moves.specs.declared.decide.Decision.TheVariants.{Refuse, NotedAgain, RaisedAgain, CutAgain, Note, Lift, Publish, Finish, Tell}
 use Rattle.office_moves.specs.declared.moves.Act.{Act}
 use Rattle.office_moves.specs.declared.refusal.Refusal.{Refusal}
 use Rattle.office_moves.specs.declared.refusal.Refusal.TheVariants.{Gone, NoSeat, TooManyTurns, Widening}
@@ -257,10 +257,7 @@ nothing_new facts papers state (Note row) e = absurd (cc)
 nothing_new facts papers state (Lift row) e = absurd (cc)
 nothing_new facts papers state Publish e = absurd (cc)
 nothing_new facts papers state Finish e = absurd (cc)
-nothing_new facts papers state (TellSeat cand) e = refl
-nothing_new facts papers state (TellWhy cand prog) e = refl
-nothing_new facts papers state (TellList number prog) e = refl
-nothing_new facts papers state TellState e = refl
+nothing_new facts papers state (Tell question) e = refl
 
 pub in_order_next : OneStepChanges → (facts : SeasonFacts) (papers : Papers) (state : State) (request : Request) → IsSound facts → IsInOrder facts state
     → HoldsAt facts papers state (decided facts state request) → IsInOrder facts (taken facts papers state (decided facts state request))

@@ -16,7 +16,7 @@ use Rattle.office_moves.specs.Moves.{final_rows, next_seek, next_seeks}
 use Rattle.office_moves.specs.Raised.{matrix_at}
 use Rattle.office_moves.specs.State.{State, standing_at, view_of}
 use Rattle.office_moves.specs.declared.decide.Decision.{Decision}
-use Rattle.office_moves.specs.declared.decide.Decision.TheVariants.{Refuse, NotedAgain, RaisedAgain, CutAgain, Note, Lift, Publish, Finish, TellSeat, TellWhy, TellList, TellState}
+use Rattle.office_moves.specs.declared.decide.Decision.TheVariants.{Refuse, NotedAgain, RaisedAgain, CutAgain, Note, Lift, Publish, Finish, Tell}
 use Rattle.programme_lists.specs.declared.programme.Programme.{Programme}
 use Rattle.round_options.specs.Options.{holds}
 use Rattle.rounds.specs.Rule.{seekers_of}
@@ -165,10 +165,7 @@ HoldsAt facts papers state (Note row) = Unit {0}
 HoldsAt facts papers state (Lift row) = Unit {0}
 HoldsAt facts papers state Publish = CutHolds facts papers state
 HoldsAt facts papers state Finish = EndHolds facts papers state
-HoldsAt facts papers state (TellSeat cand) = Unit {0}
-HoldsAt facts papers state (TellWhy cand prog) = Unit {0}
-HoldsAt facts papers state (TellList number prog) = Unit {0}
-HoldsAt facts papers state TellState = Unit {0}
+HoldsAt facts papers state (Tell question) = Unit {0}
 
 -- The first clause that is broken there.
 abbrev pub BreaksAt : SeasonFacts → Papers → State → Decision → Clause → Option ProgId → Option CandId → Type 0
@@ -180,7 +177,4 @@ BreaksAt facts papers state (Note row) clause prog cand = ⊥
 BreaksAt facts papers state (Lift row) clause prog cand = ⊥
 BreaksAt facts papers state Publish clause prog cand = CutBreaks facts papers state clause prog cand
 BreaksAt facts papers state Finish clause prog cand = EndBreaks facts papers state clause prog cand
-BreaksAt facts papers state (TellSeat who) clause prog cand = ⊥
-BreaksAt facts papers state (TellWhy who which) clause prog cand = ⊥
-BreaksAt facts papers state (TellList number which) clause prog cand = ⊥
-BreaksAt facts papers state TellState clause prog cand = ⊥
+BreaksAt facts papers state (Tell question) clause prog cand = ⊥

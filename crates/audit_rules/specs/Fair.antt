@@ -1,10 +1,10 @@
 -- What a season's papers are worth where no clause is broken.
-use Rattle.std.specs.Prelude.{◌≡◌, ◌<◌, ◌≤◌, ◌+◌, ◌*◌, ℕ, true, Bool, ◌==◌, ◌&&◌, nat_le, List, [], ◌∷◌, Option, Some, IsSome, min, length, slice_get, if◌then◌else◌}
+use Rattle.std.specs.Prelude.{◌≡◌, ◌<◌, ◌+◌, ◌*◌, ℕ, true, Bool, ◌==◌, ◌&&◌, nat_le, List, [], ◌∷◌, Some, IsSome, min, length, slice_get, if◌then◌else◌}
 use Rattle.office_base.specs.declared.asks.Ask.{Ask}
-use Rattle.office_base.specs.declared.asks.Ask.TheVariants.{Answer, Cut, Seat as AskSeat, Why, List as AskList, State as AskState, Raise}
+use Rattle.office_base.specs.declared.asks.Ask.TheVariants.{Cut}
 use Rattle.office_base.specs.declared.asks.Request.{Request}
 use Rattle.office_base.specs.declared.asks.Seat.{Seat}
-use Rattle.allocations.specs.Fair.{IsFair}
+use Rattle.allocations.specs.Fair.{HasClaim, IsFair}
 use Rattle.allocations.specs.Market.{applicants}
 use Rattle.list_audit.specs.Clauses.{named_by}
 use Rattle.office_moves.specs.Decided.{decided}
@@ -30,12 +30,7 @@ use Rattle.audit_rules.specs.Replay.{before, round_of}
 -- how many windows are cut, where so many are, after a request: a cut of the open window by the clerk, up to the one after the last round, is one more
 abbrev pub cut_by : ℕ → ℕ → Bool → Ask → ℕ
 cut_by rounds now clerk (Cut window) = if clerk && (window == now && nat_le now rounds) then now + 1 else now
-cut_by rounds now clerk (Answer cand window turn choice) = now
-cut_by rounds now clerk (AskSeat cand) = now
-cut_by rounds now clerk (Why cand code) = now
-cut_by rounds now clerk (AskList round code) = now
-cut_by rounds now clerk AskState = now
-cut_by rounds now clerk (Raise window code step seats) = now
+cut_by rounds now clerk _ = now
 
 -- and after a script
 abbrev pub cuts_of : ℕ → ℕ → List Request → ℕ
@@ -50,7 +45,7 @@ pub record AreWhole (facts : SeasonFacts) (script : List Request) (papers : Pape
 -- ---- fair rounds
 
 -- A round that follows a state is fair. Its seats are those of a fair allocation by the raised matrix, on what everybody sought.
--- The lists of each programme name its choice from those who apply to it.
+-- The lists of each programme name its choice from those who apply to it, and nobody has a justified claim.
 -- A candidate whose standing was freeze, float or slide had a seat, and has one that is no worse.
 pub record IsFairCut (facts : SeasonFacts) (state : State) (round : Round) : Type 0 where
   pub fair : IsFair (rule_of facts.version (matrix_at facts state)) (length facts.matrix.programmes) (seekers_of (matrix_at facts state) facts.people (lists_in_order facts) round.seeks) round.seats
@@ -58,6 +53,8 @@ pub record IsFairCut (facts : SeasonFacts) (state : State) (round : Round) : Typ
   pub shown : (p : ℕ) (programme : Programme) → slice_get round.programmes p ≡ Some programme
       → ChoosesFrom facts.version (seats_in (matrix_at facts state) p)
       (applicants p (seekers_of (matrix_at facts state) facts.people (lists_in_order facts) round.seeks) round.seats) (named_by programme)
+  pub no_claim : (p i : ℕ) → p < length facts.matrix.programmes
+      → HasClaim (rule_of facts.version (matrix_at facts state)) (seekers_of (matrix_at facts state) facts.people (lists_in_order facts) round.seeks) round.seats i p → ⊥
   pub nobody_falls : (id : ℕ) → holds (standing_at facts (view_of state id) id state.now) ≡ true
       → (old new : Seat) × (last_seat facts state.rounds id ≡ Some old) × (seat_of facts (Some round) id ≡ Some new)
       × IsNoWorse facts (standing_at facts (view_of state id) id state.now) id old new
@@ -68,9 +65,24 @@ pub record IsFairEnd (facts : SeasonFacts) (state : State) (papers : Papers) : T
   pub finals : papers.finals ≡ Some (final_rows facts state)
   pub nobody_falls : (id : ℕ) → holds (standing_at facts (view_of state id) id state.now) ≡ true → IsSome (last_seat facts state.rounds id)
 
--- Every round that the script's cuts publish is fair, and so is the last cut.
+-- A request of the script cuts this window, and comes to this decision.
+pub record IsCutBy (facts : SeasonFacts) (script : List Request) (papers : Papers) (window : ℕ) (decision : Decision) : Type 0 where
+  pub at : ℕ
+  pub request : Request
+  pub there : slice_get script at ≡ Some request
+  pub now : (before facts script papers at).now ≡ window
+  pub decides : decided facts (before facts script papers at) request ≡ decision
+
+-- Each text of a round is taken: a request of the script publishes the round of this number.
+-- If the script makes the cut after the last round, a request makes it, and takes the text of the final admissions.
+pub record AreTaken (facts : SeasonFacts) (script : List Request) (papers : Papers) : Type 0 where
+  pub rounds : (number : ℕ) → number < length papers.rounds → IsCutBy facts script papers number Publish
+  pub finals : facts.rounds < cuts_of facts.rounds 0 script → IsCutBy facts script papers facts.rounds Finish
+
+-- Every round that the script's cuts publish is fair, and so is the last cut. Each text is taken by such a cut.
 pub record AreFairRounds (facts : SeasonFacts) (script : List Request) (papers : Papers) : Type 0 where
   pub rounds : (j : ℕ) (request : Request) → slice_get script j ≡ Some request → decided facts (before facts script papers j) request ≡ Publish
       → IsFairCut facts (before facts script papers j) (round_of facts papers (before facts script papers j))
   pub finals : (j : ℕ) (request : Request) → slice_get script j ≡ Some request → decided facts (before facts script papers j) request ≡ Finish
       → IsFairEnd facts (before facts script papers j) papers
+  pub taken : AreTaken facts script papers

@@ -9,7 +9,7 @@ use Rattle.office_moves.specs.Facts.{SeasonFacts}
 use Rattle.office_moves.specs.Moves.{next_seeks}
 use Rattle.office_moves.specs.State.{State, opening, with_finals, with_raise, with_round, with_row}
 use Rattle.office_moves.specs.declared.decide.Decision.{Decision}
-use Rattle.office_moves.specs.declared.decide.Decision.TheVariants.{Refuse, NotedAgain, RaisedAgain, CutAgain, Note, Lift, Publish, Finish, TellSeat, TellWhy, TellList, TellState}
+use Rattle.office_moves.specs.declared.decide.Decision.TheVariants.{Refuse, NotedAgain, RaisedAgain, CutAgain, Note, Lift, Publish, Finish, Tell}
 use Rattle.audit_rules.specs.Papers.{Papers, lists_after, rows_after, seats_told}
 
 -- The round that the papers give at a cut. Its seeks are those of the state. Its seats and its lists are those of the papers.
@@ -35,10 +35,7 @@ taken facts papers state (Note row) = with_row state row
 taken facts papers state (Lift row) = with_raise state row
 taken facts papers state Publish = with_round state (round_of facts papers state)
 taken facts papers state Finish = with_finals state (finals_of papers)
-taken facts papers state (TellSeat cand) = state
-taken facts papers state (TellWhy cand prog) = state
-taken facts papers state (TellList number prog) = state
-taken facts papers state TellState = state
+taken facts papers state (Tell question) = state
 
 -- The state after some requests.
 abbrev pub replayed : SeasonFacts → Papers → State → List Request → State

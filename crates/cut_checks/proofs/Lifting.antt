@@ -14,7 +14,7 @@ use Rattle.office_moves.specs.declared.decide.Decision.TheVariants.{Lift, Raised
 use Rattle.office_moves.specs.declared.decide.RaiseLooks.{RaiseLooks}
 use Rattle.office_moves.specs.declared.moves.Act.{Act}
 use Rattle.office_moves.specs.declared.refusal.Refusal.{Refusal}
-use Rattle.office_moves.specs.declared.refusal.Refusal.TheVariants.{Ahead, Denied, Falling, LastWindow, Late, SeatLimit, StepFixed}
+use Rattle.office_moves.specs.declared.refusal.Refusal.TheVariants.{Ahead, Denied, LastWindow, Late}
 use Rattle.office_moves.proofs.Chains.{raise_new}
 use Rattle.histories.proofs.Accepted.{is_open}
 use Rattle.cut_checks.specs.Raises.{lifts, may_have}
@@ -66,14 +66,12 @@ have_is looks row =
 
 seats_pass : (looks : RaiseLooks) (row : RaiseRow) → may_have looks row ≡ true → judge_new_seats looks row ≡ Lift row
 seats_pass looks row e =
-    have_chain (is_dereserved row.step) (nat_le row.seats looks.seats) (nat_lt most_step_seats row.seats) (nat_lt most_matrix_seats (looks.total - looks.seats + row.seats)) StepFixed (Falling looks.seats)
-    (SeatLimit looks.total) row (sym (have_is looks row) ∙ e)
+    have_chain (is_dereserved row.step) (nat_le row.seats looks.seats) (nat_lt most_step_seats row.seats) (nat_lt most_matrix_seats (looks.total - looks.seats + row.seats)) _ _ _ row (sym (have_is looks row) ∙ e)
 
 seats_back : (looks : RaiseLooks) (row : RaiseRow) → judge_new_seats looks row ≡ Lift row → may_have looks row ≡ true
 seats_back looks row e =
     have_is looks row
-    ∙ have_back (is_dereserved row.step) (nat_le row.seats looks.seats) (nat_lt most_step_seats row.seats) (nat_lt most_matrix_seats (looks.total - looks.seats + row.seats)) StepFixed (Falling looks.seats)
-    (SeatLimit looks.total) row e
+    ∙ have_back (is_dereserved row.step) (nat_le row.seats looks.seats) (nat_lt most_step_seats row.seats) (nat_lt most_matrix_seats (looks.total - looks.seats + row.seats)) _ _ _ row e
 
 -- ---- every test
 

@@ -11,6 +11,7 @@ use Rattle.seeks.specs.declared.seek.Seek.{Seek}
 use Rattle.office_moves.specs.Facts.{SeasonFacts}
 use Rattle.office_moves.specs.Judge.{is_candidate, is_gone, is_withdraw}
 use Rattle.office_moves.specs.State.{State, in_window, last_seat, last_turn, left_by, rows_of, standing_at, view_of}
+use Rattle.round_options.specs.declared.standing.Standing.TheVariants.{Waiting}
 use Rattle.cut_checks.specs.declared.stand.Stand.{Stand}
 
 -- what a replay keeps of the candidate of this id in a state
@@ -21,6 +22,10 @@ stand_of facts state id = record {
   standing = standing_at facts (view_of state id) id state.now;
   seat = last_seat facts state.rounds id;
 }
+
+-- without a seat and without an answer, and waiting
+abbrev pub first_stand : Stand
+first_stand = record { left = Waiting; last = 0; standing = Waiting; seat = None }
 
 -- all of them, along the people
 abbrev pub stands_along : SeasonFacts → State → List Stand

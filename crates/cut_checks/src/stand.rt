@@ -1,7 +1,7 @@
 // The standing of a candidate in the open window of a replay.
-ghost use Rattle.std.specs.Prelude.{◌≡◌, ◌↔◌, ◌+◌, IsTrue, None};
+ghost use Rattle.std.specs.Prelude.{◌≡◌, ◌↔◌, ◌+◌, IsTrue};
 ghost use Rattle.office_moves.specs.Judge.{is_candidate, is_gone};
-ghost use Rattle.cut_checks.specs.Stands.{answered, cut, may_answer, notes};
+ghost use Rattle.cut_checks.specs.Stands.{answered, cut, first_stand, may_answer, notes};
 
 use keeper_mem::AnswerRow;
 use office_base::limits::MOST_TURNS;
@@ -53,12 +53,7 @@ fn may_answer(stand: &Stand, row: AnswerRow) -> bool
 impl Stand {
     /// Without a seat, and waiting for one.
     pub fn first() -> Stand
-        ensures { result ≡ record {
-          left = Standing.Waiting;
-          last = 0;
-          standing = Standing.Waiting;
-          seat = None;
-        } }
+        ensures { result ≡ first_stand }
     {
         Stand {
             left: Standing::Waiting,

@@ -3,19 +3,19 @@ use Rattle.std.proofs.Common.{◌≡◌, ◌<◌, ◌⊎◌, inl, inr, true, Lis
 use Rattle.std.specs.Prelude.{IfOk, Result, is_some, slice_get}
 use Rattle.std.proofs.lemmas.Result.{IfOk-weaker}
 use Rattle.office_base.specs.declared.asks.Ask.{Ask}
-use Rattle.office_base.specs.declared.asks.Ask.TheVariants.{Seat as AskSeat, Why, List as AskList, State as AskState}
+use Rattle.office_base.specs.declared.asks.Ask.TheVariants.{Seat as AskSeat, Why, List as AskList, Round as AskRound, Choices as AskChoices, State as AskState}
 use Rattle.office_base.specs.declared.asks.Request.{Request}
 use Rattle.office_base.specs.declared.asks.Seat.{Seat}
 use Rattle.office_base.specs.declared.person.CandId.{CandId}
 use Rattle.keeper_mem.specs.declared.rows.AllotRow.{AllotRow}
-use Rattle.office_moves.specs.Decided.{decided, decided_by, is_chosen_by, is_known}
-use Rattle.office_moves.specs.Facts.{SeasonFacts, find_programme}
+use Rattle.office_moves.specs.Decided.{decided, is_question}
+use Rattle.office_moves.specs.Facts.{SeasonFacts}
 use Rattle.office_moves.specs.History.{newly}
-use Rattle.office_moves.specs.State.{State, view_of}
+use Rattle.office_moves.specs.State.{State}
 use Rattle.office_moves.specs.declared.decide.Decision.{Decision}
 use Rattle.office_moves.specs.declared.decide.Decision.TheVariants.{Publish}
 use Rattle.seat_matrix.specs.Matrix.{SeatTable}
-use Rattle.office_moves.proofs.Chains.{list_old, seat_old, why_old}
+use Rattle.office_moves.proofs.Decisions.{question_old}
 use Rattle.audit_rules.specs.Papers.{Papers, lists_after, rows_after, seats_told}
 use Rattle.cut_checks.specs.AtCut.{IsAtCut, Setting}
 use Rattle.cut_checks.specs.Comes.{AreLists, CutComesTo, told_by}
@@ -27,32 +27,21 @@ use Rattle.season_audit.specs.declared.auditor.Auditor.{Auditor}
 
 -- ---- the outcome of an ask
 
-by_ask : (facts : SeasonFacts) (request : Request) (ask : Ask) → request.ask ≡ ask → (state : State) → decided facts state request ≡ decided_by facts state request.by ask
-by_ask facts request ask is state = ap (decided_by facts state request.by) is
-
-seat_quiet : (facts : SeasonFacts) (request : Request) (cand : CandId) → request.ask ≡ AskSeat cand → (state : State) → newly state.now (decided facts state request) ≡ None
-seat_quiet facts request cand is state = ap (newly state.now) (by_ask facts request (AskSeat cand) is state) ∙ seat_old state.now (is_known facts cand) request.by cand
-
-why_quiet : (facts : SeasonFacts) (request : Request) (cand : CandId) (code : List ℕ) → request.ask ≡ Why cand code → (state : State) → newly state.now (decided facts state request) ≡ None
-why_quiet facts request cand code is state =
-    ap (newly state.now) (by_ask facts request (Why cand code) is state)
-    ∙ why_old state.now (is_known facts cand) (find_programme facts code) (is_chosen_by facts cand (find_programme facts code)) (length (view_of state cand.0).rounds) request.by cand
-
-list_quiet : (facts : SeasonFacts) (request : Request) (round : ℕ) (code : List ℕ) → request.ask ≡ AskList round code → (state : State) → newly state.now (decided facts state request) ≡ None
-list_quiet facts request round code is state = ap (newly state.now) (by_ask facts request (AskList round code) is state) ∙ list_old state.now (find_programme facts code) (length state.rounds) round
-
-state_quiet : (facts : SeasonFacts) (request : Request) → request.ask ≡ AskState → (state : State) → newly state.now (decided facts state request) ≡ None
-state_quiet facts request is state = ap (newly state.now) (by_ask facts request AskState is state)
-
 -- the ask is a question
 abbrev pub IsQuestion : Ask → Type 0
-IsQuestion ask = ((cand : CandId) × (ask ≡ AskSeat cand)) ⊎ (((cand : CandId) × (code : List ℕ) × (ask ≡ Why cand code)) ⊎ (((round : ℕ) × (code : List ℕ) × (ask ≡ AskList round code)) ⊎ (ask ≡ AskState)))
+IsQuestion ask = ((cand : CandId) × (ask ≡ AskSeat cand)) ⊎ (((cand : CandId) × (code : List ℕ) × (ask ≡ Why cand code)) ⊎ (((round : ℕ) × (code : List ℕ) × (ask ≡ AskList round code))
+    ⊎ (((round : ℕ) × (ask ≡ AskRound round)) ⊎ (((cand : CandId) × (ask ≡ AskChoices cand)) ⊎ (ask ≡ AskState)))))
+
+is_one : (ask : Ask) → IsQuestion ask → is_question ask ≡ true
+is_one ask (inl e) = ap is_question e.1
+is_one ask (inr (inl e)) = ap is_question e.2
+is_one ask (inr (inr (inl e))) = ap is_question e.2
+is_one ask (inr (inr (inr (inl e)))) = ap is_question e.1
+is_one ask (inr (inr (inr (inr (inl e))))) = ap is_question e.1
+is_one ask (inr (inr (inr (inr (inr e))))) = ap is_question e
 
 pub question_quiet : (facts : SeasonFacts) (request : Request) → IsQuestion request.ask → (state : State) → newly state.now (decided facts state request) ≡ None
-question_quiet facts request (inl e) state = seat_quiet facts request e.0 e.1 state
-question_quiet facts request (inr (inl e)) state = why_quiet facts request e.0 e.1 e.2 state
-question_quiet facts request (inr (inr (inl e))) state = list_quiet facts request e.0 e.1 e.2 state
-question_quiet facts request (inr (inr (inr e))) state = state_quiet facts request e state
+question_quiet facts request is state = question_old facts state state.now request.by request.ask (is_one request.ask is)
 
 -- ---- the outcome of a request
 

@@ -7,7 +7,7 @@ use Rattle.std.proofs.lemmas.Bool.Decides.{nat_tests}
 use Rattle.std.proofs.lemmas.List.{length-map}
 use Rattle.std.proofs.lemmas.Option.{same_Some, slice_get-get_or, slice_get-map, slice_get_within}
 use Rattle.office_base.specs.declared.asks.Ask.{Ask}
-use Rattle.office_base.specs.declared.asks.Ask.TheVariants.{Answer, Cut, Seat as AskSeat, Why, List as AskList, State as AskState, Raise}
+use Rattle.office_base.specs.declared.asks.Ask.TheVariants.{Answer, Cut, Seat as AskSeat, Why, List as AskList, Round as AskRound, Choices as AskChoices, State as AskState, Raise}
 use Rattle.office_base.specs.declared.asks.By.{By}
 use Rattle.office_base.specs.declared.asks.By.TheVariants.{Clerk, Candidate, Nobody}
 use Rattle.office_base.specs.declared.asks.Request.{Request}
@@ -26,7 +26,7 @@ use Rattle.office_moves.specs.Judge.{is_clerk, refuse_if}
 use Rattle.office_moves.specs.Raised.{matrix_at}
 use Rattle.office_moves.specs.State.{State, opening, view_of, with_raise, with_round, with_row}
 use Rattle.office_moves.specs.declared.decide.Decision.{Decision}
-use Rattle.office_moves.specs.declared.decide.Decision.TheVariants.{Refuse, NotedAgain, RaisedAgain, CutAgain, Note, Lift, Publish, Finish, TellSeat, TellWhy, TellList, TellState}
+use Rattle.office_moves.specs.declared.decide.Decision.TheVariants.{Refuse, NotedAgain, RaisedAgain, CutAgain, Note, Lift, Publish, Finish, Tell}
 use Rattle.office_moves.specs.declared.decide.RaiseLooks.{RaiseLooks}
 use Rattle.office_moves.specs.declared.moves.Act.{Act}
 use Rattle.office_moves.specs.declared.moves.Act.TheVariants.{Raise as ARaise}
@@ -86,10 +86,7 @@ quiet_holds facts papers state (Note row) e = tt
 quiet_holds facts papers state (Lift row) e = tt
 quiet_holds facts papers state Publish e = absurd (cc)
 quiet_holds facts papers state Finish e = absurd (cc)
-quiet_holds facts papers state (TellSeat cand) e = tt
-quiet_holds facts papers state (TellWhy cand prog) e = tt
-quiet_holds facts papers state (TellList number prog) e = tt
-quiet_holds facts papers state TellState e = tt
+quiet_holds facts papers state (Tell question) e = tt
 
 pub quiet : (facts : SeasonFacts) (papers : Papers) (state : State) (decision : Decision) (auditor : Auditor) → newly state.now decision ≡ None → IsUpTo facts state auditor
     → Passes facts papers state decision auditor
@@ -364,6 +361,8 @@ counts_are rounds now (request ∷ script) = by_ask (λ k. counts_are rounds k s
     by_ask rest Clerk (AskSeat cand) = rest now
     by_ask rest Clerk (Why cand code) = rest now
     by_ask rest Clerk (AskList round code) = rest now
+    by_ask rest Clerk (AskRound round) = rest now
+    by_ask rest Clerk (AskChoices cand) = rest now
     by_ask rest Clerk AskState = rest now
     by_ask rest Clerk (Raise window code step seats) = rest now
     by_ask rest (Candidate id) (Cut window) = rest now
@@ -371,6 +370,8 @@ counts_are rounds now (request ∷ script) = by_ask (λ k. counts_are rounds k s
     by_ask rest (Candidate id) (AskSeat cand) = rest now
     by_ask rest (Candidate id) (Why cand code) = rest now
     by_ask rest (Candidate id) (AskList round code) = rest now
+    by_ask rest (Candidate id) (AskRound round) = rest now
+    by_ask rest (Candidate id) (AskChoices cand) = rest now
     by_ask rest (Candidate id) AskState = rest now
     by_ask rest (Candidate id) (Raise window code step seats) = rest now
     by_ask rest Nobody (Cut window) = rest now
@@ -378,6 +379,8 @@ counts_are rounds now (request ∷ script) = by_ask (λ k. counts_are rounds k s
     by_ask rest Nobody (AskSeat cand) = rest now
     by_ask rest Nobody (Why cand code) = rest now
     by_ask rest Nobody (AskList round code) = rest now
+    by_ask rest Nobody (AskRound round) = rest now
+    by_ask rest Nobody (AskChoices cand) = rest now
     by_ask rest Nobody AskState = rest now
     by_ask rest Nobody (Raise window code step seats) = rest now
 

@@ -7,12 +7,11 @@ use Rattle.office_moves.specs.Decided.{decided}
 use Rattle.office_moves.specs.Facts.{SeasonFacts}
 use Rattle.office_moves.specs.State.{State, opening}
 use Rattle.office_moves.specs.declared.decide.Decision.{Decision}
-use Rattle.office_moves.specs.declared.decide.Decision.TheVariants.{Refuse, NotedAgain, RaisedAgain, CutAgain, Note, Lift, Publish, Finish, TellSeat, TellWhy, TellList, TellState}
-use Rattle.audit_rules.specs.Laws.{SoundIsFair}
+use Rattle.office_moves.specs.declared.decide.Decision.TheVariants.{Refuse, NotedAgain, RaisedAgain, CutAgain, Note, Lift, Publish, Finish, Tell}
+use Rattle.audit_rules.specs.Laws.{EveryTextIsTaken}
 use Rattle.audit_rules.specs.Papers.{Papers}
 use Rattle.audit_rules.specs.Replay.{replayed, taken}
 use Rattle.audit_rules.proofs.FairSeasons.{finishes_last, publishes_early, replay_counts}
-use Rattle.audit_laws.specs.Laws.{EveryTextIsFair, EveryTextIsTaken}
 
 -- a decision leaves the open window, or is a cut of it
 moves_on : (facts : SeasonFacts) (papers : Papers) (state : State) (decision : Decision)
@@ -25,10 +24,7 @@ moves_on facts papers state (Note row) = inl refl
 moves_on facts papers state (Lift row) = inl refl
 moves_on facts papers state Publish = inr (refl, inl refl)
 moves_on facts papers state Finish = inr (refl, inr refl)
-moves_on facts papers state (TellSeat cand) = inl refl
-moves_on facts papers state (TellWhy cand prog) = inl refl
-moves_on facts papers state (TellList number prog) = inl refl
-moves_on facts papers state TellState = inl refl
+moves_on facts papers state (Tell question) = inl refl
 
 -- a request cuts this window, from a state on
 record CutsIt (facts : SeasonFacts) (papers : Papers) (state : State) (script : List Request) (window : ℕ) : Type 0 where
@@ -89,12 +85,3 @@ every_text_is_taken facts script papers whole = record {
         ];
       };
 }
-
-pub every_text_is_fair : SoundIsFair → EveryTextIsTaken → EveryTextIsFair
-every_text_is_fair fair taken_all facts script papers rounds sound whole verdict =
-    let are = fair facts script papers rounds sound whole verdict in
-    let all = taken_all facts script papers whole in
-    record {
-      rounds = λ number less. let cut = all.rounds number less in (cut, are.rounds cut.at cut.request cut.there cut.decides);
-      finals = λ less. let cut = all.finals less in (cut, are.finals cut.at cut.request cut.there cut.decides);
-    }
