@@ -39,7 +39,7 @@ AreFaultyDossier bytes = (fault : DossierFault) × HasDossierFault bytes fault
 
 -- ---- the output
 
--- A dossier has this verdict; if it says that no clause is broken, every round is fair, and nobody falls.
+-- A dossier has this verdict; if it says that no clause is broken, every text has a fair round, nobody has a justified claim, and nobody falls.
 pub record HasVerdict (dossier : Dossier) (verdict : Verdict) : Type 0 where
   pub is : IsVerdict (facts_of dossier.season) dossier.script (papers_in dossier) verdict
   pub fair : (rounds : ℕ) → verdict ≡ Sound rounds → AreFairRounds (facts_of dossier.season) dossier.script (papers_in dossier)
@@ -72,12 +72,13 @@ IsDossierFaultLine bytes line = (fault : DossierFault) × HasDossierFault bytes 
 abbrev pub audit_answers : Answers
 audit_answers = record { IsInput = AreDossier; IsFaulty = AreFaultyDossier; IsOutput = IsAuditOutput; IsFaultLine = IsDossierFaultLine }
 
--- Bytes that are a dossier have no fault as one; a verdict's line comes only of a dossier, a line of a fault only of
--- bytes with one, and at most one such line.
+-- Bytes that are a dossier have no fault as one, and one line of a verdict at most. Such a line comes only of a dossier,
+-- a line of a fault only of bytes with one, and at most one such line.
 pub record HaveOneAudit (bytes : List ℕ) : Type 0 where
   pub apart : AreDossier bytes → AreFaultyDossier bytes → ⊥
   pub of_input : (output : List ℕ) → IsAuditOutput bytes output → AreDossier bytes
   pub of_fault : (line : List ℕ) → IsDossierFaultLine bytes line → AreFaultyDossier bytes
+  pub one_output : (output other : List ℕ) → IsAuditOutput bytes output → IsAuditOutput bytes other → output ≡ other
   pub one_line : (line other : List ℕ) → IsDossierFaultLine bytes line → IsDossierFaultLine bytes other → line ≡ other
 
 -- ---- the answer

@@ -2,9 +2,10 @@
 ghost use Rattle.std.specs.Prelude.{ℕ, List};
 ghost use Rattle.audit_command.specs.Audit.{HaveOneAudit};
 
-/// Shows that bytes with a fault are no dossier, and that at most one line reports that fault.
+/// Shows that bytes with a fault are no dossier. At most one line reports that fault, and at most one the verdict on a dossier.
 pub fn one_audit()
     ensures { (bytes : List ℕ) → HaveOneAudit bytes }
 {
     dossier_file::laws::one_dossier();
+    one_verdict::laws::one_verdict_of_bytes();
 }

@@ -9,8 +9,8 @@ use Rattle.season_file.specs.Season.{IsSeason}
 use Rattle.office_moves.specs.Facts.{SeasonFacts}
 use Rattle.office_moves.specs.Season.{facts_of}
 use Rattle.office_moves.specs.State.{State}
-use Rattle.dossier_file.specs.Dossier.{papers_of}
-use Rattle.dossier_file.specs.Laws.{TextsAreOne}
+use Rattle.dossier_file.specs.Dossier.{IsDossier, papers_of}
+use Rattle.dossier_file.specs.Laws.{HaveOneDossier, TextsAreOne}
 use Rattle.dossier_file.specs.Papers.{AreDuePapers}
 use Rattle.dossier_file.specs.declared.dossier.Dossier.{Dossier}
 use Rattle.dossier_file.specs.declared.papers.Papers.{Papers as Read}
@@ -22,7 +22,6 @@ use Rattle.best_rounds.specs.Laws.{OneBestVerdict}
 use Rattle.best_rounds.specs.declared.verdict.BestVerdict.{BestVerdict}
 use Rattle.best_rounds.specs.declared.verdict.BestVerdict.TheVariants.{Best, NotBest}
 use Rattle.one_output.specs.Laws.{OneKeptSeason, SayTheSame}
-use Rattle.one_verdict.specs.Laws.{AreOf}
 use Rattle.kept_outputs.proofs.Tokens.{kept_so, same_season}
 use Rattle.dossier_file.proofs.CutLemmas.{one_cut}
 
@@ -53,6 +52,13 @@ best_too facts holders script papers (NotBest round cand) is = record {
 
 -- ---- the bytes
 
+-- The laws of the layers below.
+pub record Laws : Type 0 where
+  pub seasons : OneKeptSeason
+  pub dossiers : (bytes : List ℕ) → HaveOneDossier bytes
+  pub texts : TextsAreOne
+  pub best : OneBestVerdict
+
 -- What two dossiers of the same bytes are.
 pub record AreSameDossier (dossier other : Dossier) : Type 0 where
   pub season : SayTheSame (facts_of dossier.season) (facts_of other.season)
@@ -63,31 +69,31 @@ pub record AreSameDossier (dossier other : Dossier) : Type 0 where
 abbrev audited_papers : Read → Papers
 audited_papers papers = record { rounds = map (λ read. read.rows) papers.rounds; lists = map (λ read. read.programme) papers.lists; finals = option_map (λ read. read.rows) papers.last }
 
-same_dossier : OneKeptSeason → TextsAreOne → (bytes : List ℕ) (dossier other : Dossier) → AreOf bytes dossier → AreOf bytes other → AreSameDossier dossier other
-same_dossier seasons texts bytes dossier other first second =
-    let cut = one_cut bytes first.read.bundle first.read.requests first.read.published second.read.bundle second.read.requests second.read.published first.read.cut second.read.cut in
-    let same = seasons second.read.bundle dossier.season other.season (subst (λ (b : List ℕ). IsSeason b dossier.season) cut.bundles first.read.of_season) second.read.of_season in
-    let script : dossier.script ≡ other.script = (let a = first.read.of_script.1 in let b = second.read.of_script.1 in let e = cut.scripts in cc) in
-    let by_matrix = subst (λ (t : SeatTable). AreDuePapers t other.season.register.people other.season.rounds other.script second.read.published (papers_of other)) (sym same.matrix) second.read.of_papers in
-    let by_people = subst (λ (p : List Person). AreDuePapers dossier.season.matrix p other.season.rounds other.script second.read.published (papers_of other)) (sym same.people) by_matrix in
-    let by_rounds = subst (λ (n : ℕ). AreDuePapers dossier.season.matrix dossier.season.register.people n other.script second.read.published (papers_of other)) (sym same.rounds) by_people in
-    let by_script = subst (λ (s : List Request). AreDuePapers dossier.season.matrix dossier.season.register.people dossier.season.rounds s second.read.published (papers_of other)) (sym script) by_rounds in
+same_dossier : Laws → (bytes : List ℕ) (dossier other : Dossier) → IsDossier bytes dossier → IsDossier bytes other → AreSameDossier dossier other
+same_dossier laws bytes dossier other first second =
+    let cut = one_cut bytes first.bundle first.requests first.published second.bundle second.requests second.published first.cut second.cut in
+    let same = laws.seasons second.bundle dossier.season other.season (subst (λ (b : List ℕ). IsSeason b dossier.season) cut.bundles first.of_season) second.of_season in
+    let script : dossier.script ≡ other.script = (let a = first.of_script.1 in let b = second.of_script.1 in let e = cut.scripts in cc) in
+    let by_matrix = subst (λ (t : SeatTable). AreDuePapers t other.season.register.people other.season.rounds other.script second.published (papers_of other)) (sym same.matrix) second.of_papers in
+    let by_people = subst (λ (p : List Person). AreDuePapers dossier.season.matrix p other.season.rounds other.script second.published (papers_of other)) (sym same.people) by_matrix in
+    let by_rounds = subst (λ (n : ℕ). AreDuePapers dossier.season.matrix dossier.season.register.people n other.script second.published (papers_of other)) (sym same.rounds) by_people in
+    let by_script = subst (λ (s : List Request). AreDuePapers dossier.season.matrix dossier.season.register.people dossier.season.rounds s second.published (papers_of other)) (sym script) by_rounds in
     let by_text = subst (λ (t : List ℕ). AreDuePapers dossier.season.matrix dossier.season.register.people dossier.season.rounds dossier.script t (papers_of other)) (sym cut.papers) by_script in
-    let few = first.sound.rounds.1 in
+    let few = dossier.season.few_rounds in
     let papers : papers_of dossier ≡ papers_of other =
-    texts dossier.season.matrix dossier.season.register.people dossier.season.rounds dossier.script first.read.published (papers_of dossier) (papers_of other) (omega (arith, few)) first.readable
-    first.read.of_papers by_text in
+    laws.texts dossier.season.matrix dossier.season.register.people dossier.season.rounds dossier.script first.published (papers_of dossier) (papers_of other) (omega (arith, few))
+    ((laws.dossiers bytes).readable dossier.season dossier.script (papers_of dossier) first) first.of_papers by_text in
     record { season = same; script = script; papers = ap audited_papers papers }
 
 -- The same bytes have one second verdict.
-pub one_best : OneKeptSeason → TextsAreOne → OneBestVerdict → (bytes : List ℕ) (dossier other : Dossier) (verdict more : BestVerdict) → AreOf bytes dossier → AreOf bytes other
+pub one_best : Laws → (bytes : List ℕ) (dossier other : Dossier) (verdict more : BestVerdict) → IsDossier bytes dossier → IsDossier bytes other
     → IsBestVerdict (facts_of dossier.season) dossier.script (papers_in dossier) verdict → IsBestVerdict (facts_of other.season) other.script (papers_in other) more → verdict ≡ more
-one_best seasons texts one bytes dossier other verdict more first second is its =
-    let same = same_dossier seasons texts bytes dossier other first second in
+one_best laws bytes dossier other verdict more first second is its =
+    let same = same_dossier laws bytes dossier other first second in
     let facts = facts_of dossier.season in
     let by_season : IsBestVerdict (kept_so facts (facts_of other.season).holders) other.script (papers_in other) more =
     subst (λ (f : SeasonFacts). IsBestVerdict f other.script (papers_in other) more) (sym (same_season facts (facts_of other.season) same.season)) its in
     let by_facts = best_too facts (facts_of other.season).holders other.script (papers_in other) more by_season in
     let by_script = subst (λ (s : List Request). IsBestVerdict facts s (papers_in other) more) (sym same.script) by_facts in
     let by_papers = subst (λ (p : Papers). IsBestVerdict facts dossier.script p more) (sym same.papers) by_script in
-    one facts dossier.script (papers_in dossier) verdict more is by_papers
+    laws.best facts dossier.script (papers_in dossier) verdict more is by_papers

@@ -6,7 +6,6 @@ pub fn audits_are_one()
     ensures { AuditsAreOne }
 {
     audit_command::laws::one_audit();
-    one_verdict::laws::one_verdict_of_bytes();
 }
 
 /// So do two of `audit best`.
@@ -15,7 +14,8 @@ pub fn best_audits_are_one()
 {
     audit_command::laws::one_audit();
     one_verdict::laws::one_verdict_of_bytes();
-    one_output::laws::one_kept_season();
+    one_output::laws::one_season();
+    dossier_file::laws::one_dossier();
     dossier_file::laws::texts_are_one();
     best_rounds::laws::one_best_verdict();
 }

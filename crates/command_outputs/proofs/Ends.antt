@@ -1,40 +1,35 @@
 -- A command writes the same for the same input.
-use Rattle.std.proofs.Common.{◌≡◌, inl, inr, ℕ, true, List, Some, sym, ap, ◌∙◌}
+use Rattle.std.proofs.Common.{◌≡◌, inl, inr, ℕ, true, List, Some, sym, ap, ◌∙◌, subst}
 use Rattle.office_base.specs.declared.asks.Request.{Request}
 use Rattle.keeper_mem.specs.Tables.{Tables}
-use Rattle.season_file.specs.Season.{content_of}
+use Rattle.season_file.specs.Season.{IsSeasonWith, content_of}
 use Rattle.season_file.specs.declared.season.Season.{Season}
 use Rattle.season_generator.specs.Bundle.{generated}
 use Rattle.season_generator.specs.Summary.{summary_text}
 use Rattle.office_moves.specs.Season.{facts_of}
 use Rattle.script_runs.specs.Tally.{tally_of}
 use Rattle.command_answers.specs.Answers.{Answers, HaveOneAnswer}
+use Rattle.command_answers.specs.Status.{IsAnswered}
 use Rattle.command_answers.specs.Writes.{IsTextOf, IsWantText, Writes}
 use Rattle.command_answers.specs.declared.status.Status.{Status}
-use Rattle.command_answers.specs.declared.status.Status.TheVariants.{Ok as Done, Usage, BadInput, ReadFault, WriteFault, KeeperFault, OutOfMemory, DoorFault, Differs, Broken}
-use Rattle.season_commands.specs.Check.{IsBundleFaultLine, check_answers}
+use Rattle.command_answers.specs.declared.status.Status.TheVariants.{Ok as Done, Usage, BadInput, Differs, Broken}
+use Rattle.command_answers.proofs.Answered.{by_answer}
+use Rattle.season_commands.specs.Check.{IsBundleFaultLine, IsLeftBundle, check_answers}
 use Rattle.season_commands.specs.Generated.{EndsMade, IsCountedText, summary_of}
 use Rattle.season_commands.specs.Run.{EndsSeason, IsUnreadText}
-use Rattle.one_output.specs.Laws.{Give, OneOutput, OneTally}
-use Rattle.command_outputs.specs.Laws.{ChecksAreOne, GeneratedRunsAreOne, IsAnswered, RunsAreOne}
+use Rattle.one_output.specs.Laws.{OneOutput, OneTally}
+use Rattle.command_outputs.specs.Laws.{ChecksAreOne, GeneratedRunsAreOne, RunsAreOne}
 use Rattle.command_outputs.proofs.Written.{left_has, whole}
 
 -- ---- one text
 
 one_text : (answers : Answers) (bytes : List ℕ) → HaveOneAnswer answers bytes → (status : Status) (output again : List ℕ) → IsAnswered status → IsTextOf answers (Some bytes) status output
     → IsTextOf answers (Some bytes) status again → output ≡ again
-one_text answers bytes one Done output again answered first second =
-    one.one_output output again (left_has answers.IsOutput bytes output first) (left_has answers.IsOutput bytes again second)
-one_text answers bytes one Usage output again answered first second = absurd first
-one_text answers bytes one BadInput output again answered first second =
-    one.one_line output again (left_has answers.IsFaultLine bytes output first) (left_has answers.IsFaultLine bytes again second)
-one_text answers bytes one ReadFault output again answered first second = absurd answered
-one_text answers bytes one WriteFault output again answered first second = absurd answered
-one_text answers bytes one KeeperFault output again answered first second = absurd answered
-one_text answers bytes one OutOfMemory output again answered first second = absurd answered
-one_text answers bytes one DoorFault output again answered first second = absurd answered
-one_text answers bytes one Differs output again answered first second = absurd first
-one_text answers bytes one Broken output again answered first second = absurd first
+one_text answers bytes one status output again answered =
+    by_answer (λ s. IsTextOf answers (Some bytes) s output → IsTextOf answers (Some bytes) s again → output ≡ again)
+    (λ first second. one.one_output output again (left_has answers.IsOutput bytes output first) (left_has answers.IsOutput bytes again second)) (λ first second. absurd first)
+    (λ first second. one.one_line output again (left_has answers.IsFaultLine bytes output first) (left_has answers.IsFaultLine bytes again second)) (λ first second. absurd first)
+    (λ first second. absurd first) status answered
 
 pub checks_are_one : ((bytes : List ℕ) → HaveOneAnswer check_answers bytes) → ChecksAreOne
 checks_are_one one bytes output again status answered first second =
@@ -44,60 +39,55 @@ checks_are_one one bytes output again status answered first second =
 -- ---- a season
 
 seasons_are_one : OneOutput → (bytes : List ℕ) (season other : Season) (script more : List Request) (before after others later : Tables) (status : Status) (output again : List ℕ)
-    → IsAnswered status → Give true bytes season script → Give true bytes other more → EndsSeason season script before after status output → EndsSeason other more others later status again
-    → output ≡ again
-seasons_are_one one bytes season other script more before after others later Done output again answered give give' (inl first) second = absurd (whole _ Done output tt first.0)
-seasons_are_one one bytes season other script more before after others later Done output again answered give give' (inr first) (inl second) = absurd (whole _ Done again tt second.0)
-seasons_are_one one bytes season other script more before after others later Done output again answered give give' (inr first) (inr second) =
-    (one true bytes season other script more output again first.1.0 second.1.0 give give' first.1.1.answers second.1.1.answers).0
-seasons_are_one one bytes season other script more before after others later Usage output again answered give give' (inl first) second = absurd (whole _ Usage output tt first.0)
-seasons_are_one one bytes season other script more before after others later Usage output again answered give give' (inr first) second = absurd first.1
-seasons_are_one one bytes season other script more before after others later BadInput output again answered give give' (inl first) (inl second) =
-    let a = whole _ BadInput output tt first.0 in
-    let b = whole _ BadInput again tt second.0 in
-    a.1 ∙ sym b.1
-seasons_are_one one bytes season other script more before after others later BadInput output again answered give give' (inr first) second = absurd first.1
-seasons_are_one one bytes season other script more before after others later BadInput output again answered give give' (inl first) (inr second) = absurd second.1
-seasons_are_one one bytes season other script more before after others later ReadFault output again answered give give' first second = absurd answered
-seasons_are_one one bytes season other script more before after others later WriteFault output again answered give give' first second = absurd answered
-seasons_are_one one bytes season other script more before after others later KeeperFault output again answered give give' first second = absurd answered
-seasons_are_one one bytes season other script more before after others later OutOfMemory output again answered give give' first second = absurd answered
-seasons_are_one one bytes season other script more before after others later DoorFault output again answered give give' first second = absurd answered
-seasons_are_one one bytes season other script more before after others later Differs output again answered give give' (inl first) second = absurd (whole _ Differs output tt first.0)
-seasons_are_one one bytes season other script more before after others later Differs output again answered give give' (inr first) second = absurd first.1
-seasons_are_one one bytes season other script more before after others later Broken output again answered give give' (inl first) second = absurd (whole _ Broken output tt first.0)
-seasons_are_one one bytes season other script more before after others later Broken output again answered give give' (inr first) second = absurd first.1
+    → IsAnswered status → IsSeasonWith true bytes season script → IsSeasonWith true bytes other more → EndsSeason season script before after status output
+    → EndsSeason other more others later status again → output ≡ again
+seasons_are_one one bytes season other script more before after others later status output again answered give give' = by_answer Same done usage bad differs broken status answered
+  where
+    Same : Status → Type 0
+    Same s = EndsSeason season script before after s output → EndsSeason other more others later s again → output ≡ again
+
+    done : Same Done
+    done (inl first) second = absurd (whole _ Done output tt first.0)
+    done (inr first) (inl second) = absurd (whole _ Done again tt second.0)
+    done (inr first) (inr second) = (one true bytes season other script more output again first.1.0 second.1.0 give give' first.1.1.answers second.1.1.answers).0
+
+    usage : Same Usage
+    usage (inl first) second = absurd (whole _ Usage output tt first.0)
+    usage (inr first) second = absurd first.1
+
+    bad : Same BadInput
+    bad (inl first) (inl second) = (let a = whole _ BadInput output tt first.0 in let b = whole _ BadInput again tt second.0 in a.1 ∙ sym b.1)
+    bad (inr first) second = absurd first.1
+    bad (inl first) (inr second) = absurd second.1
+
+    differs : Same Differs
+    differs (inl first) second = absurd (whole _ Differs output tt first.0)
+    differs (inr first) second = absurd first.1
+
+    broken : Same Broken
+    broken (inl first) second = absurd (whole _ Broken output tt first.0)
+    broken (inr first) second = absurd first.1
 
 -- ---- where nothing is read
 
 unread_one : ((bytes : List ℕ) → HaveOneAnswer check_answers bytes) → (bytes : List ℕ) (status : Status) (output again : List ℕ) → IsAnswered status → IsUnreadText (Some bytes) status output
     → IsUnreadText (Some bytes) status again → output ≡ again
-unread_one one bytes Done output again answered first second = absurd first
-unread_one one bytes Usage output again answered first second = absurd first
-unread_one one bytes BadInput output again answered first second =
-    (one bytes).one_line output again (left_has IsBundleFaultLine bytes output first) (left_has IsBundleFaultLine bytes again second)
-unread_one one bytes ReadFault output again answered first second = absurd answered
-unread_one one bytes WriteFault output again answered first second = absurd answered
-unread_one one bytes KeeperFault output again answered first second = absurd answered
-unread_one one bytes OutOfMemory output again answered first second = absurd answered
-unread_one one bytes DoorFault output again answered first second = absurd answered
-unread_one one bytes Differs output again answered first second = absurd first
-unread_one one bytes Broken output again answered first second = absurd first
+unread_one one bytes status output again answered =
+    by_answer (λ s. IsUnreadText (Some bytes) s output → IsUnreadText (Some bytes) s again → output ≡ again) (λ first second. absurd first) (λ first second. absurd first)
+    (λ first second. (one bytes).one_line output again (left_has IsBundleFaultLine bytes output first) (left_has IsBundleFaultLine bytes again second)) (λ first second. absurd first)
+    (λ first second. absurd first) status answered
+
+-- the season that bytes left give, the bytes give
+left_gives : (bytes : List ℕ) (season : Season) (script : List Request) → IsLeftBundle (Some bytes) season script → IsSeasonWith true bytes season script
+left_gives bytes season script left = subst (λ (b : List ℕ). IsSeasonWith true b season script) left.1 left.2
 
 -- bytes that give a season are not refused
 unread_faulty : ((bytes : List ℕ) → HaveOneAnswer check_answers bytes) → (bytes : List ℕ) (status : Status) (output : List ℕ) → IsAnswered status → IsUnreadText (Some bytes) status output
-    → (season : Season) (script : List Request) → Give true bytes season script → ⊥
-unread_faulty one bytes Done output answered text season script give = text
-unread_faulty one bytes Usage output answered text season script give = text
-unread_faulty one bytes BadInput output answered text season script give =
-    (one bytes).apart (content_of season give.read.row, script, give.read.given) ((one bytes).of_fault output (left_has IsBundleFaultLine bytes output text))
-unread_faulty one bytes ReadFault output answered text season script give = answered
-unread_faulty one bytes WriteFault output answered text season script give = answered
-unread_faulty one bytes KeeperFault output answered text season script give = answered
-unread_faulty one bytes OutOfMemory output answered text season script give = answered
-unread_faulty one bytes DoorFault output answered text season script give = answered
-unread_faulty one bytes Differs output answered text season script give = text
-unread_faulty one bytes Broken output answered text season script give = text
+    → (season : Season) (script : List Request) → IsSeasonWith true bytes season script → ⊥
+unread_faulty one bytes status output answered text season script give =
+    by_answer (λ s. IsUnreadText (Some bytes) s output → ⊥) (λ read. read) (λ read. read)
+    (λ read. (one bytes).apart (content_of season give.row, script, give.given) ((one bytes).of_fault output (left_has IsBundleFaultLine bytes output read))) (λ read. read) (λ read. read)
+    status answered text
 
 -- ---- the commands
 
@@ -105,57 +95,53 @@ pub runs_are_one : ((bytes : List ℕ) → HaveOneAnswer check_answers bytes) �
 runs_are_one one outputs bytes output again before after others later status answered (inl first) (inl second) =
     unread_one one bytes status output again answered (whole (IsUnreadText (Some bytes)) status output answered first.0) (whole (IsUnreadText (Some bytes)) status again answered second.0)
 runs_are_one one outputs bytes output again before after others later status answered (inl first) (inr second) =
-    absurd (unread_faulty one bytes status output answered (whole (IsUnreadText (Some bytes)) status output answered first.0) second.0 second.1 second.2)
+    absurd (unread_faulty one bytes status output answered (whole (IsUnreadText (Some bytes)) status output answered first.0) second.0 second.1 (left_gives bytes second.0 second.1 second.2))
 runs_are_one one outputs bytes output again before after others later status answered (inr first) (inl second) =
-    absurd (unread_faulty one bytes status again answered (whole (IsUnreadText (Some bytes)) status again answered second.0) first.0 first.1 first.2)
+    absurd (unread_faulty one bytes status again answered (whole (IsUnreadText (Some bytes)) status again answered second.0) first.0 first.1 (left_gives bytes first.0 first.1 first.2))
 runs_are_one one outputs bytes output again before after others later status answered (inr first) (inr second) =
-    seasons_are_one outputs bytes first.0 second.0 first.1 second.1 before after others later status output again answered first.2 second.2 first.3 second.3
+    seasons_are_one outputs bytes first.0 second.0 first.1 second.1 before after others later status output again answered (left_gives bytes first.0 first.1 first.2)
+    (left_gives bytes second.0 second.1 second.2) first.3 second.3
 
 -- ---- a generated season
 
 made_are_one : OneTally → (n seed : ℕ) (season other : Season) (script more : List Request) (before after others later : Tables) (status : Status) (output again : List ℕ) → IsAnswered status
-    → Give true (generated n seed) season script → Give true (generated n seed) other more → EndsMade n seed season script before after status output
+    → IsSeasonWith true (generated n seed) season script → IsSeasonWith true (generated n seed) other more → EndsMade n seed season script before after status output
     → EndsMade n seed other more others later status again → output ≡ again
-made_are_one one n seed season other script more before after others later Done output again answered give give' (inl first) second = absurd (whole _ Done output tt first.0)
-made_are_one one n seed season other script more before after others later Done output again answered give give' (inr first) (inl second) = absurd (whole _ Done again tt second.0)
-made_are_one one n seed season other script more before after others later Done output again answered give give' (inr first) (inr second) =
-    let a = whole (IsCountedText n seed (facts_of season) script after) Done output tt first.1 in
-    let b = whole (IsCountedText n seed (facts_of other) more later) Done again tt second.1 in
-    let same = one true (generated n seed) season other script more a.2.0 b.2.0 a.0 b.0 give give' a.2.2.moves b.2.2.moves a.2.1 b.2.1 in
-    let tally : a.1 ≡ b.1 = a.2.3 ∙ (ap tally_of same.0 ∙ sym b.2.3) in
-    a.3 ∙ (ap (λ t. summary_text (summary_of n seed t a.0)) tally ∙ (ap (λ st. summary_text (summary_of n seed b.1 st)) same.1 ∙ sym b.3))
-made_are_one one n seed season other script more before after others later Usage output again answered give give' (inl first) second = absurd (whole _ Usage output tt first.0)
-made_are_one one n seed season other script more before after others later Usage output again answered give give' (inr first) second = absurd (whole _ Usage output tt first.1)
-made_are_one one n seed season other script more before after others later BadInput output again answered give give' (inl first) (inl second) =
-    let a = whole _ BadInput output tt first.0 in
-    let b = whole _ BadInput again tt second.0 in
-    a.1 ∙ sym b.1
-made_are_one one n seed season other script more before after others later BadInput output again answered give give' (inr first) second = absurd (whole _ BadInput output tt first.1)
-made_are_one one n seed season other script more before after others later BadInput output again answered give give' (inl first) (inr second) = absurd (whole _ BadInput again tt second.1)
-made_are_one one n seed season other script more before after others later ReadFault output again answered give give' first second = absurd answered
-made_are_one one n seed season other script more before after others later WriteFault output again answered give give' first second = absurd answered
-made_are_one one n seed season other script more before after others later KeeperFault output again answered give give' first second = absurd answered
-made_are_one one n seed season other script more before after others later OutOfMemory output again answered give give' first second = absurd answered
-made_are_one one n seed season other script more before after others later DoorFault output again answered give give' first second = absurd answered
-made_are_one one n seed season other script more before after others later Differs output again answered give give' (inl first) second = absurd (whole _ Differs output tt first.0)
-made_are_one one n seed season other script more before after others later Differs output again answered give give' (inr first) second = absurd (whole _ Differs output tt first.1)
-made_are_one one n seed season other script more before after others later Broken output again answered give give' (inl first) second = absurd (whole _ Broken output tt first.0)
-made_are_one one n seed season other script more before after others later Broken output again answered give give' (inr first) second = absurd (whole _ Broken output tt first.1)
+made_are_one one n seed season other script more before after others later status output again answered give give' = by_answer Same done usage bad differs broken status answered
+  where
+    Same : Status → Type 0
+    Same s = EndsMade n seed season script before after s output → EndsMade n seed other more others later s again → output ≡ again
+
+    done : Same Done
+    done (inl first) second = absurd (whole _ Done output tt first.0)
+    done (inr first) (inl second) = absurd (whole _ Done again tt second.0)
+    done (inr first) (inr second) =
+        let a = whole (IsCountedText n seed (facts_of season) script after) Done output tt first.1 in
+        let b = whole (IsCountedText n seed (facts_of other) more later) Done again tt second.1 in
+        let same = one true (generated n seed) season other script more a.2.0 b.2.0 a.0 b.0 give give' a.2.2.moves b.2.2.moves a.2.1 b.2.1 in
+        let tally : a.1 ≡ b.1 = a.2.3 ∙ (ap tally_of same.0 ∙ sym b.2.3) in
+        a.3 ∙ (ap (λ t. summary_text (summary_of n seed t a.0)) tally ∙ (ap (λ st. summary_text (summary_of n seed b.1 st)) same.1 ∙ sym b.3))
+
+    usage : Same Usage
+    usage (inl first) second = absurd (whole _ Usage output tt first.0)
+    usage (inr first) second = absurd (whole _ Usage output tt first.1)
+
+    bad : Same BadInput
+    bad (inl first) (inl second) = (let a = whole _ BadInput output tt first.0 in let b = whole _ BadInput again tt second.0 in a.1 ∙ sym b.1)
+    bad (inr first) second = absurd (whole _ BadInput output tt first.1)
+    bad (inl first) (inr second) = absurd (whole _ BadInput again tt second.1)
+
+    differs : Same Differs
+    differs (inl first) second = absurd (whole _ Differs output tt first.0)
+    differs (inr first) second = absurd (whole _ Differs output tt first.1)
+
+    broken : Same Broken
+    broken (inl first) second = absurd (whole _ Broken output tt first.0)
+    broken (inr first) second = absurd (whole _ Broken output tt first.1)
 
 want_only : (status : Status) (output : List ℕ) → IsAnswered status → Writes IsWantText status output → ⊥
-want_only status output answered writes = by status answered (whole IsWantText status output answered writes)
-  where
-    by : (status : Status) → IsAnswered status → IsWantText status output → ⊥
-    by Done answered text = text
-    by Usage answered text = text
-    by BadInput answered text = text
-    by ReadFault answered text = text
-    by WriteFault answered text = text
-    by KeeperFault answered text = text
-    by OutOfMemory answered text = answered
-    by DoorFault answered text = text
-    by Differs answered text = text
-    by Broken answered text = text
+want_only status output answered writes =
+    by_answer (λ s. IsWantText s output → ⊥) (λ text. text) (λ text. text) (λ text. text) (λ text. text) (λ text. text) status answered (whole IsWantText status output answered writes)
 
 pub generated_runs_are_one : OneTally → GeneratedRunsAreOne
 generated_runs_are_one one n seed output again before after others later status answered (inl first) second = absurd (want_only status output answered first.0)

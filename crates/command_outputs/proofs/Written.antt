@@ -1,9 +1,9 @@
 -- What was written with an answered status, and what bytes that were left have.
 use Rattle.std.proofs.Common.{inl, inr, ℕ, List, Some, subst}
 use Rattle.command_answers.specs.Answers.{HasLeft}
+use Rattle.command_answers.specs.Status.{IsAnswered}
 use Rattle.command_answers.specs.Writes.{Writes}
 use Rattle.command_answers.specs.declared.status.Status.{Status}
-use Rattle.command_outputs.specs.Laws.{IsAnswered}
 
 -- what was written of an answer is its whole text
 pub whole : (IsText : Status → List ℕ → Type 0) (status : Status) (output : List ℕ) → IsAnswered status → Writes IsText status output → IsText status output

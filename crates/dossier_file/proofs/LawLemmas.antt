@@ -1,23 +1,34 @@
 -- Bytes are a dossier or have one first fault.
-use Rattle.std.proofs.Common.{◌≡◌, ◌<◌, ◌≤◌, ◌-◌, inl, inr, ℕ, Bool, false, List, [], ◌++◌, Err, refl, sym, ap, subst, ◌∙◌, arith, append_assoc}
+use Rattle.std.proofs.Common.{◌≡◌, ◌<◌, ◌≤◌, ◌-◌, inl, inr, ℕ, Bool, true, false, List, [], ◌++◌, Option, Some, Err, refl, sym, ap, subst, ◌∙◌, arith, append_assoc}
 use Rattle.std.proofs.lemmas.Bool.{cases_lt}
+use Rattle.std.proofs.lemmas.Option.{slice_get-map}
+use Rattle.std.specs.Option.{unwrap_or}
+use Rattle.std.specs.Prelude.{option_map, slice_get}
 use Rattle.std.specs.Str.{IsUtf8}
+use Rattle.office_base.specs.Codes.{is_code}
 use Rattle.office_base.specs.declared.asks.Request.{Request}
 use Rattle.office_base.specs.declared.person.Person.{Person}
 use Rattle.section_rows.specs.Rows.{rows_of}
 use Rattle.request_rows.specs.Requests.{script_of}
-use Rattle.seat_matrix.specs.Matrix.{SeatTable}
-use Rattle.season_file.specs.Laws.{AreSame, HaveOneReading}
+use Rattle.office_base.proofs.Lists.{all-get, there_is}
+use Rattle.seat_matrix.specs.Laws.{AreCodes}
+use Rattle.seat_matrix.specs.Matrix.{SeatTable, codes_in}
+use Rattle.seat_matrix.specs.declared.entry.Home.{Home}
+use Rattle.season_file.specs.Laws.{AreSame, AreSound, HaveOneReading}
 use Rattle.season_file.specs.Season.{content_of}
 use Rattle.season_file.specs.declared.content.Content.{Content}
 use Rattle.season_file.specs.declared.fault.SeasonFault.{SeasonFault}
 use Rattle.season_file.specs.declared.fault.SeasonFault.TheVariants.{ReadFault as NoSource, TooLong as LongSeason, BadFirstLine, Section, BadSeason as BadHead, Register, Matrix, Choices, NotUtf8, BadRequest, OutOfMemory as NoSeasonMemory}
 use Rattle.season_file.specs.declared.head.Head.{Head}
 use Rattle.season_file.specs.declared.season.Season.{Season}
+use Rattle.published_texts.specs.Texts.{code_in}
+use Rattle.publish.specs.Parts.{AreSpelled}
 use Rattle.publish.specs.Reading.{Begins, Grammar, IsFaultLine, first_lines}
+use Rattle.publish.proofs.WholeLemmas.{small-people}
 use Rattle.dossier_file.specs.Dossier.{AreDossier, GivesContent, HasDossierFault, HasPublishedFault, HasSeasonFault, IsBundleFault, IsRequestsFault, IsScript}
 use Rattle.dossier_file.specs.Laws.{HaveOneDossier}
 use Rattle.dossier_file.specs.Papers.{AreDuePapers}
+use Rattle.dossier_file.specs.Texts.{AreReadable}
 use Rattle.dossier_file.specs.declared.fault.DossierFault.{DossierFault}
 use Rattle.dossier_file.specs.declared.fault.DossierFault.TheVariants.{ReadFault, TooLong, NoSection, Season as BadSeason, Published, OutOfMemory}
 use Rattle.dossier_file.specs.declared.papers.Papers.{Papers}
@@ -138,6 +149,26 @@ fault_along table other people more rounds next script scripts text texts n a b 
 scripts_same : (requests more : List ℕ) (script scripts : List Request) → requests ≡ more → IsScript requests script → IsScript more scripts → script ≡ scripts
 scripts_same requests more script scripts e is its = (let both = sym is.1 ∙ (ap (λ (z : List ℕ). script_of (rows_of z)) e ∙ its.1) in cc)
 
+-- ---- texts that can be read
+
+-- where all codes are spelled as codes are, each is
+each_code : (table : SeatTable) → AreCodes (codes_in table.programmes) → AreSpelled table
+each_code table are prog less =
+    let held = there_is table.programmes prog less in
+    let here : code_in table prog ≡ held.0.0 = ap (λ (o : Option (List ℕ × Home)). unwrap_or (option_map (λ (h : List ℕ × Home). h.0) o) []) held.1 in
+    let at : slice_get (codes_in table.programmes) prog ≡ Some held.0.0 =
+    slice_get-map (λ (h : List ℕ × Home). h.0) table.programmes prog ∙ ap (λ (o : Option (List ℕ × Home)). option_map (λ (h : List ℕ × Home). h.0) o) held.1 in
+    subst (λ (c : List ℕ). is_code c ≡ true) (sym here) (all-get (λ (c : List ℕ). is_code c ≡ true) (codes_in table.programmes) prog held.0.0 are at)
+
+readable_of : (content : Content) → AreSound content → AreReadable content.matrix content.register.people
+readable_of content sound = record {
+  spelled = each_code content.matrix sound.spelled;
+  codes = sound.seats.codes;
+  small = small-people content.register.people (λ id person e. (sound.ranks.registered id person e).high);
+  rising = sound.ranks.rising;
+  few = (let all = sound.ranks.few in omega (arith, all));
+}
+
 module _ (reading : (requests : Bool) (bytes : List ℕ) → HaveOneReading requests bytes) (bytes : List ℕ) where
   contents_same : (bundle more : List ℕ) (content other : Content) → bundle ≡ more → GivesContent bundle content → GivesContent more other → AreSame content other
   contents_same bundle more content other e is its = (reading false more).one_content content other [] [] (subst (λ (z : List ℕ). GivesContent z content) e is) its
@@ -243,4 +274,9 @@ module _ (reading : (requests : Bool) (bytes : List ℕ) → HaveOneReading requ
   one_fault_of OutOfMemory other f g = absurd f
 
   pub one_dossier_of : HaveOneDossier bytes
-  one_dossier_of = record { apart = never_both; one_fault = one_fault_of }
+  one_dossier_of = record {
+    apart = never_both;
+    readable = λ season script papers is.
+        readable_of (content_of season is.of_season.row) ((reading false is.bundle).sound (content_of season is.of_season.row) [] is.of_season.given);
+    one_fault = one_fault_of;
+  }

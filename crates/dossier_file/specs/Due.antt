@@ -1,7 +1,7 @@
 -- Which cuts of a script are accepted, and which texts they publish.
 use Rattle.std.specs.Prelude.{◌<◌, ◌+◌, ◌^◌, ℕ, zero, suc, Bool, false, ◌==◌, ◌&&◌, nat_le, List, [], ◌∷◌, ◌++◌, length, if◌then◌else◌}
 use Rattle.office_base.specs.declared.asks.Ask.{Ask}
-use Rattle.office_base.specs.declared.asks.Ask.TheVariants.{Answer, Cut, Seat, Why, List as ListOf, State, Raise}
+use Rattle.office_base.specs.declared.asks.Ask.TheVariants.{Answer, Cut, Seat, Why, List as ListOf, Round as RoundOf, Choices, State, Raise}
 use Rattle.office_base.specs.declared.asks.By.{By}
 use Rattle.office_base.specs.declared.asks.By.TheVariants.{Clerk, Candidate, Nobody}
 use Rattle.office_base.specs.declared.asks.Request.{Request}
@@ -16,6 +16,8 @@ is_cut now (Answer cand window turn choice) = false
 is_cut now (Seat cand) = false
 is_cut now (Why cand prog) = false
 is_cut now (ListOf round prog) = false
+is_cut now (RoundOf round) = false
+is_cut now (Choices cand) = false
 is_cut now State = false
 is_cut now (Raise window prog step seats) = false
 

@@ -10,9 +10,10 @@ use Rattle.dossier_file.specs.Texts.{AreReadable}
 use Rattle.dossier_file.specs.declared.fault.DossierFault.{DossierFault}
 use Rattle.dossier_file.specs.declared.papers.Papers.{Papers}
 
--- Bytes that are a dossier have no fault, and bytes have one first fault at most.
+-- Bytes that are a dossier have no fault, and bytes have one first fault at most. Texts by the season of a dossier can be read.
 pub record HaveOneDossier (bytes : List ℕ) : Type 0 where
   pub apart : (season : Season) (script : List Request) (papers : Papers) (fault : DossierFault) → AreDossier bytes season script papers → HasDossierFault bytes fault → ⊥
+  pub readable : (season : Season) (script : List Request) (papers : Papers) → AreDossier bytes season script papers → AreReadable season.matrix season.register.people
   pub one_fault : (fault other : DossierFault) → HasDossierFault bytes fault → HasDossierFault bytes other → fault ≡ other
 
 -- Texts that are due say one thing alone, where codes and ids are distinct, as in every matrix and register.

@@ -1,7 +1,7 @@
 // What the parts of a dossier give.
 ghost use Rattle.std.specs.Prelude.{◌≡◌, ◌≤◌, length, IfOk, IfErr, IsErrOf};
 ghost use Rattle.office_base.specs.Limits.{most_bundle_bytes};
-ghost use Rattle.office_base.specs.Outside.{IsAtEnd, Rose, Took};
+ghost use Rattle.office_base.specs.Outside.{Fails, IsAtEnd, Took};
 ghost use Rattle.publish.specs.Parts.{AreSpelled};
 ghost use Rattle.publish.specs.Reading.{IsTextFault};
 ghost use Rattle.dossier_file.specs.Dossier.{IsRequestsError, IsScript, IsUnread, papers_error, season_error};
@@ -27,11 +27,8 @@ pub(crate) fn read_bytes<S: Source>(alloc: Global, source: &mut S) -> Result<Tex
     ensures ended { IfOk result (λ bytes. IsAtEnd (S.left source.new)) }
     ensures short { IfOk result (λ bytes. length bytes ≤ most_bundle_bytes) }
     ensures fault { IfErr result (λ fault. IsUnread (S.left source.old) (S.left source.new) fault) }
-    ensures cause { IsErrOf result DossierFault.ReadFault
-        → Rose (S.faults source.old) (S.faults source.new) }
-    ensures count { S.faults source.old ≤ S.faults source.new }
-    ensures steady { ¬ IsErrOf result DossierFault.ReadFault
-        → S.faults source.new ≡ S.faults source.old }
+    ensures blamed { Fails (IsErrOf result DossierFault.ReadFault)
+        (S.faults source.old) (S.faults source.new) }
 {
     match read_whole(alloc, source, MOST_BUNDLE_BYTES) {
         Ok(bytes) => Ok(bytes),

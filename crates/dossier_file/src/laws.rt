@@ -2,7 +2,7 @@
 ghost use Rattle.std.specs.Prelude.{ℕ, List};
 ghost use Rattle.dossier_file.specs.Laws.{HaveOneDossier, TextsAreOne};
 
-/// Bytes that are a dossier have no fault, and bytes have one first fault at most.
+/// Bytes that are a dossier have no fault, and bytes have one first fault at most. Texts by its season can be read.
 pub fn one_dossier()
     ensures { (bytes : List ℕ) → HaveOneDossier bytes }
 {

@@ -4,22 +4,24 @@ use Rattle.office_base.specs.declared.asks.Request.{Request}
 use Rattle.office_base.specs.declared.person.CandId.{CandId}
 use Rattle.keeper_mem.specs.Tables.{AreTold, IsTold, Tables, still}
 use Rattle.keeper_mem.specs.declared.rows.Kept.{Kept}
-use Rattle.office_moves.specs.Facts.{IsSound, SeasonFacts}
+use Rattle.office_moves.specs.Facts.{SeasonFacts}
 use Rattle.office_moves.specs.State.{State}
 use Rattle.histories.specs.Laws.{HistoryGrows}
+use Rattle.round_cut.specs.Resume.{IsResumed}
 use Rattle.script_runs.specs.Laws.{OneRun}
-use Rattle.script_runs.specs.Runs.{Answers, reply_bytes}
+use Rattle.shown_replies.specs.Shown.{reply_bytes}
+use Rattle.script_runs.specs.Runs.{Answers}
 use Rattle.command_answers.specs.Answers.{HaveOneAnswer}
+use Rattle.command_answers.specs.Status.{IsAnswered}
 use Rattle.command_answers.specs.Writes.{Writes}
 use Rattle.command_answers.specs.declared.status.Status.{Status}
-use Rattle.command_answers.specs.declared.status.Status.TheVariants.{Ok as Done, Usage, BadInput, ReadFault, WriteFault, KeeperFault, OutOfMemory, DoorFault, Differs, Broken}
-use Rattle.season_commands.specs.Resume.{AreLeftRequests, AreRequests, EndsAsked, IsRequestFaultLine, IsUnaskedText, script_answers}
-use Rattle.one_output.specs.Laws.{OneKeptSeason}
-use Rattle.command_outputs.specs.Laws.{IsAnswered}
+use Rattle.command_answers.specs.declared.status.Status.TheVariants.{Ok as Done, Usage, BadInput, Differs, Broken}
+use Rattle.command_answers.proofs.Answered.{by_answer}
+use Rattle.season_commands.specs.Resume.{AreLeftRequests, AreRequests, EndsAsked, IsRequestFaultLine, IsUnaskedText, IsUnresumedText, script_answers}
 use Rattle.command_outputs.proofs.Written.{left_has, whole}
-use Rattle.kept_outputs.specs.Laws.{AreResumed, IsUnresumedOver, ResumesAreOne}
+use Rattle.kept_outputs.specs.Laws.{ResumesAreOne}
 use Rattle.kept_outputs.proofs.Replayed.{history_replayed}
-use Rattle.kept_outputs.proofs.Resumed.{AreAlike, ReadingsAreOne, RecordsAreOne, no_kept_line, one_unresumed, resumed_alike, same_tables}
+use Rattle.kept_outputs.proofs.Resumed.{AreAlike, AreKept, ReadingsAreOne, no_kept_line, one_unresumed, resumed_alike, same_tables}
 use Rattle.kept_outputs.proofs.Tokens.{kept_so, same_season}
 
 -- ---- requests that are answered from one state
@@ -39,80 +41,85 @@ one_script bytes script more first second =
 
 -- The same requests have one output, from where the same records lead.
 one_output : ((facts : SeasonFacts) → HistoryGrows facts) → ((facts : SeasonFacts) → OneRun facts) → (facts other : SeasonFacts) (state then end last : State) (kept : Kept)
-    (script more : List Request) (output again : List ℕ) → IsSound facts → AreAlike facts other state then kept → more ≡ script → Answers facts state script output end
+    (script more : List Request) (output again : List ℕ) → AreAlike facts other state then kept → more ≡ script → Answers facts state script output end
     → Answers other then more again last → output ≡ again
-one_output grows run facts other state then end last kept script more output again sound alike scripts first second =
-    let history = history_replayed facts (grows facts) sound kept state alike.replayed in
+one_output grows run facts other state then end last kept script more output again alike scripts first second =
+    let history = history_replayed facts (grows facts) alike.sound kept state alike.replayed in
     let by_season : Answers (kept_so facts other.holders) then more again last =
     subst (λ (f : SeasonFacts). Answers f then more again last) (sym (same_season facts other alike.seasons)) second in
     let by_state = subst (λ (s : State). Answers facts s more again last) (sym alike.states) (answers_too facts other.holders then last more again by_season) in
     let by_script = subst (λ (s : List Request). Answers facts state s again last) scripts by_state in
-    (run facts sound history.0 state end last script output again history.1 first by_script).0
+    (run facts alike.sound history.0 state end last script output again history.1 first by_script).0
 
 one_asked : ((bytes : List ℕ) → HaveOneAnswer script_answers bytes) → ((facts : SeasonFacts) → HistoryGrows facts) → ((facts : SeasonFacts) → OneRun facts) → (bytes : List ℕ)
-    (facts other : SeasonFacts) (state then : State) (kept : Kept) (before after later : Tables) (status : Status) (output again : List ℕ) → IsAnswered status → IsSound facts
+    (facts other : SeasonFacts) (state then : State) (kept : Kept) (before after later : Tables) (status : Status) (output again : List ℕ) → IsAnswered status
     → AreAlike facts other state then kept → EndsAsked facts state (Some bytes) before after status output → EndsAsked other then (Some bytes) before later status again → output ≡ again
-one_asked one grows run bytes facts other state then kept before after later Done output again answered sound alike (inl first) second = absurd (whole _ Done output tt first.0)
-one_asked one grows run bytes facts other state then kept before after later Done output again answered sound alike (inr first) (inl second) = absurd (whole _ Done again tt second.0)
-one_asked one grows run bytes facts other state then kept before after later Done output again answered sound alike (inr first) (inr second) =
-    one_output grows run facts other state then first.2.0 second.2.0 kept first.0 second.0 output again sound alike (one_script bytes first.0 second.0 first.1 second.1)
-    first.2.1.answers second.2.1.answers
-one_asked one grows run bytes facts other state then kept before after later Usage output again answered sound alike (inl first) second = absurd (whole _ Usage output tt first.0)
-one_asked one grows run bytes facts other state then kept before after later Usage output again answered sound alike (inr first) second = absurd first.2
-one_asked one grows run bytes facts other state then kept before after later BadInput output again answered sound alike (inl first) (inl second) =
-    let a = whole (IsUnaskedText (Some bytes)) BadInput output tt first.0 in
-    let b = whole (IsUnaskedText (Some bytes)) BadInput again tt second.0 in
-    (one bytes).one_line output again (left_has IsRequestFaultLine bytes output a) (left_has IsRequestFaultLine bytes again b)
-one_asked one grows run bytes facts other state then kept before after later BadInput output again answered sound alike (inr first) second = absurd first.2
-one_asked one grows run bytes facts other state then kept before after later BadInput output again answered sound alike (inl first) (inr second) = absurd second.2
-one_asked one grows run bytes facts other state then kept before after later ReadFault output again answered sound alike first second = absurd answered
-one_asked one grows run bytes facts other state then kept before after later WriteFault output again answered sound alike first second = absurd answered
-one_asked one grows run bytes facts other state then kept before after later KeeperFault output again answered sound alike first second = absurd answered
-one_asked one grows run bytes facts other state then kept before after later OutOfMemory output again answered sound alike first second = absurd answered
-one_asked one grows run bytes facts other state then kept before after later DoorFault output again answered sound alike first second = absurd answered
-one_asked one grows run bytes facts other state then kept before after later Differs output again answered sound alike (inl first) second = absurd (whole _ Differs output tt first.0)
-one_asked one grows run bytes facts other state then kept before after later Differs output again answered sound alike (inr first) second = absurd first.2
-one_asked one grows run bytes facts other state then kept before after later Broken output again answered sound alike (inl first) second = absurd (whole _ Broken output tt first.0)
-one_asked one grows run bytes facts other state then kept before after later Broken output again answered sound alike (inr first) second = absurd first.2
+one_asked one grows run bytes facts other state then kept before after later status output again answered alike = by_answer Same done usage bad differs broken status answered
+  where
+    Same : Status → Type 0
+    Same s = EndsAsked facts state (Some bytes) before after s output → EndsAsked other then (Some bytes) before later s again → output ≡ again
+
+    done : Same Done
+    done (inl first) second = absurd (whole _ Done output tt first.0)
+    done (inr first) (inl second) = absurd (whole _ Done again tt second.0)
+    done (inr first) (inr second) =
+        one_output grows run facts other state then first.2.0 second.2.0 kept first.0 second.0 output again alike (one_script bytes first.0 second.0 first.1 second.1)
+        first.2.1.answers second.2.1.answers
+
+    usage : Same Usage
+    usage (inl first) second = absurd (whole _ Usage output tt first.0)
+    usage (inr first) second = absurd first.2
+
+    bad : Same BadInput
+    bad (inl first) (inl second) =
+        let a = whole (IsUnaskedText (Some bytes)) BadInput output tt first.0 in
+        let b = whole (IsUnaskedText (Some bytes)) BadInput again tt second.0 in
+        (one bytes).one_line output again (left_has IsRequestFaultLine bytes output a) (left_has IsRequestFaultLine bytes again b)
+    bad (inr first) second = absurd first.2
+    bad (inl first) (inr second) = absurd second.2
+
+    differs : Same Differs
+    differs (inl first) second = absurd (whole _ Differs output tt first.0)
+    differs (inr first) second = absurd first.2
+
+    broken : Same Broken
+    broken (inl first) second = absurd (whole _ Broken output tt first.0)
+    broken (inr first) second = absurd first.2
 
 -- ---- no office resumes, or one does
 
 -- an office that resumed ends with no text of one that did not
 not_both : ReadingsAreOne → (tables : Tables) → IsTold tables → (bytes : List ℕ) (facts : SeasonFacts) (state : State) (before after : Tables) (status : Status) (output again : List ℕ)
-    → IsAnswered status → AreResumed tables facts state → IsUnresumedOver tables status output → EndsAsked facts state (Some bytes) before after status again → ⊥
-not_both readings tables told bytes facts state before after Done output again answered resumed text ends = text
-not_both readings tables told bytes facts state before after Usage output again answered resumed text ends = text
-not_both readings tables told bytes facts state before after BadInput output again answered resumed text ends = no_kept_line readings tables told facts state output resumed.0 text
-not_both readings tables told bytes facts state before after ReadFault output again answered resumed text ends = answered
-not_both readings tables told bytes facts state before after WriteFault output again answered resumed text ends = answered
-not_both readings tables told bytes facts state before after KeeperFault output again answered resumed text ends = answered
-not_both readings tables told bytes facts state before after OutOfMemory output again answered resumed text ends = answered
-not_both readings tables told bytes facts state before after DoorFault output again answered resumed text ends = answered
-not_both readings tables told bytes facts state before after Differs output again answered resumed text (inl ends) = absurd (whole _ Differs again tt ends.0)
-not_both readings tables told bytes facts state before after Differs output again answered resumed text (inr ends) = ends.2
-not_both readings tables told bytes facts state before after Broken output again answered resumed text ends = text
+    → IsAnswered status → IsResumed tables facts state → IsUnresumedText tables status output → EndsAsked facts state (Some bytes) before after status again → ⊥
+not_both readings tables told bytes facts state before after status output again answered resumed =
+    by_answer (λ s. IsUnresumedText tables s output → EndsAsked facts state (Some bytes) before after s again → ⊥) (λ text ends. text) (λ text ends. text)
+    (λ text ends. no_kept_line readings tables told facts state output resumed text) (λ text. differs) (λ text ends. text) status answered
+  where
+    differs : EndsAsked facts state (Some bytes) before after Differs again → ⊥
+    differs (inl ends) = whole _ Differs again tt ends.0
+    differs (inr ends) = ends.2
 
 -- ---- the command
 
-pub resumes_are_one : ReadingsAreOne → ((bytes : List ℕ) → HaveOneAnswer script_answers bytes) → OneKeptSeason → ((facts : SeasonFacts) → HistoryGrows facts) → RecordsAreOne
+pub resumes_are_one : ReadingsAreOne → ((bytes : List ℕ) → HaveOneAnswer script_answers bytes) → AreKept → ((facts : SeasonFacts) → HistoryGrows facts)
     → ((facts : SeasonFacts) → OneRun facts) → ResumesAreOne
-resumes_are_one readings one seasons grows records run bytes output again before after later status answered told seen first second =
+resumes_are_one readings one laws grows run bytes output again before after later status answered told seen first second =
     by first (subst (λ (t : Tables). EndsOver t later again) (same_tables before after later told seen) second)
   where
     tables : Tables
     tables = still before after
 
     EndsOver : Tables → Tables → List ℕ → Type 0
-    EndsOver those left text = (Writes (IsUnresumedOver those) status text × AreTold before left)
-        ⊎ ((facts : SeasonFacts) × (start : State) × AreResumed those facts start × EndsAsked facts start (Some bytes) before left status text)
+    EndsOver those left text = (Writes (IsUnresumedText those) status text × AreTold before left)
+        ⊎ ((facts : SeasonFacts) × (start : State) × IsResumed those facts start × EndsAsked facts start (Some bytes) before left status text)
 
-    text_of : (text : List ℕ) → Writes (IsUnresumedOver tables) status text → IsUnresumedOver tables status text
-    text_of text writes = whole (IsUnresumedOver tables) status text answered writes
+    text_of : (text : List ℕ) → Writes (IsUnresumedText tables) status text → IsUnresumedText tables status text
+    text_of text writes = whole (IsUnresumedText tables) status text answered writes
 
     by : EndsOver tables after output → EndsOver tables later again → output ≡ again
-    by (inl a) (inl b) = one_unresumed readings seasons records tables told status output again answered (text_of output a.0) (text_of again b.0)
+    by (inl a) (inl b) = one_unresumed readings laws tables told status output again answered (text_of output a.0) (text_of again b.0)
     by (inl a) (inr b) = absurd (not_both readings tables told bytes b.0 b.1 before later status output again answered b.2 (text_of output a.0) b.3)
     by (inr a) (inl b) = absurd (not_both readings tables told bytes a.0 a.1 before after status again output answered a.2 (text_of again b.0) a.3)
     by (inr a) (inr b) =
-        let alike = resumed_alike seasons records tables told a.0 b.0 a.1 b.1 a.2 b.2 in
-        one_asked one grows run bytes a.0 b.0 a.1 b.1 alike.0 before after later status output again answered a.2.1 alike.1 a.3 b.3
+        let alike = resumed_alike laws tables told a.0 b.0 a.1 b.1 a.2 b.2 in
+        one_asked one grows run bytes a.0 b.0 a.1 b.1 alike.0 before after later status output again answered alike.1 a.3 b.3

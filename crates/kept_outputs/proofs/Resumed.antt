@@ -4,8 +4,9 @@ use Rattle.keeper_mem.specs.Tables.{IsTold, NoSeason, Records, Tables, Untold, s
 use Rattle.keeper_mem.specs.declared.rows.Kept.{Kept}
 use Rattle.seat_matrix.specs.Matrix.{SeatTable}
 use Rattle.season_file.specs.Laws.{HasFault, HaveOneReading}
-use Rattle.season_file.specs.Season.{content_of}
+use Rattle.season_file.specs.Season.{IsSeason, content_of}
 use Rattle.season_file.specs.declared.fault.SeasonFault.{SeasonFault}
+use Rattle.season_file.specs.declared.season.Season.{Season}
 use Rattle.season_texts.specs.Texts.{fault_line}
 use Rattle.office_moves.specs.Facts.{IsSound, SeasonFacts}
 use Rattle.office_moves.specs.Season.{facts_of}
@@ -15,13 +16,14 @@ use Rattle.replays.specs.Laws.{HaveOneEnd}
 use Rattle.replays.specs.Replay.{IsReplayed}
 use Rattle.replays.specs.declared.fault.ReplayFault.{ReplayFault}
 use Rattle.round_cut.specs.Resume.{IsResumed, LeadTo}
+use Rattle.command_answers.specs.Status.{IsAnswered}
 use Rattle.command_answers.specs.declared.status.Status.{Status}
-use Rattle.command_answers.specs.declared.status.Status.TheVariants.{Ok as Done, Usage, BadInput, ReadFault, WriteFault, KeeperFault, OutOfMemory, DoorFault, Differs, Broken}
-use Rattle.season_commands.specs.Resume.{IsKeptFaultLine}
+use Rattle.command_answers.specs.declared.status.Status.TheVariants.{Differs}
+use Rattle.command_answers.proofs.Answered.{by_answer}
+use Rattle.season_commands.specs.Resume.{IsKeptFaultLine, IsReplayFaultLine, IsUnresumedText}
 use Rattle.season_commands.specs.Stray.{replay_line}
-use Rattle.one_output.specs.Laws.{OneKeptSeason, SayTheSame}
-use Rattle.command_outputs.specs.Laws.{IsAnswered}
-use Rattle.kept_outputs.specs.Laws.{AreResumed, IsReplayLineOver, IsUnresumedOver, IsVisible}
+use Rattle.one_output.specs.Laws.{OneKeptSeason, SayTheSame, SeasonsAreSound}
+use Rattle.kept_outputs.specs.Laws.{IsVisible}
 use Rattle.kept_outputs.proofs.Replayed.{fault_too, replayed_too}
 use Rattle.kept_outputs.proofs.Tokens.{same_season}
 
@@ -32,6 +34,16 @@ RecordsAreOne = (facts : SeasonFacts) (kept : Kept) → IsSound facts → HaveOn
 -- bytes give one season, or have one first fault
 abbrev pub ReadingsAreOne : Type 0
 ReadingsAreOne = (requests : Bool) (bytes : List ℕ) → HaveOneReading requests bytes
+
+-- Kept texts give one season, which is sound, and its records lead to one state.
+pub record AreKept : Type 0 where
+  pub seasons : OneKeptSeason
+  pub sound : SeasonsAreSound
+  pub records : RecordsAreOne
+
+-- a kept season is sound
+kept_sound : AreKept → (bytes : List ℕ) (season : Season) → IsSeason bytes season → IsSound (facts_of season)
+kept_sound laws bytes season is = laws.sound false bytes season is.row [] is.given
 
 -- the tables are the same, where they are visible after both
 pub same_tables : (before after later : Tables) → IsVisible before after → IsVisible before later → still before later ≡ still before after
@@ -45,30 +57,38 @@ same_tables before (Records kept) (Records more) told seen = refl
 
 -- ---- an office resumes
 
--- What two seasons and their states are to which the same records lead.
+-- What two seasons and their states are to which the same records lead: sound, and the same.
 pub record AreAlike (facts other : SeasonFacts) (state then : State) (kept : Kept) : Type 0 where
+  pub sound : IsSound facts
+  pub other_sound : IsSound other
   pub seasons : SayTheSame facts other
   pub states : state ≡ then
   pub replayed : IsReplayed facts kept state
 
-lead_alike : OneKeptSeason → RecordsAreOne → (kept : Kept) (facts other : SeasonFacts) (state then : State) → IsSound facts → LeadTo kept facts state → LeadTo kept other then
-    → AreAlike facts other state then kept
-lead_alike seasons records kept facts other state then sound first second =
-    let said = seasons kept.season first.season second.season first.read second.read in
+lead_alike : AreKept → (kept : Kept) (facts other : SeasonFacts) (state then : State) → LeadTo kept facts state → LeadTo kept other then → AreAlike facts other state then kept
+lead_alike laws kept facts other state then first second =
+    let said = laws.seasons kept.season first.season second.season first.read second.read in
     let by_first = subst (λ (f : SeasonFacts). SayTheSame f (facts_of second.season)) (sym first.same) said in
     let same : SayTheSame facts other = subst (λ (f : SeasonFacts). SayTheSame facts f) (sym second.same) by_first in
+    let sound = subst IsSound (sym first.same) (kept_sound laws kept.season first.season first.read) in
     let replayed = replayed_too facts other.holders kept then (subst (λ (f : SeasonFacts). IsReplayed f kept then) (sym (same_season facts other same)) second.replayed) in
-    record { seasons = same; states = (records facts kept sound).one_state state then first.replayed replayed; replayed = first.replayed }
+    record {
+      sound = sound;
+      other_sound = subst IsSound (sym second.same) (kept_sound laws kept.season second.season second.read);
+      seasons = same;
+      states = (laws.records facts kept sound).one_state state then first.replayed replayed;
+      replayed = first.replayed;
+    }
 
 -- The same tables lead to one state.
-pub resumed_alike : OneKeptSeason → RecordsAreOne → (tables : Tables) → IsTold tables → (facts other : SeasonFacts) (state then : State) → AreResumed tables facts state
-    → AreResumed tables other then → (kept : Kept) × AreAlike facts other state then kept
-resumed_alike seasons records Untold told facts other state then first second = absurd told
-resumed_alike seasons records NoSeason told facts other state then first second = absurd first.0.1
-resumed_alike seasons records (Records kept) told facts other state then first second =
-    let a = subst (λ (k : Kept). LeadTo k facts state) (sym first.0.1) first.0.2 in
-    let b = subst (λ (k : Kept). LeadTo k other then) (sym second.0.1) second.0.2 in
-    (kept, lead_alike seasons records kept facts other state then first.1 a b)
+pub resumed_alike : AreKept → (tables : Tables) → IsTold tables → (facts other : SeasonFacts) (state then : State) → IsResumed tables facts state → IsResumed tables other then
+    → (kept : Kept) × AreAlike facts other state then kept
+resumed_alike laws Untold told facts other state then first second = absurd told
+resumed_alike laws NoSeason told facts other state then first second = absurd first.1
+resumed_alike laws (Records kept) told facts other state then first second =
+    let a = subst (λ (k : Kept). LeadTo k facts state) (sym first.1) first.2 in
+    let b = subst (λ (k : Kept). LeadTo k other then) (sym second.1) second.2 in
+    (kept, lead_alike laws kept facts other state then a b)
 
 -- ---- no office resumes
 
@@ -88,35 +108,28 @@ one_kept_line readings (Records kept) told line again (inr first) (inr second) =
     one_text_fault readings kept first.2.0 second.2.0 line again (subst (λ (k : Kept). HasFault false k.season first.2.0) (sym first.1) first.2.1)
     (subst (λ (k : Kept). HasFault false k.season second.2.0) (sym second.1) second.2.1) first.2.2 second.2.2
 
-one_replay_line : OneKeptSeason → RecordsAreOne → (kept : Kept) (line again : List ℕ) → IsReplayLineOver kept line → IsReplayLineOver kept again → line ≡ again
-one_replay_line seasons records kept line again first second =
+one_replay_line : AreKept → (kept : Kept) (line again : List ℕ) → IsReplayFaultLine kept line → IsReplayFaultLine kept again → line ≡ again
+one_replay_line laws kept line again first second =
     let facts = facts_of first.0 in
-    let said = seasons kept.season first.0 second.0 first.2 second.2 in
-    let by_season = subst (λ (f : SeasonFacts). IsReplayFault f kept second.1) (sym (same_season facts (facts_of second.0) said)) second.4 in
+    let said = laws.seasons kept.season first.0 second.0 first.2 second.2 in
+    let by_season = subst (λ (f : SeasonFacts). IsReplayFault f kept second.1) (sym (same_season facts (facts_of second.0) said)) second.3 in
     let fault = fault_too facts (facts_of second.0).holders kept second.1 by_season in
-    let same = (records facts kept first.3).one_fault first.1 second.1 first.4 fault first.5 second.5 in
-    first.6 ∙ (ap (λ (f : ReplayFault). replay_line first.0.matrix f) same ∙ (ap (λ (t : SeatTable). replay_line t second.1) said.matrix ∙ sym second.6))
+    let same = (laws.records facts kept (kept_sound laws kept.season first.0 first.2)).one_fault first.1 second.1 first.3 fault first.4 second.4 in
+    first.5 ∙ (ap (λ (f : ReplayFault). replay_line first.0.matrix f) same ∙ (ap (λ (t : SeatTable). replay_line t second.1) said.matrix ∙ sym second.5))
 
-one_difference : OneKeptSeason → RecordsAreOne → (tables : Tables) → IsTold tables → (line again : List ℕ) → IsUnresumedOver tables Differs line → IsUnresumedOver tables Differs again → line ≡ again
-one_difference seasons records Untold told line again first second = absurd told
-one_difference seasons records NoSeason told line again first second = absurd first.1
-one_difference seasons records (Records kept) told line again first second =
-    one_replay_line seasons records kept line again (subst (λ (k : Kept). IsReplayLineOver k line) (sym first.1) first.2)
-    (subst (λ (k : Kept). IsReplayLineOver k again) (sym second.1) second.2)
+one_difference : AreKept → (tables : Tables) → IsTold tables → (line again : List ℕ) → IsUnresumedText tables Differs line → IsUnresumedText tables Differs again → line ≡ again
+one_difference laws Untold told line again first second = absurd told
+one_difference laws NoSeason told line again first second = absurd first.1
+one_difference laws (Records kept) told line again first second =
+    one_replay_line laws kept line again (subst (λ (k : Kept). IsReplayFaultLine k line) (sym first.1) first.2)
+    (subst (λ (k : Kept). IsReplayFaultLine k again) (sym second.1) second.2)
 
 -- The same tables have one line.
-pub one_unresumed : ReadingsAreOne → OneKeptSeason → RecordsAreOne → (tables : Tables) → IsTold tables → (status : Status) (output again : List ℕ) → IsAnswered status
-    → IsUnresumedOver tables status output → IsUnresumedOver tables status again → output ≡ again
-one_unresumed readings seasons records tables told Done output again answered first second = absurd first
-one_unresumed readings seasons records tables told Usage output again answered first second = absurd first
-one_unresumed readings seasons records tables told BadInput output again answered first second = one_kept_line readings tables told output again first second
-one_unresumed readings seasons records tables told ReadFault output again answered first second = absurd answered
-one_unresumed readings seasons records tables told WriteFault output again answered first second = absurd answered
-one_unresumed readings seasons records tables told KeeperFault output again answered first second = absurd answered
-one_unresumed readings seasons records tables told OutOfMemory output again answered first second = absurd answered
-one_unresumed readings seasons records tables told DoorFault output again answered first second = absurd answered
-one_unresumed readings seasons records tables told Differs output again answered first second = one_difference seasons records tables told output again first second
-one_unresumed readings seasons records tables told Broken output again answered first second = absurd first
+pub one_unresumed : ReadingsAreOne → AreKept → (tables : Tables) → IsTold tables → (status : Status) (output again : List ℕ) → IsAnswered status → IsUnresumedText tables status output
+    → IsUnresumedText tables status again → output ≡ again
+one_unresumed readings laws tables told status output again answered =
+    by_answer (λ s. IsUnresumedText tables s output → IsUnresumedText tables s again → output ≡ again) (λ first second. absurd first) (λ first second. absurd first)
+    (one_kept_line readings tables told output again) (one_difference laws tables told output again) (λ first second. absurd first) status answered
 
 -- Tables that lead to a state have no such line.
 pub no_kept_line : ReadingsAreOne → (tables : Tables) → IsTold tables → (facts : SeasonFacts) (state : State) (line : List ℕ) → IsResumed tables facts state → IsKeptFaultLine tables line → ⊥

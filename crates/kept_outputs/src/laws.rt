@@ -7,7 +7,7 @@ pub fn resumes_are_one()
 {
     season_file::laws::one_reading();
     season_commands::laws::one_script_answer();
-    one_output::laws::one_kept_season();
+    one_output::laws::one_season();
     histories::laws::history_grows();
     replays::laws::one_end();
     script_runs::laws::one_run();

@@ -7,9 +7,10 @@ use Rattle.office_moves.specs.Season.{facts_of}
 use Rattle.office_moves.specs.State.{State, opening}
 use Rattle.script_runs.specs.Laws.{OneRun}
 use Rattle.script_runs.specs.Laws as runs
-use Rattle.script_runs.specs.Runs.{Answers, reply_bytes}
+use Rattle.shown_replies.specs.Shown.{reply_bytes}
+use Rattle.script_runs.specs.Runs.{Answers}
 use Rattle.script_runs.specs.Tally.{AreHandled, Handled}
-use Rattle.one_output.specs.Laws.{OneOutput, OneSeason, OneTally, SayTheSame}
+use Rattle.one_output.specs.Laws.{GiveOneSeason, OneOutput, OneTally, SayTheSame}
 
 -- the season with its tokens kept in another order
 abbrev kept_so : SeasonFacts → List (List ℕ × CandId) → SeasonFacts
@@ -34,25 +35,25 @@ same_season facts other same = λ i. record {
   text = same.text i;
 }
 
-pub one_output : OneSeason → ((facts : SeasonFacts) → OneRun facts) → OneOutput
+pub one_output : GiveOneSeason → ((facts : SeasonFacts) → OneRun facts) → OneOutput
 one_output seasons run requests bytes season other script more output again state then one two answers answers' =
-    let same = seasons requests bytes season other script more one.read two.read in
+    let same = seasons.bundles requests bytes season other script more one two in
     let facts = facts_of season in
     let by_season : Answers (kept_so facts (facts_of other).holders) opening more again then =
     subst (λ (f : SeasonFacts). Answers f opening more again then) (sym (same_season facts (facts_of other) same.0)) answers' in
     let by_script : Answers facts opening script again then =
     subst (λ (s : List Request). Answers facts opening s again then) (sym same.1) (answers_too facts (facts_of other).holders opening then more again by_season) in
-    run facts one.sound [] opening state then script output again (record { numbers = refl; reached = refl }) answers by_script
+    run facts (seasons.sound requests bytes season one.row script one.given) [] opening state then script output again (record { numbers = refl; reached = refl }) answers by_script
 
 handled_too : (facts : SeasonFacts) (holders : List (List ℕ × CandId)) (old new : State) (handled : List Handled) → AreHandled (kept_so facts holders) old handled new → AreHandled facts old handled new
 handled_too facts holders old new [] moves = moves
 handled_too facts holders old new (one ∷ handled) moves = (moves.0, moves.1, handled_too facts holders moves.0 new handled moves.2)
 
-pub one_tally : OneSeason → ((facts : SeasonFacts) → runs.OneTally facts) → OneTally
+pub one_tally : GiveOneSeason → ((facts : SeasonFacts) → runs.OneTally facts) → OneTally
 one_tally seasons run requests bytes season other script more handled again state then one two moves moves' asked asked' =
-    let same = seasons requests bytes season other script more one.read two.read in
+    let same = seasons.bundles requests bytes season other script more one two in
     let facts = facts_of season in
     let by_season : AreHandled (kept_so facts (facts_of other).holders) opening again then =
     subst (λ (f : SeasonFacts). AreHandled f opening again then) (sym (same_season facts (facts_of other) same.0)) moves' in
-    run facts one.sound [] opening state then handled again (record { numbers = refl; reached = refl }) moves (handled_too facts (facts_of other).holders opening then again by_season)
+    run facts (seasons.sound requests bytes season one.row script one.given) [] opening state then handled again (record { numbers = refl; reached = refl }) moves (handled_too facts (facts_of other).holders opening then again by_season)
     (asked ∙ (same.1 ∙ sym asked'))

@@ -1,4 +1,4 @@
--- Bytes give one sound season.
+-- Bytes give one season.
 use Rattle.std.proofs.Common.{◌≡◌, ◌<◌, ℕ, Bool, false, List, [], ◌∷◌, map, arith, refl, sym, ap, ◌∙◌, subst}
 use Rattle.std.proofs.lemmas.Option.{slice_get_within}
 use Rattle.office_base.specs.Lists.{Pairwise}
@@ -15,7 +15,8 @@ use Rattle.round_laws.specs.Laws.{lists_in}
 use Rattle.round_laws.proofs.People.{there_is}
 use Rattle.round_laws.proofs.Season.{aligned_length, length_lists, list_at_place}
 use Rattle.office_moves.specs.Season.{facts_of}
-use Rattle.one_output.specs.Laws.{OneKeptSeason, OneSeason, SayTheSame}
+use Rattle.office_moves.proofs.Sound.{given_sound}
+use Rattle.one_output.specs.Laws.{GiveOneSeason, OneKeptSeason, OneSeason, SayTheSame}
 use Rattle.round_laws.proofs.OneRound.{same_places as at_each}
 
 -- choices are their ids and their lists
@@ -65,11 +66,18 @@ same_readings reading requests bytes season other script more row next one two t
       text = text;
     }
 
-pub one_season : ((requests : Bool) (bytes : List ℕ) → HaveOneReading requests bytes) → OneSeason
+one_season : ((requests : Bool) (bytes : List ℕ) → HaveOneReading requests bytes) → OneSeason
 one_season reading requests bytes season other script more one two = (
   same_readings reading requests bytes season other script more one.row two.row one.given two.given (one.text ∙ sym two.text),
   (reading requests bytes).one_script (content_of season one.row) (content_of other two.row) script more one.given two.given,
 )
 
-pub one_kept_season : ((requests : Bool) (bytes : List ℕ) → HaveOneReading requests bytes) → OneKeptSeason
+one_kept_season : ((requests : Bool) (bytes : List ℕ) → HaveOneReading requests bytes) → OneKeptSeason
 one_kept_season reading bytes season other one two = same_readings reading false bytes season other [] [] one.row two.row one.given two.given (one.text ∙ sym two.text)
+
+pub give_one_season : ((requests : Bool) (bytes : List ℕ) → HaveOneReading requests bytes) → GiveOneSeason
+give_one_season reading = record {
+  sound = λ requests bytes season row script gives. given_sound requests bytes season row script (reading requests bytes) gives;
+  bundles = one_season reading;
+  kept = one_kept_season reading;
+}

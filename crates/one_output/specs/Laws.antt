@@ -2,7 +2,7 @@
 use Rattle.std.specs.Prelude.{◌≡◌, ℕ, Bool, List}
 use Rattle.office_base.specs.declared.asks.Request.{Request}
 use Rattle.rank_lists.specs.Register.{find_holder}
-use Rattle.season_file.specs.Season.{IsSeason, IsSeasonWith}
+use Rattle.season_file.specs.Season.{BundleGives, IsSeason, IsSeasonWith, content_of}
 use Rattle.season_file.specs.declared.season.Season.{Season}
 use Rattle.office_moves.specs.Facts.{IsSound, SeasonFacts}
 use Rattle.office_moves.specs.Season.{facts_of}
@@ -21,10 +21,9 @@ pub record SayTheSame (facts other : SeasonFacts) : Type 0 where
   pub lists : facts.lists ≡ other.lists
   pub text : facts.text ≡ other.text
 
--- The season and the script that bytes give, where what the season says is sound, as of every season that was read.
-pub record Give (requests : Bool) (bytes : List ℕ) (season : Season) (script : List Request) : Type 0 where
-  pub read : IsSeasonWith requests bytes season script
-  pub sound : IsSound (facts_of season)
+-- What a season says is sound, whichever bytes give it with whichever requests.
+abbrev pub SeasonsAreSound : Type 0
+SeasonsAreSound = (requests : Bool) (bytes : List ℕ) (season : Season) (row : ℕ) (script : List Request) → BundleGives requests bytes (content_of season row) script → IsSound (facts_of season)
 
 -- Bytes give one season and one script.
 abbrev pub OneSeason : Type 0
@@ -35,13 +34,19 @@ OneSeason = (requests : Bool) (bytes : List ℕ) (season other : Season) (script
 abbrev pub OneKeptSeason : Type 0
 OneKeptSeason = (bytes : List ℕ) (season other : Season) → IsSeason bytes season → IsSeason bytes other → SayTheSame (facts_of season) (facts_of other)
 
+-- What a season says is sound, and bytes give one season: those of a bundle, and a text that is kept or is in a dossier.
+pub record GiveOneSeason : Type 0 where
+  pub sound : SeasonsAreSound
+  pub bundles : OneSeason
+  pub kept : OneKeptSeason
+
 -- The requests of a bundle have one output, and lead to one state.
 abbrev pub OneOutput : Type 0
-OneOutput = (requests : Bool) (bytes : List ℕ) (season other : Season) (script more : List Request) (output again : List ℕ) (state then : State) → Give requests bytes season script
-    → Give requests bytes other more → Answers (facts_of season) opening script output state → Answers (facts_of other) opening more again then → (output ≡ again) × (state ≡ then)
+OneOutput = (requests : Bool) (bytes : List ℕ) (season other : Season) (script more : List Request) (output again : List ℕ) (state then : State) → IsSeasonWith requests bytes season script
+    → IsSeasonWith requests bytes other more → Answers (facts_of season) opening script output state → Answers (facts_of other) opening more again then → (output ≡ again) × (state ≡ then)
 
 -- Each request of a bundle has one reply, and they lead to one state.
 abbrev pub OneTally : Type 0
-OneTally = (requests : Bool) (bytes : List ℕ) (season other : Season) (script more : List Request) (handled again : List Handled) (state then : State) → Give requests bytes season script
-    → Give requests bytes other more → AreHandled (facts_of season) opening handled state → AreHandled (facts_of other) opening again then → requests_of handled ≡ script
+OneTally = (requests : Bool) (bytes : List ℕ) (season other : Season) (script more : List Request) (handled again : List Handled) (state then : State) → IsSeasonWith requests bytes season script
+    → IsSeasonWith requests bytes other more → AreHandled (facts_of season) opening handled state → AreHandled (facts_of other) opening again then → requests_of handled ≡ script
     → requests_of again ≡ more → (handled ≡ again) × (state ≡ then)

@@ -1,16 +1,10 @@
 // The laws that the same input gives the same output. Each is the contract of a function that does nothing.
-ghost use Rattle.one_output.specs.Laws.{OneKeptSeason, OneOutput, OneSeason, OneTally};
+ghost use Rattle.one_output.specs.Laws.{GiveOneSeason, OneOutput, OneTally};
 
-/// Bytes give one sound season, but for the order in which its register keeps tokens, and one script.
+/// Bytes give one season, but for the order in which its register keeps tokens, and one script.
+/// So does the text of a season that is kept, or is in a dossier. What the season says is sound.
 pub fn one_season()
-    ensures { OneSeason }
-{
-    season_file::laws::one_reading();
-}
-
-/// So does the text of a season that is kept, or is in a dossier.
-pub fn one_kept_season()
-    ensures { OneKeptSeason }
+    ensures { GiveOneSeason }
 {
     season_file::laws::one_reading();
 }

@@ -14,9 +14,9 @@ use Rattle.office_moves.specs.Facts.{SeasonFacts}
 use Rattle.office_moves.specs.Season.{facts_of}
 use Rattle.office_moves.specs.State.{State}
 use Rattle.office_moves.specs.declared.decide.Decision.{Decision}
-use Rattle.office_moves.specs.declared.decide.Decision.TheVariants.{Refuse, NotedAgain, RaisedAgain, CutAgain, Note, Lift, Publish, Finish, TellSeat, TellWhy, TellList, TellState}
+use Rattle.office_moves.specs.declared.decide.Decision.TheVariants.{Refuse, NotedAgain, RaisedAgain, CutAgain, Note, Lift, Publish, Finish, Tell}
 use Rattle.dossier_file.specs.Dossier.{papers_of}
-use Rattle.dossier_file.specs.Laws.{TextsAreOne}
+use Rattle.dossier_file.specs.Laws.{HaveOneDossier, TextsAreOne}
 use Rattle.dossier_file.specs.Papers.{AreDuePapers}
 use Rattle.dossier_file.specs.declared.papers.Papers.{Papers as Read}
 use Rattle.audit_rules.specs.Cut.{BreaksAt, CutBreaks, HoldsAt}
@@ -47,10 +47,7 @@ holds_too facts holders papers state (Note row) holds = tt
 holds_too facts holders papers state (Lift row) holds = tt
 holds_too facts holders papers state Publish holds = record { sought = holds.sought; stayed = holds.stayed; listed = holds.listed; sound = holds.sound }
 holds_too facts holders papers state Finish holds = holds
-holds_too facts holders papers state (TellSeat cand) holds = tt
-holds_too facts holders papers state (TellWhy cand prog) holds = tt
-holds_too facts holders papers state (TellList number prog) holds = tt
-holds_too facts holders papers state TellState holds = tt
+holds_too facts holders papers state (Tell question) holds = tt
 
 cut_breaks_too : (facts : SeasonFacts) (holders : List (List ℕ × CandId)) (papers : Papers) (state : State) (clause : Clause) (prog : Option ProgId) (cand : Option CandId)
     → CutBreaks (kept_so facts holders) papers state clause prog cand → CutBreaks facts papers state clause prog cand
@@ -80,10 +77,7 @@ breaks_too facts holders papers state (Note row) clause prog cand b = b
 breaks_too facts holders papers state (Lift row) clause prog cand b = b
 breaks_too facts holders papers state Publish clause prog cand b = cut_breaks_too facts holders papers state clause prog cand b
 breaks_too facts holders papers state Finish clause prog cand b = b
-breaks_too facts holders papers state (TellSeat who) clause prog cand b = b
-breaks_too facts holders papers state (TellWhy who which) clause prog cand b = b
-breaks_too facts holders papers state (TellList number which) clause prog cand b = b
-breaks_too facts holders papers state TellState clause prog cand b = b
+breaks_too facts holders papers state (Tell question) clause prog cand b = b
 
 verdict_too : (facts : SeasonFacts) (holders : List (List ℕ × CandId)) (script : List Request) (papers : Papers) (verdict : Verdict) → IsVerdict (kept_so facts holders) script papers verdict
     → IsVerdict facts script papers verdict
@@ -106,21 +100,21 @@ verdict_too facts holders script papers (Broken round clause prog cand) is = rec
 abbrev audited_papers : Read → Papers
 audited_papers papers = record { rounds = map (λ read. read.rows) papers.rounds; lists = map (λ read. read.programme) papers.lists; finals = option_map (λ read. read.rows) papers.last }
 
-pub one_verdict_of_bytes : OneKeptSeason → TextsAreOne → OneVerdict → OneVerdictOfBytes
-one_verdict_of_bytes seasons texts one bytes dossier other verdict more first second is its =
-    let cut = one_cut bytes first.read.bundle first.read.requests first.read.published second.read.bundle second.read.requests second.read.published first.read.cut second.read.cut in
+pub one_verdict_of_bytes : OneKeptSeason → ((bytes : List ℕ) → HaveOneDossier bytes) → TextsAreOne → OneVerdict → OneVerdictOfBytes
+one_verdict_of_bytes seasons dossiers texts one bytes dossier other verdict more first second is its =
+    let cut = one_cut bytes first.bundle first.requests first.published second.bundle second.requests second.published first.cut second.cut in
     let facts = facts_of dossier.season in
-    let same = seasons second.read.bundle dossier.season other.season (subst (λ (b : List ℕ). IsSeason b dossier.season) cut.bundles first.read.of_season) second.read.of_season in
-    let script : dossier.script ≡ other.script = (let a = first.read.of_script.1 in let b = second.read.of_script.1 in let e = cut.scripts in cc) in
-    let by_matrix = subst (λ (t : SeatTable). AreDuePapers t other.season.register.people other.season.rounds other.script second.read.published (papers_of other)) (sym same.matrix) second.read.of_papers in
-    let by_people = subst (λ (p : List Person). AreDuePapers dossier.season.matrix p other.season.rounds other.script second.read.published (papers_of other)) (sym same.people) by_matrix in
-    let by_rounds = subst (λ (n : ℕ). AreDuePapers dossier.season.matrix dossier.season.register.people n other.script second.read.published (papers_of other)) (sym same.rounds) by_people in
-    let by_script = subst (λ (s : List Request). AreDuePapers dossier.season.matrix dossier.season.register.people dossier.season.rounds s second.read.published (papers_of other)) (sym script) by_rounds in
+    let same = seasons second.bundle dossier.season other.season (subst (λ (b : List ℕ). IsSeason b dossier.season) cut.bundles first.of_season) second.of_season in
+    let script : dossier.script ≡ other.script = (let a = first.of_script.1 in let b = second.of_script.1 in let e = cut.scripts in cc) in
+    let by_matrix = subst (λ (t : SeatTable). AreDuePapers t other.season.register.people other.season.rounds other.script second.published (papers_of other)) (sym same.matrix) second.of_papers in
+    let by_people = subst (λ (p : List Person). AreDuePapers dossier.season.matrix p other.season.rounds other.script second.published (papers_of other)) (sym same.people) by_matrix in
+    let by_rounds = subst (λ (n : ℕ). AreDuePapers dossier.season.matrix dossier.season.register.people n other.script second.published (papers_of other)) (sym same.rounds) by_people in
+    let by_script = subst (λ (s : List Request). AreDuePapers dossier.season.matrix dossier.season.register.people dossier.season.rounds s second.published (papers_of other)) (sym script) by_rounds in
     let by_text = subst (λ (t : List ℕ). AreDuePapers dossier.season.matrix dossier.season.register.people dossier.season.rounds dossier.script t (papers_of other)) (sym cut.papers) by_script in
-    let few = first.sound.rounds.1 in
+    let few = dossier.season.few_rounds in
     let papers : papers_of dossier ≡ papers_of other =
-    texts dossier.season.matrix dossier.season.register.people dossier.season.rounds dossier.script first.read.published (papers_of dossier) (papers_of other) (omega (arith, few)) first.readable
-    first.read.of_papers by_text in
+    texts dossier.season.matrix dossier.season.register.people dossier.season.rounds dossier.script first.published (papers_of dossier) (papers_of other) (omega (arith, few))
+    ((dossiers bytes).readable dossier.season dossier.script (papers_of dossier) first) first.of_papers by_text in
     let audited : audited_of dossier ≡ audited_of other = ap audited_papers papers in
     let by_season : IsVerdict (kept_so facts (facts_of other.season).holders) other.script (audited_of other) more =
     subst (λ (f : SeasonFacts). IsVerdict f other.script (audited_of other) more) (sym (same_season facts (facts_of other.season) same)) its in

@@ -5,7 +5,8 @@ ghost use Rattle.one_verdict.specs.Laws.{OneVerdictOfBytes};
 pub fn one_verdict_of_bytes()
     ensures { OneVerdictOfBytes }
 {
-    one_output::laws::one_kept_season();
+    one_output::laws::one_season();
+    dossier_file::laws::one_dossier();
     dossier_file::laws::texts_are_one();
     audit_rules::laws::one_verdict();
 }

@@ -17,29 +17,28 @@ use Rattle.office_moves.specs.State.{State, opening}
 use Rattle.office_moves.specs.declared.moves.Entry.{Entry}
 use Rattle.histories.specs.Laws.{HistoryGrows}
 use Rattle.replays.specs.Replay.{IsReplayed}
+use Rattle.round_cut.specs.Resume.{IsResumed}
 use Rattle.histories.specs.Orderly.{IsOrderly}
 use Rattle.special_round.specs.Laws.{FinalsAreKnown}
-use Rattle.special_round.specs.Special.{IsSpecialOver as IsRoundOver}
+use Rattle.special_round.specs.Special.{IsSpecialOver}
 use Rattle.command_answers.specs.Answers.{HasLeft}
+use Rattle.command_answers.specs.Status.{IsAnswered}
 use Rattle.command_answers.specs.Writes.{Writes}
 use Rattle.command_answers.specs.declared.status.Status.{Status}
-use Rattle.command_answers.specs.declared.status.Status.TheVariants.{Ok as Done, Usage, BadInput, ReadFault, WriteFault, KeeperFault, OutOfMemory, DoorFault, Differs, Broken}
-use Rattle.special_command.specs.Special.{HaveOneSpecial, IsListsFaultLine}
-use Rattle.one_output.specs.Laws.{OneKeptSeason}
-use Rattle.command_outputs.specs.Laws.{IsAnswered}
+use Rattle.command_answers.proofs.Answered.{by_answer}
+use Rattle.season_commands.specs.Resume.{IsUnresumedText}
+use Rattle.special_command.specs.Special.{HaveOneSpecial, IsListsFaultLine, IsSpecialOutput, IsSpecialText}
 use Rattle.command_outputs.proofs.Written.{left_has, whole}
-use Rattle.kept_outputs.specs.Laws.{AreResumed, IsUnresumedOver}
 use Rattle.kept_outputs.proofs.Replayed.{history_replayed}
-use Rattle.kept_outputs.proofs.Resumed.{AreAlike, ReadingsAreOne, RecordsAreOne, no_kept_line, one_unresumed, resumed_alike, same_tables}
+use Rattle.kept_outputs.proofs.Resumed.{AreAlike, AreKept, ReadingsAreOne, no_kept_line, one_unresumed, resumed_alike, same_tables}
 use Rattle.kept_outputs.proofs.Tokens.{kept_so, same_season}
-use Rattle.special_outputs.specs.Laws.{IsOutputOver, IsSpecialOver, SpecialsAreOne}
+use Rattle.special_outputs.specs.Laws.{SpecialsAreOne}
 use Rattle.special_outputs.proofs.Rounds.{fault_too, made, made_too, one_text}
 
 -- The laws of the layers below.
 pub record Laws : Type 0 where
   pub readings : ReadingsAreOne
-  pub seasons : OneKeptSeason
-  pub records : RecordsAreOne
+  pub kept : AreKept
   pub grows : (facts : SeasonFacts) → HistoryGrows facts
   pub orderly : (facts : SeasonFacts) (entries : List Entry) (state : State) → IsSound facts → Reaches facts opening entries state → IsOrderly facts state
   pub known : FinalsAreKnown
@@ -55,17 +54,17 @@ pub record Laws : Type 0 where
 one_rows : (rows more : List AllotRow) → ◌≡◌ {A = Option (List AllotRow)} (Some rows) (Some more) → rows ≡ more
 one_rows rows more e = cc e
 
-one_output : Laws → (bytes : List ℕ) (facts : SeasonFacts) (holders : List (List ℕ × CandId)) (state : State) (kept : Kept) (output again : List ℕ) → IsSound facts → IsReplayed facts kept state
-    → IsOutputOver facts state bytes output → IsOutputOver (kept_so facts holders) state bytes again → output ≡ again
-one_output laws bytes facts holders state kept output again sound replayed (short, (a, is, sound_a, text)) (short', (b, its, sound_b, text')) =
+one_output : Laws → (bytes : List ℕ) (facts : SeasonFacts) (holders : List (List ℕ × CandId)) (state : State) (kept : Kept) (output again : List ℕ) → IsSound facts → IsSound (kept_so facts holders)
+    → IsReplayed facts kept state → IsSpecialOutput facts state bytes output → IsSpecialOutput (kept_so facts holders) state bytes again → output ≡ again
+one_output laws bytes facts holders state kept output again sound other_sound replayed (short, (a, is, text)) (short', (b, its, text')) =
     let rows = is.0 in
     let table = matrix_at facts state in
     let same = one_rows its.0 rows (sym its.1 ∙ is.1) in
-    let over : IsRoundOver (kept_so facts holders) table rows bytes b = subst (λ (r : List AllotRow). IsRoundOver (kept_so facts holders) table r bytes b) same its.2 in
+    let over : IsSpecialOver (kept_so facts holders) table rows bytes b = subst (λ (r : List AllotRow). IsSpecialOver (kept_so facts holders) table r bytes b) same its.2 in
     let history = history_replayed facts (laws.grows facts) sound kept state replayed in
     let known = laws.known facts state rows sound (laws.orderly facts history.0 state sound history.1.reached) is.1 in
-    let one = made facts table rows bytes a sound_a is.2 in
-    let other = made_too laws.carry facts holders table rows bytes b sound_b over in
+    let one = made facts table rows bytes a sound is.2 in
+    let other = made_too laws.carry facts holders table rows bytes b other_sound over in
     text ∙ (one_text laws.certificate laws.lists laws.enter laws.round facts table rows bytes a b sound known.rising one other ∙ sym text')
 
 line_too : Laws → (facts : SeasonFacts) (holders : List (List ℕ × CandId)) (state : State) (bytes line : List ℕ) → IsListsFaultLine (kept_so facts holders) state bytes line
@@ -82,40 +81,31 @@ one_line laws bytes facts holders state output again first second =
 -- ---- an office resumes
 
 one_special : Laws → (bytes : List ℕ) (facts : SeasonFacts) (holders : List (List ℕ × CandId)) (state : State) (kept : Kept) (status : Status) (output again : List ℕ) → IsAnswered status
-    → IsSound facts → IsReplayed facts kept state → IsSpecialOver facts state bytes status output → IsSpecialOver (kept_so facts holders) state bytes status again → output ≡ again
-one_special laws bytes facts holders state kept Done output again answered sound replayed first second = one_output laws bytes facts holders state kept output again sound replayed first second
-one_special laws bytes facts holders state kept Usage output again answered sound replayed first second = absurd first
-one_special laws bytes facts holders state kept BadInput output again answered sound replayed first second = one_line laws bytes facts holders state output again first second
-one_special laws bytes facts holders state kept ReadFault output again answered sound replayed first second = absurd answered
-one_special laws bytes facts holders state kept WriteFault output again answered sound replayed first second = absurd answered
-one_special laws bytes facts holders state kept KeeperFault output again answered sound replayed first second = absurd answered
-one_special laws bytes facts holders state kept OutOfMemory output again answered sound replayed first second = absurd answered
-one_special laws bytes facts holders state kept DoorFault output again answered sound replayed first second = absurd answered
-one_special laws bytes facts holders state kept Differs output again answered sound replayed first second = absurd first
-one_special laws bytes facts holders state kept Broken output again answered sound replayed first second = absurd first
+    → IsSound facts → IsSound (kept_so facts holders) → IsReplayed facts kept state → IsSpecialText facts state (Some bytes) status output
+    → IsSpecialText (kept_so facts holders) state (Some bytes) status again → output ≡ again
+one_special laws bytes facts holders state kept status output again answered sound other_sound replayed =
+    by_answer (λ s. IsSpecialText facts state (Some bytes) s output → IsSpecialText (kept_so facts holders) state (Some bytes) s again → output ≡ again)
+    (λ first second.
+    one_output laws bytes facts holders state kept output again sound other_sound replayed (left_has (IsSpecialOutput facts state) bytes output first)
+    (left_has (IsSpecialOutput (kept_so facts holders) state) bytes again second)) (λ first second. absurd first) (one_line laws bytes facts holders state output again)
+    (λ first second. absurd first) (λ first second. absurd first) status answered
 
-one_resumed : Laws → (bytes : List ℕ) (facts other : SeasonFacts) (state then : State) (kept : Kept) (status : Status) (output again : List ℕ) → IsAnswered status → IsSound facts
-    → AreAlike facts other state then kept → IsSpecialOver facts state bytes status output → IsSpecialOver other then bytes status again → output ≡ again
-one_resumed laws bytes facts other state then kept status output again answered sound alike first second =
-    let by_season = subst (λ (f : SeasonFacts). IsSpecialOver f then bytes status again) (sym (same_season facts other alike.seasons)) second in
-    let by_state = subst (λ (s : State). IsSpecialOver (kept_so facts other.holders) s bytes status again) (sym alike.states) by_season in
-    one_special laws bytes facts other.holders state kept status output again answered sound alike.replayed first by_state
+one_resumed : Laws → (bytes : List ℕ) (facts other : SeasonFacts) (state then : State) (kept : Kept) (status : Status) (output again : List ℕ) → IsAnswered status
+    → AreAlike facts other state then kept → IsSpecialText facts state (Some bytes) status output → IsSpecialText other then (Some bytes) status again → output ≡ again
+one_resumed laws bytes facts other state then kept status output again answered alike first second =
+    let same = sym (same_season facts other alike.seasons) in
+    let by_season = subst (λ (f : SeasonFacts). IsSpecialText f then (Some bytes) status again) same second in
+    let by_state = subst (λ (s : State). IsSpecialText (kept_so facts other.holders) s (Some bytes) status again) (sym alike.states) by_season in
+    one_special laws bytes facts other.holders state kept status output again answered alike.sound (subst IsSound same alike.other_sound) alike.replayed first by_state
 
 -- ---- no office resumes, or one does
 
 -- an office that resumed ends with no text of one that did not
 not_both : Laws → (tables : Tables) → IsTold tables → (bytes : List ℕ) (facts : SeasonFacts) (state : State) (status : Status) (output again : List ℕ) → IsAnswered status
-    → AreResumed tables facts state → IsUnresumedOver tables status output → IsSpecialOver facts state bytes status again → ⊥
-not_both laws tables told bytes facts state Done output again answered resumed text ends = text
-not_both laws tables told bytes facts state Usage output again answered resumed text ends = text
-not_both laws tables told bytes facts state BadInput output again answered resumed text ends = no_kept_line laws.readings tables told facts state output resumed.0 text
-not_both laws tables told bytes facts state ReadFault output again answered resumed text ends = answered
-not_both laws tables told bytes facts state WriteFault output again answered resumed text ends = answered
-not_both laws tables told bytes facts state KeeperFault output again answered resumed text ends = answered
-not_both laws tables told bytes facts state OutOfMemory output again answered resumed text ends = answered
-not_both laws tables told bytes facts state DoorFault output again answered resumed text ends = answered
-not_both laws tables told bytes facts state Differs output again answered resumed text ends = ends
-not_both laws tables told bytes facts state Broken output again answered resumed text ends = text
+    → IsResumed tables facts state → IsUnresumedText tables status output → IsSpecialText facts state (Some bytes) status again → ⊥
+not_both laws tables told bytes facts state status output again answered resumed =
+    by_answer (λ s. IsUnresumedText tables s output → IsSpecialText facts state (Some bytes) s again → ⊥) (λ text ends. text) (λ text ends. text)
+    (λ text ends. no_kept_line laws.readings tables told facts state output resumed text) (λ text ends. ends) (λ text ends. text) status answered
 
 -- ---- the command
 
@@ -127,19 +117,19 @@ specials_are_one laws bytes output again before after later status answered told
     tables = still before after
 
     EndsOver : Tables → Tables → List ℕ → Type 0
-    EndsOver those left text = (Writes (IsUnresumedOver those) status text × AreTold before left)
-        ⊎ ((facts : SeasonFacts) × (state : State) × AreResumed those facts state × Writes (IsSpecialOver facts state bytes) status text × AreTold before left)
+    EndsOver those left text = (Writes (IsUnresumedText those) status text × AreTold before left)
+        ⊎ ((facts : SeasonFacts) × (state : State) × IsResumed those facts state × Writes (IsSpecialText facts state (Some bytes)) status text × AreTold before left)
 
-    text_of : (text : List ℕ) → Writes (IsUnresumedOver tables) status text → IsUnresumedOver tables status text
-    text_of text writes = whole (IsUnresumedOver tables) status text answered writes
+    text_of : (text : List ℕ) → Writes (IsUnresumedText tables) status text → IsUnresumedText tables status text
+    text_of text writes = whole (IsUnresumedText tables) status text answered writes
 
-    special_of : (facts : SeasonFacts) (state : State) (text : List ℕ) → Writes (IsSpecialOver facts state bytes) status text → IsSpecialOver facts state bytes status text
-    special_of facts state text writes = whole (IsSpecialOver facts state bytes) status text answered writes
+    special_of : (facts : SeasonFacts) (state : State) (text : List ℕ) → Writes (IsSpecialText facts state (Some bytes)) status text → IsSpecialText facts state (Some bytes) status text
+    special_of facts state text writes = whole (IsSpecialText facts state (Some bytes)) status text answered writes
 
     by : EndsOver tables after output → EndsOver tables later again → output ≡ again
-    by (inl a) (inl b) = one_unresumed laws.readings laws.seasons laws.records tables told status output again answered (text_of output a.0) (text_of again b.0)
+    by (inl a) (inl b) = one_unresumed laws.readings laws.kept tables told status output again answered (text_of output a.0) (text_of again b.0)
     by (inl a) (inr b) = absurd (not_both laws tables told bytes b.0 b.1 status output again answered b.2 (text_of output a.0) (special_of b.0 b.1 again b.3))
     by (inr a) (inl b) = absurd (not_both laws tables told bytes a.0 a.1 status again output answered a.2 (text_of again b.0) (special_of a.0 a.1 output a.3))
     by (inr a) (inr b) =
-        let alike = resumed_alike laws.seasons laws.records tables told a.0 b.0 a.1 b.1 a.2 b.2 in
-        one_resumed laws bytes a.0 b.0 a.1 b.1 alike.0 status output again answered a.2.1 alike.1 (special_of a.0 a.1 output a.3) (special_of b.0 b.1 again b.3)
+        let alike = resumed_alike laws.kept tables told a.0 b.0 a.1 b.1 a.2 b.2 in
+        one_resumed laws bytes a.0 b.0 a.1 b.1 alike.0 status output again answered alike.1 (special_of a.0 a.1 output a.3) (special_of b.0 b.1 again b.3)

@@ -1,6 +1,7 @@
 -- The text of the special round over the same final rows and the same lists is one.
 use Rattle.std.proofs.Common.{◌≡◌, ◌<◌, ◌-◌, ◌++◌, ℕ, List, length, map, arith, refl, sym, ap, ◌∙◌, subst}
 use Rattle.std.proofs.lemmas.Option.{slice_get_within}
+use Rattle.office_base.proofs.Options.{none_from}
 use Rattle.office_base.specs.Lists.{Pairwise}
 use Rattle.office_base.specs.declared.person.CandId.{CandId}
 use Rattle.office_base.specs.declared.person.Person.{Person}
@@ -9,13 +10,14 @@ use Rattle.section_rows.specs.Rows.{Row, rows_of}
 use Rattle.section_rows.specs.declared.fault.TableFault.TheVariants.{Bad, OutOfMemory as NoMemory}
 use Rattle.slot_cert.specs.Laws.{OneCertificate}
 use Rattle.keeper_mem.specs.declared.rows.AllotRow.{AllotRow}
-use Rattle.rank_lists.specs.Register.{Ranks}
+use Rattle.rank_lists.specs.Register.{AreRanks, Ranks}
 use Rattle.seat_matrix.specs.Matrix.{SeatTable}
 use Rattle.choice_lists.specs.Choices.{IsRead, Lists, list_of}
 use Rattle.choice_lists.specs.Laws.{CarryOver, DependOnPeopleAndProgrammes, HaveOneReading}
 use Rattle.rounds.specs.Round.{IsRound, seated}
 use Rattle.rounds.specs.Rule.{AreEntrants}
 use Rattle.rounds.specs.declared.round.Round.{Round}
+use Rattle.season_file.specs.declared.season.Season.{Season}
 use Rattle.round_laws.specs.Laws.{Enter, OneRound, lists_in}
 use Rattle.round_laws.proofs.People.{there_is}
 use Rattle.round_laws.proofs.Season.{aligned_length, length_lists, list_at_place}
@@ -25,7 +27,7 @@ use Rattle.office_moves.specs.Season.{facts_of}
 use Rattle.office_moves.specs.State.{State}
 use Rattle.published_texts.specs.Texts.{round_text}
 use Rattle.special_round.specs.Remaining.{IsRemaining}
-use Rattle.special_round.specs.Season.{IsSpecialFault}
+use Rattle.special_round.specs.Season.{IsLeftSeason, IsSpecialFault}
 use Rattle.special_round.specs.Special.{IsSpecialOver, all_whole}
 use Rattle.special_round.specs.declared.fault.SpecialFault.{SpecialFault}
 use Rattle.special_round.specs.declared.fault.SpecialFault.TheVariants.{Admitted, Lists as BadLists, NotFinal, OutOfMemory}
@@ -46,15 +48,27 @@ pub record IsMade (facts : SeasonFacts) (table : SeatTable) (rows : List AllotRo
   pub round : IsRound facts.version special.season.matrix facts.people (lists_in special.season.choices) 1 (all_whole facts.people) special.round
   pub sound : IsSound (facts_of special.season)
 
-pub made : (facts : SeasonFacts) (table : SeatTable) (rows : List AllotRow) (body : List ℕ) (special : Special) → IsSound (facts_of special.season)
-    → IsSpecialOver facts table rows body special → IsMade facts table rows body special
+-- the season that final rows leave of a sound one is sound
+left_sound : (facts : SeasonFacts) (table : SeatTable) (rows : List AllotRow) (body : List ℕ) (season : Season) → IsSound facts → IsLeftSeason facts table rows body season → IsSound (facts_of season)
+left_sound facts table rows body season sound left = record {
+  version = season.known_version;
+  rounds = (season.some_rounds, season.few_rounds);
+  ranks = subst AreRanks (sym left.register) sound.ranks;
+  seats = left.seats;
+  choices = season.sound;
+  aligned = season.aligned;
+  clerk = none_from _ season.clerk_apart;
+}
+
+pub made : (facts : SeasonFacts) (table : SeatTable) (rows : List AllotRow) (body : List ℕ) (special : Special) → IsSound facts → IsSpecialOver facts table rows body special
+    → IsMade facts table rows body special
 made facts table rows body special sound over = record {
   people = ap (λ (r : Ranks). r.people) over.season.register;
   matrix = over.season.matrix;
   lists = over.season.lists;
   vacant = over.vacant;
   round = over.round;
-  sound = sound;
+  sound = left_sound facts table rows body special.season sound over.season;
 }
 
 -- lists are read alike beside either order
@@ -62,7 +76,7 @@ abbrev carried : SeasonFacts → List (List ℕ × CandId) → List ℕ → Type
 carried facts holders body = CarryOver (register_of (kept_so facts holders)) (register_of facts) facts.matrix facts.matrix (rows_of body)
 
 pub made_too : ((rows : List Row) → DependOnPeopleAndProgrammes rows) → (facts : SeasonFacts) (holders : List (List ℕ × CandId)) (table : SeatTable) (rows : List AllotRow) (body : List ℕ)
-    (special : Special) → IsSound (facts_of special.season) → IsSpecialOver (kept_so facts holders) table rows body special → IsMade facts table rows body special
+    (special : Special) → IsSound (kept_so facts holders) → IsSpecialOver (kept_so facts holders) table rows body special → IsMade facts table rows body special
 made_too carry facts holders table rows body special sound over =
     let over_lists : carried facts holders body = carry (rows_of body) (register_of (kept_so facts holders)) (register_of facts) facts.matrix facts.matrix refl refl in
     record {
@@ -71,7 +85,7 @@ made_too carry facts holders table rows body special sound over =
       lists = over_lists.value special.season.choices over.season.lists;
       vacant = over.vacant;
       round = over.round;
-      sound = sound;
+      sound = left_sound (kept_so facts holders) table rows body special.season sound over.season;
     }
 
 -- Why there is no special round does not hang on it either.

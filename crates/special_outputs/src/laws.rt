@@ -6,7 +6,7 @@ pub fn specials_are_one()
     ensures { SpecialsAreOne }
 {
     season_file::laws::one_reading();
-    one_output::laws::one_kept_season();
+    one_output::laws::one_season();
     replays::laws::one_end();
     histories::laws::history_grows();
     histories::laws::orderly();

@@ -5,7 +5,7 @@ use Rattle.office_text.specs.Number.{number_within}
 use Rattle.section_rows.specs.Rows.{Row, field, rows_of}
 use Rattle.section_rows.specs.declared.fault.TableFault.TheVariants.{Bad, OutOfMemory as NoMemory}
 use Rattle.keeper_mem.specs.declared.rows.AllotRow.{AllotRow}
-use Rattle.seat_matrix.specs.Matrix.{SeatTable}
+use Rattle.seat_matrix.specs.Matrix.{AreSeats, SeatTable}
 use Rattle.choice_lists.specs.Choices.{IsFault, IsRead, Lists as ChoiceLists}
 use Rattle.season_file.specs.declared.season.Season.{Season}
 use Rattle.office_moves.specs.Facts.{SeasonFacts, register_of}
@@ -48,6 +48,7 @@ pub record IsLeftSeason (facts : SeasonFacts) (table : SeatTable) (rows : List A
   pub clerk : season.clerk ≡ facts.clerk
   pub register : season.register ≡ register_of facts
   pub matrix : IsRemaining facts.people rows table season.matrix
+  pub seats : AreSeats season.matrix
   pub lists : IsRead (register_of facts) facts.matrix (rows_of body) season.choices
   pub nobody : first_admitted rows (rows_of body) ≡ None
   pub text : season.text ≡ []

@@ -97,5 +97,6 @@ pub fn left_season(
     let choices = read_lists(alloc, season, finals, lists)?;
     let register = season.register.copy(alloc)?;
     let matrix = remaining_matrix(alloc, &season.register, finals, table)?;
+    let _ = matrix.count();
     Ok(one_round(alloc, season, register, matrix, choices))
 }

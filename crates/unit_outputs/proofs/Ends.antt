@@ -1,35 +1,27 @@
 -- `units` writes the same for the same bytes: they result in one plain bundle, and its run writes the same.
-use Rattle.std.proofs.Common.{◌≡◌, inl, inr, ℕ, true, List, Some, Ok, sym, ap, ◌∙◌, subst}
+use Rattle.std.proofs.Common.{◌≡◌, inl, inr, ℕ, true, List, Some, Ok, refl, sym, ap, ◌∙◌, subst}
 use Rattle.office_base.specs.declared.asks.Request.{Request}
-use Rattle.season_file.specs.Season.{content_of}
+use Rattle.season_file.specs.Season.{IsSeasonWith, content_of}
 use Rattle.season_file.specs.declared.season.Season.{Season}
 use Rattle.quota_units.specs.Input.{expansion}
 use Rattle.command_answers.specs.Answers.{HaveOneAnswer}
+use Rattle.command_answers.specs.Status.{IsAnswered}
 use Rattle.command_answers.specs.declared.status.Status.{Status}
-use Rattle.command_answers.specs.declared.status.Status.TheVariants.{Ok as Done, Usage, BadInput, ReadFault, WriteFault, KeeperFault, OutOfMemory, DoorFault, Differs, Broken}
-use Rattle.units_command.specs.Units.{IsUnitsFaultLine, IsUnitsInput, IsUnitsText, units_answers}
-use Rattle.one_output.specs.Laws.{Give}
-use Rattle.command_outputs.specs.Laws.{IsAnswered, RunsAreOne}
+use Rattle.command_answers.proofs.Answered.{by_answer}
+use Rattle.units_command.specs.Units.{IsLeftExpansion, IsUnitsFaultLine, IsUnitsInput, IsUnitsText, units_answers}
+use Rattle.command_outputs.specs.Laws.{RunsAreOne}
 use Rattle.command_outputs.proofs.Written.{left_has, whole}
-use Rattle.unit_outputs.specs.Laws.{GivePlain, UnitsAreOne}
+use Rattle.unit_outputs.specs.Laws.{UnitsAreOne}
 
 -- ---- the plain bundle
 
 -- The bytes result in this plain bundle, which gives the season and the requests.
 pub record IsPlain (bytes text : List ℕ) (season : Season) (script : List Request) : Type 0 where
   pub made : expansion bytes ≡ Ok text
-  pub give : Give true text season script
+  pub give : IsSeasonWith true text season script
 
-plain_of : (bytes : List ℕ) (season : Season) (script : List Request) → GivePlain bytes season script → (text : List ℕ) × IsPlain bytes text season script
-plain_of bytes season script give =
-    let left = give.0 in
-    let here = left.3 in (
-      left.1,
-      record {
-        made = ap (λ (b : List ℕ). expansion b) (sym left.2) ∙ here.0.made;
-        give = record { read = here.1; sound = give.1 };
-      },
-    )
+plain_of : (bytes : List ℕ) (season : Season) (script : List Request) → IsLeftExpansion (Some bytes) season script → (text : List ℕ) × IsPlain bytes text season script
+plain_of bytes season script left = (left.1, record { made = ap (λ (b : List ℕ). expansion b) (sym left.2) ∙ left.3.0.made; give = left.3.1 })
 
 one_plain : (bytes text other : List ℕ) → expansion bytes ≡ Ok text → expansion bytes ≡ Ok other → other ≡ text
 one_plain bytes text other first second = cc (first, second)
@@ -38,36 +30,22 @@ one_plain bytes text other first second = cc (first, second)
 
 unread_one : ((bytes : List ℕ) → HaveOneAnswer units_answers bytes) → (bytes : List ℕ) (status : Status) (output again : List ℕ) → IsAnswered status → IsUnitsText (Some bytes) status output
     → IsUnitsText (Some bytes) status again → output ≡ again
-unread_one one bytes Done output again answered first second = absurd first
-unread_one one bytes Usage output again answered first second = absurd first
-unread_one one bytes BadInput output again answered first second =
-    (one bytes).one_line output again (left_has IsUnitsFaultLine bytes output first) (left_has IsUnitsFaultLine bytes again second)
-unread_one one bytes ReadFault output again answered first second = absurd answered
-unread_one one bytes WriteFault output again answered first second = absurd answered
-unread_one one bytes KeeperFault output again answered first second = absurd answered
-unread_one one bytes OutOfMemory output again answered first second = absurd answered
-unread_one one bytes DoorFault output again answered first second = absurd answered
-unread_one one bytes Differs output again answered first second = absurd first
-unread_one one bytes Broken output again answered first second = absurd first
+unread_one one bytes status output again answered =
+    by_answer (λ s. IsUnitsText (Some bytes) s output → IsUnitsText (Some bytes) s again → output ≡ again) (λ first second. absurd first) (λ first second. absurd first)
+    (λ first second. (one bytes).one_line output again (left_has IsUnitsFaultLine bytes output first) (left_has IsUnitsFaultLine bytes again second)) (λ first second. absurd first)
+    (λ first second. absurd first) status answered
 
 -- bytes that result in a bundle without faults are not refused
 unread_faulty : ((bytes : List ℕ) → HaveOneAnswer units_answers bytes) → (bytes : List ℕ) (status : Status) (output : List ℕ) → IsAnswered status → IsUnitsText (Some bytes) status output
     → IsUnitsInput bytes → ⊥
-unread_faulty one bytes Done output answered text input = text
-unread_faulty one bytes Usage output answered text input = text
-unread_faulty one bytes BadInput output answered text input = (one bytes).apart input ((one bytes).of_fault output (left_has IsUnitsFaultLine bytes output text))
-unread_faulty one bytes ReadFault output answered text input = answered
-unread_faulty one bytes WriteFault output answered text input = answered
-unread_faulty one bytes KeeperFault output answered text input = answered
-unread_faulty one bytes OutOfMemory output answered text input = answered
-unread_faulty one bytes DoorFault output answered text input = answered
-unread_faulty one bytes Differs output answered text input = text
-unread_faulty one bytes Broken output answered text input = text
+unread_faulty one bytes status output answered text input =
+    by_answer (λ s. IsUnitsText (Some bytes) s output → ⊥) (λ read. read) (λ read. read)
+    (λ read. (one bytes).apart input ((one bytes).of_fault output (left_has IsUnitsFaultLine bytes output read))) (λ read. read) (λ read. read) status answered text
 
-input_of : (bytes : List ℕ) (season : Season) (script : List Request) → GivePlain bytes season script → IsUnitsInput bytes
-input_of bytes season script give =
-    let (text, plain) = plain_of bytes season script give in
-    (text, plain.made, (content_of season plain.give.read.row, script, plain.give.read.given))
+input_of : (bytes : List ℕ) (season : Season) (script : List Request) → IsLeftExpansion (Some bytes) season script → IsUnitsInput bytes
+input_of bytes season script left =
+    let (text, plain) = plain_of bytes season script left in
+    (text, plain.made, (content_of season plain.give.row, script, plain.give.given))
 
 -- ---- the command
 
@@ -82,5 +60,5 @@ units_are_one one runs bytes output again before after others later status answe
     let (text, a) = plain_of bytes first.0 first.1 first.2 in
     let (other, b) = plain_of bytes second.0 second.1 second.2 in
     let same = one_plain bytes text other a.made b.made in
-    runs text output again before after others later status answered (inr (first.0, first.1, a.give, first.3))
-    (inr (second.0, second.1, subst (λ (t : List ℕ). Give true t second.0 second.1) same b.give, second.3))
+    runs text output again before after others later status answered (inr (first.0, first.1, (text, refl, a.give), first.3))
+    (inr (second.0, second.1, (text, refl, subst (λ (t : List ℕ). IsSeasonWith true t second.0 second.1) same b.give), second.3))

@@ -9,6 +9,7 @@ use Rattle.office_base.specs.declared.person.Person.{Person}
 use Rattle.office_base.specs.declared.person.ProgId.{ProgId}
 use Rattle.keeper_mem.specs.declared.rows.AllotRow.{AllotRow}
 use Rattle.choice_lists.specs.Choices.{list_of}
+use Rattle.season_file.specs.Laws.{HaveOneReading}
 use Rattle.season_file.specs.Season.{IsSeasonWith, content_of}
 use Rattle.season_file.specs.declared.season.Season.{Season}
 use Rattle.office_moves.specs.Facts.{IsSound, SeasonFacts, code_in}
@@ -18,6 +19,7 @@ use Rattle.office_moves.specs.Promise.{kept_to_the_end, standing_then}
 use Rattle.office_moves.specs.Season.{facts_of}
 use Rattle.office_moves.specs.State.{State, opening, seat_in}
 use Rattle.office_moves.specs.declared.moves.Entry.{Entry}
+use Rattle.office_moves.proofs.Sound.{given_sound}
 use Rattle.round_options.specs.Options.{holds}
 use Rattle.histories.specs.Course.{IsCourse}
 use Rattle.histories.proofs.Fits.{seat_is}
@@ -85,12 +87,16 @@ if_held : (b : Bool) (o : Option Seat) (seat : Seat) → (if b then o else None)
 if_held true o seat is = is
 if_held false o seat is = absurd cc
 
-pub seats_right : ((facts : SeasonFacts) (entries : List Entry) (state : State) → IsSound facts → Reaches facts opening entries state → IsCourse facts state) → (bytes text : List ℕ) (made : IsExpansion bytes text)
-    (season : Season) (script : List Request) → IsSeasonWith true text season script → IsSound (facts_of season) → AlwaysLiveRight made.units made.states (facts_of season)
-seats_right courses bytes text made season script is sound entries state reached = (seats, finals)
+pub seats_right : ((requests : Bool) (bytes : List ℕ) → HaveOneReading requests bytes)
+    → ((facts : SeasonFacts) (entries : List Entry) (state : State) → IsSound facts → Reaches facts opening entries state → IsCourse facts state) → (bytes text : List ℕ) (made : IsExpansion bytes text)
+    (season : Season) (script : List Request) → IsSeasonWith true text season script → AlwaysLiveRight made.units made.states (facts_of season)
+seats_right readings courses bytes text made season script is entries state reached = (seats, finals)
   where
     facts : SeasonFacts
     facts = facts_of season
+
+    sound : IsSound (facts_of season)
+    sound = given_sound true text season is.row script (readings true text) is.given
 
     seats : SeatsLiveRight made.units made.states (facts_of season) state
     seats = living courses bytes text made season script is sound entries state reached

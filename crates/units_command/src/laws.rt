@@ -3,7 +3,6 @@ ghost use Rattle.std.specs.Prelude.{◌≡◌, ℕ, true, List};
 ghost use Rattle.office_base.specs.declared.asks.Request.{Request};
 ghost use Rattle.season_file.specs.Season.{IsSeasonWith};
 ghost use Rattle.season_file.specs.declared.season.Season.{Season};
-ghost use Rattle.office_moves.specs.Facts.{IsSound};
 ghost use Rattle.office_moves.specs.Season.{facts_of};
 ghost use Rattle.quota_units.specs.Expansion.{IsExpansion};
 ghost use Rattle.command_answers.specs.Answers.{HaveOneAnswer};
@@ -21,7 +20,8 @@ pub fn one_units_answer()
 pub fn seats_right()
     ensures { (bytes text : List ℕ) (made : IsExpansion bytes text) (season : Season)
         (script : List Request) → IsSeasonWith true text season script
-        → IsSound (facts_of season) → AlwaysLiveRight made.units made.states (facts_of season) }
+        → AlwaysLiveRight made.units made.states (facts_of season) }
 {
+    season_file::laws::one_reading();
     histories::laws::runs_its_course();
 }

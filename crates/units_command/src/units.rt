@@ -13,7 +13,6 @@ use crate::laws::{one_units_answer, seats_right};
 use command_answers::{Failure, Status, tell_failure};
 use keeper_mem::Keeper;
 use office_base::{Sink, Source};
-use office_moves::says_what_is_sound;
 use quota_units::expand;
 use request_rows::Script;
 use season_commands::{bundle_failure, run_script};
@@ -36,7 +35,6 @@ fn read_units<S: Source>(alloc: Global, source: &mut S) -> Result<(Season, Scrip
     };
     match Season::of_text(alloc, text, true) {
         Ok((season, script)) => {
-            says_what_is_sound(&season);
             seats_right();
             Ok((season, script))
         }

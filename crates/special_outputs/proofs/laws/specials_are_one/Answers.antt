@@ -4,8 +4,7 @@ use Rattle.special_outputs.proofs.laws.specials_are_one.Goals as goal
 pub returns : goal.returns
 returns c = ends.specials_are_one (record {
   readings = c.one_reading.ensures;
-  seasons = c.one_kept_season.ensures;
-  records = c.one_end.ensures;
+  kept = record { seasons = c.one_season.ensures.kept; sound = c.one_season.ensures.sound; records = c.one_end.ensures };
   grows = c.history_grows.ensures;
   orderly = c.orderly.ensures;
   known = c.finals_are_known.ensures;

@@ -10,7 +10,7 @@ returns-in-Ok-of_text-clause-bundle g c =
       bytes,
       c.in-Ok.text,
       all_left bytes _ _ took end,
-      (made, read, c.seats_right.ensures bytes c.in-Ok.text made c.in-Ok-of_text.season c.in-Ok-of_text.script read c.says_what_is_sound.ensures),
+      (made, read, c.seats_right.ensures bytes c.in-Ok.text made c.in-Ok-of_text.season c.in-Ok-of_text.script read),
     )
 
 pub returns-in-Err-clause-failure : goal.returns-in-Err-clause-failure

@@ -1,5 +1,0 @@
-use Rattle.one_output.proofs.Seasons as seasons
-use Rattle.one_output.proofs.laws.one_kept_season.Goals as goal
-
-pub returns : goal.returns
-returns c = seasons.one_kept_season c.one_reading.ensures
