@@ -276,6 +276,12 @@ not_faulty : (b : Bool) → (if b then LimitReached else EndsOpen) ≡ LinkFault
 not_faulty true e = cc
 not_faulty false e = cc
 
+pub neither : (A B : Type 0) → ¬ A → ¬ B → ¬ (A ⊎ B)
+neither A B a b either = elim either [
+  | inl h ↦ a h
+  | inr h ↦ b h
+]
+
 -- a session ends with a fault of the link if and only if the step does
 pub faulty : (step : Step) (done : ℕ) → end_of step done ≡ LinkFault → (step ≡ Unwritten) ⊎ (step ≡ Unread)
 faulty Next done e = absurd (cc)
@@ -285,10 +291,10 @@ faulty Torn done e = absurd (cc)
 faulty Unread done e = inr refl
 faulty Unwritten done e = inl refl
 
-pub sound : (step : Step) (done : ℕ) → end_of step done ≢ LinkFault → (step ≢ Unwritten) × (step ≢ Unread)
-sound Next done safe = (λ e. cc, λ e. cc)
-sound Last done safe = (λ e. cc, λ e. cc)
-sound Ended done safe = (λ e. cc, λ e. cc)
-sound Torn done safe = (λ e. cc, λ e. cc)
+pub sound : (step : Step) (done : ℕ) → end_of step done ≢ LinkFault → ¬ ((step ≡ Unwritten) ⊎ (step ≡ Unread))
+sound Next done safe = neither _ _ (λ e. cc) (λ e. cc)
+sound Last done safe = neither _ _ (λ e. cc) (λ e. cc)
+sound Ended done safe = neither _ _ (λ e. cc) (λ e. cc)
+sound Torn done safe = neither _ _ (λ e. cc) (λ e. cc)
 sound Unread done safe = absurd (safe refl)
 sound Unwritten done safe = absurd (safe refl)

@@ -3,6 +3,7 @@ use Rattle.std.specs.Prelude.{◌≡◌, ◌≤◌, ◌<◌, ◌+◌, ◌⊎◌,
 use Rattle.std.specs.List.{list_any}
 use Rattle.office_base.specs.Outside.{Appends, Took}
 use Rattle.office_base.specs.declared.asks.Ask.{Ask}
+use Rattle.office_links.specs.declared.outside.Link.{Ghosts as LinkGhosts}
 use Rattle.http_heads.specs.Messages.{IsTorn, IsUnfinished}
 use Rattle.http_sessions.specs.Exchange.{Item, Outcome, Cuts, Runs, replies, open_before, closes_last, but_last, is_last}
 use Rattle.http_sessions.specs.declared.counter.Answered.{Answered}
@@ -23,6 +24,10 @@ pub record Talk : Type 0 where
   pub left_after : Option (List ℕ)
   pub written_before : Option (List ℕ)
   pub written_after : Option (List ℕ)
+
+-- the same of a link that was this one and is that one now
+abbrev pub talk_over : {L : Type 0} → LinkGhosts L → L → L → Talk
+talk_over link old new = record { left_before = link.left old; left_after = link.left new; written_before = link.written old; written_after = link.written new }
 
 -- the replies were written whole
 abbrev pub AreWritten : Talk → List Item → List Outcome → Type 0

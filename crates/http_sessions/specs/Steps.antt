@@ -39,6 +39,12 @@ module _ {C : Type 0} (R : C → Option (List ℕ) → Ask → Result Answered F
     pub is : (more : List ℕ) → IsItem (held ++ more) item len
     pub goes : Goes R c item outcome c'
 
+  -- A reply with this text is ready to the message of this length with which the held bytes begin, whatever follows.
+  -- It takes the counter from here to there.
+  abbrev pub IsReady : C → C → ℕ → List ℕ → ℕ → Bool → List ℕ → Type 0
+  IsReady c c' number held len last text =
+      (item : Item) × (outcome : Outcome) × ((more : List ℕ) → IsItem (held ++ more) item len) × (last ≡ item.closes) × Goes R c item outcome c' × (text ≡ reply_to number item outcome)
+
   pub record IsReplied (c c' : C) (number : ℕ) (held kept : List ℕ) (closes : Bool) (before after : Option (List ℕ)) : Type 0 where
     pub item : Item
     pub outcome : Outcome

@@ -1,12 +1,13 @@
 // One message of the held bytes, answered.
-ghost use Rattle.std.specs.Prelude.{◌≡◌, ◌+◌, ◌≤◌, ◌<◌, ◌||◌, ◌==◌, ℕ, List, Option, Result, None, Some, [], ◌++◌, length, IfSome, IfNone, OnOk, OnErr, option_copied, take};
+ghost use Rattle.std.specs.Prelude.{◌≡◌, ◌+◌, ◌≤◌, ◌<◌, ◌||◌, ◌==◌, ℕ, Option, Result, None, Some, [], ◌++◌, length, IfSome, IfNone, IsErr, OnOk, OnErr, option_copied, take};
 ghost use Rattle.std.specs.Option.{unwrap_or};
-ghost use Rattle.office_base.specs.Outside.{Appends, Rose};
+ghost use Rattle.office_base.specs.Outside.{Appends, Fails};
 ghost use Rattle.http_heads.specs.Fields.{closes};
 ghost use Rattle.http_heads.specs.Messages.{IsUnfinished, IsWhole};
 ghost use Rattle.http_heads.specs.Told.{told_message, told_fields};
+ghost use Rattle.http_sessions.specs.Steps.{IsReady};
+ghost use Rattle.http_sessions.specs.Exchange.{Outcome, Goes, item_of, reply_to, heard, answered_text, body_text};
 ghost use Rattle.http_asks.specs.Verdicts.{token_in};
-ghost use Rattle.http_sessions.specs.Exchange.{Item, Outcome, IsItem, Goes, item_of, reply_to, heard, answered_text, body_text};
 
 use crate::counter::{Answered, Counter};
 use crate::gate::Gate;
@@ -162,9 +163,8 @@ pub(crate) fn answer_held<C: Counter, G: Gate>(
 ) -> Option<Ready>
     requires { 1 ≤ C.asks_left counter.old }
     ensures none { IfNone result (IsUnfinished held.now × (counter.new ≡ counter.old)) }
-    ensures some { IfSome result (λ ready. (item : Item) × (outcome : Outcome)
-        × ((more : List ℕ) → IsItem (held.now ++ more) item ready.len) × (ready.last ≡ item.closes) × Goes C.answers counter.old item outcome counter.new
-        × (tools.new.outbox ++ unwrap_or ready.body [] ≡ reply_to at.message item outcome)) }
+    ensures some { IfSome result (λ ready. IsReady C.answers counter.old counter.new at.message
+        held.now ready.len ready.last (tools.new.outbox ++ unwrap_or ready.body [])) }
     ensures within { IfSome result (λ ready. ready.len ≤ length held.now) }
     ensures left { C.asks_left counter.old ≤ C.asks_left counter.new + 1 }
     ensures same { C.lender counter.new ≡ C.lender counter.old }
@@ -210,9 +210,7 @@ pub(crate) fn send<L: Link>(
         × Appends (take n (outbox.now ++ unwrap_or body.now []))
         (L.written link.old) (L.written link.new)) }
     ensures apart { L.left link.new ≡ L.left link.old }
-    ensures cause { OnErr result (Rose (L.faults link.old) (L.faults link.new)) }
-    ensures count { L.faults link.old ≤ L.faults link.new }
-    ensures steady { OnOk result (L.faults link.new ≡ L.faults link.old) }
+    ensures blamed { Fails (IsErr result) (L.faults link.old) (L.faults link.new) }
 {
     write_link(link, outbox.bytes())?;
     match body {

@@ -1,7 +1,7 @@
 // A session: the messages of a link, answered one after another.
-ghost use Rattle.std.specs.Prelude.{◌≡◌, ◌≢◌, ◌+◌, ◌≤◌, ℕ, List, Option};
-ghost use Rattle.office_base.specs.Outside.{AreLeft, Rose};
-ghost use Rattle.http_sessions.specs.Sessions.{IsSession};
+ghost use Rattle.std.specs.Prelude.{◌≡◌, ◌+◌, ◌≤◌, ℕ, List, Option};
+ghost use Rattle.office_base.specs.Outside.{AreLeft, Fails};
+ghost use Rattle.http_sessions.specs.Sessions.{IsSession, talk_over};
 ghost use Rattle.http_sessions.specs.Steps.{end_of};
 
 use crate::answering::{At, Tools};
@@ -67,13 +67,11 @@ pub fn session<C: Counter, L: Link, G: Gate>(
     worker: u32,
 ) -> SessionEnd
     requires { 100 ≤ C.asks_left counter.old }
-    ensures met { (bytes : List ℕ) × AreLeft bytes (L.left link.old) × IsSession C.answers counter.old counter.new bytes
-        (record { left_before = L.left link.old; left_after = L.left link.new; written_before = L.written link.old; written_after = L.written link.new }) result }
+    ensures met { (bytes : List ℕ) × AreLeft bytes (L.left link.old) × IsSession C.answers
+        counter.old counter.new bytes (talk_over L.Link link.old link.new) result }
     ensures left { C.asks_left counter.old ≤ C.asks_left counter.new + 100 }
     ensures same { C.lender counter.new ≡ C.lender counter.old }
-    ensures cause { result ≡ SessionEnd.LinkFault → Rose (L.faults link.old) (L.faults link.new) }
-    ensures count { L.faults link.old ≤ L.faults link.new }
-    ensures steady { result ≢ SessionEnd.LinkFault → L.faults link.new ≡ L.faults link.old }
+    ensures blamed { Fails (result ≡ SessionEnd.LinkFault) (L.faults link.old) (L.faults link.new) }
 {
     buffers.inbox.clear();
     'messages: for done in 0..100u32 {

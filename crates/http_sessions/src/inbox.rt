@@ -1,6 +1,6 @@
 // Bytes that came over a link and are not used up yet.
-ghost use Rattle.std.specs.Prelude.{◌≡◌, ℕ, ◌+◌, ◌-◌, ◌<◌, ◌≤◌, List, Option, [], ◌++◌, length, take, drop, IfOk, IsErr, OnOk, OnErr};
-ghost use Rattle.office_base.specs.Outside.{Fails, IsAtEnd, Rose, TakesPrefix, Took};
+ghost use Rattle.std.specs.Prelude.{◌≡◌, ℕ, ◌+◌, ◌-◌, ◌<◌, ◌≤◌, List, Option, [], ◌++◌, length, take, drop, IfOk, IsErr, OnErr};
+ghost use Rattle.office_base.specs.Outside.{Fails, IsAtEnd, TakesPrefix, Took};
 
 use office_base::{Failed, OutOfMemory};
 use office_links::Link;
@@ -85,9 +85,7 @@ impl Inbox {
         ensures ended { IfOk result (λ n. n ≡ 0 → IsAtEnd (L.left link.new)) }
         ensures kept { OnErr result ((self.new ≡ self.old) × (L.left link.new ≡ L.left link.old)) }
         ensures apart { L.written link.new ≡ L.written link.old }
-        ensures cause { OnErr result (Rose (L.faults link.old) (L.faults link.new)) }
-        ensures count { L.faults link.old ≤ L.faults link.new }
-        ensures steady { OnOk result (L.faults link.new ≡ L.faults link.old) }
+        ensures blamed { Fails (IsErr result) (L.faults link.old) (L.faults link.new) }
     {
         if self.end == self.bytes.len() {
             self.bytes.copy_within(self.start..self.end, 0);

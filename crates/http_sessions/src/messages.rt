@@ -1,7 +1,7 @@
 // One message over a link: read until it is there, answered, and its reply written.
-ghost use Rattle.std.specs.Prelude.{◌≡◌, ◌≢◌, ◌+◌, ◌≤◌, ◌⊎◌, ℕ, List, ◌++◌, [], length, drop};
+ghost use Rattle.std.specs.Prelude.{◌≡◌, ◌+◌, ◌≤◌, ◌⊎◌, ℕ, List, ◌++◌, [], length, drop};
 ghost use Rattle.std.specs.Option.{unwrap_or};
-ghost use Rattle.office_base.specs.Outside.{IsAtEnd, Rose, Took};
+ghost use Rattle.office_base.specs.Outside.{Fails, IsAtEnd, Took};
 ghost use Rattle.http_sessions.specs.Steps.{IsSent, IsStep, step_of};
 
 use crate::answering::{At, Ready, Tools, answer_held, send};
@@ -36,9 +36,7 @@ fn finish<L: Link>(link: &mut L, inbox: &mut Inbox, outbox: &Outbox, ready: Read
     ensures sent { IsSent (outbox.now ++ unwrap_or ready.body []) ready.last ready.len
         inbox.old inbox.new (L.written link.old) (L.written link.new) result }
     ensures apart { L.left link.new ≡ L.left link.old }
-    ensures cause { result ≡ Step.Unwritten → Rose (L.faults link.old) (L.faults link.new) }
-    ensures count { L.faults link.old ≤ L.faults link.new }
-    ensures steady { result ≢ Step.Unwritten → L.faults link.new ≡ L.faults link.old }
+    ensures blamed { Fails (result ≡ Step.Unwritten) (L.faults link.old) (L.faults link.new) }
 {
     if send(link, outbox, &ready.body).is_err() {
         return Step::Unwritten;
@@ -63,11 +61,8 @@ pub(crate) fn exchange_one<C: Counter, L: Link, G: Gate>(
         (IsAtEnd (L.left link.new)) (L.written link.old) (L.written link.new) result }
     ensures left { C.asks_left counter.old ≤ C.asks_left counter.new + 1 }
     ensures same { C.lender counter.new ≡ C.lender counter.old }
-    ensures cause { (result ≡ Step.Unwritten) ⊎ (result ≡ Step.Unread)
-        → Rose (L.faults link.old) (L.faults link.new) }
-    ensures count { L.faults link.old ≤ L.faults link.new }
-    ensures steady { result ≢ Step.Unwritten → result ≢ Step.Unread
-        → L.faults link.new ≡ L.faults link.old }
+    ensures blamed { Fails ((result ≡ Step.Unwritten) ⊎ (result ≡ Step.Unread))
+        (L.faults link.old) (L.faults link.new) }
 {
     unfinished_bytes_are_few();
     'reads: loop {

@@ -1,5 +1,5 @@
 -- What calls inside a transaction leave, and what a connection shows.
-use Rattle.std.specs.Prelude.{◌≡◌, ◌⊎◌, Result, Ok, Err}
+use Rattle.std.specs.Prelude.{◌≡◌, ◌⊎◌, ℕ, List, Option, Result, Ok, Err, IfOk, IfErr}
 use Rattle.std.specs.Borrow.{MutBor}
 use Rattle.sqlite.specs.Store.{Ghosts}
 use Rattle.sqlite.specs.Effect.{Database}
@@ -7,9 +7,11 @@ use Rattle.sqlite.specs.State.{HasCleanDisk, IsRolledBack, Survives}
 use Rattle.sqlite.specs.Steps.{FailsToCommit}
 use Rattle.sqlite.specs.Held.{Held, state}
 use Rattle.keeper_mem.specs.Tables.{Tables}
+use Rattle.stored_tables.specs.Rows.{cuts_of}
 use Rattle.stored_tables.specs.Told.{told, tables_in, without_raises}
 use Rattle.keeper_sqlite.specs.Commits.{CommitsNothing}
-use Rattle.keeper_sqlite.specs.Stops.{IsRefusal}
+use Rattle.keeper_sqlite.specs.Kept.{Call, DidAll}
+use Rattle.keeper_sqlite.specs.Stops.{IsRefusal, StopsIn}
 use Rattle.keeper_sqlite.specs.declared.halt.Halt.{Halt}
 
 module _ {S : Type 0} (g : Ghosts S) where
@@ -21,6 +23,10 @@ module _ {S : Type 0} (g : Ghosts S) where
   abbrev pub content : Held S → Database
   content connection = (state g connection).now
 
+  -- the number of cuts that it shows, or that there is no season; nothing, if its table says neither
+  abbrev pub phase_shown : Held S → Option (Option ℕ)
+  phase_shown connection = cuts_of ((content connection).trees 5)
+
   -- the tables that a connection shows
   abbrev pub shown : Held S → Tables
   shown connection = told (state g connection)
@@ -28,6 +34,15 @@ module _ {S : Type 0} (g : Ghosts S) where
   -- the transaction is over the same connection, and nothing more is committed
   abbrev pub StaysInside : MutBor (Held S) → MutBor (Held S) → Type 0
   StaysInside old new = (new.ghost_name ≡ old.ghost_name) × CommitsNothing (state g old.now) (state g new.now)
+
+  -- If the disk returned what was written, this was done; or it broke off, and this is why.
+  pub record Acts {X : Type 0} (Done : X → Held S → Held S → Type 0) (Breaks : Halt → Held S → Held S → Type 0) (old new : MutBor (Held S)) (result : Result X Halt) : Type 0 where
+    pub done : IsClean new.now → IfOk result (λ value. Done value old.now new.now)
+    pub lost : IsClean new.now → IfErr result (λ halt. Breaks halt old.now new.now)
+
+  -- these calls were made, or one of them did not complete
+  abbrev pub Performs : List Call → MutBor (Held S) → MutBor (Held S) → Result (Unit {0}) Halt → Type 0
+  Performs calls = Acts (λ _. DidAll g calls) (StopsIn g calls)
 
   -- the tables in its trees, without any raise
   abbrev pub tables_without_raises : Held S → Tables

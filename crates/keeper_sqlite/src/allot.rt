@@ -1,7 +1,7 @@
 // The table of published seats.
 ghost use Rattle.std.specs.Prelude.{◌≡◌, Option, List, [], ◌∷◌, codes, IfOk, IfErr, OnOk, Bool, Some, None};
 ghost use Rattle.sqlite.specs.Order.{Row as Values};
-ghost use Rattle.keeper_sqlite.specs.Inside.{IsClean, StaysInside, content};
+ghost use Rattle.keeper_sqlite.specs.Inside.{Acts, IsClean, Performs, StaysInside, content};
 ghost use Rattle.keeper_sqlite.specs.Halts.{WantsMemory};
 ghost use Rattle.keeper_sqlite.specs.Columns.{IsAllotRow, IsKeyRow, TellsKey};
 ghost use Rattle.keeper_sqlite.specs.declared.rising.Key.{Key};
@@ -13,7 +13,7 @@ ghost use Rattle.stored_tables.specs.Puts.{PutsAllot};
 ghost use Rattle.stored_tables.specs.Rows.{allots_in};
 ghost use Rattle.keeper_mem.specs.declared.rows.AllotRow.{AllotRow};
 ghost use Rattle.keeper_sqlite.specs.Rising.{key_after};
-ghost use Rattle.keeper_sqlite.specs.Stops.{StopsIn, LosesKey, LosesRecords};
+ghost use Rattle.keeper_sqlite.specs.Stops.{LosesKey, LosesRecords};
 ghost use Rattle.keeper_sqlite.specs.Kept.Call.{Runs, Asks, Readies};
 
 use crate::calls::{ask, expect_none, make_ready, run, run_ready};
@@ -29,10 +29,7 @@ use std::alloc::Global;
 /// Makes the table if it is missing.
 pub(crate) fn create<S: Alter>(tx: &mut Transaction<'_, S>) -> Result<(), Halt>
     ensures inside { StaysInside S.Store tx.old.conn tx.new.conn }
-    ensures ran { IsClean S.Store tx.new.conn.now
-        → OnOk result (DidAll S.Store (Runs allot_table [] ∷ []) tx.old.conn.now tx.new.conn.now) }
-    ensures lost { IsClean S.Store tx.new.conn.now → IfErr result (λ halt.
-        StopsIn S.Store (Runs allot_table [] ∷ []) halt tx.old.conn.now tx.new.conn.now) }
+    ensures acts { Performs S.Store (Runs allot_table [] ∷ []) tx.old.conn tx.new.conn result }
     ensures stands { (strict : Bool) → IsClean S.Store tx.new.conn.now
         → tx.old.conn.now.schema ≡ stored strict
         → OnOk result (content S.Store tx.new.conn.now ≡ content S.Store tx.old.conn.now) }
@@ -47,10 +44,8 @@ pub(crate) fn create<S: Alter>(tx: &mut Transaction<'_, S>) -> Result<(), Halt>
 /// Tests that no row is there.
 pub(crate) fn expect_empty<S: Alter>(tx: &mut Transaction<'_, S>) -> Result<(), Halt>
     ensures inside { StaysInside S.Store tx.old.conn tx.new.conn }
-    ensures told { IsClean S.Store tx.new.conn.now → OnOk result (DidAll S.Store
-        (Asks (codes "SELECT rnd FROM allot LIMIT 1") [] ∷ []) tx.old.conn.now tx.new.conn.now) }
-    ensures lost { IsClean S.Store tx.new.conn.now → IfErr result (λ halt. StopsIn S.Store (Asks
-        (codes "SELECT rnd FROM allot LIMIT 1") [] ∷ []) halt tx.old.conn.now tx.new.conn.now) }
+    ensures acts { Performs S.Store (Asks (codes "SELECT rnd FROM allot LIMIT 1") [] ∷ [])
+        tx.old.conn tx.new.conn result }
     ensures none { (strict : Bool) → IsClean S.Store tx.new.conn.now → tx.old.conn.now.schema
         ≡ stored strict → OnOk result ((content S.Store tx.old.conn.now).trees 3 ≡ []) }
 {
@@ -63,11 +58,9 @@ pub(crate) fn insert_all<S: Alter>(
     rows: &[AllotRow],
 ) -> Result<(), Halt>
     ensures inside { StaysInside S.Store tx.old.conn tx.new.conn }
-    ensures ran { IsClean S.Store tx.new.conn.now → OnOk result (DidAll S.Store
-        (Readies allot_text ∷ allot_calls allot_text rows.now) tx.old.conn.now tx.new.conn.now) }
+    ensures acts { Performs S.Store (Readies allot_text ∷ allot_calls allot_text rows.now)
+        tx.old.conn tx.new.conn result }
     ensures fit { OnOk result (AllByRecursion AllotFits rows.now) }
-    ensures lost { IsClean S.Store tx.new.conn.now → IfErr result (λ halt. StopsIn S.Store (Readies
-        allot_text ∷ allot_calls allot_text rows.now) halt tx.old.conn.now tx.new.conn.now) }
 {
     let insert = make_ready(
         tx,
@@ -82,11 +75,9 @@ fn insert_each<S: Alter>(
     rows: &[AllotRow],
 ) -> Result<(), Halt>
     ensures inside { StaysInside S.Store tx.old.conn tx.new.conn }
-    ensures ran { IsClean S.Store tx.new.conn.now → OnOk result
-        (DidAll S.Store (allot_calls insert.now.text rows.now) tx.old.conn.now tx.new.conn.now) }
+    ensures acts { Performs S.Store (allot_calls insert.now.text rows.now) tx.old.conn tx.new.conn
+        result }
     ensures fit { OnOk result (AllByRecursion AllotFits rows.now) }
-    ensures lost { IsClean S.Store tx.new.conn.now → IfErr result (λ halt. StopsIn S.Store
-        (allot_calls insert.now.text rows.now) halt tx.old.conn.now tx.new.conn.now) }
 {
     for row in rows {
         insert_one(tx, insert, *row)?;
@@ -100,11 +91,9 @@ fn insert_one<S: Alter>(
     row: AllotRow,
 ) -> Result<(), Halt>
     ensures inside { StaysInside S.Store tx.old.conn tx.new.conn }
-    ensures ran { IsClean S.Store tx.new.conn.now → OnOk result (DidAll S.Store
-        (Runs insert.now.text (allot_values row) ∷ []) tx.old.conn.now tx.new.conn.now) }
+    ensures acts { Performs S.Store (Runs insert.now.text (allot_values row) ∷ []) tx.old.conn
+        tx.new.conn result }
     ensures fits { AllotFits row }
-    ensures lost { IsClean S.Store tx.new.conn.now → IfErr result (λ halt. StopsIn S.Store
-        (Runs insert.now.text (allot_values row) ∷ []) halt tx.old.conn.now tx.new.conn.now) }
     ensures put { (strict : Bool) → IsClean S.Store tx.new.conn.now
         → tx.old.conn.now.schema ≡ stored strict → insert.now.text ≡ allot_text → OnOk result
         (PutsAllot row (content S.Store tx.old.conn.now) (content S.Store tx.new.conn.now)) }
@@ -124,11 +113,9 @@ fn insert_one<S: Alter>(
 /// Returns the last key by round and candidate, if the table has a row.
 pub(crate) fn last_key<S: Alter>(tx: &mut Transaction<'_, S>) -> Result<Option<Key>, Halt>
     ensures inside { StaysInside S.Store tx.old.conn tx.new.conn }
-    ensures told { IsClean S.Store tx.new.conn.now
-        → IfOk result (λ last. (rows : List Values) × TellsKey rows last
-        × DidAll S.Store (Asks key_query rows ∷ []) tx.old.conn.now tx.new.conn.now) }
-    ensures lost { IsClean S.Store tx.new.conn.now
-        → IfErr result (λ halt. LosesKey S.Store halt tx.old.conn.now tx.new.conn.now) }
+    ensures acts { Acts S.Store (λ last old new. (rows : List Values) × TellsKey rows last × DidAll
+        S.Store (Asks key_query rows ∷ []) old new) (LosesKey S.Store) tx.old.conn tx.new.conn
+        result }
     ensures stands { (strict : Bool) → IsClean S.Store tx.new.conn.now → tx.old.conn.now.schema
         ≡ stored strict → IfOk result (λ last. (all : List AllotRow) → allots_in
         (content S.Store tx.old.conn.now).trees ≡ Some all → last ≡ key_after None all) }
@@ -166,10 +153,8 @@ pub(crate) fn read_all<S: Alter>(
     alloc: Global,
 ) -> Result<AllotRows, Halt>
     ensures inside { StaysInside S.Store tx.old.conn tx.new.conn }
-    ensures told { IsClean S.Store tx.new.conn.now → IfOk result (λ records.
-        TellsRecords S.Store IsAllotRow allots_query records tx.old.conn.now tx.new.conn.now) }
-    ensures lost { IsClean S.Store tx.new.conn.now → IfErr result (λ halt.
-        LosesRecords S.Store IsAllotRow allots_query halt tx.old.conn.now tx.new.conn.now) }
+    ensures acts { Acts S.Store (TellsRecords S.Store IsAllotRow allots_query) (LosesRecords S.Store
+        IsAllotRow allots_query) tx.old.conn tx.new.conn result }
     ensures stands { (strict : Bool) → IsClean S.Store tx.new.conn.now
         → tx.old.conn.now.schema ≡ stored strict → IfOk result (λ records. (all : List AllotRow)
         → allots_in (content S.Store tx.old.conn.now).trees ≡ Some all → all ≡ records) }

@@ -1,10 +1,10 @@
 // The table of answers.
 ghost use Rattle.std.specs.Prelude.{◌≡◌, [], ◌∷◌, codes, IfOk, IfErr, OnOk, Bool, Some, List};
 ghost use Rattle.sqlite.specs.declared.error.Error.{Error};
-ghost use Rattle.keeper_sqlite.specs.Inside.{IsClean, StaysInside, content};
+ghost use Rattle.keeper_sqlite.specs.Inside.{Acts, IsClean, Performs, StaysInside, content};
 ghost use Rattle.keeper_sqlite.specs.declared.halt.Halt.TheVariants.{Refused};
 ghost use Rattle.keeper_sqlite.specs.Columns.{IsAnswerRow};
-ghost use Rattle.keeper_sqlite.specs.Kept.{Ran, DidAll, TellsRecords, answers_query, answer_table, answer_text, answer_values};
+ghost use Rattle.keeper_sqlite.specs.Kept.{Ran, TellsRecords, answers_query, answer_table, answer_text, answer_values};
 ghost use Rattle.stored_tables.specs.Layout.{stored};
 ghost use Rattle.stored_tables.specs.Puts.{PutsAnswer};
 ghost use Rattle.stored_tables.specs.Rows.{answers_in};
@@ -25,10 +25,7 @@ use std::alloc::Global;
 /// Makes the table if it is missing.
 pub(crate) fn create<S: Alter>(tx: &mut Transaction<'_, S>) -> Result<(), Halt>
     ensures inside { StaysInside S.Store tx.old.conn tx.new.conn }
-    ensures ran { IsClean S.Store tx.new.conn.now
-        → OnOk result (DidAll S.Store (Runs answer_table [] ∷ []) tx.old.conn.now tx.new.conn.now) }
-    ensures lost { IsClean S.Store tx.new.conn.now → IfErr result (λ halt.
-        StopsIn S.Store (Runs answer_table [] ∷ []) halt tx.old.conn.now tx.new.conn.now) }
+    ensures acts { Performs S.Store (Runs answer_table [] ∷ []) tx.old.conn tx.new.conn result }
     ensures stands { (strict : Bool) → IsClean S.Store tx.new.conn.now
         → tx.old.conn.now.schema ≡ stored strict
         → OnOk result (content S.Store tx.new.conn.now ≡ content S.Store tx.old.conn.now) }
@@ -43,10 +40,8 @@ pub(crate) fn create<S: Alter>(tx: &mut Transaction<'_, S>) -> Result<(), Halt>
 /// Tests that no row is there.
 pub(crate) fn expect_empty<S: Alter>(tx: &mut Transaction<'_, S>) -> Result<(), Halt>
     ensures inside { StaysInside S.Store tx.old.conn tx.new.conn }
-    ensures told { IsClean S.Store tx.new.conn.now → OnOk result (DidAll S.Store
-        (Asks (codes "SELECT seq FROM answer LIMIT 1") [] ∷ []) tx.old.conn.now tx.new.conn.now) }
-    ensures lost { IsClean S.Store tx.new.conn.now → IfErr result (λ halt. StopsIn S.Store (Asks
-        (codes "SELECT seq FROM answer LIMIT 1") [] ∷ []) halt tx.old.conn.now tx.new.conn.now) }
+    ensures acts { Performs S.Store (Asks (codes "SELECT seq FROM answer LIMIT 1") [] ∷ [])
+        tx.old.conn tx.new.conn result }
     ensures none { (strict : Bool) → IsClean S.Store tx.new.conn.now → tx.old.conn.now.schema
         ≡ stored strict → OnOk result ((content S.Store tx.old.conn.now).trees 1 ≡ []) }
 {
@@ -56,11 +51,9 @@ pub(crate) fn expect_empty<S: Alter>(tx: &mut Transaction<'_, S>) -> Result<(), 
 /// Puts a row after the others.
 pub(crate) fn insert<S: Alter>(tx: &mut Transaction<'_, S>, row: AnswerRow) -> Result<(), Halt>
     ensures inside { StaysInside S.Store tx.old.conn tx.new.conn }
-    ensures ran { IsClean S.Store tx.new.conn.now → OnOk result
-        (Ran S.Store answer_text (answer_values row) tx.old.conn.now tx.new.conn.now) }
+    ensures acts { Acts S.Store (λ _. Ran S.Store answer_text (answer_values row)) (StopsIn S.Store
+        (Runs answer_text (answer_values row) ∷ [])) tx.old.conn tx.new.conn result }
     ensures halts { IfErr result (λ halt. (error : Error) × (halt ≡ Refused error)) }
-    ensures lost { IsClean S.Store tx.new.conn.now → IfErr result (λ halt. StopsIn S.Store
-        (Runs answer_text (answer_values row) ∷ []) halt tx.old.conn.now tx.new.conn.now) }
     ensures put { (strict : Bool) → IsClean S.Store tx.new.conn.now
         → tx.old.conn.now.schema ≡ stored strict → OnOk result
         (PutsAnswer row (content S.Store tx.old.conn.now) (content S.Store tx.new.conn.now)) }
@@ -83,10 +76,8 @@ pub(crate) fn read_all<S: Alter>(
     alloc: Global,
 ) -> Result<AnswerRows, Halt>
     ensures inside { StaysInside S.Store tx.old.conn tx.new.conn }
-    ensures told { IsClean S.Store tx.new.conn.now → IfOk result (λ records.
-        TellsRecords S.Store IsAnswerRow answers_query records tx.old.conn.now tx.new.conn.now) }
-    ensures lost { IsClean S.Store tx.new.conn.now → IfErr result (λ halt.
-        LosesRecords S.Store IsAnswerRow answers_query halt tx.old.conn.now tx.new.conn.now) }
+    ensures acts { Acts S.Store (TellsRecords S.Store IsAnswerRow answers_query) (LosesRecords
+        S.Store IsAnswerRow answers_query) tx.old.conn tx.new.conn result }
     ensures stands { (strict : Bool) → IsClean S.Store tx.new.conn.now
         → tx.old.conn.now.schema ≡ stored strict → IfOk result (λ records. (all : List AnswerRow)
         → answers_in (content S.Store tx.old.conn.now).trees ≡ Some all → all ≡ records) }

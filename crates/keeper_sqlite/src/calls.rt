@@ -1,7 +1,7 @@
 // Calls on the database inside a transaction, as contracts name them.
-ghost use Rattle.std.specs.Prelude.{◌≡◌, ◌≢◌, [], ◌∷◌, IfOk, IfErr, OnOk};
+ghost use Rattle.std.specs.Prelude.{◌≡◌, ◌≢◌, [], ◌∷◌, IfErr, OnOk};
 ghost use Rattle.sqlite.specs.declared.error.Error.{Error};
-ghost use Rattle.keeper_sqlite.specs.Inside.{IsClean, StaysInside};
+ghost use Rattle.keeper_sqlite.specs.Inside.{Acts, Performs, StaysInside};
 ghost use Rattle.keeper_sqlite.specs.declared.halt.Halt.TheVariants.{Refused, Unfit};
 ghost use Rattle.sqlite.specs.Values.{bound};
 ghost use Rattle.keeper_sqlite.specs.Kept.{DidAll};
@@ -19,11 +19,9 @@ pub(crate) fn run<S: Alter>(
     values: &[ValueRef<'_>],
 ) -> Result<(), Halt>
     ensures inside { StaysInside S.Store tx.old.conn tx.new.conn }
-    ensures ran { IsClean S.Store tx.new.conn.now → OnOk result
-        (DidAll S.Store (Runs text.now (bound values.now) ∷ []) tx.old.conn.now tx.new.conn.now) }
+    ensures acts { Performs S.Store (Runs text.now (bound values.now) ∷ []) tx.old.conn tx.new.conn
+        result }
     ensures halts { IfErr result (λ halt. (error : Error) × (halt ≡ Refused error)) }
-    ensures lost { IsClean S.Store tx.new.conn.now → IfErr result (λ halt. StopsIn S.Store
-        (Runs text.now (bound values.now) ∷ []) halt tx.old.conn.now tx.new.conn.now) }
 {
     tx.execute(text, values)?;
     Ok(())
@@ -36,10 +34,8 @@ pub(crate) fn place<S: Alter>(
     values: &[ValueRef<'_>],
 ) -> Result<(), Halt>
     ensures inside { StaysInside S.Store tx.old.conn tx.new.conn }
-    ensures ran { IsClean S.Store tx.new.conn.now → OnOk result
-        (DidAll S.Store (Places text.now (bound values.now) ∷ []) tx.old.conn.now tx.new.conn.now) }
-    ensures lost { IsClean S.Store tx.new.conn.now → IfErr result (λ halt. StopsIn S.Store
-        (Places text.now (bound values.now) ∷ []) halt tx.old.conn.now tx.new.conn.now) }
+    ensures acts { Performs S.Store (Places text.now (bound values.now) ∷ []) tx.old.conn
+        tx.new.conn result }
 {
     if tx.execute(text, values)? == 1 {
         Ok(())
@@ -51,11 +47,10 @@ pub(crate) fn place<S: Alter>(
 /// Asks a query that takes no values.
 pub(crate) fn ask<S: Alter>(tx: &mut Transaction<'_, S>, text: &str) -> Result<Vec<Row>, Halt>
     ensures inside { StaysInside S.Store tx.old.conn tx.new.conn }
-    ensures told { IsClean S.Store tx.new.conn.now → IfOk result (λ rows.
-        DidAll S.Store (Asks text.now rows.items ∷ []) tx.old.conn.now tx.new.conn.now) }
+    ensures acts { Acts S.Store (λ rows. DidAll S.Store (Asks text.now rows.items ∷ [])) (λ halt old
+        new. IsRefusal (λ error. RefusesToTell S.Store text.now error old new) halt) tx.old.conn
+        tx.new.conn result }
     ensures halts { IfErr result (λ halt. (error : Error) × (halt ≡ Refused error)) }
-    ensures refused { IsClean S.Store tx.new.conn.now → IfErr result (IsRefusal (λ error.
-        RefusesToTell S.Store text.now error tx.old.conn.now tx.new.conn.now)) }
 {
     Ok(tx.query_all(text, &[])?)
 }
@@ -63,10 +58,7 @@ pub(crate) fn ask<S: Alter>(tx: &mut Transaction<'_, S>, text: &str) -> Result<V
 /// Tests that a query returns no row.
 pub(crate) fn expect_none<S: Alter>(tx: &mut Transaction<'_, S>, text: &str) -> Result<(), Halt>
     ensures inside { StaysInside S.Store tx.old.conn tx.new.conn }
-    ensures told { IsClean S.Store tx.new.conn.now
-        → OnOk result (DidAll S.Store (Asks text.now [] ∷ []) tx.old.conn.now tx.new.conn.now) }
-    ensures lost { IsClean S.Store tx.new.conn.now → IfErr result (λ halt.
-        StopsIn S.Store (Asks text.now [] ∷ []) halt tx.old.conn.now tx.new.conn.now) }
+    ensures acts { Performs S.Store (Asks text.now [] ∷ []) tx.old.conn tx.new.conn result }
 {
     expect_empty(&ask(tx, text)?)
 }
@@ -88,11 +80,10 @@ pub(crate) fn make_ready<S: Alter>(
     text: &str,
 ) -> Result<Statement, Halt>
     ensures inside { StaysInside S.Store tx.old.conn tx.new.conn }
-    ensures made { IsClean S.Store tx.new.conn.now → IfOk result (λ statement. (statement.text
-        ≡ text.now) × DidAll S.Store (Readies text.now ∷ []) tx.old.conn.now tx.new.conn.now) }
+    ensures acts { Acts S.Store (λ statement old new. (statement.text ≡ text.now) × DidAll S.Store
+        (Readies text.now ∷ []) old new) (StopsIn S.Store (Readies text.now ∷ [])) tx.old.conn
+        tx.new.conn result }
     ensures halts { IfErr result (λ halt. (error : Error) × (halt ≡ Refused error)) }
-    ensures lost { IsClean S.Store tx.new.conn.now → IfErr result (λ halt.
-        StopsIn S.Store (Readies text.now ∷ []) halt tx.old.conn.now tx.new.conn.now) }
 {
     Ok(tx.prepare(text)?)
 }
@@ -104,11 +95,9 @@ pub(crate) fn run_ready<S: Alter>(
     values: &[ValueRef<'_>],
 ) -> Result<(), Halt>
     ensures inside { StaysInside S.Store tx.old.conn tx.new.conn }
-    ensures ran { IsClean S.Store tx.new.conn.now → OnOk result (DidAll S.Store
-        (Runs statement.now.text (bound values.now) ∷ []) tx.old.conn.now tx.new.conn.now) }
+    ensures acts { Performs S.Store (Runs statement.now.text (bound values.now) ∷ []) tx.old.conn
+        tx.new.conn result }
     ensures halts { IfErr result (λ halt. (error : Error) × (halt ≡ Refused error)) }
-    ensures lost { IsClean S.Store tx.new.conn.now → IfErr result (λ halt. StopsIn S.Store
-        (Runs statement.now.text (bound values.now) ∷ []) halt tx.old.conn.now tx.new.conn.now) }
 {
     tx.execute_prepared(statement, values)?;
     Ok(())

@@ -115,10 +115,8 @@ impl<S: Alter> SqliteKeeper<S> {
 
     /// Makes a change in one transaction.
     fn commit(&mut self, change: Change<'_>) -> Result<(), KeepFault>
-        ensures count { self.old.faults ≤ self.new.faults }
-        ensures steady { ¬ IsErrOf result KeepFault.Failed → self.new.faults ≡ self.old.faults }
-        ensures counted { IsErrOf result KeepFault.Failed
-            → self.new.faults ≡ counted self.old.faults }
+        ensures blamed { FailsByOne (IsErrOf result KeepFault.Failed)
+            self.old.faults self.new.faults }
         ensures once { CommitsOnce (state S.Store self.old.connection)
             (state S.Store self.new.connection) }
         ensures stays_err { IsClean S.Store self.new.connection

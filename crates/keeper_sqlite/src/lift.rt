@@ -1,10 +1,10 @@
 // The table of raises.
 ghost use Rattle.std.specs.Prelude.{◌≡◌, [], ◌∷◌, codes, IfOk, IfErr, OnOk, Bool, Some, List};
 ghost use Rattle.sqlite.specs.declared.error.Error.{Error};
-ghost use Rattle.keeper_sqlite.specs.Inside.{IsClean, StaysInside, content};
+ghost use Rattle.keeper_sqlite.specs.Inside.{Acts, IsClean, Performs, StaysInside, content};
 ghost use Rattle.keeper_sqlite.specs.declared.halt.Halt.TheVariants.{Refused};
 ghost use Rattle.keeper_sqlite.specs.Columns.{IsRaiseRow};
-ghost use Rattle.keeper_sqlite.specs.Kept.{Ran, DidAll, TellsRecords, raises_query, lift_table, raise_text, raise_values};
+ghost use Rattle.keeper_sqlite.specs.Kept.{Ran, TellsRecords, raises_query, lift_table, raise_text, raise_values};
 ghost use Rattle.stored_tables.specs.Layout.{stored};
 ghost use Rattle.stored_tables.specs.Puts.{PutsRaise};
 ghost use Rattle.stored_tables.specs.Rows.{raises_in};
@@ -24,10 +24,7 @@ use std::alloc::Global;
 /// Makes the table if it is missing.
 pub(crate) fn create<S: Alter>(tx: &mut Transaction<'_, S>) -> Result<(), Halt>
     ensures inside { StaysInside S.Store tx.old.conn tx.new.conn }
-    ensures ran { IsClean S.Store tx.new.conn.now
-        → OnOk result (DidAll S.Store (Runs lift_table [] ∷ []) tx.old.conn.now tx.new.conn.now) }
-    ensures lost { IsClean S.Store tx.new.conn.now → IfErr result (λ halt.
-        StopsIn S.Store (Runs lift_table [] ∷ []) halt tx.old.conn.now tx.new.conn.now) }
+    ensures acts { Performs S.Store (Runs lift_table [] ∷ []) tx.old.conn tx.new.conn result }
     ensures stands { (strict : Bool) → IsClean S.Store tx.new.conn.now
         → tx.old.conn.now.schema ≡ stored strict
         → OnOk result (content S.Store tx.new.conn.now ≡ content S.Store tx.old.conn.now) }
@@ -42,10 +39,8 @@ pub(crate) fn create<S: Alter>(tx: &mut Transaction<'_, S>) -> Result<(), Halt>
 /// Tests that no row is there.
 pub(crate) fn expect_empty<S: Alter>(tx: &mut Transaction<'_, S>) -> Result<(), Halt>
     ensures inside { StaysInside S.Store tx.old.conn tx.new.conn }
-    ensures told { IsClean S.Store tx.new.conn.now → OnOk result (DidAll S.Store
-        (Asks (codes "SELECT seq FROM lift LIMIT 1") [] ∷ []) tx.old.conn.now tx.new.conn.now) }
-    ensures lost { IsClean S.Store tx.new.conn.now → IfErr result (λ halt. StopsIn S.Store (Asks
-        (codes "SELECT seq FROM lift LIMIT 1") [] ∷ []) halt tx.old.conn.now tx.new.conn.now) }
+    ensures acts { Performs S.Store (Asks (codes "SELECT seq FROM lift LIMIT 1") [] ∷ [])
+        tx.old.conn tx.new.conn result }
     ensures none { (strict : Bool) → IsClean S.Store tx.new.conn.now → tx.old.conn.now.schema
         ≡ stored strict → OnOk result ((content S.Store tx.old.conn.now).trees 6 ≡ []) }
 {
@@ -55,11 +50,9 @@ pub(crate) fn expect_empty<S: Alter>(tx: &mut Transaction<'_, S>) -> Result<(), 
 /// Puts a row after the others.
 pub(crate) fn insert<S: Alter>(tx: &mut Transaction<'_, S>, row: RaiseRow) -> Result<(), Halt>
     ensures inside { StaysInside S.Store tx.old.conn tx.new.conn }
-    ensures ran { IsClean S.Store tx.new.conn.now
-        → OnOk result (Ran S.Store raise_text (raise_values row) tx.old.conn.now tx.new.conn.now) }
+    ensures acts { Acts S.Store (λ _. Ran S.Store raise_text (raise_values row)) (StopsIn S.Store
+        (Runs raise_text (raise_values row) ∷ [])) tx.old.conn tx.new.conn result }
     ensures halts { IfErr result (λ halt. (error : Error) × (halt ≡ Refused error)) }
-    ensures lost { IsClean S.Store tx.new.conn.now → IfErr result (λ halt. StopsIn S.Store
-        (Runs raise_text (raise_values row) ∷ []) halt tx.old.conn.now tx.new.conn.now) }
     ensures put { (strict : Bool) → IsClean S.Store tx.new.conn.now
         → tx.old.conn.now.schema ≡ stored strict → OnOk result
         (PutsRaise row (content S.Store tx.old.conn.now) (content S.Store tx.new.conn.now)) }
@@ -82,10 +75,8 @@ pub(crate) fn read_all<S: Alter>(
     alloc: Global,
 ) -> Result<RaiseRows, Halt>
     ensures inside { StaysInside S.Store tx.old.conn tx.new.conn }
-    ensures told { IsClean S.Store tx.new.conn.now → IfOk result (λ records.
-        TellsRecords S.Store IsRaiseRow raises_query records tx.old.conn.now tx.new.conn.now) }
-    ensures lost { IsClean S.Store tx.new.conn.now → IfErr result (λ halt.
-        LosesRecords S.Store IsRaiseRow raises_query halt tx.old.conn.now tx.new.conn.now) }
+    ensures acts { Acts S.Store (TellsRecords S.Store IsRaiseRow raises_query) (LosesRecords S.Store
+        IsRaiseRow raises_query) tx.old.conn tx.new.conn result }
     ensures stands { (strict : Bool) → IsClean S.Store tx.new.conn.now
         → tx.old.conn.now.schema ≡ stored strict → IfOk result (λ records. (all : List RaiseRow)
         → raises_in (content S.Store tx.old.conn.now).trees ≡ Some all → all ≡ records) }

@@ -1,13 +1,12 @@
 // The table of one row that says that a season is there, and how many cuts were made.
 ghost use Rattle.std.specs.Prelude.{◌≡◌, ℕ, Option, [], ◌∷◌, IfOk, IfErr, OnOk, Bool, Some};
-ghost use Rattle.keeper_sqlite.specs.Inside.{IsClean, StaysInside, content};
+ghost use Rattle.keeper_sqlite.specs.Inside.{Acts, IsClean, Performs, StaysInside, content, phase_shown};
 ghost use Rattle.keeper_sqlite.specs.Halts.{WantsMemory};
 ghost use Rattle.keeper_sqlite.specs.Columns.{IsPhaseRow, TellsPhase};
-ghost use Rattle.keeper_sqlite.specs.Kept.{DidAll, TellsPhaseOf, phase_table, cuts_text, cuts_values, opening_text, opening_values};
+ghost use Rattle.keeper_sqlite.specs.Kept.{TellsPhaseOf, phase_table, cuts_text, cuts_values, opening_text, opening_values};
 ghost use Rattle.stored_tables.specs.Layout.{stored};
 ghost use Rattle.stored_tables.specs.Puts.{OpensPhase, PutsCuts};
-ghost use Rattle.stored_tables.specs.Rows.{cuts_of};
-ghost use Rattle.keeper_sqlite.specs.Stops.{StopsIn, LosesPhase};
+ghost use Rattle.keeper_sqlite.specs.Stops.{LosesPhase};
 ghost use Rattle.keeper_sqlite.specs.Kept.Call.{Runs, Places};
 
 use crate::calls::{ask, place, run};
@@ -21,10 +20,7 @@ const ID: u32 = 1;
 /// Makes the table if it is missing.
 pub(crate) fn create<S: Alter>(tx: &mut Transaction<'_, S>) -> Result<(), Halt>
     ensures inside { StaysInside S.Store tx.old.conn tx.new.conn }
-    ensures ran { IsClean S.Store tx.new.conn.now
-        → OnOk result (DidAll S.Store (Runs phase_table [] ∷ []) tx.old.conn.now tx.new.conn.now) }
-    ensures lost { IsClean S.Store tx.new.conn.now → IfErr result (λ halt.
-        StopsIn S.Store (Runs phase_table [] ∷ []) halt tx.old.conn.now tx.new.conn.now) }
+    ensures acts { Performs S.Store (Runs phase_table [] ∷ []) tx.old.conn tx.new.conn result }
     ensures stands { (strict : Bool) → IsClean S.Store tx.new.conn.now
         → tx.old.conn.now.schema ≡ stored strict
         → OnOk result (content S.Store tx.new.conn.now ≡ content S.Store tx.old.conn.now) }
@@ -39,10 +35,8 @@ pub(crate) fn create<S: Alter>(tx: &mut Transaction<'_, S>) -> Result<(), Halt>
 /// Puts the row of a season without cuts, if the table has no row.
 pub(crate) fn insert<S: Alter>(tx: &mut Transaction<'_, S>) -> Result<(), Halt>
     ensures inside { StaysInside S.Store tx.old.conn tx.new.conn }
-    ensures ran { IsClean S.Store tx.new.conn.now → OnOk result
-        (DidAll S.Store (Places opening_text opening_values ∷ []) tx.old.conn.now tx.new.conn.now) }
-    ensures lost { IsClean S.Store tx.new.conn.now → IfErr result (λ halt. StopsIn S.Store
-        (Places opening_text opening_values ∷ []) halt tx.old.conn.now tx.new.conn.now) }
+    ensures acts { Performs S.Store (Places opening_text opening_values ∷ []) tx.old.conn
+        tx.new.conn result }
     ensures put { (strict : Bool) → IsClean S.Store tx.new.conn.now
         → tx.old.conn.now.schema ≡ stored strict → OnOk result
         (OpensPhase (content S.Store tx.old.conn.now) (content S.Store tx.new.conn.now)) }
@@ -57,11 +51,11 @@ pub(crate) fn insert<S: Alter>(tx: &mut Transaction<'_, S>) -> Result<(), Halt>
 /// Writes the number of cuts.
 pub(crate) fn upsert<S: Alter>(tx: &mut Transaction<'_, S>, cuts: u16) -> Result<(), Halt>
     ensures inside { StaysInside S.Store tx.old.conn tx.new.conn }
-    ensures ran { IsClean S.Store tx.new.conn.now → OnOk result
-        (DidAll S.Store (Runs cuts_text (cuts_values cuts) ∷ []) tx.old.conn.now tx.new.conn.now) }
-    ensures lost { IsClean S.Store tx.new.conn.now → IfErr result (λ halt. StopsIn S.Store
-        (Runs cuts_text (cuts_values cuts) ∷ []) halt tx.old.conn.now tx.new.conn.now) }
-    ensures put { (strict : Bool) → IsClean S.Store tx.new.conn.now → tx.old.conn.now.schema ≡ stored strict → (n : ℕ) → cuts_of ((content S.Store tx.old.conn.now).trees 5) ≡ Some (Some n) → OnOk result (PutsCuts cuts (content S.Store tx.old.conn.now) (content S.Store tx.new.conn.now)) }
+    ensures acts { Performs S.Store (Runs cuts_text (cuts_values cuts) ∷ []) tx.old.conn tx.new.conn
+        result }
+    ensures put { (strict : Bool) → IsClean S.Store tx.new.conn.now → tx.old.conn.now.schema
+        ≡ stored strict → (n : ℕ) → phase_shown S.Store tx.old.conn.now ≡ Some (Some n) → OnOk
+        result (PutsCuts cuts (content S.Store tx.old.conn.now) (content S.Store tx.new.conn.now)) }
 {
     run(
         tx,
@@ -73,13 +67,11 @@ pub(crate) fn upsert<S: Alter>(tx: &mut Transaction<'_, S>, cuts: u16) -> Result
 /// Returns the number of cuts, or None if there is no season.
 pub(crate) fn read<S: Alter>(tx: &mut Transaction<'_, S>) -> Result<Option<u16>, Halt>
     ensures inside { StaysInside S.Store tx.old.conn tx.new.conn }
-    ensures told { IsClean S.Store tx.new.conn.now
-        → IfOk result (λ found. TellsPhaseOf S.Store found tx.old.conn.now tx.new.conn.now) }
-    ensures lost { IsClean S.Store tx.new.conn.now
-        → IfErr result (λ halt. LosesPhase S.Store halt tx.old.conn.now tx.new.conn.now) }
+    ensures acts { Acts S.Store (TellsPhaseOf S.Store) (LosesPhase S.Store) tx.old.conn tx.new.conn
+        result }
     ensures stands { (strict : Bool) → IsClean S.Store tx.new.conn.now
         → tx.old.conn.now.schema ≡ stored strict
-        → IfOk result (λ found. cuts_of ((content S.Store tx.old.conn.now).trees 5) ≡ Some found) }
+        → IfOk result (λ found. phase_shown S.Store tx.old.conn.now ≡ Some found) }
 {
     phase_of(&ask(tx, "SELECT id, cuts FROM phase ORDER BY id")?)
 }

@@ -1,15 +1,15 @@
 // The table of the season's text, in parts.
 ghost use Rattle.std.specs.Prelude.{◌≡◌, ◌+◌, ◌++◌, ◌^◌, ℕ, List, [], ◌∷◌, codes, IfOk, OnErr, IfErr, OnOk, Bool, Some};
 ghost use Rattle.std.specs.List.{AllZip, concat};
-ghost use Rattle.keeper_sqlite.specs.Inside.{IsClean, StaysInside, content};
+ghost use Rattle.keeper_sqlite.specs.Inside.{Acts, IsClean, Performs, StaysInside, content};
 ghost use Rattle.keeper_sqlite.specs.Halts.{WantsMemory};
 ghost use Rattle.keeper_sqlite.specs.declared.halt.Halt.TheVariants.{Unfit};
 ghost use Rattle.keeper_sqlite.specs.Columns.{IsPartRow};
-ghost use Rattle.keeper_sqlite.specs.Kept.{DidAll, PutsText, TellsText, text_query, season_table, text_calls, part_calls, part_text, part_values};
+ghost use Rattle.keeper_sqlite.specs.Kept.{PutsText, TellsText, text_query, season_table, text_calls, part_calls, part_text, part_values};
 ghost use Rattle.stored_tables.specs.Layout.{stored};
 ghost use Rattle.stored_tables.specs.Puts.{PutsPart};
 ghost use Rattle.stored_tables.specs.Rows.{text_in};
-ghost use Rattle.keeper_sqlite.specs.Stops.{StopsIn, StopsText, LosesRecords};
+ghost use Rattle.keeper_sqlite.specs.Stops.{StopsText, LosesRecords};
 ghost use Rattle.keeper_sqlite.specs.Kept.Call.{Runs, Asks};
 
 use crate::calls::{ask, expect_none, make_ready, run, run_ready};
@@ -25,10 +25,7 @@ const PART: usize = 65_536;
 /// Makes the table if it is missing.
 pub(crate) fn create<S: Alter>(tx: &mut Transaction<'_, S>) -> Result<(), Halt>
     ensures inside { StaysInside S.Store tx.old.conn tx.new.conn }
-    ensures ran { IsClean S.Store tx.new.conn.now
-        → OnOk result (DidAll S.Store (Runs season_table [] ∷ []) tx.old.conn.now tx.new.conn.now) }
-    ensures lost { IsClean S.Store tx.new.conn.now → IfErr result (λ halt.
-        StopsIn S.Store (Runs season_table [] ∷ []) halt tx.old.conn.now tx.new.conn.now) }
+    ensures acts { Performs S.Store (Runs season_table [] ∷ []) tx.old.conn tx.new.conn result }
     ensures stands { (strict : Bool) → IsClean S.Store tx.new.conn.now
         → tx.old.conn.now.schema ≡ stored strict
         → OnOk result (content S.Store tx.new.conn.now ≡ content S.Store tx.old.conn.now) }
@@ -43,10 +40,8 @@ pub(crate) fn create<S: Alter>(tx: &mut Transaction<'_, S>) -> Result<(), Halt>
 /// Tests that no row is there.
 pub(crate) fn expect_empty<S: Alter>(tx: &mut Transaction<'_, S>) -> Result<(), Halt>
     ensures inside { StaysInside S.Store tx.old.conn tx.new.conn }
-    ensures told { IsClean S.Store tx.new.conn.now → OnOk result (DidAll S.Store
-        (Asks (codes "SELECT part FROM season LIMIT 1") [] ∷ []) tx.old.conn.now tx.new.conn.now) }
-    ensures lost { IsClean S.Store tx.new.conn.now → IfErr result (λ halt. StopsIn S.Store (Asks
-        (codes "SELECT part FROM season LIMIT 1") [] ∷ []) halt tx.old.conn.now tx.new.conn.now) }
+    ensures acts { Performs S.Store (Asks (codes "SELECT part FROM season LIMIT 1") [] ∷ [])
+        tx.old.conn tx.new.conn result }
     ensures none { (strict : Bool) → IsClean S.Store tx.new.conn.now → tx.old.conn.now.schema
         ≡ stored strict → OnOk result ((content S.Store tx.old.conn.now).trees 0 ≡ []) }
 {
@@ -56,10 +51,8 @@ pub(crate) fn expect_empty<S: Alter>(tx: &mut Transaction<'_, S>) -> Result<(), 
 /// Puts a text in parts, from 0, by one statement that is made ready once.
 pub(crate) fn insert_text<S: Alter>(tx: &mut Transaction<'_, S>, text: &[u8]) -> Result<(), Halt>
     ensures inside { StaysInside S.Store tx.old.conn tx.new.conn }
-    ensures ran { IsClean S.Store tx.new.conn.now
-        → OnOk result (PutsText S.Store text_calls text.now tx.old.conn.now tx.new.conn.now) }
-    ensures lost { IsClean S.Store tx.new.conn.now → IfErr result (λ halt.
-        StopsText S.Store text_calls 0 text.now halt tx.old.conn.now tx.new.conn.now) }
+    ensures acts { Acts S.Store (λ _. PutsText S.Store text_calls text.now) (StopsText S.Store
+        text_calls 0 text.now) tx.old.conn tx.new.conn result }
 {
     let insert = make_ready(tx, "INSERT INTO season (part, bytes) VALUES (?1, ?2)")?;
     insert_parts(tx, &insert, text)
@@ -71,10 +64,9 @@ fn insert_parts<S: Alter>(
     text: &[u8],
 ) -> Result<(), Halt>
     ensures inside { StaysInside S.Store tx.old.conn tx.new.conn }
-    ensures ran { IsClean S.Store tx.new.conn.now → OnOk result
-        (PutsText S.Store (part_calls insert.now.text 0) text.now tx.old.conn.now tx.new.conn.now) }
-    ensures lost { IsClean S.Store tx.new.conn.now → IfErr result (λ halt. StopsText S.Store
-        (part_calls insert.now.text 0) 0 text.now halt tx.old.conn.now tx.new.conn.now) }
+    ensures acts { Acts S.Store (λ _. PutsText S.Store (part_calls insert.now.text 0) text.now)
+        (StopsText S.Store (part_calls insert.now.text 0) 0 text.now)
+        tx.old.conn tx.new.conn result }
 {
     let mut rest = text;
     let mut number = 0;
@@ -101,10 +93,8 @@ fn insert_part<S: Alter>(
     part: &[u8],
 ) -> Result<(), Halt>
     ensures inside { StaysInside S.Store tx.old.conn tx.new.conn }
-    ensures ran { IsClean S.Store tx.new.conn.now → OnOk result (DidAll S.Store
-        (Runs insert.now.text (part_values number part.now) ∷ []) tx.old.conn.now tx.new.conn.now) }
-    ensures lost { IsClean S.Store tx.new.conn.now → IfErr result (λ halt. StopsIn S.Store (Runs
-        insert.now.text (part_values number part.now) ∷ []) halt tx.old.conn.now tx.new.conn.now) }
+    ensures acts { Performs S.Store (Runs insert.now.text (part_values number part.now) ∷ [])
+        tx.old.conn tx.new.conn result }
     ensures put { (strict : Bool) → IsClean S.Store tx.new.conn.now → tx.old.conn.now.schema
         ≡ stored strict → insert.now.text ≡ part_text → OnOk result (PutsPart number
         part.now (content S.Store tx.old.conn.now) (content S.Store tx.new.conn.now)) }
@@ -115,10 +105,8 @@ fn insert_part<S: Alter>(
 /// Returns the parts joined, by rising part.
 pub(crate) fn read_text<S: Alter>(tx: &mut Transaction<'_, S>, alloc: Global) -> Result<Text, Halt>
     ensures inside { StaysInside S.Store tx.old.conn tx.new.conn }
-    ensures told { IsClean S.Store tx.new.conn.now
-        → IfOk result (λ text. TellsText S.Store text tx.old.conn.now tx.new.conn.now) }
-    ensures lost { IsClean S.Store tx.new.conn.now → IfErr result (λ halt.
-        LosesRecords S.Store IsPartRow text_query halt tx.old.conn.now tx.new.conn.now) }
+    ensures acts { Acts S.Store (TellsText S.Store) (LosesRecords S.Store IsPartRow text_query)
+        tx.old.conn tx.new.conn result }
     ensures stands { (strict : Bool) → IsClean S.Store tx.new.conn.now
         → tx.old.conn.now.schema ≡ stored strict → IfOk result (λ text. (all : List ℕ)
         → text_in (content S.Store tx.old.conn.now).trees ≡ Some all → all ≡ text) }

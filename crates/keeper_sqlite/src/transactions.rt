@@ -4,9 +4,9 @@ ghost use Rattle.sqlite.specs.State.{IsLive, Survives};
 ghost use Rattle.sqlite.specs.Held.{state};
 ghost use Rattle.std.specs.List.{AllByRecursion};
 ghost use Rattle.stored_tables.specs.Fits.{AllotFits};
-ghost use Rattle.keeper_sqlite.specs.Inside.{FailsToSettle, IsClean, StaysInside, content, shown};
+ghost use Rattle.keeper_sqlite.specs.Inside.{Acts, FailsToSettle, IsClean, Performs, StaysInside, content, shown};
 ghost use Rattle.keeper_sqlite.specs.declared.halt.Halt.TheVariants.{Unfit};
-ghost use Rattle.keeper_sqlite.specs.Stops.{StopsIn, StopsText, LosesPhase, LosesMade, LosesOrder, LosesSeats, LosesCut, Breaks, IsBusy, Loses, LosesTables, LosesKept};
+ghost use Rattle.keeper_sqlite.specs.Stops.{StopsText, LosesPhase, LosesMade, LosesOrder, LosesSeats, LosesCut, Breaks, IsBusy, Loses, LosesTables, LosesKept};
 ghost use Rattle.keeper_sqlite.specs.Commits.{CommitsNothing, CommitsOnce};
 ghost use Rattle.keeper_sqlite.specs.Kept.{Keeps, MadeBy, Looks, TellsSeason, TellsKept, TellsTables, Makes, MakesCut, ToldPhase, AreAbove, PutsText, DidAll, seat_calls, season_calls, unanswered_calls, any_row_queries, plain_calls, table_texts, season_table, phase_table, answer_table, lift_table, allot_table};
 
@@ -107,10 +107,8 @@ pub(crate) fn commit<S: Alter>(
 
 fn write<S: Alter>(tx: &mut Transaction<'_, S>, change: Change<'_>) -> Result<(), Halt>
     ensures inside { StaysInside S.Store tx.old.conn tx.new.conn }
-    ensures made { IsClean S.Store tx.new.conn.now → IsTrue tx.old.conn.now.in_transaction
-        → OnOk result (Makes S.Store change.entry tx.old.conn.now tx.new.conn.now) }
-    ensures lost { IsClean S.Store tx.new.conn.now
-        → IfErr result (λ halt. Breaks S.Store change.entry halt tx.old.conn.now tx.new.conn.now) }
+    ensures acts { Acts S.Store (λ _. Makes S.Store change.entry) (Breaks S.Store change.entry)
+        tx.old.conn tx.new.conn result }
 {
     match change {
         Change::Tables => write_tables(tx),
@@ -123,10 +121,7 @@ fn write<S: Alter>(tx: &mut Transaction<'_, S>, change: Change<'_>) -> Result<()
 
 fn write_tables<S: Alter>(tx: &mut Transaction<'_, S>) -> Result<(), Halt>
     ensures inside { StaysInside S.Store tx.old.conn tx.new.conn }
-    ensures ran { IsClean S.Store tx.new.conn.now
-        → OnOk result (DidAll S.Store (plain_calls table_texts) tx.old.conn.now tx.new.conn.now) }
-    ensures lost { IsClean S.Store tx.new.conn.now → IfErr result (λ halt.
-        StopsIn S.Store (plain_calls table_texts) halt tx.old.conn.now tx.new.conn.now) }
+    ensures acts { Performs S.Store (plain_calls table_texts) tx.old.conn tx.new.conn result }
 {
     make_first_tables(tx)?;
     make_last_tables(tx)
@@ -134,10 +129,8 @@ fn write_tables<S: Alter>(tx: &mut Transaction<'_, S>) -> Result<(), Halt>
 
 fn make_first_tables<S: Alter>(tx: &mut Transaction<'_, S>) -> Result<(), Halt>
     ensures inside { StaysInside S.Store tx.old.conn tx.new.conn }
-    ensures ran { IsClean S.Store tx.new.conn.now → OnOk result (DidAll S.Store
-        (plain_calls (season_table ∷ answer_table ∷ [])) tx.old.conn.now tx.new.conn.now) }
-    ensures lost { IsClean S.Store tx.new.conn.now → IfErr result (λ halt. StopsIn S.Store
-        (plain_calls (season_table ∷ answer_table ∷ [])) halt tx.old.conn.now tx.new.conn.now) }
+    ensures acts { Performs S.Store (plain_calls (season_table ∷ answer_table ∷ [])) tx.old.conn
+        tx.new.conn result }
 {
     season::create(tx)?;
     answer::create(tx)
@@ -145,11 +138,8 @@ fn make_first_tables<S: Alter>(tx: &mut Transaction<'_, S>) -> Result<(), Halt>
 
 fn make_last_tables<S: Alter>(tx: &mut Transaction<'_, S>) -> Result<(), Halt>
     ensures inside { StaysInside S.Store tx.old.conn tx.new.conn }
-    ensures ran { IsClean S.Store tx.new.conn.now → OnOk result (DidAll S.Store (plain_calls
-        (allot_table ∷ phase_table ∷ lift_table ∷ [])) tx.old.conn.now tx.new.conn.now) }
-    ensures lost { IsClean S.Store tx.new.conn.now
-        → IfErr result (λ halt. StopsIn S.Store (plain_calls
-        (allot_table ∷ phase_table ∷ lift_table ∷ [])) halt tx.old.conn.now tx.new.conn.now) }
+    ensures acts { Performs S.Store (plain_calls (allot_table ∷ phase_table ∷ lift_table ∷ []))
+        tx.old.conn tx.new.conn result }
 {
     allot::create(tx)?;
     phase::create(tx)?;
@@ -177,20 +167,16 @@ pub(crate) fn has_season<S: Alter>(connection: &mut Connection<S>) -> Result<boo
 
 fn look_for_season<S: Alter>(tx: &mut Transaction<'_, S>) -> Result<bool, Halt>
     ensures inside { StaysInside S.Store tx.old.conn tx.new.conn }
-    ensures told { IsClean S.Store tx.new.conn.now
-        → IfOk result (λ found. TellsSeason S.Store found tx.old.conn.now tx.new.conn.now) }
-    ensures lost { IsClean S.Store tx.new.conn.now
-        → IfErr result (λ halt. LosesPhase S.Store halt tx.old.conn.now tx.new.conn.now) }
+    ensures acts { Acts S.Store (TellsSeason S.Store) (LosesPhase S.Store) tx.old.conn tx.new.conn
+        result }
 {
     Ok(phase::read(tx)?.is_some())
 }
 
 fn write_season<S: Alter>(tx: &mut Transaction<'_, S>, text: &[u8]) -> Result<(), Halt>
     ensures inside { StaysInside S.Store tx.old.conn tx.new.conn }
-    ensures made { IsClean S.Store tx.new.conn.now
-        → OnOk result (PutsText S.Store season_calls text.now tx.old.conn.now tx.new.conn.now) }
-    ensures lost { IsClean S.Store tx.new.conn.now → IfErr result (λ halt.
-        StopsText S.Store season_calls 0 text.now halt tx.old.conn.now tx.new.conn.now) }
+    ensures acts { Acts S.Store (λ _. PutsText S.Store season_calls text.now) (StopsText S.Store
+        season_calls 0 text.now) tx.old.conn tx.new.conn result }
 {
     expect_empty(tx)?;
     season::insert_text(tx, text)?;
@@ -200,10 +186,8 @@ fn write_season<S: Alter>(tx: &mut Transaction<'_, S>, text: &[u8]) -> Result<()
 /// Tests that no table other than the phase has a row.
 fn expect_empty<S: Alter>(tx: &mut Transaction<'_, S>) -> Result<(), Halt>
     ensures inside { StaysInside S.Store tx.old.conn tx.new.conn }
-    ensures told { IsClean S.Store tx.new.conn.now → OnOk result
-        (DidAll S.Store (unanswered_calls any_row_queries) tx.old.conn.now tx.new.conn.now) }
-    ensures lost { IsClean S.Store tx.new.conn.now → IfErr result (λ halt.
-        StopsIn S.Store (unanswered_calls any_row_queries) halt tx.old.conn.now tx.new.conn.now) }
+    ensures acts { Performs S.Store (unanswered_calls any_row_queries) tx.old.conn tx.new.conn
+        result }
 {
     season::expect_empty(tx)?;
     expect_no_rows(tx)
@@ -211,10 +195,8 @@ fn expect_empty<S: Alter>(tx: &mut Transaction<'_, S>) -> Result<(), Halt>
 
 fn expect_no_rows<S: Alter>(tx: &mut Transaction<'_, S>) -> Result<(), Halt>
     ensures inside { StaysInside S.Store tx.old.conn tx.new.conn }
-    ensures told { IsClean S.Store tx.new.conn.now → OnOk result (DidAll S.Store
-        (unanswered_calls (drop 1 any_row_queries)) tx.old.conn.now tx.new.conn.now) }
-    ensures lost { IsClean S.Store tx.new.conn.now → IfErr result (λ halt. StopsIn S.Store
-        (unanswered_calls (drop 1 any_row_queries)) halt tx.old.conn.now tx.new.conn.now) }
+    ensures acts { Performs S.Store (unanswered_calls (drop 1 any_row_queries)) tx.old.conn
+        tx.new.conn result }
 {
     answer::expect_empty(tx)?;
     lift::expect_empty(tx)?;
@@ -223,10 +205,8 @@ fn expect_no_rows<S: Alter>(tx: &mut Transaction<'_, S>) -> Result<(), Halt>
 
 fn write_cut<S: Alter>(tx: &mut Transaction<'_, S>, rows: &[AllotRow]) -> Result<(), Halt>
     ensures inside { StaysInside S.Store tx.old.conn tx.new.conn }
-    ensures made { IsClean S.Store tx.new.conn.now
-        → OnOk result (MakesCut S.Store rows.now tx.old.conn.now tx.new.conn.now) }
-    ensures lost { IsClean S.Store tx.new.conn.now
-        → IfErr result (λ halt. LosesCut S.Store rows.now halt tx.old.conn.now tx.new.conn.now) }
+    ensures acts { Acts S.Store (λ _. MakesCut S.Store rows.now) (LosesCut S.Store rows.now)
+        tx.old.conn tx.new.conn result }
 {
     let made = read_made(tx)?;
     expect_above(tx, rows)?;
@@ -236,10 +216,8 @@ fn write_cut<S: Alter>(tx: &mut Transaction<'_, S>, rows: &[AllotRow]) -> Result
 /// Returns how many cuts were made. A season must be kept.
 fn read_made<S: Alter>(tx: &mut Transaction<'_, S>) -> Result<u16, Halt>
     ensures inside { StaysInside S.Store tx.old.conn tx.new.conn }
-    ensures told { IsClean S.Store tx.new.conn.now
-        → IfOk result (λ made. ToldPhase S.Store made tx.old.conn.now tx.new.conn.now) }
-    ensures lost { IsClean S.Store tx.new.conn.now
-        → IfErr result (λ halt. LosesMade S.Store halt tx.old.conn.now tx.new.conn.now) }
+    ensures acts { Acts S.Store (ToldPhase S.Store) (LosesMade S.Store) tx.old.conn tx.new.conn
+        result }
 {
     phase::read(tx)?.ok_or(Halt::Unfit)
 }
@@ -247,10 +225,8 @@ fn read_made<S: Alter>(tx: &mut Transaction<'_, S>) -> Result<u16, Halt>
 /// Tests that the rows rise above the last that is kept.
 fn expect_above<S: Alter>(tx: &mut Transaction<'_, S>, rows: &[AllotRow]) -> Result<(), Halt>
     ensures inside { StaysInside S.Store tx.old.conn tx.new.conn }
-    ensures told { IsClean S.Store tx.new.conn.now
-        → OnOk result (AreAbove S.Store rows.now tx.old.conn.now tx.new.conn.now) }
-    ensures lost { IsClean S.Store tx.new.conn.now
-        → IfErr result (λ halt. LosesOrder S.Store rows.now halt tx.old.conn.now tx.new.conn.now) }
+    ensures acts { Acts S.Store (λ _. AreAbove S.Store rows.now) (LosesOrder S.Store rows.now)
+        tx.old.conn tx.new.conn result }
 {
     if are_rising(allot::last_key(tx)?, rows) {
         Ok(())
@@ -273,12 +249,10 @@ fn put_seats<S: Alter>(
     rows: &[AllotRow],
 ) -> Result<(), Halt>
     ensures inside { StaysInside S.Store tx.old.conn tx.new.conn }
-    ensures ran { IsClean S.Store tx.new.conn.now
-        → OnOk result (DidAll S.Store (seat_calls made rows.now) tx.old.conn.now tx.new.conn.now) }
+    ensures acts { Acts S.Store (λ _. DidAll S.Store (seat_calls made rows.now)) (LosesSeats S.Store
+        made rows.now) tx.old.conn tx.new.conn result }
     ensures fit { OnOk result (AllByRecursion AllotFits rows.now) }
     ensures room { OnOk result (made + 1 < 2 ^ 16) }
-    ensures lost { IsClean S.Store tx.new.conn.now → IfErr result (λ halt.
-        LosesSeats S.Store made rows.now halt tx.old.conn.now tx.new.conn.now) }
 {
     let cuts = one_more(made)?;
     allot::insert_all(tx, rows)?;
@@ -309,10 +283,8 @@ pub(crate) fn load<S: Alter>(
 
 fn read_records<S: Alter>(tx: &mut Transaction<'_, S>, alloc: Global) -> Result<Option<Kept>, Halt>
     ensures inside { StaysInside S.Store tx.old.conn tx.new.conn }
-    ensures told { IsClean S.Store tx.new.conn.now
-        → IfOk result (λ found. TellsKept S.Store found tx.old.conn.now tx.new.conn.now) }
-    ensures lost { IsClean S.Store tx.new.conn.now
-        → IfErr result (λ halt. LosesKept S.Store halt tx.old.conn.now tx.new.conn.now) }
+    ensures acts { Acts S.Store (TellsKept S.Store) (LosesKept S.Store) tx.old.conn tx.new.conn
+        result }
 {
     match phase::read(tx)? {
         None => Ok(None),
@@ -323,10 +295,8 @@ fn read_records<S: Alter>(tx: &mut Transaction<'_, S>, alloc: Global) -> Result<
 fn read_kept<S: Alter>(tx: &mut Transaction<'_, S>, alloc: Global, cuts: u16) -> Result<Kept, Halt>
     ensures inside { StaysInside S.Store tx.old.conn tx.new.conn }
     ensures cuts { IfOk result (λ kept. kept.cuts ≡ cuts) }
-    ensures told { IsClean S.Store tx.new.conn.now
-        → IfOk result (λ kept. TellsTables S.Store kept tx.old.conn.now tx.new.conn.now) }
-    ensures lost { IsClean S.Store tx.new.conn.now
-        → IfErr result (λ halt. LosesTables S.Store halt tx.old.conn.now tx.new.conn.now) }
+    ensures acts { Acts S.Store (TellsTables S.Store) (LosesTables S.Store) tx.old.conn tx.new.conn
+        result }
 {
     Ok(Kept {
         season: season::read_text(tx, alloc)?,

@@ -160,9 +160,9 @@ fn generated<K: Sink, P: Keeper>(
     ensures complete { IsReady (Generate n seed out) (still (P.seen keeper).tables
         (P.seen result.1).tables) → ¬ Rose (K.faults sink.old) (K.faults sink.new)
         → ¬ Rose (P.seen keeper).faults (P.seen result.1).faults → EndsWith Status.Ok result.0 }
-    ensures not_empty { BeginsOffice (Generate n seed out) → TellsSeason (still (P.seen keeper).tables (P.seen result.1).tables)
-        → ¬ Rose (K.faults sink.old) (K.faults sink.new) → ¬ Rose (P.seen keeper).faults (P.seen result.1).faults
-        → EndsWith Status.BadInput result.0 }
+    ensures not_empty { BeginsOffice (Generate n seed out) → TellsSeason (still (P.seen
+        keeper).tables (P.seen result.1).tables) → ¬ Rose (K.faults sink.old) (K.faults sink.new) →
+        ¬ Rose (P.seen keeper).faults (P.seen result.1).faults → EndsWith Status.BadInput result.0 }
 {
     match out {
         OutKind::Text => (finish(sink, generate_answer(alloc, n, seed)), keeper),

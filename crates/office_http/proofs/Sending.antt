@@ -18,4 +18,4 @@ inbox_sent : IsSend inbox.the_row
 inbox_sent = search (crosses, sendable) depth 20
 
 pub buffers_sent : IsSend buffers.the_row
-buffers_sent = search (sendable, crosses, node_crosses, header_sent, outbox_sent, inbox_sent, route_sent, slab_sent, entry_sent, option_sent) depth 40
+buffers_sent = search (sendable, crosses, node_crosses, header_sent, outbox_sent, inbox_sent, route_sent, slab_sent, entry_sent, option_sent) depth 40 fits 10000

@@ -1,14 +1,13 @@
 // The doors of an office, served at once.
 ghost use Rattle.std.specs.Prelude.{◌≡◌, ◌≤◌, ◌<◌, ◌^◌, ◌++◌, [], true, false, length, IfOk, IfErr, OnErr};
 ghost use Rattle.std.specs.List.{AllByRecursion};
-ghost use Rattle.door_histories.specs.Ending.{SomeRose, AllEnded};
 ghost use Rattle.door_histories.specs.Served.{telling};
 ghost use Rattle.door_histories.specs.Workers.{IsRow};
 ghost use Rattle.keeper_mem.specs.Tables.{IsTold};
 ghost use Rattle.office_asks.specs.Asking.{AnswersAt, UnanswersAt};
 ghost use Rattle.office_desk.specs.Words.{belongs, count_of, left_of, origin_of, own_of, seen_of, shares_of, tickets_of};
 ghost use Rattle.office_http.specs.Hands.{worker_of};
-ghost use Rattle.office_http.specs.Serving.{DoorsServed};
+ghost use Rattle.office_http.specs.Serving.{Serves};
 ghost use Rattle.proceedings.specs.Proceeding.{last_of};
 
 use crate::hands::{Hand, Shop};
@@ -53,16 +52,8 @@ pub fn serve<
     requires few { length doors.old ≤ 64 }
     requires suit { AllByRecursion (λ door. D.to_come door ≤ 100000) doors.old }
     requires last { last_of office.entries < 2 ^ 40 }
-    ensures season { IfOk result (λ served. served.office.season ≡ office.season) }
-    ensures room { IfOk result (λ served.
-        (K.seen served.office.keeper).holds_room ≡ (K.seen office.keeper).holds_room) }
-    ensures served { IfOk result (λ served. DoorsServed office.season (K.seen office.keeper).holds_room
-        (telling D.Door D.Conn.Link)
-        office.entries (K.seen office.keeper).faults doors.old doors.new served.office.entries (K.seen served.office.keeper).faults) }
-    ensures failed { IfOk result (λ served. served.door_failed ≡ true
-        → SomeRose D.faults doors.old doors.new) }
-    ensures done { IfOk result (λ served. served.door_failed ≡ false
-        → AllEnded D.faults D.to_come doors.old doors.new) }
+    ensures served { IfOk result (λ served. Serves K.seen (telling D.Door D.Conn.Link)
+        office served.office served.door_failed doors.old doors.new) }
     ensures told_before { IfOk result (λ served. IsTold (K.seen served.office.keeper).tables
         → IsTold (K.seen office.keeper).tables) }
     ensures err { IfErr result (λ refused. refused.0 ≡ office) }
@@ -90,16 +81,8 @@ fn serve_stood<
     requires few { length doors.old ≤ 64 }
     requires suit { AllByRecursion (λ door. D.to_come door ≤ 100000) doors.old }
     requires last { last_of office.entries < 2 ^ 40 }
-    ensures season { IfOk result (λ served. served.office.season ≡ office.season) }
-    ensures room { IfOk result (λ served.
-        (K.seen served.office.keeper).holds_room ≡ (K.seen office.keeper).holds_room) }
-    ensures served { IfOk result (λ served. DoorsServed office.season (K.seen office.keeper).holds_room
-        (telling D.Door D.Conn.Link)
-        office.entries (K.seen office.keeper).faults doors.old doors.new served.office.entries (K.seen served.office.keeper).faults) }
-    ensures failed { IfOk result (λ served. served.door_failed ≡ true
-        → SomeRose D.faults doors.old doors.new) }
-    ensures done { IfOk result (λ served. served.door_failed ≡ false
-        → AllEnded D.faults D.to_come doors.old doors.new) }
+    ensures served { IfOk result (λ served. Serves K.seen (telling D.Door D.Conn.Link)
+        office served.office served.door_failed doors.old doors.new) }
     ensures told_before { IfOk result (λ served. IsTold (K.seen served.office.keeper).tables
         → IsTold (K.seen office.keeper).tables) }
     ensures err { IfErr result (λ refused. refused.0 ≡ office) }
@@ -136,14 +119,8 @@ fn serve_desk<
     requires whole { belongs desk pass × (shares_of pass ≡ 2 ^ 30) × (left_of pass ≡ 2 ^ 40) }
     requires first { (tickets_of pass ≡ []) × (seen_of pass ≡ (origin_of desk).entries)
         × (count_of pass ≡ (K.seen (origin_of desk).keeper).faults) }
-    ensures season { result.office.season ≡ (origin_of desk).season }
-    ensures room { (K.seen result.office.keeper).holds_room
-        ≡ (K.seen (origin_of desk).keeper).holds_room }
-    ensures served { DoorsServed (origin_of desk).season (K.seen (origin_of desk).keeper).holds_room
-        (telling D.Door D.Conn.Link)
-        (origin_of desk).entries (K.seen (origin_of desk).keeper).faults doors.old doors.new result.office.entries (K.seen result.office.keeper).faults }
-    ensures failed { result.door_failed ≡ true → SomeRose D.faults doors.old doors.new }
-    ensures done { result.door_failed ≡ false → AllEnded D.faults D.to_come doors.old doors.new }
+    ensures served { Serves K.seen (telling D.Door D.Conn.Link)
+        (origin_of desk) result.office result.door_failed doors.old doors.new }
     ensures told { IsTold (K.seen result.office.keeper).tables → IsTold B.tables }
 {
     let mut hand = first_hand(pass);
@@ -220,8 +197,6 @@ fn serve_all<
         (UnanswersAt (origin_of desk.now).season (K.seen (origin_of desk.now).keeper).holds_room)
         (telling D.Door D.Conn.Link) (worker_of hand.old) doors.old doors.new (worker_of hand.new) }
     ensures shares { shares_of hand.new.pass ≡ shares_of hand.old.pass }
-    ensures failed { hand.new.failed ≡ true → SomeRose D.faults doors.old doors.new }
-    ensures done { hand.new.failed ≡ false → AllEnded D.faults D.to_come doors.old doors.new }
 {
     let shop = Shop { alloc, desk, gate };
     work_all(rt, &shop, 0, hand, doors, buffers);

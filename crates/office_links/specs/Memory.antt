@@ -1,5 +1,5 @@
 -- Links and doors in memory, as contracts see them.
-use Rattle.std.specs.Prelude.{◌≡◌, ◌<◌, ◌≤◌, ◌-◌, ◌↔◌, ◌⊎◌, ℕ, min, List, length, Result, IfOk, OnErr, IsErr, Contains}
+use Rattle.std.specs.Prelude.{◌≡◌, ◌<◌, ◌≤◌, ◌-◌, ◌↔◌, ◌⊎◌, ℕ, min, List, [], length, Result, IfOk, OnErr, IsErr, Contains}
 use Rattle.office_base.specs.Memory.{counted}
 use Rattle.office_links.specs.Visits.{Visits}
 
@@ -23,6 +23,14 @@ pub record DoorMemory : Type 0 where
   pub calls : ℕ
   pub fail_at : List ℕ
   pub faults : ℕ
+
+-- a link with these bytes to give, at most so many a read, and room for so many, before its first call
+abbrev pub fresh_link : List ℕ → ℕ → ℕ → List ℕ → LinkMemory
+fresh_link bytes piece room fail_at = record { left = bytes; piece = piece; written = []; room = room; calls = 0; fail_at = fail_at; faults = 0 }
+
+-- a door with these links to give, before its first call
+abbrev pub fresh_door : List LinkMemory → List ℕ → DoorMemory
+fresh_door links fail_at = record { coming = links; returned = []; out = 0; calls = 0; fail_at = fail_at; faults = 0 }
 
 -- what is visible of a door in memory
 abbrev pub visits : DoorMemory → Visits LinkMemory

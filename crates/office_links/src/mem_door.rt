@@ -1,7 +1,7 @@
 // A door in memory, which gives the links that it was made of. They are visible.
 ghost use Rattle.std.specs.Prelude.{◌≡◌, ◌<◌, ◌≤◌, ◌+◌, ◌↔◌, [], ◌∷◌, ◌++◌, ℕ, List, Option, length, IfOk, OnOk, OnErr, IfSome, IfNone, IsErr, Some, Contains, vec_capacity};
 ghost use Rattle.office_base.specs.Outside.{Fails};
-ghost use Rattle.office_links.specs.Memory.{IsDoorAccept, visits};
+ghost use Rattle.office_links.specs.Memory.{IsDoorAccept, fresh_door, visits};
 ghost use Rattle.office_links.specs.Visits.{GivesFirst, TakesBack};
 
 use crate::{Door, MemLink};
@@ -35,14 +35,7 @@ impl Model for MemDoor {
 impl MemDoor {
     /// Makes a door that gives these links. The calls of `accept` with the numbers in `fail_at`, from 1, fail.
     pub fn new(alloc: Global, links: Vec<MemLink>, fail_at: &[u32]) -> Result<MemDoor, OutOfMemory>
-        ensures { IfOk result (λ door. door ≡ record {
-          coming = links.items;
-          returned = [];
-          out = 0;
-          calls = 0;
-          fail_at = fail_at.now;
-          faults = 0;
-        }) }
+        ensures { IfOk result (λ door. door ≡ fresh_door links.items fail_at.now) }
     {
         let room = links.len();
         Ok(MemDoor {

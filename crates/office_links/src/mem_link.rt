@@ -2,7 +2,7 @@
 ghost use Rattle.std.specs.Prelude.{◌≡◌, ◌<◌, ◌≤◌, ◌-◌, ◌↔◌, ◌⊎◌, [], ℕ, List, Option, length, take, drop, min, IfOk, OnOk, OnErr, IsErr, Some, Contains};
 ghost use Rattle.office_base.specs.Outside.{Fails, TakesPrefix, ComesAtTheEnd, AppendsPrefix};
 ghost use Rattle.office_base.specs.Memory.{counted};
-ghost use Rattle.office_links.specs.Memory.{IsLinkRead, IsLinkWrite};
+ghost use Rattle.office_links.specs.Memory.{IsLinkRead, IsLinkWrite, fresh_link};
 
 use crate::Link;
 use office_base::{Failed, MemSink, MemSource, OutOfMemory, Sink, Source, fails_at};
@@ -43,15 +43,7 @@ impl MemLink {
         fail_at: &[u32],
     ) -> Result<MemLink, OutOfMemory>
         requires { 0 < piece }
-        ensures { IfOk result (λ link. link ≡ record {
-          left = bytes.now;
-          piece = piece;
-          written = [];
-          room = room;
-          calls = 0;
-          fail_at = fail_at.now;
-          faults = 0;
-        }) }
+        ensures { IfOk result (λ link. link ≡ fresh_link bytes.now piece room fail_at.now) }
     {
         Ok(MemLink {
             source: MemSource::new(alloc, bytes, piece, &[])?,

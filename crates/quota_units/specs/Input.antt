@@ -11,6 +11,7 @@ use Rattle.quota_units.specs.Quoted.{rows_text, spaced_row}
 use Rattle.quota_units.specs.Homes.{Homes, states_of, units_of}
 use Rattle.quota_units.specs.Mapping.{mapped_rows}
 use Rattle.quota_units.specs.declared.fault.UnitFault.{UnitFault}
+use Rattle.quota_units.specs.declared.head.Sections.{Sections}
 use Rattle.quota_units.specs.declared.fault.UnitFault.TheVariants.{TooLong, BadFirstLine, Section, BadUnit, BadState}
 
 -- what an input is cut into: the bodies of two sections, and the bundle
@@ -18,6 +19,10 @@ pub record Input : Type 0 where
   pub units : List ℕ
   pub states : List ℕ
   pub bundle : List ℕ
+
+-- the input that these sections are
+abbrev pub input_in : Sections → Input
+input_in cut = record { units = cut.units.now; states = cut.states.now; bundle = cut.bundle.now }
 
 -- how many bytes come before the first line that begins a bundle, where the first byte begins a line or does not
 abbrev pub before_bundle : Bool → List ℕ → ℕ

@@ -2,7 +2,7 @@
 ghost use Rattle.std.specs.Prelude.{◌≡◌, ◌≤◌, ◌++◌, ℕ, Ok, Err, true, IfOk, IfErr, IsErrOf, MatchBool, MatchResult, length};
 ghost use Rattle.std.specs.Str.{IsUtf8};
 ghost use Rattle.office_base.specs.Limits.{most_bundle_bytes};
-ghost use Rattle.office_base.specs.Outside.{IsAtEnd, Rose, Took};
+ghost use Rattle.office_base.specs.Outside.{Fails, IsAtEnd, Rose, Took};
 ghost use Rattle.section_rows.specs.Rows.{rows_of};
 ghost use Rattle.season_file.specs.Bundle.{bundle_of};
 ghost use Rattle.quota_units.specs.Expansion.{GaveText, IsExpansion, IsFaultOf, IsUnitFault, IsUnread};
@@ -28,11 +28,8 @@ fn read_bytes<S: Source>(alloc: Global, source: &mut S) -> Result<Text, UnitFaul
     ensures ended { IfOk result (λ bytes. IsAtEnd (S.left source.new)) }
     ensures short { IfOk result (λ bytes. length bytes ≤ most_bundle_bytes) }
     ensures fault { IfErr result (λ fault. IsUnread (S.left source.old) (S.left source.new) fault) }
-    ensures cause { IsErrOf result UnitFault.ReadFault
-        → Rose (S.faults source.old) (S.faults source.new) }
-    ensures count { S.faults source.old ≤ S.faults source.new }
-    ensures steady { ¬ IsErrOf result UnitFault.ReadFault
-        → S.faults source.new ≡ S.faults source.old }
+    ensures blamed { Fails (IsErrOf result UnitFault.ReadFault)
+        (S.faults source.old) (S.faults source.new) }
 {
     match read_whole(alloc, source, MOST_BUNDLE_BYTES) {
         Ok(bytes) => Ok(bytes),

@@ -1,7 +1,10 @@
 -- Doors at which an office is served, in words of the command.
 use Rattle.std.specs.Prelude.{◌≡◌, ℕ, Bool, true, false, List}
 use Rattle.door_histories.specs.Ending.{AllEnded, SomeRose}
-use Rattle.door_histories.specs.Served.{Telling}
+use Rattle.door_histories.specs.Served.{Telling, telling}
+use Rattle.keeper_mem.specs.Keeper.{Shelf}
+use Rattle.office_links.specs.declared.outside.Door.{Ghosts as DoorGhosts}
+use Rattle.office_links.specs.declared.outside.Link.{Ghosts as LinkGhosts}
 use Rattle.office_http.specs.Serving.{DoorsServed}
 use Rattle.office_moves.specs.Facts.{SeasonFacts}
 use Rattle.office_moves.specs.declared.moves.Entry.{Entry}
@@ -25,3 +28,7 @@ module _ {D L : Type 0} (of : Telling D L) where
     spared = doors' ≡ doors;
     served = λ facts held history failed. DoorsServed facts room of held before doors doors' history after × HaveEnded failed doors doors';
   }
+
+-- the same, by the ghost members of a door and of its links, and by what is seen of the keeper before and after
+abbrev pub doors_seen : {D L : Type 0} → DoorGhosts D L → LinkGhosts L → Shelf → Shelf → List D → List D → Doors
+doors_seen d l old new doors doors' = doors_of (telling d l) old.holds_room old.faults new.faults doors doors'

@@ -10,7 +10,7 @@ ghost use Rattle.office_base.specs.Visible.{sink_of};
 ghost use Rattle.season_commands.specs.Outside.{EndsWith, outside_of};
 ghost use Rattle.season_commands.specs.Resume.{JudgesRecords, TellsSound};
 ghost use Rattle.serve_command.specs.Blames.{BlamesDoors, BlamesKeeper};
-ghost use Rattle.serve_command.specs.Doors.{doors_of};
+ghost use Rattle.serve_command.specs.Doors.{doors_seen};
 ghost use Rattle.serve_command.specs.Serve.{EndsServeKept};
 
 use crate::serving::serve_office;
@@ -39,10 +39,8 @@ pub fn serve_kept<R: Threads + Wait + Sync, K: Sink, P: Keeper + Send, D: Door<C
     requires few { length doors.old ≤ 64 }
     requires suit { AllByRecursion (λ d. D.to_come d ≤ 100000) doors.old }
     ensures written { (output : List ℕ) × Appends output (K.written sink.old) (K.written sink.new)
-        × EndsServeKept (P.seen keeper).tables (P.seen result.1).tables
-        (doors_of (telling D.Door D.Conn.Link)
-        (P.seen keeper).holds_room (P.seen keeper).faults (P.seen result.1).faults doors.old doors.new)
-        result.0 output }
+        × EndsServeKept (P.seen keeper).tables (P.seen result.1).tables (doors_seen D.Door
+        D.Conn.Link (P.seen keeper) (P.seen result.1) doors.old doors.new) result.0 output }
     ensures no_read_fault { result.0 ≢ Status.ReadFault }
     ensures sink { BlamesSink result.0 (sink_of K.Sink sink.old) (sink_of K.Sink sink.new) }
     ensures keeper { BlamesKeeper (λ status. (status ≡ Status.BadInput) ⊎ (status ≡ Status.Differs))

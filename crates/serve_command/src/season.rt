@@ -12,7 +12,7 @@ ghost use Rattle.command_answers.specs.Ends.{BlamesSink};
 ghost use Rattle.office_base.specs.Visible.{sink_of, source_of};
 ghost use Rattle.season_commands.specs.Outside.{BlamesSource, EndsWith, outside_of};
 ghost use Rattle.serve_command.specs.Blames.{BlamesDoors, BlamesKeeper};
-ghost use Rattle.serve_command.specs.Doors.{doors_of};
+ghost use Rattle.serve_command.specs.Doors.{doors_seen};
 ghost use Rattle.serve_command.specs.Serve.{AnswersBundle, EndsBegun, EndsServe, IsLeftSeason, season_answers};
 
 use crate::laws::one_season_answer;
@@ -41,10 +41,8 @@ pub fn serve_season<
     requires few { length doors.old ≤ 64 }
     requires suit { AllByRecursion (λ d. D.to_come d ≤ 100000) doors.old }
     ensures written { (output : List ℕ) × Appends output (K.written sink.old) (K.written sink.new)
-        × EndsServe (S.left source.old) (P.seen keeper).tables (P.seen result.1).tables
-        (doors_of (telling D.Door D.Conn.Link)
-        (P.seen keeper).holds_room (P.seen keeper).faults (P.seen result.1).faults doors.old doors.new)
-        result.0 output }
+        × EndsServe (S.left source.old) (P.seen keeper).tables (P.seen result.1).tables (doors_seen
+        D.Door D.Conn.Link (P.seen keeper) (P.seen result.1) doors.old doors.new) result.0 output }
     ensures read_whole { (result.0 ≡ Status.Ok) ⊎ (result.0 ≡ Status.DoorFault)
         → IsAtEnd (S.left source.new) }
     ensures no_difference { result.0 ≢ Status.Differs }
@@ -94,10 +92,8 @@ fn begin_and_serve<R: Threads + Wait + Sync, K: Sink, P: Keeper + Send, D: Door<
     requires few { length doors.old ≤ 64 }
     requires suit { AllByRecursion (λ d. D.to_come d ≤ 100000) doors.old }
     ensures written { (output : List ℕ) × Appends output (K.written sink.old) (K.written sink.new)
-        × EndsBegun season (P.seen keeper).tables (P.seen result.1).tables
-        (doors_of (telling D.Door D.Conn.Link)
-        (P.seen keeper).holds_room (P.seen keeper).faults (P.seen result.1).faults doors.old doors.new)
-        result.0 output }
+        × EndsBegun season (P.seen keeper).tables (P.seen result.1).tables (doors_seen D.Door
+        D.Conn.Link (P.seen keeper) (P.seen result.1) doors.old doors.new) result.0 output }
     ensures no_read_fault { result.0 ≢ Status.ReadFault }
     ensures no_difference { result.0 ≢ Status.Differs }
     ensures sink { BlamesSink result.0 (sink_of K.Sink sink.old) (sink_of K.Sink sink.new) }

@@ -12,7 +12,7 @@ ghost use Rattle.command_answers.specs.Ends.{BlamesSink};
 ghost use Rattle.office_base.specs.Visible.{sink_of};
 ghost use Rattle.season_commands.specs.Outside.{EndsWith};
 ghost use Rattle.serve_command.specs.Blames.{BlamesDoors};
-ghost use Rattle.serve_command.specs.Doors.{HaveEnded, doors_of};
+ghost use Rattle.serve_command.specs.Doors.{doors_seen};
 ghost use Rattle.serve_command.specs.Ending.{served_status};
 ghost use Rattle.command_answers.specs.Writes.{Writes};
 ghost use Rattle.serve_command.specs.Serve.{EndsServed, IsEndText};
@@ -44,10 +44,8 @@ pub(crate) fn serve_office<
     requires few { length doors.old ≤ 64 }
     requires suit { AllByRecursion (λ d. D.to_come d ≤ 100000) doors.old }
     ensures written { (output : List ℕ) × Appends output (K.written sink.old) (K.written sink.new)
-        × EndsServed office.season office.entries (P.seen result.1).tables
-        (doors_of (telling D.Door D.Conn.Link)
-        (P.seen office.keeper).holds_room (P.seen office.keeper).faults (P.seen result.1).faults doors.old doors.new)
-        result.0 output }
+        × EndsServed office.season office.entries (P.seen result.1).tables (doors_seen D.Door
+        D.Conn.Link (P.seen office.keeper) (P.seen result.1) doors.old doors.new) result.0 output }
     ensures told_before { IsTold (P.seen result.1).tables → IsTold (P.seen office.keeper).tables }
     ensures own { (result.0 ≡ Status.Ok) ⊎ ((result.0 ≡ Status.WriteFault)
         ⊎ ((result.0 ≡ Status.OutOfMemory) ⊎ (result.0 ≡ Status.DoorFault))) }
@@ -75,9 +73,7 @@ fn tell_served<K: Sink, P: Keeper>(alloc: Global, served: Served<P>, sink: &mut 
     ensures same { result.1 ≡ served.office.keeper }
     ensures status { (result.0 ≡ served_status served.door_failed)
         ⊎ ((result.0 ≡ Status.OutOfMemory) ⊎ (result.0 ≡ Status.WriteFault)) }
-    ensures write_fault { result.0 ≡ Status.WriteFault
-        → Rose (K.faults sink.old) (K.faults sink.new) }
-    ensures sink_steady { result.0 ≢ Status.WriteFault → K.faults sink.new ≡ K.faults sink.old }
+    ensures sink { BlamesSink result.0 (sink_of K.Sink sink.old) (sink_of K.Sink sink.new) }
 {
     let Served {
         office,

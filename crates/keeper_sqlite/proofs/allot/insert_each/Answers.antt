@@ -9,12 +9,12 @@ pub loop-row-preserved : goal.loop-row-preserved
 loop-row-preserved g c = (
   c.insert_one.ensures.inside.0 ∙ c.loop-row.invariant.0,
   nothing_then _ _ _ c.loop-row.invariant.1 c.insert_one.ensures.inside.1,
-  seat_put g.S.Store c.args.insert.now.text c.args.rows.now c.loop-row.row-index _ c.args.tx.now.conn.now c.loop-row.tx.conn.now c.insert_one.new.tx.conn.now c.loop-row-test.true c.insert_one.ensures.inside.1 c.loop-row.invariant.2 c.in_ok-insert_one.ensures.ran,
-  seat_stop g.S.Store c.args.insert.now.text c.args.rows.now c.loop-row.row-index _ c.args.tx.now.conn.now c.loop-row.tx.conn.now c.insert_one.new.tx.conn.now c.loop-row-test.true c.insert_one.ensures.inside.1 c.loop-row.invariant.3 c.in_ok-insert_one.ensures.ran,
+  seat_put g.S.Store c.args.insert.now.text c.args.rows.now c.loop-row.row-index _ c.args.tx.now.conn.now c.loop-row.tx.conn.now c.insert_one.new.tx.conn.now c.loop-row-test.true c.insert_one.ensures.inside.1 c.loop-row.invariant.2 c.in_ok-insert_one.ensures.acts.done,
+  seat_stop g.S.Store c.args.insert.now.text c.args.rows.now c.loop-row.row-index _ c.args.tx.now.conn.now c.loop-row.tx.conn.now c.insert_one.new.tx.conn.now c.loop-row-test.true c.insert_one.ensures.inside.1 c.loop-row.invariant.3 c.in_ok-insert_one.ensures.acts.done,
   fit_more c.args.rows.now c.loop-row.row-index _ c.loop-row-test.true c.loop-row.invariant.4 c.insert_one.ensures.fits,
 )
 
-pub returns-in_err-insert_one-clause-lost : goal.returns-in_err-insert_one-clause-lost
-returns-in_err-insert_one-clause-lost g c = λ clean.
+pub returns-in_err-insert_one-clause-acts : goal.returns-in_err-insert_one-clause-acts
+returns-in_err-insert_one-clause-acts g c =
     let p = err_from_is_err_and c.from_residual.result c.from_residual.ensures.1 in
-    rw (p.1, p.2) (seat_lost g.S.Store c.args.insert.now.text c.args.rows.now c.loop-row.row-index _ _ c.args.tx.now.conn.now c.loop-row.tx.conn.now c.insert_one.new.tx.conn.now c.loop-row-test.true c.insert_one.ensures.inside.1 c.loop-row.invariant.3 clean (c.in_err-insert_one.ensures.lost clean))
+    rw (p.1, p.2) (record { done = λ _. tt; lost = λ clean. seat_lost g.S.Store c.args.insert.now.text c.args.rows.now c.loop-row.row-index _ _ c.args.tx.now.conn.now c.loop-row.tx.conn.now c.insert_one.new.tx.conn.now c.loop-row-test.true c.insert_one.ensures.inside.1 c.loop-row.invariant.3 clean (c.in_err-insert_one.ensures.acts.lost clean) })

@@ -9,17 +9,17 @@ use Rattle.keeper_sqlite.specs.Kept.{allots_query}
 use Rattle.keeper_sqlite.proofs.CallLemmas.{records_told}
 use Rattle.keeper_sqlite.proofs.allot.read_all.Goals as goal
 
-pub returns-clause-told : goal.returns-clause-told
-returns-clause-told g c = records_told g.S.Store IsAllotRow allots_query _ _ c.args.tx.now.conn.now c.ask.new.tx.conn.now c.records_of.result c.deref.ensures.value c.in_ok-rows.ensures.told c.records_of.ensures.ok
+pub returns-clause-acts : goal.returns-clause-acts
+returns-clause-acts g c = record {
+  done = records_told g.S.Store IsAllotRow allots_query _ _ c.args.tx.now.conn.now c.ask.new.tx.conn.now c.records_of.result c.deref.ensures.value c.in_ok-rows.ensures.acts.done c.records_of.ensures.ok;
+  lost = rows_lost g.S.Store allots_query (λ rows. (held : List AllotRow) → ¬ AllZip IsAllotRow rows held) _ _ c.args.tx.now.conn.now c.ask.new.tx.conn.now c.records_of.result c.deref.ensures.value c.in_ok-rows.ensures.acts.done c.records_of.ensures.err;
+}
 
-pub returns-in_err-rows-clause-lost : goal.returns-in_err-rows-clause-lost
-returns-in_err-rows-clause-lost g c = λ clean.
+pub returns-in_err-rows-clause-acts : goal.returns-in_err-rows-clause-acts
+returns-in_err-rows-clause-acts g c =
     let p = err_from_is_err_and c.from_residual.result c.from_residual.ensures.1 in
-    rw (p.1, p.2) (inl (c.in_err-rows.ensures.refused clean))
-
-pub returns-clause-lost : goal.returns-clause-lost
-returns-clause-lost g c = rows_lost g.S.Store allots_query (λ rows. (held : List AllotRow) → ¬ AllZip IsAllotRow rows held) _ _ c.args.tx.now.conn.now c.ask.new.tx.conn.now c.records_of.result c.deref.ensures.value c.in_ok-rows.ensures.told c.records_of.ensures.err
+    rw (p.1, p.2) (record { done = λ _. tt; lost = λ clean. inl (c.in_err-rows.ensures.acts.lost clean) })
 
 pub returns-clause-stands : goal.returns-clause-stands
 returns-clause-stands g c = λ strict clean has. allots_stand g.S.Store strict c.args.tx.now.conn.now c.ask.new.tx.conn.now c.records_of.result has
-    (records_told g.S.Store IsAllotRow allots_query _ _ c.args.tx.now.conn.now c.ask.new.tx.conn.now c.records_of.result c.deref.ensures.value c.in_ok-rows.ensures.told c.records_of.ensures.ok) clean
+    (records_told g.S.Store IsAllotRow allots_query _ _ c.args.tx.now.conn.now c.ask.new.tx.conn.now c.records_of.result c.deref.ensures.value c.in_ok-rows.ensures.acts.done c.records_of.ensures.ok) clean

@@ -3,10 +3,13 @@ use Rattle.std.proofs.Common.{◌≡◌, refl, inl}
 use Rattle.keeper_sqlite.proofs.OpenLemmas.{ready_nothing}
 use Rattle.keeper_sqlite.proofs.calls.make_ready.Goals as goal
 
-pub returns-clause-made : goal.returns-clause-made
-returns-clause-made g c = λ clean.
-    let made = c.in_ok-prepare.ensures.ok clean in
-    (made.0, (_, record { outline = c.in_ok-prepare.field-0; is = c.in_ok-prepare.ensures.shape clean; same = made.1 }, refl))
+pub returns-clause-acts : goal.returns-clause-acts
+returns-clause-acts g c = record {
+  done = λ clean.
+      let made = c.in_ok-prepare.ensures.ok clean in
+      (made.0, (_, record { outline = c.in_ok-prepare.field-0; is = c.in_ok-prepare.ensures.shape clean; same = made.1 }, refl));
+  lost = λ _. tt;
+}
 
 pub returns-in_err-prepare-clause-inside : goal.returns-in_err-prepare-clause-inside
 returns-in_err-prepare-clause-inside g c = (c.prepare.ensures.same_reference, ready_nothing g.S.Store _ (λ s. s.text ≡ c.args.text.now) c.args.tx.now.conn.now c.prepare.new.self.conn.now c.prepare.result c.prepare.ensures.ok c.prepare.ensures.err c.prepare.ensures.survives)
@@ -14,7 +17,7 @@ returns-in_err-prepare-clause-inside g c = (c.prepare.ensures.same_reference, re
 pub returns-clause-inside : goal.returns-clause-inside
 returns-clause-inside g c = (c.prepare.ensures.same_reference, ready_nothing g.S.Store _ (λ s. s.text ≡ c.args.text.now) c.args.tx.now.conn.now c.prepare.new.self.conn.now c.prepare.result c.prepare.ensures.ok c.prepare.ensures.err c.prepare.ensures.survives)
 
-pub returns-in_err-prepare-clause-lost : goal.returns-in_err-prepare-clause-lost
-returns-in_err-prepare-clause-lost g c = λ clean.
+pub returns-in_err-prepare-clause-acts : goal.returns-in_err-prepare-clause-acts
+returns-in_err-prepare-clause-acts g c =
     let p = err_from_is_err_and c.from_residual.result c.from_residual.ensures.1 in
-    rw (p.1, p.2) (inl (_, refl, c.in_err-prepare.ensures.err clean))
+    rw (p.1, p.2) (record { done = λ _. tt; lost = λ clean. inl (_, refl, c.in_err-prepare.ensures.err clean) })

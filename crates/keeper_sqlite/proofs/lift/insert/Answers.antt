@@ -5,15 +5,14 @@ use Rattle.keeper_sqlite.specs.Kept.{raise_text, raise_values}
 use Rattle.std.proofs.Common.{rules}
 use Rattle.keeper_sqlite.proofs.lift.insert.Goals as goal
 
-pub returns-clause-ran : goal.returns-clause-ran
-returns-clause-ran g c =
-    ran_alone g.S.Store raise_text (raise_values c.args.row) c.args.tx.now.conn.now c.run.new.tx.conn.now c.run.result
-    (with_values g.S.Store raise_text _ (raise_values c.args.row) c.args.tx.now.conn.now c.run.new.tx.conn.now c.run.result c.run.ensures.ran (search rules))
+pub returns-clause-acts : goal.returns-clause-acts
+returns-clause-acts g c = record {
+  done = ran_alone g.S.Store raise_text (raise_values c.args.row) c.args.tx.now.conn.now c.run.new.tx.conn.now c.run.result
+      (with_values g.S.Store raise_text _ (raise_values c.args.row) c.args.tx.now.conn.now c.run.new.tx.conn.now c.run.result c.run.ensures.acts.done (search rules));
+  lost = lost_values g.S.Store raise_text _ (raise_values c.args.row) c.args.tx.now.conn.now c.run.new.tx.conn.now c.run.result c.run.ensures.acts.lost (search rules);
+}
 
 pub returns-clause-put : goal.returns-clause-put
 returns-clause-put g c = λ strict clean has.
     raise_put g.S.Store strict c.args.row c.args.tx.now.conn.now c.run.new.tx.conn.now c.run.result (record { window = search rules; prog = search rules; seats = search rules }) has
-    (with_values g.S.Store raise_text _ (raise_values c.args.row) c.args.tx.now.conn.now c.run.new.tx.conn.now c.run.result c.run.ensures.ran (search rules)) clean
-
-pub returns-clause-lost : goal.returns-clause-lost
-returns-clause-lost g c = lost_values g.S.Store raise_text _ (raise_values c.args.row) c.args.tx.now.conn.now c.run.new.tx.conn.now c.run.result c.run.ensures.lost (search rules)
+    (with_values g.S.Store raise_text _ (raise_values c.args.row) c.args.tx.now.conn.now c.run.new.tx.conn.now c.run.result c.run.ensures.acts.done (search rules)) clean

@@ -7,17 +7,17 @@ use Rattle.std.proofs.lemmas.Result.{err_from_is_err_and}
 use Rattle.keeper_sqlite.proofs.CallLemmas.{phase_told}
 use Rattle.keeper_sqlite.proofs.phase.read.Goals as goal
 
-pub returns-clause-told : goal.returns-clause-told
-returns-clause-told g c = phase_told g.S.Store _ _ c.args.tx.now.conn.now c.ask.new.tx.conn.now c.phase_of.result c.deref.ensures.value c.in_ok-ask.ensures.told c.phase_of.ensures.ok
+pub returns-clause-acts : goal.returns-clause-acts
+returns-clause-acts g c = record {
+  done = phase_told g.S.Store _ _ c.args.tx.now.conn.now c.ask.new.tx.conn.now c.phase_of.result c.deref.ensures.value c.in_ok-ask.ensures.acts.done c.phase_of.ensures.ok;
+  lost = rows_lost g.S.Store phase_query (λ rows. (found : Option ℕ) → ¬ TellsPhase rows found) _ _ c.args.tx.now.conn.now c.ask.new.tx.conn.now c.phase_of.result c.deref.ensures.value c.in_ok-ask.ensures.acts.done c.phase_of.ensures.err;
+}
 
-pub returns-in_err-ask-clause-lost : goal.returns-in_err-ask-clause-lost
-returns-in_err-ask-clause-lost g c = λ clean.
+pub returns-in_err-ask-clause-acts : goal.returns-in_err-ask-clause-acts
+returns-in_err-ask-clause-acts g c =
     let p = err_from_is_err_and c.from_residual.result c.from_residual.ensures.1 in
-    rw (p.1, p.2) (inl (c.in_err-ask.ensures.refused clean))
-
-pub returns-clause-lost : goal.returns-clause-lost
-returns-clause-lost g c = rows_lost g.S.Store phase_query (λ rows. (found : Option ℕ) → ¬ TellsPhase rows found) _ _ c.args.tx.now.conn.now c.ask.new.tx.conn.now c.phase_of.result c.deref.ensures.value c.in_ok-ask.ensures.told c.phase_of.ensures.err
+    rw (p.1, p.2) (record { done = λ _. tt; lost = λ clean. inl (c.in_err-ask.ensures.acts.lost clean) })
 
 pub returns-clause-stands : goal.returns-clause-stands
 returns-clause-stands g c = λ strict clean has. cuts_stand g.S.Store strict c.args.tx.now.conn.now c.ask.new.tx.conn.now c.phase_of.result has
-    (phase_told g.S.Store _ _ c.args.tx.now.conn.now c.ask.new.tx.conn.now c.phase_of.result c.deref.ensures.value c.in_ok-ask.ensures.told c.phase_of.ensures.ok) clean
+    (phase_told g.S.Store _ _ c.args.tx.now.conn.now c.ask.new.tx.conn.now c.phase_of.result c.deref.ensures.value c.in_ok-ask.ensures.acts.done c.phase_of.ensures.ok) clean

@@ -4,4 +4,4 @@ use Rattle.stored_tables.proofs.TextLemmas.{season-there}
 use Rattle.keeper_sqlite.proofs.season.create.Goals as goal
 
 pub returns-clause-stands : goal.returns-clause-stands
-returns-clause-stands g c = λ strict clean has. table_stands g.S.Store strict season_table c.args.tx.now.conn.now c.run.new.tx.conn.now c.run.result (season-there strict) has c.run.ensures.ran clean
+returns-clause-stands g c = λ strict clean has. table_stands g.S.Store strict season_table c.args.tx.now.conn.now c.run.new.tx.conn.now c.run.result (season-there strict) has c.run.ensures.acts.done clean

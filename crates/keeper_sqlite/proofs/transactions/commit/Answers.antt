@@ -29,14 +29,14 @@ returns-clause-made g c =
     let last = c.settle-ended.new.tx.0 in
     let same : last ≡ c.connection-1.given.0 = search rules in
     subst (λ h. Survives (state g.S.Store c.args.connection.now) (state g.S.Store h) (MadeBy g.S.Store c.args.change c.args.connection.now)) same
-    (made_once g.S.Store c.args.change c.args.connection.now _ c.write-done.new.tx.conn.now last c.write-done.result c.transaction-begun.ensures.begun c.write-done.ensures.inside.1 c.write-done.ensures.made c.settle-ended.ensures.shown)
+    (made_once g.S.Store c.args.change c.args.connection.now _ c.write-done.new.tx.conn.now last c.write-done.result c.transaction-begun.ensures.begun c.write-done.ensures.inside.1 (λ clean _. c.write-done.ensures.acts.done clean) c.settle-ended.ensures.shown)
 
 pub returns-clause-kept : goal.returns-clause-kept
 returns-clause-kept g c =
     let last = c.settle-ended.new.tx.0 in
     let same : last ≡ c.connection-1.given.0 = search rules in
     subst (λ h. HasCleanDisk (state g.S.Store h) → OnOk c.settle-ended.result (Keeps g.S.Store (Makes g.S.Store c.args.change) c.args.connection.now h)) same
-    (kept_made g.S.Store c.args.change _ _ c.write-done.new.tx.conn.now last c.write-done.result c.settle-ended.result c.transaction-begun.ensures.begun c.write-done.ensures.made c.settle-ended.ensures.shown c.settle-ended.ensures.ended.1 c.settle-ended.ensures.now c.settle-ended.ensures.committed
+    (kept_made g.S.Store c.args.change _ _ c.write-done.new.tx.conn.now last c.write-done.result c.settle-ended.result c.transaction-begun.ensures.begun (λ clean _. c.write-done.ensures.acts.done clean) c.settle-ended.ensures.shown c.settle-ended.ensures.ended.1 c.settle-ended.ensures.now c.settle-ended.ensures.committed
     c.settle-ended.ensures.shows)
 
 pub returns-in_err-expect_free-clause-stays_err : goal.returns-in_err-expect_free-clause-stays_err
@@ -63,4 +63,4 @@ returns-clause-lost g c =
     let last = c.settle-ended.new.tx.0 in
     let same : last ≡ c.connection-1.given.0 = search rules in
     subst (λ h. HasCleanDisk (state g.S.Store h) → IfErr c.settle-ended.result (λ halt. Loses g.S.Store (Breaks g.S.Store c.args.change) (Makes g.S.Store c.args.change) halt c.args.connection.now h)) same
-    (change_lost g.S.Store c.args.change c.args.connection.now _ c.write-done.new.tx.conn.now last c.write-done.result c.settle-ended.result c.transaction-begun.ensures.begun c.settle-ended.ensures.shown c.write-done.ensures.made c.write-done.ensures.lost c.settle-ended.ensures.why)
+    (change_lost g.S.Store c.args.change c.args.connection.now _ c.write-done.new.tx.conn.now last c.write-done.result c.settle-ended.result c.transaction-begun.ensures.begun c.settle-ended.ensures.shown (λ clean _. c.write-done.ensures.acts.done clean) c.write-done.ensures.acts.lost c.settle-ended.ensures.why)

@@ -16,7 +16,7 @@ returns-clause-found g c =
     let same : last ≡ c.connection-1.given.0 = search rules in
     subst (λ h. HasCleanDisk (state g.S.Store h) → IfOk c.look_for_season-found.result (λ found. Looks g.S.Store (TellsSeason g.S.Store found) c.args.connection.now h)) same
     (looked g.S.Store (λ found. TellsSeason g.S.Store found) c.args.connection.now c.transaction-tx.result.conn.now c.look_for_season-found.new.tx.conn.now last c.look_for_season-found.result
-    c.transaction-tx.ensures.begun c.rollback.ensures.survives c.look_for_season-found.ensures.told c.rollback.ensures.undone)
+    c.transaction-tx.ensures.begun c.rollback.ensures.survives c.look_for_season-found.ensures.acts.done c.rollback.ensures.undone)
 
 pub returns-clause-stays : goal.returns-clause-stays
 returns-clause-stays g c =
@@ -45,4 +45,4 @@ returns-clause-lost g c =
     let same : last ≡ c.connection-1.given.0 = search rules in
     subst (λ h. HasCleanDisk (state g.S.Store h) → IfErr c.look_for_season-found.result (λ halt. IsBusy halt c.args.connection.now ⊎ Looks g.S.Store (LosesPhase g.S.Store halt) c.args.connection.now h)) same
     (look_lost g.S.Store (LosesPhase g.S.Store) c.args.connection.now c.transaction-tx.result.conn.now c.look_for_season-found.new.tx.conn.now last c.look_for_season-found.result
-    c.transaction-tx.ensures.begun c.rollback.ensures.survives c.look_for_season-found.ensures.lost c.rollback.ensures.undone)
+    c.transaction-tx.ensures.begun c.rollback.ensures.survives c.look_for_season-found.ensures.acts.lost c.rollback.ensures.undone)

@@ -16,7 +16,7 @@ returns-clause-loaded g c =
     let same : last ≡ c.connection-1.given.0 = search rules in
     subst (λ h. HasCleanDisk (state g.S.Store h) → IfOk c.read_records-found.result (λ found. Looks g.S.Store (TellsKept g.S.Store found) c.args.connection.now h)) same
     (looked g.S.Store (λ found. TellsKept g.S.Store found) c.args.connection.now c.transaction-tx.result.conn.now c.read_records-found.new.tx.conn.now last c.read_records-found.result
-    c.transaction-tx.ensures.begun c.rollback.ensures.survives c.read_records-found.ensures.told c.rollback.ensures.undone)
+    c.transaction-tx.ensures.begun c.rollback.ensures.survives c.read_records-found.ensures.acts.done c.rollback.ensures.undone)
 
 pub returns-clause-stays : goal.returns-clause-stays
 returns-clause-stays g c =
@@ -45,4 +45,4 @@ returns-clause-lost g c =
     let same : last ≡ c.connection-1.given.0 = search rules in
     subst (λ h. HasCleanDisk (state g.S.Store h) → IfErr c.read_records-found.result (λ halt. IsBusy halt c.args.connection.now ⊎ Looks g.S.Store (LosesKept g.S.Store halt) c.args.connection.now h)) same
     (look_lost g.S.Store (LosesKept g.S.Store) c.args.connection.now c.transaction-tx.result.conn.now c.read_records-found.new.tx.conn.now last c.read_records-found.result
-    c.transaction-tx.ensures.begun c.rollback.ensures.survives c.read_records-found.ensures.lost c.rollback.ensures.undone)
+    c.transaction-tx.ensures.begun c.rollback.ensures.survives c.read_records-found.ensures.acts.lost c.rollback.ensures.undone)

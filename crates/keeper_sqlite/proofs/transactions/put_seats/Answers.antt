@@ -7,24 +7,22 @@ use Rattle.keeper_sqlite.specs.Kept.Call.{Runs, Readies}
 use Rattle.keeper_sqlite.proofs.CallLemmas.{both_done}
 use Rattle.keeper_sqlite.proofs.transactions.put_seats.Goals as goal
 
-pub returns-clause-ran : goal.returns-clause-ran
-returns-clause-ran g c =
-    let rows = c.args.rows.now in
-    both_done g.S.Store (Readies allot_text ∷ allot_calls allot_text rows) (Runs cuts_text (cuts_values (c.args.made + 1)) ∷ []) c.args.tx.now.conn.now c.insert_all.new.tx.conn.now c.upsert.new.tx.conn.now c.insert_all.result c.upsert.result
-    c.in_ok-insert_all.was c.upsert.ensures.inside.1 c.insert_all.ensures.ran (rw c.in_ok-cuts.ensures.ok.0 at c.upsert.ensures.ran)
+pub returns-clause-acts : goal.returns-clause-acts
+returns-clause-acts g c = record {
+  done = let rows = c.args.rows.now in
+      both_done g.S.Store (Readies allot_text ∷ allot_calls allot_text rows) (Runs cuts_text (cuts_values (c.args.made + 1)) ∷ []) c.args.tx.now.conn.now c.insert_all.new.tx.conn.now c.upsert.new.tx.conn.now c.insert_all.result c.upsert.result
+      c.in_ok-insert_all.was c.upsert.ensures.inside.1 c.insert_all.ensures.acts.done (rw c.in_ok-cuts.ensures.ok.0 at c.upsert.ensures.acts.done);
+  lost = on_seats g.S.Store c.args.made c.args.rows.now c.args.tx.now.conn.now c.upsert.new.tx.conn.now c.upsert.result
+      (later_lost g.S.Store (Readies allot_text ∷ allot_calls allot_text c.args.rows.now) (Runs cuts_text (cuts_values (c.args.made + 1)) ∷ []) c.args.tx.now.conn.now c.insert_all.new.tx.conn.now c.upsert.new.tx.conn.now c.upsert.result
+      c.upsert.ensures.inside.1 c.in_ok-insert_all.ensures.acts.done (rw c.in_ok-cuts.ensures.ok.0 at c.upsert.ensures.acts.lost));
+}
 
-pub returns-in_err-cuts-clause-lost : goal.returns-in_err-cuts-clause-lost
-returns-in_err-cuts-clause-lost g c = λ clean.
+pub returns-in_err-cuts-clause-acts : goal.returns-in_err-cuts-clause-acts
+returns-in_err-cuts-clause-acts g c =
     let p = err_from_is_err_and c.from_residual.result c.from_residual.ensures.1 in
-    rw (p.1, p.2) (inl (c.in_err-cuts.ensures.err.0, c.in_err-cuts.ensures.err.1, refl))
+    rw (p.1, p.2) (record { done = λ _. tt; lost = λ clean. inl (c.in_err-cuts.ensures.err.0, c.in_err-cuts.ensures.err.1, refl) })
 
-pub returns-in_err-insert_all-clause-lost : goal.returns-in_err-insert_all-clause-lost
-returns-in_err-insert_all-clause-lost g c = λ clean.
+pub returns-in_err-insert_all-clause-acts : goal.returns-in_err-insert_all-clause-acts
+returns-in_err-insert_all-clause-acts g c =
     let p = err_from_is_err_and c.from_residual-in_err-insert_all.result c.from_residual-in_err-insert_all.ensures.1 in
-    rw (p.1, p.2) (inr (stops_more g.S.Store (Readies allot_text ∷ allot_calls allot_text c.args.rows.now) (Runs cuts_text (cuts_values (c.args.made + 1)) ∷ []) _ c.args.tx.now.conn.now c.insert_all.new.tx.conn.now (c.in_err-insert_all.ensures.lost clean)))
-
-pub returns-clause-lost : goal.returns-clause-lost
-returns-clause-lost g c =
-    on_seats g.S.Store c.args.made c.args.rows.now c.args.tx.now.conn.now c.upsert.new.tx.conn.now c.upsert.result
-    (later_lost g.S.Store (Readies allot_text ∷ allot_calls allot_text c.args.rows.now) (Runs cuts_text (cuts_values (c.args.made + 1)) ∷ []) c.args.tx.now.conn.now c.insert_all.new.tx.conn.now c.upsert.new.tx.conn.now c.upsert.result
-    c.upsert.ensures.inside.1 c.in_ok-insert_all.ensures.ran (rw c.in_ok-cuts.ensures.ok.0 at c.upsert.ensures.lost))
+    rw (p.1, p.2) (record { done = λ _. tt; lost = λ clean. inr (stops_more g.S.Store (Readies allot_text ∷ allot_calls allot_text c.args.rows.now) (Runs cuts_text (cuts_values (c.args.made + 1)) ∷ []) _ c.args.tx.now.conn.now c.insert_all.new.tx.conn.now (c.in_err-insert_all.ensures.acts.lost clean)) })

@@ -4,28 +4,33 @@ use Rattle.std.proofs.lemmas.Result.{err_from_is_err_and}
 use Rattle.keeper_sqlite.proofs.CallLemmas.{tables_told}
 use Rattle.keeper_sqlite.proofs.transactions.read_kept.Goals as goal
 
-pub returns-clause-told : goal.returns-clause-told
-returns-clause-told g c =
-    tables_told g.S.Store _ c.args.tx.now.conn.now c.read_text.new.tx.conn.now c.read_all.new.tx.conn.now c.read_all-2.new.tx.conn.now c.read_all-3.new.tx.conn.now
-    c.read_all.ensures.inside.1 c.read_all-2.ensures.inside.1 c.read_all-3.ensures.inside.1 c.in_ok-read_text.ensures.told c.in_ok-read_all.ensures.told c.in_ok-read_all-2.ensures.told c.in_ok-read_all-3.ensures.told
+pub returns-clause-acts : goal.returns-clause-acts
+returns-clause-acts g c = record {
+  done = tables_told g.S.Store _ c.args.tx.now.conn.now c.read_text.new.tx.conn.now c.read_all.new.tx.conn.now c.read_all-2.new.tx.conn.now c.read_all-3.new.tx.conn.now
+      c.read_all.ensures.inside.1 c.read_all-2.ensures.inside.1 c.read_all-3.ensures.inside.1 c.in_ok-read_text.ensures.acts.done c.in_ok-read_all.ensures.acts.done c.in_ok-read_all-2.ensures.acts.done c.in_ok-read_all-3.ensures.acts.done;
+  lost = λ _. tt;
+}
 
-pub returns-in_err-read_text-clause-lost : goal.returns-in_err-read_text-clause-lost
-returns-in_err-read_text-clause-lost g c = λ clean.
+pub returns-in_err-read_text-clause-acts : goal.returns-in_err-read_text-clause-acts
+returns-in_err-read_text-clause-acts g c =
     let p = err_from_is_err_and c.from_residual.result c.from_residual.ensures.1 in
-    rw (p.1, p.2) (inl (c.in_err-read_text.ensures.lost clean))
+    rw (p.1, p.2) (record { done = λ _. tt; lost = λ clean. inl (c.in_err-read_text.ensures.acts.lost clean) })
 
-pub returns-in_err-read_all-clause-lost : goal.returns-in_err-read_all-clause-lost
-returns-in_err-read_all-clause-lost g c = λ clean.
+pub returns-in_err-read_all-clause-acts : goal.returns-in_err-read_all-clause-acts
+returns-in_err-read_all-clause-acts g c =
     let p = err_from_is_err_and c.from_residual-in_err-read_all.result c.from_residual-in_err-read_all.ensures.1 in
-    rw (p.1, p.2) (answers_lost g.S.Store _ _ c.args.tx.now.conn.now c.read_text.new.tx.conn.now c.read_all.new.tx.conn.now c.read_all.ensures.inside.1 c.in_ok-read_text.ensures.told clean (c.in_err-read_all.ensures.lost clean))
+    rw (p.1, p.2) (record { done = λ _. tt; lost = λ clean. answers_lost g.S.Store _ _ c.args.tx.now.conn.now c.read_text.new.tx.conn.now c.read_all.new.tx.conn.now c.read_all.ensures.inside.1 c.in_ok-read_text.ensures.acts.done clean (c.in_err-read_all.ensures.acts.lost clean) })
 
-pub returns-in_err-read_all-2-clause-lost : goal.returns-in_err-read_all-2-clause-lost
-returns-in_err-read_all-2-clause-lost g c = λ clean.
+pub returns-in_err-read_all-2-clause-acts : goal.returns-in_err-read_all-2-clause-acts
+returns-in_err-read_all-2-clause-acts g c =
     let p = err_from_is_err_and c.from_residual-in_err-read_all-2.result c.from_residual-in_err-read_all-2.ensures.1 in
-    rw (p.1, p.2) (raises_lost g.S.Store _ _ _ c.args.tx.now.conn.now c.read_text.new.tx.conn.now c.read_all.new.tx.conn.now c.read_all-2.new.tx.conn.now c.read_all.ensures.inside.1 c.read_all-2.ensures.inside.1 c.in_ok-read_text.ensures.told c.in_ok-read_all.ensures.told clean (c.in_err-read_all-2.ensures.lost clean))
+    rw (p.1, p.2) (record { done = λ _. tt; lost = λ clean. raises_lost g.S.Store _ _ _ c.args.tx.now.conn.now c.read_text.new.tx.conn.now c.read_all.new.tx.conn.now c.read_all-2.new.tx.conn.now c.read_all.ensures.inside.1 c.read_all-2.ensures.inside.1 c.in_ok-read_text.ensures.acts.done c.in_ok-read_all.ensures.acts.done clean (c.in_err-read_all-2.ensures.acts.lost clean) })
 
-pub returns-in_err-read_all-3-clause-lost : goal.returns-in_err-read_all-3-clause-lost
-returns-in_err-read_all-3-clause-lost g c = λ clean.
+pub returns-in_err-read_all-3-clause-acts : goal.returns-in_err-read_all-3-clause-acts
+returns-in_err-read_all-3-clause-acts g c =
     let p = err_from_is_err_and c.from_residual-in_err-read_all-3.result c.from_residual-in_err-read_all-3.ensures.1 in
-    rw (p.1, p.2) (allots_lost g.S.Store _ _ _ _ c.args.tx.now.conn.now c.read_text.new.tx.conn.now c.read_all.new.tx.conn.now c.read_all-2.new.tx.conn.now c.read_all-3.new.tx.conn.now c.read_all.ensures.inside.1 c.read_all-2.ensures.inside.1 c.read_all-3.ensures.inside.1
-    c.in_ok-read_text.ensures.told c.in_ok-read_all.ensures.told c.in_ok-read_all-2.ensures.told clean (c.in_err-read_all-3.ensures.lost clean))
+    rw (p.1, p.2) (record {
+      done = λ _. tt;
+      lost = λ clean. (allots_lost g.S.Store _ _ _ _ c.args.tx.now.conn.now c.read_text.new.tx.conn.now c.read_all.new.tx.conn.now c.read_all-2.new.tx.conn.now c.read_all-3.new.tx.conn.now c.read_all.ensures.inside.1 c.read_all-2.ensures.inside.1 c.read_all-3.ensures.inside.1
+          c.in_ok-read_text.ensures.acts.done c.in_ok-read_all.ensures.acts.done c.in_ok-read_all-2.ensures.acts.done clean (c.in_err-read_all-3.ensures.acts.lost clean));
+    })

@@ -21,9 +21,3 @@ returns-clause-row g c =
 
 pub returns-clause-shares : goal.returns-clause-shares
 returns-clause-shares g c = (returns-clause-row g c).shares
-
-pub returns-clause-failed : goal.returns-clause-failed
-returns-clause-failed g c = (returns-clause-row g c).fails
-
-pub returns-clause-done : goal.returns-clause-done
-returns-clause-done g c = (returns-clause-row g c).ends

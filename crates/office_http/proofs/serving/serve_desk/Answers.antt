@@ -11,7 +11,13 @@ returns-clause-served g c =
     let L = g.D.Conn.Link in
     let origin = origin_of c.args.desk in
     let e = c.end_desk.ensures in
-    all_doors (AnswersAt origin.season) (UnanswersAt origin.season (g.K.Keeper.seen origin.keeper).holds_room)
-    (telling D L)
-    origin.entries c.end_desk.result.entries (g.K.Keeper.seen origin.keeper).faults (g.K.Keeper.seen c.end_desk.result.keeper).faults c.args.doors.now c.serve_all.new.doors _ _
-    c.serve_all.ensures.row (ap (λ p. seen_of p) c.first_hand-hand.ensures.pass ∙ c.requires.first.1) (ap (λ p. count_of p) c.first_hand-hand.ensures.pass ∙ c.requires.first.2) e.seen e.own e.count
+    record {
+      season = e.season;
+      room = e.room;
+      served = all_doors (AnswersAt origin.season) (UnanswersAt origin.season (g.K.Keeper.seen origin.keeper).holds_room)
+          (telling D L)
+          origin.entries c.end_desk.result.entries (g.K.Keeper.seen origin.keeper).faults (g.K.Keeper.seen c.end_desk.result.keeper).faults c.args.doors.now c.serve_all.new.doors _ _
+          c.serve_all.ensures.row (ap (λ p. seen_of p) c.first_hand-hand.ensures.pass ∙ c.requires.first.1) (ap (λ p. count_of p) c.first_hand-hand.ensures.pass ∙ c.requires.first.2) e.seen e.own e.count;
+      failed = c.serve_all.ensures.row.fails;
+      done = c.serve_all.ensures.row.ends;
+    }
