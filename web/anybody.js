@@ -17,9 +17,8 @@ async function look() {
   if (!found) return;
   season = found;
   options($("list-round"), season.published);
-  options($("round"), season.now > season.rounds ? season.rounds + 1 : season.published);
-  // round 0 is none, so an office that has the route refuses it, and the answer is short
-  $("rounds").hidden = (await askRound(0)) === null;
+  // each cut published a text; the last one is of the final admissions
+  options($("round"), season.now);
 }
 
 /** Offers the rounds up to a number, and keeps what was chosen. */
@@ -61,7 +60,7 @@ async function showRound() {
   if (!round) return say(said, "bad", FAULTS.round);
   say(said, "plain", ASKING);
   const got = await askRound(round);
-  if (got?.body?.reply !== "round") return say(said, "bad", got ? trouble(got) : ROUND.noText);
+  if (got.body?.reply !== "round") return say(said, "bad", trouble(got));
   const { text } = got.body;
   const lines = text.split("\n");
   say(said, "plain", summary(round, text));

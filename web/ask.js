@@ -76,12 +76,8 @@ export async function ask(path, how = {}) {
 
 export const askState = (how) => ask("state", how);
 export const askList = (round, programme, how) => ask(`list/${round}/${programme}`, how);
-
-// An office without the routes `round` and `choices` replies 404 without a body, as to any path that it does not know. Then the two
-// functions below return null, and the pages do without. Once every office has both routes, remove `orNull`.
-const orNull = (got) => (got.trouble === "nopage" ? null : got);
-export const askRound = async (round, how) => orNull(await ask(`round/${round}`, how));
-export const askChoices = async (cand, how) => orNull(await ask(`choices/${cand}`, how));
+export const askRound = (round, how) => ask(`round/${round}`, how);
+export const askChoices = (cand, how) => ask(`choices/${cand}`, how);
 
 /** Returns a published paper next to these pages, or null where there is none. */
 export async function paper(name) {

@@ -28,7 +28,7 @@ export const LABELS = {
   listTitle: "Who has the seats of a programme",
   showList: "Show the seats",
   roundTitle: "The text of a round",
-  roundIntro: "The seats of all candidates in a round, as the office published them.",
+  roundIntro: "The seats of all candidates in a round, or the final admissions, as the office published them.",
   showRound: "Show the text",
   checkTitle: "Check a refusal",
   checkIntro: "A refusal is right if and only if the answer to both questions is no:",
@@ -54,8 +54,6 @@ export const LABELS = {
   receiptsIntro: "The office can repeat the receipt of each answer that it has taken from you.",
   showReceipts: "Show my receipts",
   whyTitle: "Why not another programme?",
-  choices: "Your choice list",
-  choicesHint: "Programme codes with commas or blanks between them, the most wanted first. Copy them from your form.",
   traits: "What you hold",
   traitsHint: "Tick what applies, and the page checks the published lists with it. It stays on this page.",
   explain: "Explain each programme",
@@ -79,7 +77,6 @@ export const FAULTS = {
   candidate: "A candidate number has 1 to 9 digits and does not begin with 0.",
   token: "A token has 8 to 32 letters and digits.",
   code: "A programme code has 1 to 16 letters, digits and hyphens.",
-  choices: "Write at least one programme code.",
   seats: "The new number is a whole number from 1 to 4,000.",
   round: "No round is published yet.",
 };
@@ -195,7 +192,6 @@ export const ROUND = {
   cut: (shown, all) => `Here are the first ${count(shown, "line")} of ${all.toLocaleString("en")}. Save the text to read all of it.`,
   save: "Save the text",
   word: "The text word for word",
-  noText: "There is no text to show yet.",
 };
 
 // ---- the two questions
@@ -291,7 +287,7 @@ export const CHOICES = {
   },
 };
 
-/** The programmes that an answer seeks, where the choice list is known. */
+/** The programmes that an answer seeks, where they are known. */
 function named(codes) {
   return codes?.length ? `: ${listed(codes)}` : "";
 }
@@ -379,7 +375,6 @@ export const WHY = {
   seats: (code) => `Who has the seats of ${code}`,
   next: (number) => `Explain the next ${number}`,
   below: (code) => `You have ${code}. The programmes below it on your list do not matter while you have it.`,
-  badCode: (code) => `“${code}” is no programme code.`,
   noList: "This page cannot read the published list.",
   unread: "This page cannot read the reason. These are the office's own words.",
 };

@@ -3,7 +3,7 @@ import { allAnswers, NoAnswer, openNow } from "../answers.js";
 import { ask, askChoices, askList, askState } from "../ask.js";
 import { $, button, clear, closeQuestions, confirmed, details, dropLinks, el, fillWords, onPress, onSend, ready, saveLink, say, show, table, valueOf, verbatim } from "../dom.js";
 import { listPicture } from "../picture.js";
-import { CHOICES as ALL_CHOICES, isCandidate, isCode, isToken, lineOf, MOST_TURNS, readList, readWhy, settledByList, TRAITS } from "../rule.js";
+import { CHOICES as ALL_CHOICES, isCandidate, isToken, lineOf, MOST_TURNS, readList, readWhy, settledByList, TRAITS } from "../rule.js";
 import { institutes, programmeOf, showPapers } from "../season.js";
 import { leaveInTime, SignIn } from "../session.js";
 import { ANSWER, ASKING, CHOICES, HOLDS, HOLDS_NOTHING, kindOfSeat, LATER, LIST_FAULTS, OLD, OWN_WORDS, phase, RECEIPTS, SEAT, SETTLED, STANDINGS, trouble, WAITING, WHY } from "../words.js";
@@ -42,9 +42,8 @@ function forget() {
   dropLinks();
   clear(...regions());
   for (const it of ["receipt", "why-said"]) say($(it), "plain");
-  $("choices").value = "";
+  $("choices").textContent = "";
   for (const it of document.querySelectorAll("[data-trait]")) it.checked = false;
-  $("known-choices").textContent = "";
   $("mine").hidden = true;
   $("door").hidden = false;
 }
@@ -81,7 +80,7 @@ async function asking(who, then) {
 
 // ---- the seat
 
-/** Asks for the state and the seat, of one and the same round, and shows what they open. Returns whether they came. */
+/** Asks for the state and the seat, of one and the same round, and once for the choice list, and shows what they open. Returns whether they came. */
 async function load(who) {
   const waiting = () => who === me && say($("said"), "plain", WAITING);
   for (let tries = 0; tries < 3; tries++) {
@@ -95,9 +94,14 @@ async function load(who) {
     Object.assign(who, { seat: seat.body, state: state.body });
     if (seat.body.round === state.body.published) break;
   }
-  if (who.choices === undefined) {
-    const choices = await askChoices(who.cand, how(who));
-    who.choices = choices?.body?.reply === "choices" ? choices.body.programmes : null;
+  if (!who.choices) {
+    const list = await askChoices(who.cand, how(who, { waiting }));
+    if (who !== me) return false;
+    if (list.body?.reply !== "choices") {
+      stopped(list);
+      return false;
+    }
+    who.choices = list.body.programmes;
   }
   who.programme = who.seat.programme && (await programmeOf(who.seat.programme));
   who.institutes = await institutes();
@@ -162,7 +166,7 @@ async function showAnswers(who) {
 /** What an answer means for this candidate, sentence by sentence. */
 function meaning(who, choice) {
   const { seat, choices, programme } = who;
-  const higher = choices && seat.programme ? choices.slice(0, choices.indexOf(seat.programme)) : null;
+  const higher = seat.programme ? choices.slice(0, choices.indexOf(seat.programme)) : null;
   const same = higher && programme ? higher.filter((code) => who.institutes[code] === programme.institute) : null;
   return CHOICES[choice].does({ seat: seat.programme, last: isLast(), higher, same });
 }
@@ -230,12 +234,8 @@ async function showReceipts() {
 
 // ---- why not another programme
 
-/** Shows the choice list where the office gives it, and otherwise a field for it. */
 function showChoices() {
-  const known = me.choices;
-  $("known-choices").hidden = !known;
-  $("typed-choices").hidden = Boolean(known);
-  $("known-choices").textContent = known ? WHY.list(known) : "";
+  $("choices").textContent = WHY.list(me.choices);
   $("traits").hidden = Object.keys(me.institutes).length === 0;
 }
 
@@ -243,19 +243,18 @@ async function explainAll() {
   const who = me;
   clear($("whys"));
   if (who.state.published === 0) return say($("why-said"), "plain", WHY.tooEarly);
-  const typed = who.choices ? null : valueOf($("choices"), (it) => /[^\s,]/.test(it), "choices");
-  const codes = who.choices ?? typed?.split(/[\s,]+/).filter(Boolean);
-  if (codes) await explainSome(who, [...new Set(codes)], 0);
+  await explainSome(who, 0);
 }
 
-/** Explains the next few programmes of a list. Where the list is the office's own, it ends at the seat: all below it are worse. */
-async function explainSome(who, codes, from) {
+/** Explains the next few programmes of the choice list. It ends at the seat: all below it are worse. */
+async function explainSome(who, from) {
+  const codes = who.choices;
   const until = Math.min(codes.length, from + AT_ONCE);
-  const held = who.choices ? codes.indexOf(who.seat.programme) : -1;
+  const held = codes.indexOf(who.seat.programme);
   for (let at = from; at < until; at++) {
     say($("why-said"), "plain", WHY.asking(codes[at]));
     const box = el("section", { class: "box" }, el("h3", {}, WHY.heading(at + 1, codes[at])));
-    const parts = isCode(codes[at]) ? await asking(who, () => explained(who, codes[at])) : [WHY.badCode(codes[at])];
+    const parts = await asking(who, () => explained(who, codes[at]));
     if (who !== me || parts === null) return;
     box.append(...parts.map((it) => (typeof it === "string" ? el("p", {}, it) : it)));
     $("whys").append(box);
@@ -268,7 +267,7 @@ async function explainSome(who, codes, from) {
   if (until === codes.length) return;
   const more = button(WHY.next(Math.min(AT_ONCE, codes.length - until)), () => {
     more.remove();
-    return explainSome(who, codes, until);
+    return explainSome(who, until);
   });
   $("whys").append(more);
 }
