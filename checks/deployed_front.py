@@ -40,16 +40,20 @@ ASKED = [
     (200, "GET", "/v1/seat/2", CLERK, None),
     (200, "GET", "/v1/why/2/A", SECOND, None),
     (200, "GET", "/v1/list/1/A", None, None),
+    (200, "GET", "/v1/round/1", None, None),
+    (200, "GET", "/v1/choices/2", SECOND, None),
     (200, "GET", "/v1/state?x=1", None, None),
     (200, "POST", "/v1/answer", SECOND, ANSWER),
     (200, "POST", "/v1/answer?q=1", SECOND, ANSWER),
     (200, "POST", "/v1/raise", CLERK, body(window=1, programme="A", step="OPEN", seats=2)),
     (403, "GET", "/v1/seat/2", None, None),
     (403, "GET", "/v1/seat/2", THIRD, None),
+    (403, "GET", "/v1/choices/2", THIRD, None),
     (403, "POST", "/v1/answer", THIRD, ANSWER),
     (404, "GET", "/v1/seat/9", CLERK, None),
     (404, "GET", "/v1/why/2/C", SECOND, None),
     (404, "GET", "/v1/list/7/A", None, None),
+    (404, "GET", "/v1/round/7", None, None),
     (404, "GET", "/v1/nothing", None, None),
     (404, "GET", "/v1/%73tate", None, None),
     (404, "GET", "/v1/state/", None, None),
@@ -365,7 +369,7 @@ def over_kept(linked, host):
 
 @part("16 clients at once", ["nginx", "openssl"])
 def at_once(room, program):
-    """Each of them asks for the seats of a generated season."""
+    """Each of them asks for the seats of a generated season, and for its first round."""
     season = called([program, "generate", "160", "7", "text"]).partition(b"[requests]")[0]
     with fronted(room, program, season, workers=4) as (nginx, _):
         came = nginx.ask("POST", "/v1/cut", CLERK, CUT, source=CLERK_AT)
@@ -377,6 +381,7 @@ def at_once(room, program):
             return timed(lambda: nginx.ask("GET", f"/v1/seat/{cand}", f"g{cand:08}", source=source))
 
         sixteen(ask, "nginx")
+        sixteen(lambda source, _: timed(lambda: nginx.ask("GET", "/v1/round/1", source=source)), "nginx, the text of a round")
         sixteen(over_kept(nginx.connected, f"{HOST}:{nginx.port}"), "nginx, kept connections")
         tally.holds(longest(nginx, before) < SLOW, f"nginx: no request above {SLOW} s by its log", f"{longest(nginx, before)}")
 

@@ -12,8 +12,8 @@ PATH, FORMATS = "docs/openapi.json", "docs/FORMATS.md"
 SEASON = "examples/five-candidates/bundle.txt"
 EXAMPLES = "\n### Each route by an example\n"
 # what a schema may say here, besides words for people
-SAYS = {"$ref", "type", "const", "enum", "minimum", "maximum", "pattern", "properties", "required", "additionalProperties", "oneOf", "anyOf", "description", "examples"}
-KINDS = {"object": dict, "string": str, "integer": int, "null": type(None)}
+SAYS = {"$ref", "type", "const", "enum", "minimum", "maximum", "pattern", "properties", "required", "additionalProperties", "oneOf", "anyOf", "description", "examples", "items", "maxItems", "uniqueItems"}
+KINDS = {"object": dict, "array": list, "string": str, "integer": int, "null": type(None)}
 
 
 def text_of(path):
@@ -58,7 +58,17 @@ def why_not(schema, value):
         return f"{value} is out of its range"
     if isinstance(value, str) and not re.search(schema.get("pattern", ""), value):
         return f"{value!r:.80} is not spelled so"
+    if isinstance(value, list):
+        return why_no_items(schema, value)
     return why_no_members(schema, value) if isinstance(value, dict) else None
+
+
+def why_no_items(schema, value):
+    if len(value) > schema.get("maxItems", len(value)):
+        return f"{value!r:.80} has too many items"
+    if schema.get("uniqueItems") and len(value) > len(set(value)):
+        return f"{value!r:.80} has an item twice"
+    return next((why for it in value for why in [why_not(schema["items"], it)] if why), None)
 
 
 def why_no_members(schema, value):
@@ -74,7 +84,7 @@ def unknown_words(part):
     """The words of a schema, and of the schemas in it, that are not read here."""
     if not isinstance(part, dict):
         return set()
-    inner = [*part.get("properties", {}).values(), *part.get("oneOf", []), *part.get("anyOf", [])]
+    inner = [*part.get("properties", {}).values(), *part.get("oneOf", []), *part.get("anyOf", []), part.get("items")]
     return set(part) - SAYS | {word for it in inner for word in unknown_words(it)}
 
 

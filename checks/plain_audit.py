@@ -261,7 +261,7 @@ class Audited(Office):
     def reply_to_list(self, *_):
         pass
 
-    reply_to_why = reply_to_state = reply_to_seat = reply_to_list
+    reply_to_why = reply_to_round = reply_to_choices = reply_to_state = reply_to_seat = reply_to_list
 
 
 def broken_in(office, found):

@@ -30,7 +30,7 @@ class Dossier:
         self.office = office
         self.rounds = [(dict(it.seats), {code: [*lists] for code, lists in it.lists.items()}) for it in office.rounds]
         self.texts = [self.round_lines(at, *it) for at, it in enumerate(self.rounds)]
-        self.last = office.final_text().split("\n")[1:-1] if office.cuts > self.season.rounds else []
+        self.last = office.published_text(self.season.rounds + 1).split("\n")[:-1] if office.cuts > self.season.rounds else []
 
     def round_lines(self, at, seats, lists):
         rows = [f"allot {cand} {code} {step}" for cand, (code, step) in sorted(seats.items())]

@@ -73,17 +73,21 @@ def message(method, path, token, body, fields=()):
 # ---- replies
 
 
-def replied(text):
-    """The status and the body of what the plain office replies."""
+def replied(row, text):
+    """The status and the body of what the plain office replies to a row."""
+    asks, _, *fields = row.split(",")
     word, *rest = text.split("\n", 1)[0].split(" ")
     if word == "refused":
         return refused(*rest)
+    if asks == "round":
+        return 200, compact({"reply": asks, "round": int(fields[0]), "text": text}).encode()
     told = {
         "noted": lambda cand, _, window, __, turn, choice: {"cand": int(cand), "choice": choice, "turn": int(turn), "window": int(window)},
         "raised": lambda code, step, _, window, __, seats: {"programme": code, "seats": int(seats), "step": step, "window": int(window)},
         "published": lambda number, _, seated: {"round": int(number), "seated": int(seated)},
         "final": lambda _, admitted: {"admitted": int(admitted)},
         "seat": seat_told,
+        "choices": lambda cand, *codes: {"cand": int(cand), "programmes": codes},
         "why": lambda cand, code, *_: {"cand": int(cand), "programme": code, "text": text},
         "list": lambda number, code: {"programme": code, "round": int(number), "text": text},
         "state": lambda _, now, __, rounds, ___, published: {"now": int(now), "published": int(published), "rounds": int(rounds)},
@@ -121,4 +125,5 @@ class Served:
         self.office = Office(self.season)
 
     def reply(self, method, path, token, body):
-        return replied(self.office.reply(row_of(self.season, method, path, token, body)))
+        row = row_of(self.season, method, path, token, body)
+        return replied(row, self.office.reply(row))

@@ -281,30 +281,38 @@ class Office:
                 sought = {it.id: self.sought(it.id) for it in self.season.people}
                 self.rounds.append(Round(self.season, self.seats(), sought))
             self.cuts += 1
-        return self.round_text(window) if window < self.season.rounds else self.final_text()
+        text = self.published_text(window + 1)
+        count = text.split("\n", 1)[0].split(" ")[-1]
+        return f"published {window + 1} seated {count}\n{text}" if window < self.season.rounds else f"final admitted {count}\n{text}"
 
-    def round_text(self, window):
-        rows = [f"allot {cand} {code} {step}\n" for cand, (code, step) in sorted(self.rounds[window].seats.items())]
-        number, seated = window + 1, len(rows)
-        return f"published {number} seated {seated}\nround {number} seated {seated}\n{''.join(rows)}end round\n"
+    def published_text(self, number):
+        """What was published under a number: a round, or the final admissions under one more than the number of rounds."""
+        if number > self.season.rounds:
+            rows = [f"admit {cand} {code} {step}\n" for cand, code, step in self.admitted()]
+            return f"final {len(rows)}\n{''.join(rows)}end final\n"
+        rows = [f"allot {cand} {code} {step}\n" for cand, (code, step) in sorted(self.rounds[number - 1].seats.items())]
+        return f"round {number} seated {len(rows)}\n{''.join(rows)}end round\n"
 
     def admitted(self):
         """Those who kept a seat at the last cut."""
         found = [(it.id, self.last_seat(it.id)) for it in self.season.people if self.standing(it.id, self.season.rounds) in STAYS]
         return [(cand, *seat) for cand, seat in found if seat]
 
-    def final_text(self):
-        rows = [f"admit {cand} {code} {step}\n" for cand, code, step in self.admitted()]
-        return f"final admitted {len(rows)}\nfinal {len(rows)}\n{''.join(rows)}end final\n"
-
-    def reply_to_seat(self, by, cand):
+    def refused_own(self, by, cand):
+        """Why a question that only the candidate and the clerk may ask is refused, or None."""
         if not self.season.person(cand):
             return "refused 1 UnknownCandidate\n"
-        if by not in ("clerk", str(cand)):
-            return "refused 3 Denied rule 3\n"
+        return None if by in ("clerk", str(cand)) else "refused 3 Denied rule 3\n"
+
+    def reply_to_seat(self, by, cand):
+        if self.refused_own(by, cand):
+            return self.refused_own(by, cand)
         standing, held = self.standing(cand, self.cuts), self.last_seat(cand)
         what = " ".join(held) if held and standing in ("offered", *STAYS) else "none"
         return f"seat {cand} round {len(self.rounds)} {standing} {what}\n"
+
+    def reply_to_choices(self, by, cand):
+        return self.refused_own(by, cand) or " ".join(["choices", str(cand), *self.season.choices.get(cand, [])]) + "\n"
 
     def reply_to_why(self, by, cand, code):
         person, own = self.season.person(cand), self.season.choices.get(cand, [])
@@ -344,6 +352,9 @@ class Office:
         for it in self.rounds[number - 1].lists[code]:
             text += step_lines(f"{it.step} ", it.seats, it.candidates, [person.id for person in it.admitted], it.letters)
         return text + "end list\n"
+
+    def reply_to_round(self, _, number):
+        return self.published_text(number) if 1 <= number <= self.cuts else f"refused 14 NoSuchRound published {len(self.rounds)}\n"
 
     def reply_to_state(self, _):
         return f"state window {self.cuts} rounds {self.season.rounds} published {len(self.rounds)}\n"

@@ -11,8 +11,10 @@ answer,2,2,1,1,slide,,
 
 ,,
 seat,clerk,2
+choices,4,4
 why,3,3,A
 list,nobody,1,B
+round,5,1
 raise,clerk,1,B,OBC-NCL,2
 answer,4,4,1,1,withdraw
 answer,5,5,1,1,float
@@ -68,8 +70,10 @@ FIELDS = {
     "answer": (is_candidate, is_short, is_turn, lambda text: text in CHOICES),
     "cut": (is_short,),
     "seat": (is_candidate,),
+    "choices": (is_candidate,),
     "why": (is_candidate, is_code),
     "list": (is_short, is_code),
+    "round": (is_short,),
     "state": (),
     "raise": (is_short, is_code, is_step, is_raised),
 }

@@ -150,7 +150,8 @@ def office_after(text):
 
 
 def drawn_season(draw, in_order):
-    """A bundle with a script to its end: two programmes, in which categories leave seats, with protections, and maybe a raise."""
+    """A bundle with a script to its end: two programmes, in which categories leave seats, with protections, and maybe a raise. In each window somebody asks for
+    what the next cut publishes, before it and after it, and for a choice list."""
     rounds, people = draw.below(2) + 1, 7
     text = f"office bundle {draw.below(2) + 1}\n[season]\nrounds,{rounds}\nclerk,clerk0001\n[register]\nid,category,traits,token,m1,m2,m3,m4\n"
     merit = [in_order(tuple(range(1, people + 1)), draw.below(5040)) for _ in range(2)]
@@ -173,7 +174,8 @@ def drawn_season(draw, in_order):
             choice = draw.of(10, (5, "float"), (7, "freeze"), (8, "withdraw"), (10, None))
             text += f"answer,{cand},{cand},{window},1,{choice}\n" if choice and window else ""
         text += f"raise,clerk,{window},A,{draw.of(3, (1, 'OPEN'), (2, 'OBC'), (3, 'EWS'))},{draw.below(3) + 1}\n" if draw.below(3) == 0 else ""
-        text += f"cut,clerk,{window}\n"
+        question = f"round,nobody,{window + 1}\n"
+        text += f"{question}cut,clerk,{window}\nchoices,{window + 1},{window + 1}\n{question}"
     return text
 
 

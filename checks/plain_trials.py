@@ -61,16 +61,19 @@ class Draw:
         """A request to an office that is as far as this one, as a row of a script."""
         window, cand = self.near(office.cuts), self.candidate()
         code = self.of(16, (1, "Z"), (6, "A"), (11, "B"), (16, "C"))
-        kind = self.of(20, (2, "cut"), (3, "seat"), (5, "why"), (6, "list"), (7, "state"), (9, "raise"), (20, "answer"))
+        kinds = ((2, "cut"), (3, "seat"), (4, "choices"), (6, "why"), (7, "list"), (8, "round"), (9, "state"), (11, "raise"), (22, "answer"))
+        kind = self.of(22, *kinds)
         usual, fields = str(cand), []
         if kind == "cut":
             usual, fields = "clerk", [window]
-        elif kind == "seat":
+        elif kind in ("seat", "choices"):
             fields = [cand]
         elif kind == "why":
             fields = [cand, code]
         elif kind == "list":
             usual, fields = "nobody", [window, code]
+        elif kind == "round":
+            usual, fields = "nobody", [window]
         elif kind == "state":
             usual = "nobody"
         elif kind == "raise":
@@ -103,9 +106,9 @@ def drawn_script(season, draw, count):
     return rows, replies, office
 
 
-# What each reply begins with that comes on drawn scripts.
-REPLIES = [f"{it} " for it in ("noted", "raised", "published", "final", "seat", "why", "list", "state")]
-REPLIES += [f"refused {it} " for it in (1, 2, 3, 5, 6, 7, 8, 9, 10, 11, 13, 14, 15, 17)]
+# What each reply begins with that comes on drawn scripts. The final admissions begin otherwise where they are asked for than where a cut makes them.
+REPLIES = ["noted", "raised", "published", "final admitted", "seat", "choices", "why", "list", "round", "final", "state"]
+REPLIES += [f"refused {it}" for it in (1, 2, 3, 5, 6, 7, 8, 9, 10, 11, 13, 14, 15, 17)]
 
 
 @functools.lru_cache(maxsize=None)
@@ -143,7 +146,8 @@ def fault_of_script(program, label, text, rows, replies, kept):
 
 
 def lacking(scripts):
-    begun = {f"{words[0]} {words[1]} " if words[0] == "refused" else f"{words[0]} " for *_, replies, _ in scripts for it in replies for words in [it.split()]}
+    words_of = [it.split() for *_, replies, _ in scripts for it in replies]
+    begun = {" ".join(it[: 2 if it[0] == "refused" or it[1] == "admitted" else 1]) for it in words_of}
     lost = [it for it in REPLIES if it not in begun]
     return f"drawn scripts: no reply begins so: {', '.join(lost)}" if lost else None
 

@@ -217,7 +217,7 @@ class Script:
         self.office = Office(self.season)
         self.asks = [asked(self.season, it) for it in rows]
         self.messages = [message(*it) for it in self.asks]
-        self.replies = [replied(self.office.reply(it)) for it in rows]
+        self.replies = [replied(it, self.office.reply(it)) for it in rows]
 
     def told(self, first=0, last=None):
         """The bytes of the replies of one connection."""
@@ -276,7 +276,13 @@ LEAVE = b'{"cand":2,"window":0,"turn":1,"choice":"withdraw"}'
 STATE = reply_bytes(200, b'{"now":0,"published":0,"reply":"state","rounds":2}')
 STATE_CLOSED = reply_bytes(200, b'{"now":0,"published":0,"reply":"state","rounds":2}', closes=True)
 LEFT = reply_bytes(200, b'{"cand":2,"choice":"withdraw","reply":"noted","turn":1,"window":0}')
+CUTS = [
+    reply_bytes(200, b'{"reply":"published","round":1,"seated":4}'),
+    reply_bytes(200, b'{"reply":"published","round":2,"seated":1}'),
+    reply_bytes(200, b'{"admitted":0,"reply":"final"}'),
+]
 DENIED = reply_bytes(403, b'{"name":"Denied","refused":3,"reply":"refused","rule":1}')
+NOT_ASKED = reply_bytes(403, b'{"name":"Denied","refused":3,"reply":"refused","rule":3}')
 BAD, NONE, BAD_CLOSED = reply_bytes(400), reply_bytes(404), reply_bytes(400, closes=True)
 
 
@@ -287,6 +293,26 @@ def length(count):
 def as_answer(body):
     return post("answer", body, SECOND, length(len(body)))
 
+
+def as_cut(window):
+    return post("cut", b'{"window":%d}' % window, CLERK, length(12))
+
+
+def as_round(number, *lines):
+    return reply_bytes(200, b'{"reply":"round","round":%d,"text":"%s"}' % (number, "".join(f"{it}\\n" for it in lines).encode()))
+
+
+def as_choices(cand, *codes):
+    return reply_bytes(200, b'{"cand":%d,"programmes":[%s],"reply":"choices"}' % (cand, ",".join(f'"{it}"' for it in codes).encode()))
+
+
+def not_published(count):
+    return reply_bytes(404, b'{"name":"NoSuchRound","published":%d,"refused":14,"reply":"refused"}' % count)
+
+
+FIRST = as_round(1, "round 1 seated 4", "allot 1 A OPEN", "allot 2 B OPEN", "allot 3 C OPEN", "allot 4 E OPEN", "end round")
+NO_PAGES = ("nothing", "state/", "seat/0", "seat/01", "seat/+1", "seat/1000000000", "why/1", "list/65536/A", "list/1/A.B")
+NO_PAGES += ("round", "round/", "round/01", "round/65536", "round/1/A", "rounds/1", "choices/0", "choices/02", "choices/1000000000", "choices/2/A")
 
 # what is sent over one connection to the season of five candidates, and what comes back
 EXCHANGES = {
@@ -322,14 +348,23 @@ EXCHANGES = {
     ),
     "a body of a page that is read": (get(length(3)) + b"abc" + get(), STATE * 2),
     "a long body of a page that is read": (get(length(4097)) + get(), reply_bytes(413, closes=True)),
-    "no page": (
-        b"".join(get(target=f"/v1/{it}") for it in ("nothing", "state/", "seat/0", "seat/01", "seat/+1", "seat/1000000000", "why/1", "list/65536/A", "list/1/A.B")),
-        NONE * 9,
-    ),
+    "no page": (b"".join(get(target=f"/v1/{it}") for it in NO_PAGES), NONE * len(NO_PAGES)),
     "no page, nor a path": (get(target="http://127.0.0.1/v1/state") + get(target="/v1/%73tate") + get(target="*"), NONE * 3),
     "another method": (
-        get(target="/v1/cut") + post("state", b"", length(0)) + get().replace(b"GET", b"HEAD") + get().replace(b"GET", b"get"),
-        reply_bytes(405, allow="POST") + reply_bytes(405, allow="GET") * 3,
+        get(target="/v1/cut") + b"".join(post(it, b"{}", length(2)) for it in ("state", "round/1", "choices/2")) + get().replace(b"GET", b"HEAD") + get().replace(b"GET", b"get"),
+        reply_bytes(405, allow="POST") + reply_bytes(405, allow="GET") * 5,
+    ),
+    "rounds before the first cut and after it": (
+        get(target="/v1/round/0") + get(target="/v1/round/1") + as_cut(0) + get(target="/v1/round/1") + get(SECOND, target="/v1/round/1?x=2") + get(target="/v1/round/2"),
+        not_published(0) * 2 + CUTS[0] + FIRST * 2 + not_published(1),
+    ),
+    "rounds and the final admissions after the last cut": (
+        b"".join(map(as_cut, range(3))) + b"".join(get(target=f"/v1/round/{it}") for it in (1, 2, 3, 4, 65535)),
+        b"".join(CUTS) + FIRST + as_round(2, "round 2 seated 1", "allot 5 E OPEN", "end round") + as_round(3, "final 0", "end final") + not_published(2) * 2,
+    ),
+    "choice lists, by the candidate, the clerk, another one and nobody": (
+        get(SECOND, target="/v1/choices/2") + get(CLERK, target="/v1/choices/3") + get(SECOND, target="/v1/choices/3") + get(target="/v1/choices/2") + get(CLERK, target="/v1/choices/9"),
+        as_choices(2, "A", "B") + as_choices(3, "B", "C") + NOT_ASKED * 2 + reply_bytes(404, b'{"name":"UnknownCandidate","refused":1,"reply":"refused"}'),
     ),
     "another method, and the end": (get("Connection: close", target="/v1/cut"), reply_bytes(405, allow="POST", closes=True)),
     "bodies that are not what the page needs": (
@@ -359,7 +394,8 @@ def exchanges(room, program, bundle, cuts):
         with Server(program, room, label, 1, bundle=bundle) as server:
             same(label, server.talk([given[at : at + (cuts or len(given))] for at in range(0, len(given), cuts or len(given) or 1)]), told)
             wrote, _, status = server.ended()
-            want(status == 0 and wrote.endswith(f"entries {1 if LEFT in told else 0}\n"), label, f"it ended with status {status} and wrote {wrote!r}")
+            entries = sum(it in told for it in (LEFT, *CUTS))
+            want(status == 0 and wrote.endswith(f"entries {entries}\n"), label, f"it ended with status {status} and wrote {wrote!r}")
 
 
 @trial
@@ -447,13 +483,14 @@ class Crowd:
         turn = max((int(it[4]) for it in own), default=0) + 1
         answer = f"answer,{cand},{cand},{client.now},{turn},{draw.choice(('float', 'float', 'slide', 'freeze', 'withdraw') if draw.random() < 0.2 else ('float', 'slide'))}"
         code = draw.choice(sorted(self.season.programmes))
-        return draw.choice([answer, answer, f"seat,{cand},{cand}", f"why,{cand},{cand},{code}", "state,nobody"])
+        return draw.choice([answer, answer, f"seat,{cand},{cand}", f"choices,{cand},{cand}", f"why,{cand},{cand},{code}", "state,nobody"])
 
     def of_anybody(self, client):
         if not self.goes_on(client):
             return None
         code = client.draw.choice(sorted(self.season.programmes))
-        return client.draw.choice(["state,nobody", f"list,nobody,{client.draw.randint(0, self.season.rounds + 1)},{code}"])
+        number = client.draw.randint(0, self.season.rounds + 2)
+        return client.draw.choice(["state,nobody", f"round,nobody,{number}", f"list,nobody,{number},{code}"])
 
     def rows_of_clerk(self):
         """All cuts, with raises and repeated cuts between them, each window open until the others asked some more."""
@@ -521,7 +558,7 @@ class History:
         for row, reply in came:
             for at in range(cuts, len(self.offices)):
                 text, after = self.replies(row, at, own if at == cuts else [])
-                if replied(text) == reply:
+                if replied(row, text) == reply:
                     own = (own if after == cuts else []) + ([row] if row.split(",")[0] in ("answer", "raise") and reply[0] == 200 else [])
                     cuts = after
                     break
@@ -584,7 +621,7 @@ def killed(room, program, script, at, delay):
     for row in script.rows[: at + 1]:
         office.reply(row)
     done = [it for it in range(at) if script.replies[it][0] == 200]
-    told = [script.replies[at], *(replied(forked(office).reply(script.rows[it])) for it in done)]
+    told = [script.replies[at], *(replied(script.rows[it], forked(office).reply(script.rows[it])) for it in done)]
     with Server(program, room, label, 2, start="kept", store="season.db") as server:
         given = b"".join(script.messages[it] for it in (at, *done))
         same(f"{label}, and asked again", server.talk([given]), b"".join(reply_bytes(*it) for it in told))

@@ -232,6 +232,8 @@ pub enum Ask<'a> {
     Seat { cand: u32 },
     Why { cand: u32, prog: &'a str },
     List { round: u16, prog: &'a str },
+    Round { round: u16 },
+    Choices { cand: u32 },
     State,
 }
 
@@ -276,6 +278,8 @@ fn ask<'a>(row: &[&'a str]) -> Option<Ask<'a>> {
         ["seat", _, id] => Some(Ask::Seat { cand: number(id, 1, 999_999_999)? }),
         ["why", _, id, prog] => Some(Ask::Why { cand: number(id, 1, 999_999_999)?, prog: code(prog)? }),
         ["list", _, at, prog] => Some(Ask::List { round: window(at)?, prog: code(prog)? }),
+        ["round", _, at] => Some(Ask::Round { round: window(at)? }),
+        ["choices", _, id] => Some(Ask::Choices { cand: number(id, 1, 999_999_999)? }),
         ["state", _] => Some(Ask::State),
         ["raise", _, at, prog, kind, seats] => Some(Ask::Raise {
             window: window(at)?,
