@@ -109,53 +109,19 @@ impl Tally {
 fn is_answer(request: &Request) -> bool
     ensures { result ≡ is_answer request.now.ask }
 {
-    match request.ask {
-        Ask::Answer { .. } => true,
-        Ask::Cut { .. }
-        | Ask::Seat { .. }
-        | Ask::Why { .. }
-        | Ask::List { .. }
-        | Ask::Round { .. }
-        | Ask::Choices { .. }
-        | Ask::State
-        | Ask::Raise { .. } => false,
-    }
+    matches!(request.ask, Ask::Answer { .. })
 }
 
 /// Returns whether a reply is the receipt of an answer.
 fn is_receipt(reply: &Reply) -> bool
     ensures { result ≡ is_receipt reply.now }
 {
-    match reply {
-        Reply::Noted { .. } => true,
-        Reply::Raised { .. }
-        | Reply::Published { .. }
-        | Reply::Final { .. }
-        | Reply::SeatIs { .. }
-        | Reply::WhyIs { .. }
-        | Reply::ListIs { .. }
-        | Reply::RoundIs { .. }
-        | Reply::ChoicesAre { .. }
-        | Reply::StateIs { .. }
-        | Reply::Refused(_) => false,
-    }
+    matches!(reply, Reply::Noted { .. })
 }
 
 /// Returns whether a reply is a refusal.
 fn is_refusal(reply: &Reply) -> bool
     ensures { result ≡ is_refusal reply.now }
 {
-    match reply {
-        Reply::Refused(_) => true,
-        Reply::Noted { .. }
-        | Reply::Raised { .. }
-        | Reply::Published { .. }
-        | Reply::Final { .. }
-        | Reply::SeatIs { .. }
-        | Reply::WhyIs { .. }
-        | Reply::ListIs { .. }
-        | Reply::RoundIs { .. }
-        | Reply::ChoicesAre { .. }
-        | Reply::StateIs { .. } => false,
-    }
+    matches!(reply, Reply::Refused(_))
 }
