@@ -1,21 +1,23 @@
 -- What requests may do, and what holds at a cut.
-use Rattle.std.proofs.Common.{◌≡◌, ◌<◌, ◌⊎◌, inl, inr, true, List, Option, Some, None, length, ℕ, arith, sym, ap, ◌∙◌, subst}
+use Rattle.std.proofs.Common.{◌≡◌, ◌<◌, true, List, Option, Some, None, length, ℕ, arith, refl, sym, ap, ◌∙◌, subst}
 use Rattle.std.specs.Prelude.{IfOk, Result, is_some, slice_get}
 use Rattle.std.proofs.lemmas.Result.{IfOk-weaker}
 use Rattle.office_base.specs.declared.asks.Ask.{Ask}
-use Rattle.office_base.specs.declared.asks.Ask.TheVariants.{Seat as AskSeat, Why, List as AskList, Round as AskRound, Choices as AskChoices, State as AskState}
+use Rattle.office_base.specs.declared.asks.Ask.TheVariants.{Answer, Cut, Raise}
+use Rattle.office_base.specs.declared.asks.Choice.{Choice}
 use Rattle.office_base.specs.declared.asks.Request.{Request}
 use Rattle.office_base.specs.declared.asks.Seat.{Seat}
 use Rattle.office_base.specs.declared.person.CandId.{CandId}
+use Rattle.office_base.specs.declared.step.StepKind.{StepKind}
 use Rattle.keeper_mem.specs.declared.rows.AllotRow.{AllotRow}
-use Rattle.office_moves.specs.Decided.{decided, is_question}
+use Rattle.office_moves.specs.Decided.{decided, decided_by}
 use Rattle.office_moves.specs.Facts.{SeasonFacts}
 use Rattle.office_moves.specs.History.{newly}
 use Rattle.office_moves.specs.State.{State}
 use Rattle.office_moves.specs.declared.decide.Decision.{Decision}
 use Rattle.office_moves.specs.declared.decide.Decision.TheVariants.{Publish}
 use Rattle.seat_matrix.specs.Matrix.{SeatTable}
-use Rattle.office_moves.proofs.Decisions.{question_old}
+use Rattle.office_moves.proofs.Decisions.{by_kind, question_old}
 use Rattle.audit_rules.specs.Papers.{Papers, lists_after, rows_after, seats_told}
 use Rattle.cut_checks.specs.AtCut.{IsAtCut, Setting}
 use Rattle.cut_checks.specs.Comes.{AreLists, CutComesTo, told_by}
@@ -27,21 +29,13 @@ use Rattle.season_audit.specs.declared.auditor.Auditor.{Auditor}
 
 -- ---- the outcome of an ask
 
--- the ask is a question
-abbrev pub IsQuestion : Ask → Type 0
-IsQuestion ask = ((cand : CandId) × (ask ≡ AskSeat cand)) ⊎ (((cand : CandId) × (code : List ℕ) × (ask ≡ Why cand code)) ⊎ (((round : ℕ) × (code : List ℕ) × (ask ≡ AskList round code))
-    ⊎ (((round : ℕ) × (ask ≡ AskRound round)) ⊎ (((cand : CandId) × (ask ≡ AskChoices cand)) ⊎ (ask ≡ AskState)))))
-
-is_one : (ask : Ask) → IsQuestion ask → is_question ask ≡ true
-is_one ask (inl e) = ap is_question e.1
-is_one ask (inr (inl e)) = ap is_question e.2
-is_one ask (inr (inr (inl e))) = ap is_question e.2
-is_one ask (inr (inr (inr (inl e)))) = ap is_question e.1
-is_one ask (inr (inr (inr (inr (inl e))))) = ap is_question e.1
-is_one ask (inr (inr (inr (inr (inr e))))) = ap is_question e
-
-pub question_quiet : (facts : SeasonFacts) (request : Request) → IsQuestion request.ask → (state : State) → newly state.now (decided facts state request) ≡ None
-question_quiet facts request is state = question_old facts state state.now request.by request.ask (is_one request.ask is)
+-- an ask that is no answer, no cut and no raise accepts nothing new
+pub others_quiet : (facts : SeasonFacts) (request : Request) → ((cand : CandId) (window turn : ℕ) (choice : Choice) → request.ask ≡ Answer cand window turn choice → ⊥)
+    → ((window : ℕ) → request.ask ≡ Cut window → ⊥) → ((window : ℕ) (code : List ℕ) (step : StepKind) (seats : ℕ) → request.ask ≡ Raise window code step seats → ⊥) → (state : State)
+    → newly state.now (decided facts state request) ≡ None
+others_quiet facts request answers cuts raises state =
+    by_kind (λ (ask : Ask). request.ask ≡ ask → newly state.now (decided_by facts state request.by ask) ≡ None) (λ cand window turn choice e. absurd (answers cand window turn choice e))
+    (λ window e. absurd (cuts window e)) (λ window code step seats e. absurd (raises window code step seats e)) (λ ask is e. question_old facts state state.now request.by ask is) request.ask refl
 
 -- ---- the outcome of a request
 

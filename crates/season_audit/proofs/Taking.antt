@@ -7,7 +7,7 @@ use Rattle.std.proofs.lemmas.Bool.Decides.{nat_tests}
 use Rattle.std.proofs.lemmas.List.{length-map}
 use Rattle.std.proofs.lemmas.Option.{same_Some, slice_get-get_or, slice_get-map, slice_get_within}
 use Rattle.office_base.specs.declared.asks.Ask.{Ask}
-use Rattle.office_base.specs.declared.asks.Ask.TheVariants.{Answer, Cut, Seat as AskSeat, Why, List as AskList, Round as AskRound, Choices as AskChoices, State as AskState, Raise}
+use Rattle.office_base.specs.declared.asks.Ask.TheVariants.{Answer, Cut}
 use Rattle.office_base.specs.declared.asks.By.{By}
 use Rattle.office_base.specs.declared.asks.By.TheVariants.{Clerk, Candidate, Nobody}
 use Rattle.office_base.specs.declared.asks.Request.{Request}
@@ -26,7 +26,7 @@ use Rattle.office_moves.specs.Judge.{is_clerk, refuse_if}
 use Rattle.office_moves.specs.Raised.{matrix_at}
 use Rattle.office_moves.specs.State.{State, opening, view_of, with_raise, with_round, with_row}
 use Rattle.office_moves.specs.declared.decide.Decision.{Decision}
-use Rattle.office_moves.specs.declared.decide.Decision.TheVariants.{Refuse, NotedAgain, RaisedAgain, CutAgain, Note, Lift, Publish, Finish, Tell}
+use Rattle.office_moves.specs.declared.decide.Decision.TheVariants.{CutAgain, Note, Lift, Publish, Finish}
 use Rattle.office_moves.specs.declared.decide.RaiseLooks.{RaiseLooks}
 use Rattle.office_moves.specs.declared.moves.Act.{Act}
 use Rattle.office_moves.specs.declared.moves.Act.TheVariants.{Raise as ARaise}
@@ -78,15 +78,9 @@ begun facts auditor sound window raises matrix all = record {
 -- ---- what changes nothing
 
 quiet_holds : (facts : SeasonFacts) (papers : Papers) (state : State) (decision : Decision) → newly state.now decision ≡ None → HoldsAt facts papers state decision
-quiet_holds facts papers state (Refuse refusal) e = tt
-quiet_holds facts papers state (NotedAgain row) e = tt
-quiet_holds facts papers state (RaisedAgain row) e = tt
-quiet_holds facts papers state (CutAgain window) e = tt
-quiet_holds facts papers state (Note row) e = tt
-quiet_holds facts papers state (Lift row) e = tt
 quiet_holds facts papers state Publish e = absurd (cc)
 quiet_holds facts papers state Finish e = absurd (cc)
-quiet_holds facts papers state (Tell question) e = tt
+quiet_holds facts papers state _ e = tt
 
 pub quiet : (facts : SeasonFacts) (papers : Papers) (state : State) (decision : Decision) (auditor : Auditor) → newly state.now decision ≡ None → IsUpTo facts state auditor
     → Passes facts papers state decision auditor
@@ -262,9 +256,7 @@ not_cut facts state by window other = go (newly state.now (cut_by facts state by
 cut_chain : (clerk early ahead last : Bool) (now window : ℕ) → clerk ≡ true → early ≡ false → ahead ≡ false
     → refuse_if (not clerk) (Denied 2) (if early then CutAgain window else refuse_if ahead (Ahead now) (if last then Finish else Publish)) ≡ (if last then Finish else Publish)
 cut_chain true false false last now window a b c = refl
-cut_chain false early ahead last now window a b c = absurd (cc)
-cut_chain true true ahead last now window a b c = absurd (cc)
-cut_chain true false true last now window a b c = absurd (cc)
+cut_chain _ _ _ last now window a b c = absurd (cc)
 
 not_below : (m n : ℕ) → n ≤ m → nat_lt m n ≡ false
 not_below m n less = grind (arith, nat_tests)
@@ -357,32 +349,9 @@ counts_are rounds now (request ∷ script) = by_ask (λ k. counts_are rounds k s
     by_ask : ((k : ℕ) → cuts_of rounds k script ≡ k + cuts_in rounds k script) → (by : By) (ask : Ask)
         → cuts_of rounds now (record { by = by; ask = ask } ∷ script) ≡ now + cuts_in rounds now (record { by = by; ask = ask } ∷ script)
     by_ask rest Clerk (Cut window) = both rest (window == now && nat_le now rounds)
-    by_ask rest Clerk (Answer cand window turn choice) = rest now
-    by_ask rest Clerk (AskSeat cand) = rest now
-    by_ask rest Clerk (Why cand code) = rest now
-    by_ask rest Clerk (AskList round code) = rest now
-    by_ask rest Clerk (AskRound round) = rest now
-    by_ask rest Clerk (AskChoices cand) = rest now
-    by_ask rest Clerk AskState = rest now
-    by_ask rest Clerk (Raise window code step seats) = rest now
     by_ask rest (Candidate id) (Cut window) = rest now
-    by_ask rest (Candidate id) (Answer cand window turn choice) = rest now
-    by_ask rest (Candidate id) (AskSeat cand) = rest now
-    by_ask rest (Candidate id) (Why cand code) = rest now
-    by_ask rest (Candidate id) (AskList round code) = rest now
-    by_ask rest (Candidate id) (AskRound round) = rest now
-    by_ask rest (Candidate id) (AskChoices cand) = rest now
-    by_ask rest (Candidate id) AskState = rest now
-    by_ask rest (Candidate id) (Raise window code step seats) = rest now
     by_ask rest Nobody (Cut window) = rest now
-    by_ask rest Nobody (Answer cand window turn choice) = rest now
-    by_ask rest Nobody (AskSeat cand) = rest now
-    by_ask rest Nobody (Why cand code) = rest now
-    by_ask rest Nobody (AskList round code) = rest now
-    by_ask rest Nobody (AskRound round) = rest now
-    by_ask rest Nobody (AskChoices cand) = rest now
-    by_ask rest Nobody AskState = rest now
-    by_ask rest Nobody (Raise window code step seats) = rest now
+    by_ask rest _ _ = rest now
 
 pub is_whole : (facts : SeasonFacts) (script : List Request) (rounds : List RoundRead) (lists : List ListRead) (last : Option (List AllotRow))
     → length rounds ≡ min facts.rounds (cuts_in facts.rounds 0 script) → length lists ≡ length rounds * length facts.matrix.programmes
@@ -395,8 +364,3 @@ is_whole facts script rounds lists last some all =
       rounds = a ∙ (some ∙ ap (min facts.rounds) (let e : cuts_in facts.rounds 0 script ≡ cuts_of facts.rounds 0 script = omega (arith, c) in e));
       lists = b ∙ (all ∙ ap (λ (n : ℕ). n * length facts.matrix.programmes) (sym a));
     }
-
--- no fault
-pub is_none_here : (fault : Option Fault) → is_some fault ≡ false → fault ≡ None
-is_none_here None e = refl
-is_none_here (Some fault) e = absurd (cc)

@@ -11,10 +11,8 @@ use Rattle.season_audit.specs.declared.auditor.Deed.TheVariants.{Answer, Cut, Ra
 
 -- a raise is of a programme of the matrix
 abbrev pub IsOfMatrix : SeasonFacts → Deed → Type 0
-IsOfMatrix facts (Answer row) = Unit {0}
-IsOfMatrix facts (Cut window) = Unit {0}
 IsOfMatrix facts (Raise row) = row.prog.0 < length facts.matrix.programmes
-IsOfMatrix facts Nothing = Unit {0}
+IsOfMatrix facts _ = Unit {0}
 
 -- in every state the request comes to what the deed comes to; where it does nothing, nothing is newly accepted
 abbrev pub Does : SeasonFacts → Request → By → Deed → Type 0

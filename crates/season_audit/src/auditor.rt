@@ -115,12 +115,7 @@ fn deed_of(season: &Season, request: &Request) -> Deed
             }),
             None => Deed::Nothing,
         },
-        Ask::Seat { .. }
-        | Ask::Why { .. }
-        | Ask::List { .. }
-        | Ask::Round { .. }
-        | Ask::Choices { .. }
-        | Ask::State => Deed::Nothing,
+        _ => Deed::Nothing,
     }
 }
 

@@ -1,10 +1,11 @@
 use Rattle.std.proofs.Common.{◌≡◌, Option, None, refl, subst, sym, ◌∙◌}
+use Rattle.office_base.proofs.Options.{none_from}
 use Rattle.office_moves.specs.Season.{facts_of}
 use Rattle.cut_checks.specs.Comes.{CutComesTo}
 use Rattle.cut_checks.specs.declared.fault.Fault.{Fault}
 use Rattle.season_audit.specs.Audit.{papers_in}
 use Rattle.season_audit.proofs.Requests.{are_lists, at_cut, fault_comes}
-use Rattle.season_audit.proofs.Taking.{is_none_here, is_published}
+use Rattle.season_audit.proofs.Taking.{is_published}
 use Rattle.season_audit.proofs.auditor.Auditor.publish.Goals as goal
 
 pub cut_fault-requires : goal.cut_fault-requires
@@ -26,6 +27,6 @@ stands_after-requires g c =
 pub returns : goal.returns
 returns g c =
     let facts = facts_of c.args.dossier.now.season in
-    let none : c.in_ok-fault.fault ≡ None = is_none_here c.in_ok-fault.fault (sym c.is_some.ensures ∙ c.if-is_some.false) in
+    let none : c.in_ok-fault.fault ≡ None = none_from c.in_ok-fault.fault (sym c.is_some.ensures ∙ c.if-is_some.false) in
     is_published facts g.at.papers g.at.state c.args.self.now _ c.requires.1.0 c.requires.1.1 (subst (λ (f : Option Fault). CutComesTo facts g.at f) none c.in_ok-fault.ensures) refl refl
     c.in_ok-stands.ensures
