@@ -1,30 +1,28 @@
 -- A cut at which no clause is broken is fair, and nobody falls.
-use Rattle.std.proofs.Common.{◌≡◌, ◌≢◌, ◌<◌, ◌+◌, ◌*◌, ◌↔◌, ◌⊎◌, inl, inr, ℕ, zero, suc, true, List, [], ◌∷◌, Option, Some, None, length, map, take, drop, arith, refl, sym, ap, ◌∙◌, subst}
-use Rattle.std.specs.Prelude.{IsTrue, min, ◌&&◌, option_map, slice_get}
-use Rattle.std.proofs.lemmas.Bool.{cases_eq}
-use Rattle.std.proofs.lemmas.List.{length-map, length-take, length-drop}
+use Rattle.std.proofs.Common.{◌≡◌, ◌<◌, ◌↔◌, ℕ, true, List, [], Option, Some, None, length, arith, refl, sym, ap, ◌∙◌, subst}
+use Rattle.std.specs.Prelude.{IsTrue, option_map, slice_get}
+use Rattle.std.proofs.lemmas.List.{length-map}
 use Rattle.std.proofs.lemmas.Option.{same_Some, slice_get-map, slice_get_within}
-use Rattle.office_base.specs.Lists.{IsAmong, Pairwise}
-use Rattle.office_base.specs.declared.asks.Request.{Request}
+use Rattle.office_base.specs.Lists.{IsAmong}
 use Rattle.office_base.specs.declared.asks.Seat.{Seat}
 use Rattle.office_base.specs.declared.person.Person.{Person}
 use Rattle.office_base.specs.declared.person.ProgId.{ProgId}
 use Rattle.office_base.specs.declared.step.StepKind.{StepKind}
-use Rattle.office_base.specs.declared.step.StepKind.TheVariants.{Open, Ews, Obc, Sc, St, Dereserved}
+use Rattle.office_base.specs.declared.step.StepKind.TheVariants.{Open}
 use Rattle.office_base.proofs.Lists.{there_is}
 use Rattle.office_base.proofs.Options.{some_value}
 use Rattle.allocations.specs.Fair.{HasClaim, IsAllocation, IsFair, IsMarket, IsOwn}
-use Rattle.allocations.specs.Market.{Seeker, applicants, place_of, seat_at}
+use Rattle.allocations.specs.Market.{Seeker, place_of, seat_at}
 use Rattle.allocations.proofs.Claims.{applicants_may, fair_justified}
 use Rattle.allocations.proofs.Places.{place_read}
 use Rattle.choice_lists.specs.Choices.{list_of as choices_of}
 use Rattle.list_audit.specs.Clauses.{list_of, named_by}
 use Rattle.list_audit.specs.Laws.{SoundListsAreTheChoice}
 use Rattle.open_then_category.specs.Laws.{OneProgrammeChoice}
-use Rattle.programme_lists.specs.Chosen.{AdmitsUnder, AreApplicants, ChoosesFrom}
+use Rattle.programme_lists.specs.Chosen.{ChoosesFrom}
 use Rattle.programme_lists.specs.Programme.{Admissions, admitted_by}
 use Rattle.programme_lists.specs.declared.programme.Programme.{Programme}
-use Rattle.rounds.specs.Rule.{AreEntrants, MayApplyIn, ProgrammesChooseWell, rule_of}
+use Rattle.rounds.specs.Rule.{MayApplyIn, ProgrammesChooseWell, rule_of}
 use Rattle.rounds.proofs.Entrants.{entered, length_seekers, market}
 use Rattle.round_options.specs.Options.{holds, seek_after}
 use Rattle.seat_matrix.specs.Matrix.{seats_in}
@@ -34,11 +32,10 @@ use Rattle.office_moves.specs.Moves.{next_seek, next_seeks}
 use Rattle.office_moves.specs.Promise.{IsNoWorse}
 use Rattle.office_moves.specs.Raised.{matrix_at}
 use Rattle.office_moves.specs.State.{State, last_seat, seat_of, standing_at, view_of}
-use Rattle.office_moves.proofs.Narrows.{IsLeft, left_there}
 use Rattle.histories.proofs.Entering.{entrants, list_there, lists_full, own_there}
 use Rattle.histories.proofs.Fits.{seat_at_place, the_prog}
 use Rattle.histories.proofs.Falls.{left_kept}
-use Rattle.audit_rules.specs.Cut.{CutHolds, IsSoundList, applicants_at, is_named, lists_at, seat_given, seekers_at, sought_by}
+use Rattle.audit_rules.specs.Cut.{CutHolds, applicants_at, is_named, lists_at, seat_given, seekers_at, sought_by}
 use Rattle.audit_rules.specs.Fair.{IsFairCut}
 use Rattle.audit_rules.specs.InOrder.{IsInOrder}
 use Rattle.audit_rules.specs.Papers.{Papers, lists_after, rows_after, seat_told, seats_told}
@@ -142,11 +139,7 @@ named_of (Some programme) kind = (list_of programme kind).admitted
 
 same_named : (programme : Programme) (kind : StepKind) → admitted_by (named_by programme) kind ≡ (list_of programme kind).admitted
 same_named programme Open = refl
-same_named programme Ews = refl
-same_named programme Obc = refl
-same_named programme Sc = refl
-same_named programme St = refl
-same_named programme Dereserved = refl
+same_named programme _ = refl
 
 is_there : (facts : SeasonFacts) (papers : Papers) (state : State) (p : ℕ) → IsCut facts papers state → p < length facts.matrix.programmes → (programme : Programme) × (lists_at facts papers state p ≡ Some programme)
 is_there facts papers state p cut less =

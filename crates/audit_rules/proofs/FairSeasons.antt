@@ -6,13 +6,12 @@ use Rattle.std.proofs.lemmas.Bool.{cases_lt}
 use Rattle.std.proofs.lemmas.Bool.Decides.{nat_tests}
 use Rattle.std.proofs.lemmas.List.{length-drop, length-take, take-append-drop, take_all}
 use Rattle.office_base.specs.declared.asks.Ask.{Ask}
-use Rattle.office_base.specs.declared.asks.Ask.TheVariants.{Answer as AskAnswer, Cut as AskCut, Seat as AskSeat, Why, List as AskList, Round as AskRound, Choices as AskChoices, State as AskState, Raise as AskRaise}
+use Rattle.office_base.specs.declared.asks.Ask.TheVariants.{Cut as AskCut}
 use Rattle.office_base.specs.declared.asks.By.{By}
 use Rattle.office_base.specs.declared.asks.Request.{Request}
 use Rattle.office_base.proofs.Lists.{there_is}
 use Rattle.seat_matrix.specs.Laws.{OneStepChanges}
-use Rattle.office_moves.specs.Decided.{decided, decided_by, is_question}
-use Rattle.office_moves.proofs.Decisions.{by_kind, question_old}
+use Rattle.office_moves.specs.Decided.{decided}
 use Rattle.office_moves.specs.Facts.{IsSound, SeasonFacts}
 use Rattle.office_moves.specs.History.{newly}
 use Rattle.office_moves.specs.Judge.{is_clerk, refuse_if}
@@ -41,11 +40,8 @@ when_cut facts papers state clerk early ahead last window =
 
 cut_counts : (facts : SeasonFacts) (papers : Papers) (state : State) (clerk early ahead last : Bool) (window : ℕ)
     → when_cut facts papers state clerk early ahead last window ≡ (if clerk && (not early && not ahead) then state.now + 1 else state.now)
-cut_counts facts papers state false early ahead last window = refl
-cut_counts facts papers state true true ahead last window = refl
-cut_counts facts papers state true false true last window = refl
 cut_counts facts papers state true false false true window = refl
-cut_counts facts papers state true false false false window = refl
+cut_counts facts papers state _ _ _ _ window = refl
 
 same_cut : (now rounds window : ℕ) → (not (nat_lt window now) && not (nat_lt now window || nat_lt rounds window)) ≡ (window == now && nat_le now rounds)
 same_cut now rounds window = grind (arith, nat_tests)
@@ -68,28 +64,12 @@ not_cut facts papers state request other = go (newly state.now (decided facts st
     go None e = ap (λ (s : State). s.now) (nothing_new facts papers state (decided facts state request) e)
     go (Some act) e = accepted act (accepts facts state request.by request.ask act e)
 
--- a question cuts no window
-asks_cut_none : (rounds now : ℕ) (clerk : Bool) (ask : Ask) → is_question ask ≡ true → cut_by rounds now clerk ask ≡ now
-asks_cut_none rounds now clerk (AskAnswer cand window turn choice) is = absurd (cc)
-asks_cut_none rounds now clerk (AskCut window) is = absurd (cc)
-asks_cut_none rounds now clerk (AskRaise window code step seats) is = absurd (cc)
-asks_cut_none rounds now clerk (AskSeat cand) is = refl
-asks_cut_none rounds now clerk (Why cand code) is = refl
-asks_cut_none rounds now clerk (AskList round code) is = refl
-asks_cut_none rounds now clerk (AskRound round) is = refl
-asks_cut_none rounds now clerk (AskChoices cand) is = refl
-asks_cut_none rounds now clerk AskState is = refl
-
 step_counts : (facts : SeasonFacts) (papers : Papers) (state : State) (by : By) (ask : Ask)
     → (taken facts papers state (decided facts state (record { by = by; ask = ask }))).now ≡ cut_by facts.rounds state.now (is_clerk by) ask
-step_counts facts papers state by =
-    by_kind (λ a. (taken facts papers state (decided_by facts state by a)).now ≡ cut_by facts.rounds state.now (is_clerk by) a)
-    (λ cand window turn choice. not_cut facts papers state (record { by = by; ask = AskAnswer cand window turn choice }) (λ w e. absurd (cc)))
-    (λ window.
+step_counts facts papers state by (AskCut window) =
     cut_counts facts papers state (is_clerk by) (nat_lt window state.now) (nat_lt state.now window || nat_lt facts.rounds window) (window == facts.rounds) window
-    ∙ both_tests (is_clerk by) _ _ (state.now + 1) state.now (same_cut state.now facts.rounds window))
-    (λ window code step seats. not_cut facts papers state (record { by = by; ask = AskRaise window code step seats }) (λ w e. absurd (cc)))
-    (λ a is. ap (λ (s : State). s.now) (nothing_new facts papers state (decided_by facts state by a) (question_old facts state state.now by a is)) ∙ sym (asks_cut_none facts.rounds state.now (is_clerk by) a is))
+    ∙ both_tests (is_clerk by) _ _ (state.now + 1) state.now (same_cut state.now facts.rounds window)
+step_counts facts papers state by ask = not_cut facts papers state (record { by = by; ask = ask }) (λ window e. absurd (cc))
 
 pub replay_counts : (facts : SeasonFacts) (papers : Papers) (state : State) (script : List Request) → (replayed facts papers state script).now ≡ cuts_of facts.rounds state.now script
 replay_counts facts papers state [] = refl
@@ -102,13 +82,12 @@ cuts_append rounds now [] more = refl
 cuts_append rounds now (request ∷ some) more = cuts_append rounds (cut_by rounds now (is_clerk request.by) request.ask) some more
 
 step_grows : (rounds now : ℕ) (clerk : Bool) (ask : Ask) → now ≤ cut_by rounds now clerk ask
-step_grows rounds now clerk =
-    by_kind (λ a. now ≤ cut_by rounds now clerk a) (λ cand window turn choice. omega arith) (λ window. by (clerk && (window == now && nat_le now rounds))) (λ window code step seats. omega arith)
-    (λ a is. let e = asks_cut_none rounds now clerk a is in omega (arith, e))
+step_grows rounds now clerk (AskCut window) = by (clerk && (window == now && nat_le now rounds))
   where
     by : (b : Bool) → now ≤ (if b then now + 1 else now)
     by true = omega arith
     by false = omega arith
+step_grows rounds now clerk _ = omega arith
 
 cuts_grow : (rounds now : ℕ) (script : List Request) → now ≤ cuts_of rounds now script
 cuts_grow rounds now [] = omega arith

@@ -1,5 +1,5 @@
 -- The verdict is one.
-use Rattle.std.proofs.Common.{◌≡◌, ◌<◌, ◌+◌, ◌⊎◌, inl, inr, ℕ, List, Option, Some, None, arith, refl, sym, ap, ◌∙◌, subst}
+use Rattle.std.proofs.Common.{◌≡◌, ◌+◌, inl, inr, ℕ, List, Option, Some, None, refl, sym, ap, ◌∙◌, subst}
 use Rattle.std.specs.Prelude.{slice_get}
 use Rattle.std.proofs.lemmas.Bool.{cases_order}
 use Rattle.std.proofs.lemmas.Option.{same_Some, none-some}
@@ -16,15 +16,14 @@ use Rattle.office_moves.specs.Facts.{SeasonFacts}
 use Rattle.office_moves.specs.Raised.{matrix_at}
 use Rattle.office_moves.specs.State.{State}
 use Rattle.office_moves.specs.declared.decide.Decision.{Decision}
-use Rattle.office_moves.specs.declared.decide.Decision.TheVariants.{Refuse, NotedAgain, RaisedAgain, CutAgain, Note, Lift, Publish, Finish, Tell}
+use Rattle.office_moves.specs.declared.decide.Decision.TheVariants.{Publish, Finish}
 use Rattle.programme_lists.specs.declared.programme.Programme.{Programme}
 use Rattle.seat_matrix.specs.Matrix.{seats_in}
-use Rattle.audit_rules.specs.Cut.{Agree, BreaksAt, ComesTo, CutBreaks, CutHolds, Differ, EndBreaks, EndHolds, HasFallen, HasStayed, HoldsAt, IsFirstWithout, IsListed, IsSought, IsSoundList, IsUnsound, IsUnsought, OfEach, applicants_at, lists_at}
+use Rattle.audit_rules.specs.Cut.{Agree, BreaksAt, ComesTo, CutBreaks, CutHolds, Differ, EndBreaks, HasFallen, HasStayed, HoldsAt, IsFirstWithout, IsListed, IsSought, IsSoundList, IsUnsound, IsUnsought, OfEach, applicants_at, lists_at}
 use Rattle.audit_rules.specs.Laws.{OneVerdict}
 use Rattle.audit_rules.specs.Papers.{Papers}
 use Rattle.audit_rules.specs.Replay.{before}
-use Rattle.audit_rules.specs.Verdict.{HoldsThere, IsFirstBroken, IsVerdict}
-use Rattle.audit_rules.specs.declared.verdict.Verdict.{Verdict}
+use Rattle.audit_rules.specs.Verdict.{HoldsThere, IsFirstBroken}
 use Rattle.audit_rules.specs.declared.verdict.Verdict.TheVariants.{Sound, Broken}
 
 -- ---- the first of whom it does not hold
@@ -56,25 +55,14 @@ data Break (facts : SeasonFacts) (papers : Papers) (state : State) (clause : Cla
 told : (facts : SeasonFacts) (papers : Papers) (state : State) (clause : Clause) (prog : Option ProgId) (cand : Option CandId) → CutBreaks facts papers state clause prog cand
     → Break facts papers state clause prog cand
 told facts papers state NotSought (Some p) (Some c) breaks = AsUnsought p c refl refl refl breaks
-told facts papers state NotSought (Some p) None breaks = absurd breaks
-told facts papers state NotSought None cand breaks = absurd breaks
 told facts papers state Fell None (Some c) breaks = AsFallen c refl refl refl breaks
-told facts papers state Fell None None breaks = absurd breaks
-told facts papers state Fell (Some p) cand breaks = absurd breaks
 told facts papers state Unlisted (Some p) (Some c) breaks = AsDiffering p c refl refl refl breaks
-told facts papers state Unlisted (Some p) None breaks = absurd breaks
-told facts papers state Unlisted None cand breaks = absurd breaks
 told facts papers state WrongNumbers (Some p) cand breaks = AsUnsound p refl breaks
-told facts papers state WrongNumbers None cand breaks = absurd breaks
 told facts papers state NotCandidate (Some p) cand breaks = AsUnsound p refl breaks
-told facts papers state NotCandidate None cand breaks = absurd breaks
 told facts papers state WrongSize (Some p) cand breaks = AsUnsound p refl breaks
-told facts papers state WrongSize None cand breaks = absurd breaks
 told facts papers state BadCertificate (Some p) cand breaks = AsUnsound p refl breaks
-told facts papers state BadCertificate None cand breaks = absurd breaks
 told facts papers state Overtaken (Some p) cand breaks = AsUnsound p refl breaks
-told facts papers state Overtaken None cand breaks = absurd breaks
-told facts papers state FinalDiffers prog cand breaks = absurd breaks
+told facts papers state _ _ _ breaks = absurd breaks
 
 -- ---- a cut does not hold where a clause is broken
 
@@ -95,28 +83,13 @@ cut_apart one facts papers state clause prog cand holds (AsUnsound p by u) = not
 
 apart : OneListFault → (facts : SeasonFacts) (papers : Papers) (state : State) (decision : Decision) (clause : Clause) (prog : Option ProgId) (cand : Option CandId)
     → HoldsAt facts papers state decision → BreaksAt facts papers state decision clause prog cand → ⊥
-apart one facts papers state (Refuse refusal) clause prog cand holds breaks = breaks
-apart one facts papers state (NotedAgain row) clause prog cand holds breaks = breaks
-apart one facts papers state (RaisedAgain row) clause prog cand holds breaks = breaks
-apart one facts papers state (CutAgain window) clause prog cand holds breaks = breaks
-apart one facts papers state (Note row) clause prog cand holds breaks = breaks
-apart one facts papers state (Lift row) clause prog cand holds breaks = breaks
 apart one facts papers state Publish clause prog cand holds breaks = cut_apart one facts papers state clause prog cand holds (told facts papers state clause prog cand breaks)
 apart one facts papers state Finish clause prog cand holds breaks = end_apart clause prog cand breaks
   where
     end_apart : (clause : Clause) (prog : Option ProgId) (cand : Option CandId) → EndBreaks facts papers state clause prog cand → ⊥
     end_apart FinalDiffers None None breaks = breaks holds
-    end_apart FinalDiffers None (Some c) breaks = breaks
-    end_apart FinalDiffers (Some p) cand breaks = breaks
-    end_apart NotSought prog cand breaks = breaks
-    end_apart Fell prog cand breaks = breaks
-    end_apart Unlisted prog cand breaks = breaks
-    end_apart WrongNumbers prog cand breaks = breaks
-    end_apart NotCandidate prog cand breaks = breaks
-    end_apart WrongSize prog cand breaks = breaks
-    end_apart BadCertificate prog cand breaks = breaks
-    end_apart Overtaken prog cand breaks = breaks
-apart one facts papers state (Tell question) clause prog cand holds breaks = breaks
+    end_apart _ _ _ breaks = breaks
+apart one facts papers state _ clause prog cand holds breaks = breaks
 
 -- ---- what is broken first is one
 
@@ -211,32 +184,17 @@ record IsEnd (clause : Clause) (prog : Option ProgId) (cand : Option CandId) : T
 
 end_is : (facts : SeasonFacts) (papers : Papers) (state : State) (clause : Clause) (prog : Option ProgId) (cand : Option CandId) → EndBreaks facts papers state clause prog cand → IsEnd clause prog cand
 end_is facts papers state FinalDiffers None None breaks = record { is = refl; by = refl; of = refl }
-end_is facts papers state FinalDiffers None (Some c) breaks = absurd breaks
-end_is facts papers state FinalDiffers (Some p) cand breaks = absurd breaks
-end_is facts papers state NotSought prog cand breaks = absurd breaks
-end_is facts papers state Fell prog cand breaks = absurd breaks
-end_is facts papers state Unlisted prog cand breaks = absurd breaks
-end_is facts papers state WrongNumbers prog cand breaks = absurd breaks
-end_is facts papers state NotCandidate prog cand breaks = absurd breaks
-end_is facts papers state WrongSize prog cand breaks = absurd breaks
-end_is facts papers state BadCertificate prog cand breaks = absurd breaks
-end_is facts papers state Overtaken prog cand breaks = absurd breaks
+end_is facts papers state _ _ _ breaks = absurd breaks
 
 one_break : OneListFault → (facts : SeasonFacts) (papers : Papers) (state : State) (decision : Decision) (clause other : Clause) (prog prog' : Option ProgId) (cand cand' : Option CandId)
     → BreaksAt facts papers state decision clause prog cand → BreaksAt facts papers state decision other prog' cand' → Same clause other prog prog' cand cand'
-one_break one facts papers state (Refuse refusal) clause other prog prog' cand cand' a b = absurd a
-one_break one facts papers state (NotedAgain row) clause other prog prog' cand cand' a b = absurd a
-one_break one facts papers state (RaisedAgain row) clause other prog prog' cand cand' a b = absurd a
-one_break one facts papers state (CutAgain window) clause other prog prog' cand cand' a b = absurd a
-one_break one facts papers state (Note row) clause other prog prog' cand cand' a b = absurd a
-one_break one facts papers state (Lift row) clause other prog prog' cand cand' a b = absurd a
 one_break one facts papers state Publish clause other prog prog' cand cand' a b =
     cut_one one facts papers state clause other prog prog' cand cand' (told facts papers state clause prog cand a) (told facts papers state other prog' cand' b)
 one_break one facts papers state Finish clause other prog prog' cand cand' a b =
     let e = end_is facts papers state clause prog cand a in
     let f = end_is facts papers state other prog' cand' b in
     record { clause = e.is ∙ sym f.is; prog = e.by ∙ sym f.by; cand = e.of ∙ sym f.of }
-one_break one facts papers state (Tell question) clause other prog prog' cand cand' a b = absurd a
+one_break one facts papers state _ clause other prog prog' cand cand' a b = absurd a
 
 -- ---- the verdict
 

@@ -1,19 +1,18 @@
 -- A replay whose cuts broke no clause stays in order.
-use Rattle.std.proofs.Common.{◌≡◌, ◌≢◌, ◌<◌, ◌+◌, ◌⊎◌, inl, inr, ℕ, zero, suc, add-one, Bool, true, false, not, List, [], ◌∷◌, ◌++◌, Option, Some, None, length, map, take, arith, refl, sym, ap, ◌∙◌, subst, nat_lt, ◌==◌, get_or}
-use Rattle.std.specs.Prelude.{◌&&◌, IsSome, is_some, option_map, slice_get}
+use Rattle.std.proofs.Common.{◌≡◌, ◌<◌, ◌+◌, inl, inr, ℕ, zero, suc, add-one, Bool, true, false, not, List, [], ◌∷◌, ◌++◌, Option, Some, None, length, take, arith, refl, sym, ap, ◌∙◌, subst, nat_lt}
+use Rattle.std.specs.Prelude.{◌&&◌, IsSome, option_map, slice_get}
 use Rattle.std.specs.Option.{option_and_then}
-use Rattle.std.proofs.lemmas.Bool.{cases_eq, cases_lt}
+use Rattle.std.proofs.lemmas.Bool.{cases_eq}
 use Rattle.std.proofs.lemmas.List.{length-append, take_more}
-use Rattle.std.proofs.lemmas.Option.{get_or_from_slice_get, same_Some, slice_get-map, slice_get_within}
+use Rattle.std.proofs.lemmas.Option.{get_or_from_slice_get, slice_get-map, slice_get_within}
 use Rattle.office_base.proofs.People.{at_person-get}
 use Rattle.office_base.specs.Limits.{most_turns}
 use Rattle.office_base.specs.Person.{at_person}
 use Rattle.office_base.specs.declared.asks.Choice.{Choice}
-use Rattle.office_base.specs.declared.asks.Choice.TheVariants.{Freeze, Float, Slide, Withdraw}
+use Rattle.office_base.specs.declared.asks.Choice.TheVariants.{Freeze}
 use Rattle.office_base.specs.declared.asks.Request.{Request}
 use Rattle.office_base.specs.declared.asks.Seat.{Seat}
 use Rattle.office_base.specs.declared.person.Person.{Person}
-use Rattle.office_base.specs.declared.person.ProgId.{ProgId}
 use Rattle.office_base.proofs.Options.{some_value}
 use Rattle.office_base.proofs.Lists.{get-after}
 use Rattle.allocations.specs.Fair.{IsOwn}
@@ -24,9 +23,8 @@ use Rattle.keeper_mem.specs.declared.rows.AnswerRow.{AnswerRow}
 use Rattle.keeper_mem.specs.declared.rows.RaiseRow.{RaiseRow}
 use Rattle.seat_matrix.specs.Laws.{OneStepChanges}
 use Rattle.seat_matrix.specs.Matrix.{AreSeats}
-use Rattle.seeks.specs.Seek.{seek_leaves}
 use Rattle.rounds.specs.declared.round.Round.{Round}
-use Rattle.round_laws.proofs.People.{StandsAt, found_at, stands_at}
+use Rattle.round_laws.proofs.People.{stands_at}
 use Rattle.round_options.specs.Options.{after_cut, holds, may_follow, standing_of}
 use Rattle.round_options.specs.declared.standing.Standing.{Standing}
 use Rattle.office_moves.specs.Decided.{answer_looks, decided}
@@ -38,12 +36,12 @@ use Rattle.office_moves.specs.Raised.{matrix_at, raised}
 use Rattle.office_moves.specs.State.{State, View, answered, in_window, last_seat, left_by, opening, round_at, rows_of, seat_in, seat_of, standing_at, view_of, with_finals, with_raise, with_round, with_row}
 use Rattle.office_moves.specs.declared.decide.AnswerLooks.{AnswerLooks}
 use Rattle.office_moves.specs.declared.decide.Decision.{Decision}
-use Rattle.office_moves.specs.declared.decide.Decision.TheVariants.{Refuse, NotedAgain, RaisedAgain, CutAgain, Note, Lift, Publish, Finish, Tell}
+use Rattle.office_moves.specs.declared.decide.Decision.TheVariants.{Note, Lift, Publish, Finish}
 use Rattle.office_moves.specs.declared.moves.Act.{Act}
 use Rattle.office_moves.specs.declared.refusal.Refusal.{Refusal}
 use Rattle.office_moves.specs.declared.refusal.Refusal.TheVariants.{Gone, NoSeat, TooManyTurns, Widening}
 use Rattle.office_moves.proofs.Rising.{IsLift, raised_append, raised_well}
-use Rattle.histories.proofs.Changes.{Accepts, IsFound, LastCut, NewAnswer, NewCut, NewRaise, accepts}
+use Rattle.histories.proofs.Changes.{Accepts, LastCut, NewAnswer, NewCut, NewRaise, accepts}
 use Rattle.histories.proofs.Entering.{own_there}
 use Rattle.histories.proofs.Fits.{held_over, seat_at_place, seat_of_some}
 use Rattle.histories.proofs.Rows.{answered_last, window_more, window_same}
@@ -58,18 +56,13 @@ use Rattle.audit_rules.specs.Replay.{before, finals_of, replayed, round_of, take
 
 next_tests : (gone none wide many : Bool) (how first second third : Refusal) (row : AnswerRow)
     → refuse_if gone how (refuse_if none first (refuse_if wide second (refuse_if many third (Note row)))) ≡ Note row → none ≡ false
-next_tests true none wide many how first second third row h = absurd (cc)
-next_tests false true wide many how first second third row h = absurd (cc)
-next_tests false false true many how first second third row h = absurd (cc)
-next_tests false false false true how first second third row h = absurd (cc)
 next_tests false false false false how first second third row h = refl
+next_tests _ _ _ _ how first second third row h = absurd (cc)
 
 holder_has : (has : Bool) (choice : Choice) → not has && not (is_withdraw choice) ≡ false → holds (standing_of choice) ≡ true → has ≡ true
 holder_has true choice e h = refl
 holder_has false Freeze e h = absurd (cc)
-holder_has false Float e h = absurd (cc)
-holder_has false Slide e h = absurd (cc)
-holder_has false Withdraw e h = absurd (cc)
+holder_has false _ e h = absurd (cc)
 
 -- a candidate who keeps a seat by a noted answer has one
 noted_seated : (looks : AnswerLooks) (row : AnswerRow) → judge_next_answer looks row ≡ Note row → holds (standing_of row.choice) ≡ true → looks.seated ≡ true
@@ -249,15 +242,11 @@ finished facts old rows here last = record {
 
 -- what is not newly accepted changes nothing
 pub nothing_new : (facts : SeasonFacts) (papers : Papers) (state : State) (decision : Decision) → newly state.now decision ≡ None → taken facts papers state decision ≡ state
-nothing_new facts papers state (Refuse refusal) e = refl
-nothing_new facts papers state (NotedAgain row) e = refl
-nothing_new facts papers state (RaisedAgain row) e = refl
-nothing_new facts papers state (CutAgain window) e = refl
 nothing_new facts papers state (Note row) e = absurd (cc)
 nothing_new facts papers state (Lift row) e = absurd (cc)
 nothing_new facts papers state Publish e = absurd (cc)
 nothing_new facts papers state Finish e = absurd (cc)
-nothing_new facts papers state (Tell question) e = refl
+nothing_new facts papers state _ e = refl
 
 pub in_order_next : OneStepChanges → (facts : SeasonFacts) (papers : Papers) (state : State) (request : Request) → IsSound facts → IsInOrder facts state
     → HoldsAt facts papers state (decided facts state request) → IsInOrder facts (taken facts papers state (decided facts state request))

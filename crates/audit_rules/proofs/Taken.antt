@@ -7,7 +7,7 @@ use Rattle.office_moves.specs.Decided.{decided}
 use Rattle.office_moves.specs.Facts.{SeasonFacts}
 use Rattle.office_moves.specs.State.{State, opening}
 use Rattle.office_moves.specs.declared.decide.Decision.{Decision}
-use Rattle.office_moves.specs.declared.decide.Decision.TheVariants.{Refuse, NotedAgain, RaisedAgain, CutAgain, Note, Lift, Publish, Finish, Tell}
+use Rattle.office_moves.specs.declared.decide.Decision.TheVariants.{Publish, Finish}
 use Rattle.audit_rules.specs.Laws.{EveryTextIsTaken}
 use Rattle.audit_rules.specs.Papers.{Papers}
 use Rattle.audit_rules.specs.Replay.{replayed, taken}
@@ -16,15 +16,9 @@ use Rattle.audit_rules.proofs.FairSeasons.{finishes_last, publishes_early, repla
 -- a decision leaves the open window, or is a cut of it
 moves_on : (facts : SeasonFacts) (papers : Papers) (state : State) (decision : Decision)
     → ((taken facts papers state decision).now ≡ state.now) ⊎ (((taken facts papers state decision).now ≡ state.now + 1) × ((decision ≡ Publish) ⊎ (decision ≡ Finish)))
-moves_on facts papers state (Refuse refusal) = inl refl
-moves_on facts papers state (NotedAgain row) = inl refl
-moves_on facts papers state (RaisedAgain row) = inl refl
-moves_on facts papers state (CutAgain window) = inl refl
-moves_on facts papers state (Note row) = inl refl
-moves_on facts papers state (Lift row) = inl refl
 moves_on facts papers state Publish = inr (refl, inl refl)
 moves_on facts papers state Finish = inr (refl, inr refl)
-moves_on facts papers state (Tell question) = inl refl
+moves_on facts papers state _ = inl refl
 
 -- a request cuts this window, from a state on
 record CutsIt (facts : SeasonFacts) (papers : Papers) (state : State) (script : List Request) (window : ℕ) : Type 0 where
