@@ -18,7 +18,7 @@ use Rattle.season_file.specs.Laws.{AreSame, AreSound, HaveOneReading}
 use Rattle.season_file.specs.Season.{content_of}
 use Rattle.season_file.specs.declared.content.Content.{Content}
 use Rattle.season_file.specs.declared.fault.SeasonFault.{SeasonFault}
-use Rattle.season_file.specs.declared.fault.SeasonFault.TheVariants.{ReadFault as NoSource, TooLong as LongSeason, BadFirstLine, Section, BadSeason as BadHead, Register, Matrix, Choices, NotUtf8, BadRequest, OutOfMemory as NoSeasonMemory}
+use Rattle.season_file.specs.declared.fault.SeasonFault.TheVariants.{NotUtf8, BadRequest}
 use Rattle.season_file.specs.declared.head.Head.{Head}
 use Rattle.season_file.specs.declared.season.Season.{Season}
 use Rattle.published_texts.specs.Texts.{code_in}
@@ -41,55 +41,23 @@ use Rattle.dossier_file.proofs.LineLemmas.{first_fewer}
 apart_requests : (requests : List ℕ) (script : List Request) (fault : SeasonFault) → IsScript requests script → IsRequestsFault requests fault → ⊥
 apart_requests requests script NotUtf8 is f = f is.0
 apart_requests requests script (BadRequest row) is f = (let e = sym is.1 ∙ f.1 in cc)
-apart_requests requests script NoSource is f = f
-apart_requests requests script LongSeason is f = f
-apart_requests requests script BadFirstLine is f = f
-apart_requests requests script (Section line) is f = f
-apart_requests requests script (BadHead row) is f = f
-apart_requests requests script (Register fault) is f = f
-apart_requests requests script (Matrix fault) is f = f
-apart_requests requests script (Choices fault) is f = f
-apart_requests requests script NoSeasonMemory is f = f
+apart_requests requests script _ is f = f
 
 -- the first fault of requests is one
 after_utf8 : (requests : List ℕ) (other : SeasonFault) → (IsUtf8 requests → ⊥) → IsRequestsFault requests other → NotUtf8 ≡ other
 after_utf8 requests NotUtf8 f g = refl
 after_utf8 requests (BadRequest row) f g = absurd (f g.0)
-after_utf8 requests NoSource f g = absurd g
-after_utf8 requests LongSeason f g = absurd g
-after_utf8 requests BadFirstLine f g = absurd g
-after_utf8 requests (Section line) f g = absurd g
-after_utf8 requests (BadHead row) f g = absurd g
-after_utf8 requests (Register fault) f g = absurd g
-after_utf8 requests (Matrix fault) f g = absurd g
-after_utf8 requests (Choices fault) f g = absurd g
-after_utf8 requests NoSeasonMemory f g = absurd g
+after_utf8 requests _ f g = absurd g
 
 after_row : (requests : List ℕ) (row : ℕ) (other : SeasonFault) → IsUtf8 requests → script_of (rows_of requests) ≡ Err row → IsRequestsFault requests other → BadRequest row ≡ other
 after_row requests row NotUtf8 utf8 e g = absurd (g utf8)
 after_row requests row (BadRequest next) utf8 e g = (let both = sym e ∙ g.1 in let same : row ≡ next = cc in ap (λ (n : ℕ). BadRequest n) same)
-after_row requests row NoSource utf8 e g = absurd g
-after_row requests row LongSeason utf8 e g = absurd g
-after_row requests row BadFirstLine utf8 e g = absurd g
-after_row requests row (Section line) utf8 e g = absurd g
-after_row requests row (BadHead n) utf8 e g = absurd g
-after_row requests row (Register fault) utf8 e g = absurd g
-after_row requests row (Matrix fault) utf8 e g = absurd g
-after_row requests row (Choices fault) utf8 e g = absurd g
-after_row requests row NoSeasonMemory utf8 e g = absurd g
+after_row requests row _ utf8 e g = absurd g
 
 one_requests : (requests : List ℕ) (fault other : SeasonFault) → IsRequestsFault requests fault → IsRequestsFault requests other → fault ≡ other
 one_requests requests NotUtf8 other f g = after_utf8 requests other f g
 one_requests requests (BadRequest row) other f g = after_row requests row other f.0 f.1 g
-one_requests requests NoSource other f g = absurd f
-one_requests requests LongSeason other f g = absurd f
-one_requests requests BadFirstLine other f g = absurd f
-one_requests requests (Section line) other f g = absurd f
-one_requests requests (BadHead row) other f g = absurd f
-one_requests requests (Register fault) other f g = absurd f
-one_requests requests (Matrix fault) other f g = absurd f
-one_requests requests (Choices fault) other f g = absurd f
-one_requests requests NoSeasonMemory other f g = absurd f
+one_requests requests _ other f g = absurd f
 
 -- ---- lines
 

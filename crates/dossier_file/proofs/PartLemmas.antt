@@ -12,11 +12,11 @@ use Rattle.season_file.specs.declared.season.Season.{Season}
 use Rattle.dossier_file.specs.Papers.{AreDuePapers}
 use Rattle.season_file.specs.declared.content.Content.{Content}
 use Rattle.season_file.specs.declared.fault.SeasonFault.{SeasonFault}
-use Rattle.season_file.specs.declared.fault.SeasonFault.TheVariants.{ReadFault as NoSource, TooLong as LongSeason, BadFirstLine, Section, BadSeason as BadHead, Register, Matrix, Choices, NotUtf8, BadRequest, OutOfMemory as NoSeasonMemory}
+use Rattle.season_file.specs.declared.fault.SeasonFault.TheVariants.{NotUtf8, BadRequest, OutOfMemory as NoSeasonMemory}
 use Rattle.dossier_file.specs.Cut.{IsCut}
 use Rattle.dossier_file.specs.Dossier.{GaveDossierFault, GivesContent, HasSeasonFault, IsBundleFault, IsBytesFault, IsRequestsError, IsScript, papers_error, season_error}
 use Rattle.dossier_file.specs.declared.fault.DossierFault.{DossierFault}
-use Rattle.dossier_file.specs.declared.fault.DossierFault.TheVariants.{ReadFault, TooLong, NoSection, Season as BadSeason, Published, OutOfMemory}
+use Rattle.dossier_file.specs.declared.fault.DossierFault.TheVariants.{ReadFault, TooLong, OutOfMemory}
 
 module _ (bytes bundle requests published : List ℕ) (short : length bytes ≤ most_bundle_bytes) (cut : IsCut bytes bundle requests published) where
   has : (fault : SeasonFault) → IsBundleFault bundle requests fault → HasSeasonFault bytes fault
@@ -24,31 +24,15 @@ module _ (bytes bundle requests published : List ℕ) (short : length bytes ≤ 
 
   -- the fault of a bundle
   pub bundle_fault : (fault : SeasonFault) → IsSeasonFault false bundle fault → IsBytesFault bytes (season_error fault)
-  bundle_fault NoSource is = has NoSource (inl is)
-  bundle_fault LongSeason is = has LongSeason (inl is)
-  bundle_fault BadFirstLine is = has BadFirstLine (inl is)
-  bundle_fault (Section line) is = has (Section line) (inl is)
-  bundle_fault (BadHead row) is = has (BadHead row) (inl is)
-  bundle_fault (Register fault) is = has (Register fault) (inl is)
-  bundle_fault (Matrix fault) is = has (Matrix fault) (inl is)
-  bundle_fault (Choices fault) is = has (Choices fault) (inl is)
-  bundle_fault NotUtf8 is = has NotUtf8 (inl is)
-  bundle_fault (BadRequest row) is = has (BadRequest row) (inl is)
   bundle_fault NoSeasonMemory is = tt
+  bundle_fault fault is = has fault (inl is)
 
   -- the fault of its requests
   pub requests_fault : (content : Content) → GivesContent bundle content → (fault : SeasonFault) → IsRequestsError requests fault → IsBytesFault bytes (season_error fault)
-  requests_fault content gives NoSource is = absurd is
-  requests_fault content gives LongSeason is = absurd is
-  requests_fault content gives BadFirstLine is = absurd is
-  requests_fault content gives (Section line) is = absurd is
-  requests_fault content gives (BadHead row) is = absurd is
-  requests_fault content gives (Register fault) is = absurd is
-  requests_fault content gives (Matrix fault) is = absurd is
-  requests_fault content gives (Choices fault) is = absurd is
   requests_fault content gives NotUtf8 is = has NotUtf8 (inr (content, gives, is))
   requests_fault content gives (BadRequest row) is = has (BadRequest row) (inr (content, gives, is))
   requests_fault content gives NoSeasonMemory is = tt
+  requests_fault content gives _ is = absurd is
 
   -- the fault of the published texts
   pub papers_fault : (season : Season) → IsSeason bundle season → (script : List Request) → IsScript requests script → (fault : TextFault)
@@ -71,10 +55,8 @@ module _ (bytes bundle requests published : List ℕ) (short : length bytes ≤ 
 gave : (before after : Option (List ℕ)) (bytes : List ℕ) → Took bytes before after → IsAtEnd after → (fault : DossierFault) → IsBytesFault bytes fault → GaveDossierFault before after fault
 gave before after bytes took end ReadFault is = tt
 gave before after bytes took end TooLong is = (bytes, is, took)
-gave before after bytes took end NoSection is = (bytes, took, end, is)
-gave before after bytes took end (BadSeason fault) is = (bytes, took, end, is)
-gave before after bytes took end (Published line) is = (bytes, took, end, is)
 gave before after bytes took end OutOfMemory is = tt
+gave before after bytes took end _ is = (bytes, took, end, is)
 
 pub gave_fault : {X : Type 0} (before after : Option (List ℕ)) (bytes : List ℕ) → Took bytes before after → IsAtEnd after → (result : Result X DossierFault) → IfErr result (λ fault. IsBytesFault bytes fault)
     → IfErr result (λ fault. GaveDossierFault before after fault)

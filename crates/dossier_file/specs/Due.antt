@@ -1,9 +1,9 @@
 -- Which cuts of a script are accepted, and which texts they publish.
 use Rattle.std.specs.Prelude.{◌<◌, ◌+◌, ◌^◌, ℕ, zero, suc, Bool, false, ◌==◌, ◌&&◌, nat_le, List, [], ◌∷◌, ◌++◌, length, if◌then◌else◌}
 use Rattle.office_base.specs.declared.asks.Ask.{Ask}
-use Rattle.office_base.specs.declared.asks.Ask.TheVariants.{Answer, Cut, Seat, Why, List as ListOf, Round as RoundOf, Choices, State, Raise}
+use Rattle.office_base.specs.declared.asks.Ask.TheVariants.{Cut}
 use Rattle.office_base.specs.declared.asks.By.{By}
-use Rattle.office_base.specs.declared.asks.By.TheVariants.{Clerk, Candidate, Nobody}
+use Rattle.office_base.specs.declared.asks.By.TheVariants.{Clerk}
 use Rattle.office_base.specs.declared.asks.Request.{Request}
 use Rattle.seat_matrix.specs.Matrix.{SeatTable}
 use Rattle.dossier_file.specs.declared.due.Due.{Due}
@@ -12,20 +12,12 @@ use Rattle.dossier_file.specs.declared.due.Due.TheVariants.{Round as RoundDue, L
 -- the ask is the cut of this window
 abbrev pub is_cut : ℕ → Ask → Bool
 is_cut now (Cut window) = window == now
-is_cut now (Answer cand window turn choice) = false
-is_cut now (Seat cand) = false
-is_cut now (Why cand prog) = false
-is_cut now (ListOf round prog) = false
-is_cut now (RoundOf round) = false
-is_cut now (Choices cand) = false
-is_cut now State = false
-is_cut now (Raise window prog step seats) = false
+is_cut now _ = false
 
 -- the clerk cuts this window
 abbrev pub is_cut_by : ℕ → By → Ask → Bool
 is_cut_by now Clerk ask = is_cut now ask
-is_cut_by now (Candidate id) ask = false
-is_cut_by now Nobody ask = false
+is_cut_by now _ ask = false
 
 -- How many cuts of a script are accepted, where the windows before this one were cut: the clerk cuts the open window, and the
 -- window after the last round is the last.

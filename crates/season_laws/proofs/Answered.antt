@@ -2,7 +2,7 @@
 use Rattle.std.proofs.Common.{◌≡◌, ◌<◌, ◌+◌, ◌||◌, ◌==◌, ℕ, zero, suc, Bool, true, false, Some, length, arith, refl, ap, ◌∙◌, nat_lt}
 use Rattle.std.proofs.lemmas.Bool.{ltb-false}
 use Rattle.office_base.specs.declared.asks.Ask.{Ask}
-use Rattle.office_base.specs.declared.asks.Ask.TheVariants.{Answer, Cut, Seat as AskSeat, Why, List as AskList, Round as AskRound, Choices as AskChoices, State as AskState, Raise}
+use Rattle.office_base.specs.declared.asks.Ask.TheVariants.{Answer, Cut, List as AskList, Raise}
 use Rattle.office_base.specs.declared.asks.By.{By}
 use Rattle.office_base.specs.declared.person.ProgId.{ProgId}
 use Rattle.office_base.proofs.Lists.{there_is}
@@ -14,16 +14,16 @@ use Rattle.rounds.specs.declared.round.Round.{Round}
 use Rattle.office_moves.specs.Facts.{IsSound, SeasonFacts, find_programme}
 use Rattle.office_moves.specs.State.{State, round_at, view_of, with_finals, with_raise, with_round, with_row}
 use Rattle.office_moves.specs.Raised.{matrix_of_round}
-use Rattle.office_moves.specs.Decided.{answer_looks, decided_by, is_chosen_by, is_known, raise_looks}
-use Rattle.office_moves.specs.Moves.{Does, IsNextRound, final_rows, noted, programme_in, raised_reply, receipt, seat_reply, state_reply, why_reply}
+use Rattle.office_moves.specs.Decided.{answer_looks, decided_by, raise_looks}
+use Rattle.office_moves.specs.Moves.{Does, IsNextRound, final_rows, noted, programme_in, raised_reply, receipt}
 use Rattle.office_moves.specs.declared.decide.Decision.{Decision}
-use Rattle.office_moves.specs.declared.decide.Decision.TheVariants.{Refuse}
-use Rattle.office_moves.specs.declared.decide.Question.TheVariants.{Choices as TheChoices, Seat as TheSeat}
+use Rattle.office_moves.specs.declared.decide.Decision.TheVariants.{Refuse, Tell}
+use Rattle.office_moves.specs.declared.decide.Question.{Question}
+use Rattle.office_moves.specs.declared.decide.Question.TheVariants.{List as TheList}
 use Rattle.office_moves.specs.declared.moves.Reply.{Reply}
-use Rattle.choice_lists.specs.Choices.{list_of}
-use Rattle.office_moves.specs.declared.moves.Reply.TheVariants.{ChoicesAre, Final, ListIs, Published, Refused, RoundIs}
+use Rattle.office_moves.specs.declared.moves.Reply.TheVariants.{Final, ListIs, Published, Refused}
 use Rattle.office_moves.specs.declared.refusal.Refusal.{Refusal}
-use Rattle.office_moves.proofs.Decisions.{answer_keeps, cut_keeps, list_keeps, own_keeps, programme_keeps, raise_keeps, round_keeps, why_keeps}
+use Rattle.office_moves.proofs.Decisions.{answer_keeps, cut_keeps, list_keeps, programme_keeps, question_keeps, raise_keeps}
 use Rattle.histories.specs.Orderly.{IsOrderly}
 use Rattle.histories.proofs.Changes.{was_found}
 use Rattle.season_laws.specs.NextRounds.{EveryRequestIsAnswered}
@@ -31,6 +31,11 @@ use Rattle.season_laws.specs.NextRounds.{EveryRequestIsAnswered}
 -- what a decision does is there
 abbrev IsDone : SeasonFacts → State → Decision → Type 0
 IsDone facts state decision = (reply : Reply) × (after : State) × Does facts state decision reply after
+
+-- the decision tells a list
+abbrev tells_list : Decision → Bool
+tells_list (Tell (TheList number prog)) = true
+tells_list _ = false
 
 module _ (facts : SeasonFacts) (state : State) (sound : IsSound facts) (orderly : IsOrderly facts state) (next : (round : Round) × IsNextRound facts state round) where
   refused : (r : Refusal) → IsDone facts state (Refuse r)
@@ -52,6 +57,11 @@ module _ (facts : SeasonFacts) (state : State) (sound : IsSound facts) (orderly 
       second true b e = absurd (cc)
       second false b e = e
 
+  -- the reply to any other question is there, whatever the question names
+  told : (question : Question) → tells_list (Tell question) ≡ false → IsDone facts state (Tell question)
+  told (TheList number prog) e = absurd (cc)
+  told question e = (_, state, (refl, refl))
+
   done : (by : By) (ask : Ask) → IsDone facts state (decided_by facts state by ask)
   done by (Answer cand window turn choice) =
       let row : AnswerRow = record { window = window; cand = cand; turn = turn; choice = choice } in
@@ -60,22 +70,14 @@ module _ (facts : SeasonFacts) (state : State) (sound : IsSound facts) (orderly 
       cut_keeps (IsDone facts state) refused by state.now facts.rounds window (receipt facts state window, state, (refl, refl))
       (Final (length (final_rows facts state)), with_finals state (final_rows facts state), (refl, refl))
       (Published (state.now + 1) (seated next.0.seats), with_round state next.0, (next.0, next.1, refl, refl))
-  done by (AskSeat cand) =
-      own_keeps (IsDone facts state) refused (is_known facts cand) by cand (TheSeat cand) (λ known. (seat_reply facts (view_of state cand.0) cand, state, (refl, refl)))
-  done by (Why cand code) =
-      why_keeps (IsDone facts state) refused (is_known facts cand) (find_programme facts code) (is_chosen_by facts cand (find_programme facts code)) (length state.rounds) by cand
-      (λ known prog is some. (why_reply facts (view_of state cand.0) cand prog, state, (refl, refl)))
   done by (AskList number code) =
       list_keeps (IsDone facts state) refused (find_programme facts code) (length state.rounds) number
       (λ prog is within. let there = listed number prog (was_found facts code prog is).below within in (ListIs number prog there.0, state, ((there.0, there.1, refl), refl)))
-  done by (AskRound number) = round_keeps (IsDone facts state) refused state.now (length state.rounds) number (λ within. (RoundIs number, state, (refl, refl)))
-  done by (AskChoices cand) =
-      own_keeps (IsDone facts state) refused (is_known facts cand) by cand (TheChoices cand) (λ known. (ChoicesAre cand (list_of facts.lists cand.0), state, (refl, refl)))
-  done by AskState = (state_reply facts state, state, (refl, refl))
   done by (Raise window code step seats) =
       programme_keeps (IsDone facts state) refused (find_programme facts code) _
       (λ prog is. let row : RaiseRow = record { window = window; prog = prog; step = step; seats = seats } in
       raise_keeps (IsDone facts state) refused (raise_looks facts state row) by row (raised_reply row, state, (refl, refl)) (raised_reply row, with_raise state row, (refl, refl)))
+  done by ask = question_keeps (λ d. tells_list d ≡ false → IsDone facts state d) (λ r e. refused r) facts state by ask refl told (grind arith)
 
 pub every_request : (facts : SeasonFacts) → ((state : State) → IsSound facts → IsOrderly facts state → (round : Round) × IsNextRound facts state round) → EveryRequestIsAnswered facts
 every_request facts next state request sound orderly = done facts state sound orderly (next state sound orderly) request.by request.ask

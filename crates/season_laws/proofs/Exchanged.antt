@@ -25,7 +25,7 @@ use Rattle.office_moves.specs.Decided.{decide_answer, decide_raise, decided}
 use Rattle.office_moves.specs.History.{Reaches, asked, newly}
 use Rattle.office_moves.specs.Moves.{Does, IsNextRound, final_rows, next_seeks, noted, rows_along}
 use Rattle.office_moves.specs.declared.decide.Decision.{Decision}
-use Rattle.office_moves.specs.declared.decide.Decision.TheVariants.{Refuse, NotedAgain, RaisedAgain, CutAgain, Note, Lift, Publish, Finish, Tell}
+use Rattle.office_moves.specs.declared.decide.Decision.TheVariants.{Note, Lift, Publish, Finish}
 use Rattle.office_moves.specs.declared.moves.Act.{Act}
 use Rattle.office_moves.specs.declared.moves.Act.TheVariants.{Answer, Raise, Cut}
 use Rattle.office_moves.specs.declared.moves.Entry.{Entry}
@@ -75,10 +75,6 @@ module _ (facts : SeasonFacts) (state other : State) (alike : AreAlike state oth
   -- what a newly accepting decision does
   does_alike : (decision : Decision) (act : Act) (reply : Reply) (after : State) → newly state.now decision ≡ Some act → Does facts state decision reply after
       → (later : State) × Does facts other decision reply later × AreAlike after later
-  does_alike (Refuse refusal) act reply after h does = absurd (cc)
-  does_alike (NotedAgain row) act reply after h does = absurd (cc)
-  does_alike (RaisedAgain row) act reply after h does = absurd (cc)
-  does_alike (CutAgain window) act reply after h does = absurd (cc)
   does_alike (Note row) act reply after h does = (
     with_row other row,
     (does.0, refl),
@@ -123,7 +119,7 @@ module _ (facts : SeasonFacts) (state other : State) (alike : AreAlike state oth
       rows = alike.rows;
     }),
   )
-  does_alike (Tell question) act reply after h does = absurd (cc)
+  does_alike _ act reply after h does = absurd (cc)
 
   came : CameToTheSame facts state other
   came = record { now = alike.now; rounds = alike.rounds; finals = alike.finals; standings = λ window id. ap (λ (view : View). standing_at facts view id window) (views id) }
@@ -150,15 +146,8 @@ reaches_alike facts (entry ∷ entries) old other new alike reached =
 -- ---- two answers
 
 note_of : (now : ℕ) (decision : Decision) (row : AnswerRow) → newly now decision ≡ Some (Answer row) → decision ≡ Note row
-note_of now (Refuse refusal) row h = absurd (cc)
-note_of now (NotedAgain other) row h = absurd (cc)
-note_of now (RaisedAgain other) row h = absurd (cc)
-note_of now (CutAgain window) row h = absurd (cc)
 note_of now (Note other) row h = let same : other ≡ row = cc in ap (λ (r : AnswerRow). Note r) same
-note_of now (Lift other) row h = absurd (cc)
-note_of now Publish row h = absurd (cc)
-note_of now Finish row h = absurd (cc)
-note_of now (Tell question) row h = absurd (cc)
+note_of now _ row h = absurd (cc)
 
 -- a row of another candidate changes nothing of the rows of a candidate
 not_own : (id : ℕ) (row : AnswerRow) → row.cand.0 ≢ id → rows_of id (row ∷ []) ≡ []

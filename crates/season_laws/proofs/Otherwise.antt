@@ -21,7 +21,7 @@ use Rattle.rounds.specs.declared.round.Round.{Round}
 use Rattle.rounds.proofs.Entrants.{length_seekers}
 use Rattle.round_options.specs.Options.{after_cut, holds, seek_after}
 use Rattle.round_options.specs.declared.standing.Standing.{Standing}
-use Rattle.round_options.specs.declared.standing.Standing.TheVariants.{Waiting, Offered, Freeze, Float, Slide, Withdrawn, NoShow}
+use Rattle.round_options.specs.declared.standing.Standing.TheVariants.{Waiting, Freeze, Float, Slide}
 use Rattle.round_laws.specs.Laws.{AreOtherwise, IsUpTo, MoreSeatsHurtNobody, WiderIsNoWorse}
 use Rattle.round_laws.proofs.People.{one_row}
 use Rattle.office_moves.specs.Facts.{IsSound, SeasonFacts, lists_in_order}
@@ -40,12 +40,7 @@ use Rattle.season_laws.specs.Otherwise.{AnswersOtherwise, FloatIsNoWorse, IsRais
 no_seat_given : (standing : Standing) (seat : Option Seat) → after_cut standing seat ≡ Waiting → seat ≡ None
 no_seat_given standing None e = refl
 no_seat_given Waiting (Some seat) e = absurd (cc)
-no_seat_given Offered (Some seat) e = absurd (cc)
-no_seat_given Freeze (Some seat) e = absurd (cc)
-no_seat_given Float (Some seat) e = absurd (cc)
-no_seat_given Slide (Some seat) e = absurd (cc)
-no_seat_given Withdrawn (Some seat) e = absurd (cc)
-no_seat_given NoShow (Some seat) e = absurd (cc)
+no_seat_given _ (Some seat) e = absurd (cc)
 
 left_waiting : (facts : SeasonFacts) (view : View) (id n : ℕ) → left_by facts view id n ≡ Waiting → seat_in facts view.rounds n id ≡ None
 left_waiting facts view id zero e = refl
@@ -54,12 +49,10 @@ left_waiting facts view id (suc window) e = no_seat_given _ (seat_in facts view.
 -- a candidate who does not wait seeks nothing behind their own seat
 up_after : (standing : Standing) (k : ℕ) → standing ≢ Waiting → IsUpTo k (seek_after standing (Some k))
 up_after Waiting k apart = absurd (apart refl)
-up_after Offered k apart = tt
 up_after Freeze k apart = omega arith
 up_after Float k apart = omega arith
 up_after Slide k apart = omega arith
-up_after Withdrawn k apart = tt
-up_after NoShow k apart = tt
+up_after _ k apart = tt
 
 -- a candidate who had a seat is among the people
 record Stands (facts : SeasonFacts) (id : ℕ) : Type 0 where

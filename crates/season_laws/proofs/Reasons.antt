@@ -30,7 +30,7 @@ use Rattle.seat_matrix.specs.Matrix.{SeatTable, first_list, list_in, seats_in}
 use Rattle.seat_matrix.specs.declared.entry.Home.{Home}
 use Rattle.seeks.specs.Seek.{are_together, is_beside, is_left, is_listed, seek_leaves}
 use Rattle.seeks.specs.declared.seek.Seek.{Seek}
-use Rattle.seeks.specs.declared.seek.Seek.TheVariants.{Whole, UpTo, Within, Only, Nothing}
+use Rattle.seeks.specs.declared.seek.Seek.TheVariants.{Within}
 use Rattle.programme_lists.specs.Chosen.{ChoosesFrom}
 use Rattle.programme_lists.specs.Listing.{ShowsStep}
 use Rattle.programme_lists.specs.Programme.{Admissions, admitted_by, is_taken}
@@ -55,9 +55,9 @@ use Rattle.office_moves.specs.Raised.{matrix_of_round}
 use Rattle.office_moves.specs.Decided.{decided}
 use Rattle.office_moves.specs.Moves.{Does, Tells, receipt}
 use Rattle.office_moves.specs.declared.decide.Decision.{Decision}
-use Rattle.office_moves.specs.declared.decide.Decision.TheVariants.{Refuse, NotedAgain, RaisedAgain, CutAgain, Note, Lift, Publish, Finish, Tell}
+use Rattle.office_moves.specs.declared.decide.Decision.TheVariants.{CutAgain, Publish, Tell}
 use Rattle.office_moves.specs.declared.decide.Question.{Question}
-use Rattle.office_moves.specs.declared.decide.Question.TheVariants.{Seat as TheSeat, Why as TheReason, List as TheList, Round as TheRound, Choices as TheChoices, State as TheState}
+use Rattle.office_moves.specs.declared.decide.Question.TheVariants.{Why as TheReason, List as TheList}
 use Rattle.office_moves.specs.declared.moves.Reply.TheVariants.{Final, Published, WhyIs}
 use Rattle.office_moves.specs.Why.{is_sought_by, reason_in, why_answer, why_beside, why_refused}
 use Rattle.office_moves.proofs.Narrows.{left_order, left_there, there_left}
@@ -96,15 +96,12 @@ beside_too table other (Some one) prog same e =
 
 left_too : (table other : SeatTable) (seek : Seek) (progs : List ProgId) (place : ℕ) (prog : ProgId) → other.programmes ≡ table.programmes → is_left table seek progs place prog ≡ true
     → is_left other seek progs place prog ≡ true
-left_too table other Whole progs place prog same e = e
-left_too table other (UpTo k) progs place prog same e = e
 left_too table other (Within k) progs place prog same e = both (nat_le place k) _ _ e (beside_too table other (slice_get progs k) prog same)
   where
     both : (a b c : Bool) → (a && b) ≡ true → (b ≡ true → c ≡ true) → (a && c) ≡ true
     both true b c h f = f h
     both false b c h f = h
-left_too table other (Only k) progs place prog same e = e
-left_too table other Nothing progs place prog same e = e
+left_too table other _ progs place prog same e = e
 
 -- whatever is listed has a place
 listed_placed : (p : ℕ) (progs : List ProgId) → is_listed p progs ≡ true → place_of progs p < length progs
@@ -477,7 +474,6 @@ no_receipt facts state window cand prog answer e = go (nat_lt window facts.round
 -- an answer to why is that of the last published round
 told_reason : (facts : SeasonFacts) (state : State) (question : Question) (cand : CandId) (prog : ProgId) (answer : WhyAnswer) → Tells facts state question (WhyIs cand prog answer)
     → answer ≡ why_answer facts (round_at state.rounds (length state.rounds)) cand prog
-told_reason facts state (TheSeat one) cand prog answer e = absurd (cc)
 told_reason facts state (TheReason one other) cand prog answer tells =
     let e : WhyIs cand prog answer ≡ WhyIs one other (why_answer facts (round_at state.rounds (length state.rounds)) one other) = tells in
     let who : cand ≡ one = cc in
@@ -486,21 +482,14 @@ told_reason facts state (TheReason one other) cand prog answer tells =
     told ∙ (ap (λ z. why_answer facts (round_at state.rounds (length state.rounds)) z other) (sym who)
     ∙ ap (λ z. why_answer facts (round_at state.rounds (length state.rounds)) cand z) (sym what))
 told_reason facts state (TheList number one) cand prog answer tells = absurd (let e = tells.2 in cc)
-told_reason facts state (TheRound number) cand prog answer e = absurd (cc)
-told_reason facts state (TheChoices one) cand prog answer e = absurd (cc)
-told_reason facts state TheState cand prog answer e = absurd (cc)
+told_reason facts state _ cand prog answer e = absurd (cc)
 
 told_why : (facts : SeasonFacts) (state after : State) (decision : Decision) (cand : CandId) (prog : ProgId) (answer : WhyAnswer) → Does facts state decision (WhyIs cand prog answer) after
     → answer ≡ why_answer facts (round_at state.rounds (length state.rounds)) cand prog
-told_why facts state after (Refuse refusal) cand prog answer does = absurd (let e = does.0 in cc)
-told_why facts state after (NotedAgain row) cand prog answer does = absurd (let e = does.0 in cc)
-told_why facts state after (RaisedAgain row) cand prog answer does = absurd (let e = does.0 in cc)
 told_why facts state after (CutAgain window) cand prog answer does = absurd (no_receipt facts state window cand prog answer does.0)
-told_why facts state after (Note row) cand prog answer does = absurd (let e = does.0 in cc)
-told_why facts state after (Lift row) cand prog answer does = absurd (let e = does.0 in cc)
 told_why facts state after Publish cand prog answer does = absurd (let e = does.2 in cc)
-told_why facts state after Finish cand prog answer does = absurd (let e = does.0 in cc)
 told_why facts state after (Tell question) cand prog answer does = told_reason facts state question cand prog answer does.0
+told_why facts state after _ cand prog answer does = absurd (let e = does.0 in cc)
 
 -- a reason is by a round
 by_round : (facts : SeasonFacts) (o : Option Round) (cand : CandId) (prog : ProgId) (reason : Reason) → Because reason ≡ why_answer facts o cand prog
