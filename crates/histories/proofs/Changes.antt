@@ -1,18 +1,12 @@
 -- What is newly accepted, and what it changes in a state.
-use Rattle.std.proofs.Common.{◌≡◌, ◌<◌, inl, inr, ℕ, zero, suc, List, [], ◌∷◌, Option, Some, None, length, arith, refl, sym, ap, ◌∙◌, subst, get_or}
-use Rattle.std.specs.Prelude.{map, option_map, position, slice_get, bytes_eq}
-use Rattle.std.specs.Option.{unwrap_or}
-use Rattle.std.proofs.lemmas.List.Quantifiers.{position-Some}
-use Rattle.std.proofs.lemmas.Slice.Eq.{bytes_eq-Decides}
+use Rattle.std.proofs.Common.{◌≡◌, ◌<◌, inl, inr, ℕ, List, [], ◌∷◌, Some, refl, sym, ap, ◌∙◌, subst}
 use Rattle.office_base.specs.declared.asks.Ask.{Ask}
 use Rattle.office_base.specs.declared.asks.Ask.TheVariants.{Answer as AskAnswer, Cut as AskCut, Raise as AskRaise}
 use Rattle.office_base.specs.declared.asks.By.{By}
-use Rattle.office_base.specs.declared.person.ProgId.{ProgId}
 use Rattle.keeper_mem.specs.declared.rows.AnswerRow.{AnswerRow}
 use Rattle.keeper_mem.specs.declared.rows.RaiseRow.{RaiseRow}
-use Rattle.seat_matrix.specs.declared.entry.Home.{Home}
 use Rattle.rounds.specs.declared.round.Round.{Round}
-use Rattle.office_moves.specs.Facts.{SeasonFacts, code_in, find_programme}
+use Rattle.office_moves.specs.Facts.{SeasonFacts, find_programme}
 use Rattle.office_moves.specs.State.{State, view_of, with_finals, with_raise, with_round, with_row}
 use Rattle.office_moves.specs.Decided.{answer_looks, decided_by, raise_looks}
 use Rattle.office_moves.specs.Moves.{Does, IsNextRound, final_rows}
@@ -24,35 +18,7 @@ use Rattle.office_moves.specs.declared.moves.Entry.{Entry}
 use Rattle.office_moves.specs.declared.moves.Reply.{Reply}
 use Rattle.office_moves.proofs.Chains.{IsNewAnswer, IsNewCut, IsNewRaise, answer_new, cut_new, raise_new, with_new}
 use Rattle.office_moves.proofs.Decisions.{by_kind, question_old}
-
--- ---- codes of programmes
-
-pub code_at : (programmes : List (List ℕ × Home)) (prog : ℕ) → unwrap_or (option_map (λ held. held.0) (slice_get programmes prog)) [] ≡ get_or (map (λ held. held.0) programmes) prog []
-code_at [] prog = refl
-code_at (held ∷ programmes) zero = refl
-code_at (held ∷ programmes) (suc prog) = code_at programmes prog
-
-length_codes : (programmes : List (List ℕ × Home)) → length (map (λ (held : List ℕ × Home). held.0) programmes) ≡ length programmes
-length_codes [] = refl
-length_codes (held ∷ programmes) = ap suc (length_codes programmes)
-
-pub found_number : (found : Option ℕ) (prog : ProgId) → option_map (λ n. record { 0 = n }) found ≡ Some prog → found ≡ Some prog.0
-found_number None prog e = absurd (cc)
-found_number (Some n) prog e = ap (option_map (λ (p : ProgId). p.0)) e
-
--- a programme that was found by a code is one of the matrix, and the code is its own
-pub record IsFound (facts : SeasonFacts) (code : List ℕ) (prog : ProgId) : Type 0 where
-  pub below : prog.0 < length facts.matrix.programmes
-  pub own : code_in facts prog.0 ≡ code
-
-pub was_found : (facts : SeasonFacts) (code : List ℕ) (prog : ProgId) → find_programme facts code ≡ Some prog → IsFound facts code prog
-was_found facts code prog e =
-    let number = found_number (position (bytes_eq code) (map (λ held. held.0) facts.matrix.programmes)) prog e in
-    let there = position-Some (bytes_eq code) (map (λ (held : List ℕ × Home). held.0) facts.matrix.programmes) prog.0 [] number in
-    record {
-      below = (let same = length_codes facts.matrix.programmes in let less = there.0 in omega (arith, same, less));
-      own = code_at facts.matrix.programmes prog.0 ∙ sym ((bytes_eq-Decides code _).0 there.1);
-    }
+pub use Rattle.office_moves.proofs.Found.{IsFound, code_at, found_number, was_found}
 
 -- ---- what is newly accepted
 

@@ -1,10 +1,13 @@
 -- What holds of every refusal, and of each other thing that a request of its kind can come to, holds of what it comes to.
-use Rattle.std.proofs.Common.{◌≡◌, ◌||◌, ◌&&◌, ◌==◌, ◌+◌, ◌-◌, ℕ, Bool, true, false, not, List, Option, Some, None, length, refl, nat_lt, nat_le, if◌then◌else◌}
+-- What a decision names is there.
+use Rattle.std.proofs.Common.{◌≡◌, ◌<◌, ◌≤◌, ◌||◌, ◌&&◌, ◌==◌, ◌+◌, ◌-◌, ℕ, zero, suc, Bool, true, false, not, List, Option, Some, None, length, arith, refl, subst, nat_lt, nat_le, if◌then◌else◌}
+use Rattle.std.proofs.lemmas.Bool.{ltb-false, or_parts}
 use Rattle.office_base.specs.Limits.{most_matrix_seats, most_step_seats, most_turns}
 use Rattle.office_base.specs.declared.asks.Ask.{Ask}
 use Rattle.office_base.specs.declared.asks.Ask.TheVariants.{Answer, Cut, Seat as AskSeat, Why, List as AskList, Round as AskRound, Choices as AskChoices, State as AskState, Raise}
 use Rattle.office_base.specs.declared.asks.By.{By}
 use Rattle.office_base.specs.declared.asks.Choice.{Choice}
+use Rattle.office_base.specs.declared.asks.Request.{Request}
 use Rattle.office_base.specs.declared.person.CandId.{CandId}
 use Rattle.office_base.specs.declared.person.ProgId.{ProgId}
 use Rattle.office_base.specs.declared.step.StepKind.{StepKind}
@@ -13,9 +16,9 @@ use Rattle.keeper_mem.specs.declared.rows.AnswerRow.{AnswerRow}
 use Rattle.keeper_mem.specs.declared.rows.RaiseRow.{RaiseRow}
 use Rattle.round_options.specs.Options.{may_follow}
 use Rattle.office_moves.specs.Facts.{SeasonFacts, find_programme}
-use Rattle.office_moves.specs.State.{State}
+use Rattle.office_moves.specs.State.{State, view_of}
 use Rattle.office_moves.specs.Judge.{choice_of, is_candidate, is_clerk, is_gone, is_withdraw, judge_answer, judge_cut, judge_list, judge_new_answer, judge_next_answer, judge_own, judge_raise, judge_round, judge_why, may_ask, not_open, once_more, refuse_as, refuse_if, same_choice, with_programme}
-use Rattle.office_moves.specs.Decided.{decided_by, is_chosen_by, is_known, is_question}
+use Rattle.office_moves.specs.Decided.{answer_looks, decided, decided_by, is_chosen_by, is_known, is_question, raise_looks}
 use Rattle.office_moves.specs.History.{newly}
 use Rattle.office_moves.specs.declared.decide.AnswerLooks.{AnswerLooks}
 use Rattle.office_moves.specs.declared.decide.Decision.{Decision}
@@ -25,19 +28,26 @@ use Rattle.office_moves.specs.declared.decide.Question.TheVariants.{Seat as TheS
 use Rattle.office_moves.specs.declared.decide.RaiseLooks.{RaiseLooks}
 use Rattle.office_moves.specs.declared.refusal.Refusal.{Refusal}
 use Rattle.office_moves.specs.declared.refusal.Refusal.TheVariants.{Ahead, Denied, Falling, Gap, Gone, LastWindow, NoSeat, NoSuchRound, NotChosen, SeatLimit, StepFixed, TooManyTurns, TurnUsed, UnknownCandidate, UnknownProgramme, Widening}
+use Rattle.office_moves.proofs.Found.{was_found}
 
 -- What holds of answers, of cuts, of raises and of questions holds of every ask.
 pub by_kind : (Q : Ask → Type 0) → ((cand : CandId) (window turn : ℕ) (choice : Choice) → Q (Answer cand window turn choice)) → ((window : ℕ) → Q (Cut window))
     → ((window : ℕ) (code : List ℕ) (step : StepKind) (seats : ℕ) → Q (Raise window code step seats)) → ((ask : Ask) → is_question ask ≡ true → Q ask) → (ask : Ask) → Q ask
 by_kind Q answers cuts raises questions (Answer cand window turn choice) = answers cand window turn choice
 by_kind Q answers cuts raises questions (Cut window) = cuts window
-by_kind Q answers cuts raises questions (AskSeat cand) = questions (AskSeat cand) refl
-by_kind Q answers cuts raises questions (Why cand code) = questions (Why cand code) refl
-by_kind Q answers cuts raises questions (AskList round code) = questions (AskList round code) refl
-by_kind Q answers cuts raises questions (AskRound round) = questions (AskRound round) refl
-by_kind Q answers cuts raises questions (AskChoices cand) = questions (AskChoices cand) refl
-by_kind Q answers cuts raises questions AskState = questions AskState refl
 by_kind Q answers cuts raises questions (Raise window code step seats) = raises window code step seats
+by_kind Q answers cuts raises questions ask = questions ask refl
+
+-- what a question names is there: its candidate, its programme and its round
+abbrev pub IsThere : SeasonFacts → State → Question → Type 0
+IsThere facts state (TheSeat cand) = is_known facts cand ≡ true
+IsThere facts state (TheReason cand prog) = (is_known facts cand ≡ true) × (prog.0 < length facts.matrix.programmes) × (0 < length state.rounds)
+IsThere facts state (TheList number prog) = (0 < number) × (number ≤ length state.rounds) × (prog.0 < length facts.matrix.programmes)
+IsThere facts state _ = Unit {0}
+
+not_zero : (n : ℕ) → (n == 0) ≡ false → 0 < n
+not_zero zero e = absurd (cc)
+not_zero (suc n) e = omega arith
 
 module _ (P : Decision → Type 0) (refused : (r : Refusal) → P (Refuse r)) where
   refused_or : (b : Bool) (refusal : Refusal) (rest : Decision) → (b ≡ false → P rest) → P (refuse_if b refusal rest)
@@ -113,19 +123,50 @@ module _ (P : Decision → Type 0) (refused : (r : Refusal) → P (Refuse r)) wh
   pub round_keeps : (cuts published number : ℕ) → ((number == 0 || nat_lt cuts number) ≡ false → P (Tell (TheRound number))) → P (judge_round cuts published number)
   round_keeps cuts published number tells = refused_or (number == 0 || nat_lt cuts number) (NoSuchRound published) (Tell (TheRound number)) tells
 
-  -- what a question comes to
+  -- what a question comes to; where it is answered, what it names is there
+  pub question_there : (facts : SeasonFacts) (state : State) (by : By) (ask : Ask) → is_question ask ≡ true → ((question : Question) → IsThere facts state question → P (Tell question))
+      → P (decided_by facts state by ask)
+  question_there facts state by (AskSeat cand) is tells = own_keeps (is_known facts cand) by cand (TheSeat cand) (λ known. tells (TheSeat cand) known)
+  question_there facts state by (Why cand code) is tells =
+      why_keeps (is_known facts cand) (find_programme facts code) (is_chosen_by facts cand (find_programme facts code)) (length state.rounds) by cand
+      (λ known p found some. tells (TheReason cand p) (known, (was_found facts code p found).below, not_zero (length state.rounds) some))
+  question_there facts state by (AskList number code) is tells =
+      list_keeps (find_programme facts code) (length state.rounds) number
+      (λ p found within. let both = or_parts (number == 0) (nat_lt (length state.rounds) number) within in
+      tells (TheList number p) (not_zero number both.0, ltb-false (length state.rounds) number both.1, (was_found facts code p found).below))
+  question_there facts state by (AskRound number) is tells = round_keeps state.now (length state.rounds) number (λ within. tells (TheRound number) tt)
+  question_there facts state by (AskChoices cand) is tells = own_keeps (is_known facts cand) by cand (TheChoices cand) (λ known. tells (TheChoices cand) tt)
+  question_there facts state by AskState is tells = tells TheState tt
+  question_there facts state by _ is tells = absurd (cc)
+
   pub question_keeps : (facts : SeasonFacts) (state : State) (by : By) (ask : Ask) → is_question ask ≡ true → ((question : Question) → P (Tell question)) → P (decided_by facts state by ask)
-  question_keeps facts state by (Answer cand window turn choice) is tells = absurd (cc)
-  question_keeps facts state by (Cut window) is tells = absurd (cc)
-  question_keeps facts state by (AskSeat cand) is tells = own_keeps (is_known facts cand) by cand (TheSeat cand) (λ e. tells (TheSeat cand))
-  question_keeps facts state by (Why cand code) is tells =
-      why_keeps (is_known facts cand) (find_programme facts code) (is_chosen_by facts cand (find_programme facts code)) (length state.rounds) by cand (λ e p f none. tells (TheReason cand p))
-  question_keeps facts state by (AskList number code) is tells = list_keeps (find_programme facts code) (length state.rounds) number (λ p e within. tells (TheList number p))
-  question_keeps facts state by (AskRound number) is tells = round_keeps state.now (length state.rounds) number (λ within. tells (TheRound number))
-  question_keeps facts state by (AskChoices cand) is tells = own_keeps (is_known facts cand) by cand (TheChoices cand) (λ e. tells (TheChoices cand))
-  question_keeps facts state by AskState is tells = tells TheState
-  question_keeps facts state by (Raise window code step seats) is tells = absurd (cc)
+  question_keeps facts state by ask is tells = question_there facts state by ask is (λ question there. tells question)
 
 -- no question is newly accepted
 pub question_old : (facts : SeasonFacts) (state : State) (now : ℕ) (by : By) (ask : Ask) → is_question ask ≡ true → newly now (decided_by facts state by ask) ≡ None
 question_old facts state now by ask is = question_keeps (λ d. newly now d ≡ None) (λ r. refl) facts state by ask is (λ question. refl)
+
+-- what a decision names is there: the programme of a raise, and what a question names
+abbrev pub NamesThere : SeasonFacts → State → Decision → Type 0
+NamesThere facts state (RaisedAgain row) = row.prog.0 < length facts.matrix.programmes
+NamesThere facts state (Lift row) = row.prog.0 < length facts.matrix.programmes
+NamesThere facts state (Tell question) = IsThere facts state question
+NamesThere facts state _ = Unit {0}
+
+-- What a request comes to names what is there. So what holds of every such decision holds of what a request comes to.
+pub decided_there : (facts : SeasonFacts) (state : State) (by : By) (ask : Ask) → NamesThere facts state (decided_by facts state by ask)
+decided_there facts state by ask =
+    let P : Decision → Type 0 = NamesThere facts state in
+    by_kind (λ a. P (decided_by facts state by a))
+    (λ cand window turn choice. let row : AnswerRow = record { window = window; cand = cand; turn = turn; choice = choice } in
+    answer_keeps P (λ r. tt) (answer_looks facts (view_of state cand.0) row) by row tt tt)
+    (λ window. cut_keeps P (λ r. tt) by state.now facts.rounds window tt tt tt)
+    (λ window code step seats. programme_keeps P (λ r. tt) (find_programme facts code) _
+    (λ p found. let row : RaiseRow = record { window = window; prog = p; step = step; seats = seats } in
+    let below = (was_found facts code p found).below in
+    raise_keeps P (λ r. tt) (raise_looks facts state row) by row below below))
+    (λ a is. question_there P (λ r. tt) facts state by a is (λ question there. there)) ask
+
+-- a question that a request comes to names what is there
+pub told_there : (facts : SeasonFacts) (state : State) (request : Request) (question : Question) → decided facts state request ≡ Tell question → IsThere facts state question
+told_there facts state request question e = subst (λ d. NamesThere facts state d) e (decided_there facts state request.by request.ask)

@@ -1,6 +1,7 @@
 pub mod Chains
 pub mod Cuts
 pub mod Decisions
+pub mod Found
 pub mod Grows
 pub mod Narrows
 pub mod OneState

@@ -10,41 +10,28 @@ use Rattle.office_moves.specs.Moves.{Does, IsMove, Tells}
 use Rattle.office_moves.specs.History.{Reaches, asked, newly}
 use Rattle.office_moves.specs.Laws.{NextRoundsAreOne, OneNextRound, OneReply, OneState}
 use Rattle.office_moves.specs.declared.decide.Decision.{Decision}
-use Rattle.office_moves.specs.declared.decide.Decision.TheVariants.{Refuse, NotedAgain, RaisedAgain, CutAgain, Note, Lift, Publish, Finish, Tell}
+use Rattle.office_moves.specs.declared.decide.Decision.TheVariants.{Publish, Tell}
 use Rattle.office_moves.specs.declared.decide.Question.{Question}
-use Rattle.office_moves.specs.declared.decide.Question.TheVariants.{Seat as TheSeat, Why as TheReason, List as TheList, Round as TheRound, Choices as TheChoices, State as TheState}
+use Rattle.office_moves.specs.declared.decide.Question.TheVariants.{List as TheList}
 use Rattle.office_moves.specs.declared.moves.Entry.{Entry}
 use Rattle.office_moves.specs.declared.moves.Reply.{Reply}
 use Rattle.office_moves.specs.declared.moves.Reply.TheVariants.{ListIs, Published}
 
-both : (reply other told : Reply) (after then next : State) → (reply ≡ told) × (after ≡ next) → (other ≡ told) × (then ≡ next) → (reply ≡ other) × (after ≡ then)
-both reply other told after then next first second = (first.0 ∙ sym second.0, first.1 ∙ sym second.1)
-
 one_told : (facts : SeasonFacts) (state : State) (question : Question) (reply other : Reply) → Tells facts state question reply → Tells facts state question other → reply ≡ other
-one_told facts state (TheSeat cand) reply other first second = first ∙ sym second
-one_told facts state (TheReason cand prog) reply other first second = first ∙ sym second
 one_told facts state (TheList number prog) reply other first second =
     let e = first.1 in
     let f = second.1 in
     let same : first.0 ≡ second.0 = cc in
     first.2 ∙ (ap (λ (programme : Programme). ListIs number prog programme) same ∙ sym second.2)
-one_told facts state (TheRound number) reply other first second = first ∙ sym second
-one_told facts state (TheChoices cand) reply other first second = first ∙ sym second
-one_told facts state TheState reply other first second = first ∙ sym second
+one_told facts state question reply other first second = first ∙ sym second
 
 one_result : (facts : SeasonFacts) (old : State) (decision : Decision) (reply other : Reply) (after then : State) → OneNextRound facts old → Does facts old decision reply after
     → Does facts old decision other then → (reply ≡ other) × (after ≡ then)
-one_result facts old (Refuse refusal) reply other after then one first second = both _ _ _ _ _ _ first second
-one_result facts old (NotedAgain row) reply other after then one first second = both _ _ _ _ _ _ first second
-one_result facts old (RaisedAgain row) reply other after then one first second = both _ _ _ _ _ _ first second
-one_result facts old (CutAgain window) reply other after then one first second = both _ _ _ _ _ _ first second
-one_result facts old (Note row) reply other after then one first second = both _ _ _ _ _ _ first second
-one_result facts old (Lift row) reply other after then one first second = both _ _ _ _ _ _ first second
 one_result facts old Publish reply other after then one first second =
     let same = one first.0 second.0 first.1 second.1 in
     (first.2 ∙ (ap (λ (round : Round). Published (old.now + 1) (seated round.seats)) same ∙ sym second.2), first.3 ∙ (ap (with_round old) same ∙ sym second.3))
-one_result facts old Finish reply other after then one first second = both _ _ _ _ _ _ first second
 one_result facts old (Tell question) reply other after then one first second = (one_told facts old question reply other first.0 second.0, first.1 ∙ sym second.1)
+one_result facts old decision reply other after then one first second = (first.0 ∙ sym second.0, first.1 ∙ sym second.1)
 
 -- an act more at the end
 pub reaches_more : (facts : SeasonFacts) (old mid new : State) (entries : List Entry) (entry : Entry) (reply : Reply) → Reaches facts old entries mid

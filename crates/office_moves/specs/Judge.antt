@@ -48,7 +48,7 @@ is_candidate Clerk cand = false
 is_candidate (Candidate id) cand = id.0 == cand.0
 is_candidate Nobody cand = false
 
--- the candidate and the clerk may ask for the candidate's seat, for their choice list, and why
+-- the candidate and the clerk may ask about the candidate
 abbrev pub may_ask : By → CandId → Bool
 may_ask by cand = is_clerk by || is_candidate by cand
 

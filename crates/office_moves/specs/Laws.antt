@@ -1,7 +1,7 @@
 -- What holds of moves and of histories, over the definitions alone.
 use Rattle.std.specs.Prelude.{◌≡◌, List, Option, Some, None}
 use Rattle.office_base.specs.declared.asks.Ask.{Ask}
-use Rattle.office_base.specs.declared.asks.Ask.TheVariants.{Answer, Cut, Seat, Why, List as AskList, Round as AskRound, Choices as AskChoices, State as AskState, Raise}
+use Rattle.office_base.specs.declared.asks.Ask.TheVariants.{Answer, Seat, Why, Choices}
 use Rattle.office_base.specs.declared.asks.By.{By}
 use Rattle.office_base.specs.declared.asks.Request.{Request}
 use Rattle.office_base.specs.declared.person.CandId.{CandId}
@@ -15,17 +15,13 @@ use Rattle.office_moves.specs.declared.moves.Act.{Act}
 use Rattle.office_moves.specs.declared.moves.Entry.{Entry}
 use Rattle.office_moves.specs.declared.moves.Reply.{Reply}
 
--- the candidate at whose view alone a request looks: an answer, a seat, why, and a choice list
+-- the candidate at whose view alone a request looks, if there is one
 abbrev pub looks_at : Ask → Option CandId
 looks_at (Answer cand window turn choice) = Some cand
-looks_at (Cut window) = None
 looks_at (Seat cand) = Some cand
 looks_at (Why cand code) = Some cand
-looks_at (AskList round code) = None
-looks_at (AskRound round) = None
-looks_at (AskChoices cand) = Some cand
-looks_at AskState = None
-looks_at (Raise window code step seats) = None
+looks_at (Choices cand) = Some cand
+looks_at _ = None
 
 -- Two states that agree in a candidate's view give equal replies to the requests that look at that view alone.
 -- The view is how many cuts were made, the published rounds and the candidate's own rows.

@@ -281,7 +281,7 @@ fn not_open(now: u16, rounds: u16, window: u16) -> Option<Refusal>
     None
 }
 
-/// Returns whether this sender may ask for a candidate's seat, or why.
+/// Returns whether this sender may ask about a candidate.
 fn may_ask(by: By, cand: CandId) -> bool
     ensures { result ≡ may_ask by cand }
 {

@@ -2,7 +2,7 @@
 ghost use Rattle.office_moves.specs.Facts.{SeasonFacts};
 ghost use Rattle.office_moves.specs.Laws.{OneReply, OneState, OwnViewOnly, RepeatsOnce};
 
-/// The replies to an answer, a seat and why look at the season and at the candidate's own view alone.
+/// Shows that the reply to a request about one candidate looks at the season and at that candidate's view alone.
 pub fn own_view_only()
     ensures { (facts : SeasonFacts) → OwnViewOnly facts }
 {}
