@@ -1,6 +1,5 @@
 pub mod ChangeLemmas
 pub mod CutLemmas
-pub mod Fits
 pub mod HistoryLemmas
 pub mod Judged
 pub mod Lasts

@@ -6,7 +6,7 @@ ghost use Rattle.office_moves.specs.Decided.{decided, is_known};
 ghost use Rattle.office_moves.specs.Moves.{Does, Tells, programme_in, receipt, seat_reply, seated_in, told_seat, why_reply};
 ghost use Rattle.office_moves.specs.State.{round_at, view_of};
 ghost use Rattle.office_moves.specs.declared.decide.Question.TheVariants.{Choices as TheChoices, List as TheList};
-ghost use Rattle.proceedings.specs.Told.{FitsReply, copies_nothing, is_repeat};
+ghost use Rattle.proceedings.specs.Told.{copies_nothing, is_repeat};
 
 use crate::book::Proceedings;
 use office_base::{CandId, Listed, OutOfMemory, ProgId, Request, Seat};
@@ -64,7 +64,9 @@ impl Proceedings {
 
     /// Copies the lists of a programme in a published round.
     fn list(&self, alloc: Global, round: u16, prog: ProgId) -> Result<Reply, OutOfMemory>
-        requires { FitsReply self.now.season self.now.state (TheList round prog) }
+        requires some { 0 < round }
+        requires published { round ≤ length self.now.state.rounds }
+        requires programme { prog.0 < length self.now.season.matrix.programmes }
         ensures { IfOk result (λ reply.
             Tells self.now.season self.now.state (TheList round prog) reply) }
     {

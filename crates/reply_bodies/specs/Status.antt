@@ -1,7 +1,7 @@
 -- The status of each reply over HTTP.
 use Rattle.std.specs.Prelude.{ℕ}
 use Rattle.office_moves.specs.declared.moves.Reply.{Reply}
-use Rattle.office_moves.specs.declared.moves.Reply.TheVariants.{Noted, Raised, Published, Final, SeatIs, WhyIs, ListIs, RoundIs, ChoicesAre, StateIs, Refused}
+use Rattle.office_moves.specs.declared.moves.Reply.TheVariants.{Refused}
 use Rattle.office_moves.specs.declared.refusal.Refusal.{Refusal}
 use Rattle.office_moves.specs.declared.refusal.Refusal.TheVariants.{UnknownCandidate, UnknownProgramme, Denied, TurnUsed, Late, Ahead, Gap, Gone, NoSeat, Widening, TooManyTurns, NotChosen, NoSuchRound, LastWindow, StepFixed, Falling, SeatLimit}
 
@@ -28,14 +28,5 @@ refusal_status (SeatLimit total) = 409
 
 -- The status of a reply: 200 for each but a refusal.
 abbrev pub status_of : Reply → ℕ
-status_of (Noted cand window turn choice) = 200
-status_of (Raised window prog step seats) = 200
-status_of (Published number seated) = 200
-status_of (Final admitted) = 200
-status_of (SeatIs cand number standing seat) = 200
-status_of (WhyIs cand prog answer) = 200
-status_of (ListIs number prog programme) = 200
-status_of (RoundIs number) = 200
-status_of (ChoicesAre cand progs) = 200
-status_of (StateIs window rounds published) = 200
 status_of (Refused refusal) = refusal_status refusal
+status_of _ = 200

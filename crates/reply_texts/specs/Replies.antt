@@ -150,7 +150,6 @@ AreShownOf table people round rows = IfSome round (IsRoundOf table people) × Al
 
 -- The programmes that a reply names are of the matrix; so are those of the round or of the rows that its text shows.
 abbrev pub IsReplyOf : SeatTable → List Person → Option Round → List AllotRow → Reply → Type 0
-IsReplyOf table people round rows (Noted cand window turn choice) = Unit {0}
 IsReplyOf table people round rows (Raised window prog step seats) = prog.0 < length table.programmes
 IsReplyOf table people round rows (Published number seated) = IfSome round (IsRoundOf table people)
 IsReplyOf table people round rows (Final admitted) = AllByRecursion (λ row. row.prog.0 < length table.programmes) rows
@@ -159,5 +158,4 @@ IsReplyOf table people round rows (WhyIs cand prog answer) = (prog.0 < length ta
 IsReplyOf table people round rows (ListIs number prog programme) = (prog.0 < length table.programmes) × HasTraitSlots programme
 IsReplyOf table people round rows (RoundIs number) = AreShownOf table people round rows
 IsReplyOf table people round rows (ChoicesAre cand progs) = AllByRecursion (λ prog. prog.0 < length table.programmes) progs
-IsReplyOf table people round rows (StateIs window rounds published) = Unit {0}
-IsReplyOf table people round rows (Refused refusal) = Unit {0}
+IsReplyOf table people round rows _ = Unit {0}

@@ -21,16 +21,16 @@ use Rattle.office_moves.specs.State.{State, last_seat, round_at, seat_of, standi
 use Rattle.office_moves.specs.Why.{is_sought_by, reason_in, why_answer, why_beside, why_refused}
 use Rattle.office_moves.specs.Decided.{decided}
 use Rattle.office_moves.specs.declared.decide.Decision.{Decision}
-use Rattle.office_moves.specs.declared.decide.Decision.TheVariants.{Refuse, NotedAgain, RaisedAgain, CutAgain, Note, Lift, Publish, Finish, Tell}
+use Rattle.office_moves.specs.declared.decide.Decision.TheVariants.{RaisedAgain, CutAgain, Lift, Publish, Finish, Tell}
 use Rattle.office_moves.specs.declared.decide.Question.{Question}
-use Rattle.office_moves.specs.declared.decide.Question.TheVariants.{Seat as TheSeat, Why as TheReason, List as TheList, Round as TheRound, Choices as TheChoices, State as TheState}
+use Rattle.office_moves.specs.declared.decide.Question.TheVariants.{Seat as TheSeat, Why as TheReason, List as TheList, Round as TheRound, Choices as TheChoices}
 use Rattle.office_moves.specs.declared.moves.Reply.{Reply}
 use Rattle.office_moves.specs.declared.moves.Reply.TheVariants.{Published, Final}
+use Rattle.office_moves.proofs.Decisions.{IsThere, NamesThere, decided_there}
 use Rattle.published_texts.specs.Texts.{IsAnswerOf, IsSeatOf}
 use Rattle.histories.specs.Orderly.{IsOrderly}
 use Rattle.reply_texts.specs.Replies.{HasTraitSlots, IsReplyOf}
 use Rattle.shown_replies.specs.Shown.{CameOf, CanBeShown, round_shown, rows_shown}
-use Rattle.shown_replies.proofs.Named.{Names, decided_names}
 use Rattle.shown_replies.proofs.Seats.{ChooseWell, finals_show, is_round_shown, round_at_shows, seat_shows}
 
 abbrev Shows : SeasonFacts → State → Reply → Type 0
@@ -96,38 +96,37 @@ list_shows facts state number p programme laws sound orderly e = go (round_at st
 
 -- ---- each question
 
-tells_shows : (facts : SeasonFacts) (state : State) (question : Question) (reply : Reply) → ChooseWell → IsSound facts → IsOrderly facts state → Names (length facts.matrix.programmes) (Tell question)
+tells_shows : (facts : SeasonFacts) (state : State) (question : Question) (reply : Reply) → ChooseWell → IsSound facts → IsOrderly facts state → IsThere facts state question
     → Tells facts state question reply → Shows facts state reply
-tells_shows facts state (TheSeat cand) reply laws sound orderly names e =
+tells_shows facts state (TheSeat cand) reply laws sound orderly there e =
     subst (λ r. Shows facts state r) (sym e)
     (told_shows facts (standing_at facts (view_of state cand.0) cand.0 state.now) (last_seat facts state.rounds cand.0) (seat_shows facts state (length state.rounds) cand.0 laws sound orderly))
-tells_shows facts state (TheReason cand prog) reply laws sound orderly names e =
+tells_shows facts state (TheReason cand prog) reply laws sound orderly there e =
     subst (λ r. Shows facts state r) (sym e)
-    (names, why_shows facts (round_at state.rounds (length state.rounds)) cand prog (seat_shows facts state (length state.rounds) cand.0 laws sound orderly))
-tells_shows facts state (TheList number prog) reply laws sound orderly names tells =
-    subst (λ r. Shows facts state r) (sym tells.2) (names, list_shows facts state number prog.0 tells.0 laws sound orderly tells.1)
-tells_shows facts state (TheRound number) reply laws sound orderly names e =
+    (there.1, why_shows facts (round_at state.rounds (length state.rounds)) cand prog (seat_shows facts state (length state.rounds) cand.0 laws sound orderly))
+tells_shows facts state (TheList number prog) reply laws sound orderly there tells =
+    subst (λ r. Shows facts state r) (sym tells.2) (there.2, list_shows facts state number prog.0 tells.0 laws sound orderly tells.1)
+tells_shows facts state (TheRound number) reply laws sound orderly there e =
     subst (λ r. Shows facts state r) (sym e) (is_round_shown facts state number laws sound orderly, finals_show facts state laws sound orderly)
-tells_shows facts state (TheChoices cand) reply laws sound orderly names e = subst (λ r. Shows facts state r) (sym e) (sound.choices cand.0).numbers
-tells_shows facts state TheState reply laws sound orderly names e = subst (λ r. Shows facts state r) (sym e) tt
+tells_shows facts state (TheChoices cand) reply laws sound orderly there e = subst (λ r. Shows facts state r) (sym e) (sound.choices cand.0).numbers
+tells_shows facts state question reply laws sound orderly there e = subst (λ r. Shows facts state r) (sym e) tt
 
 -- ---- each decision
 
-does_shows : (facts : SeasonFacts) (old new : State) (decision : Decision) (reply : Reply) → ChooseWell → IsSound facts → IsOrderly facts new → Names (length facts.matrix.programmes) decision
+does_shows : (facts : SeasonFacts) (old new : State) (decision : Decision) (reply : Reply) → ChooseWell → IsSound facts → IsOrderly facts new → NamesThere facts old decision
     → Does facts old decision reply new → Shows facts new reply
-does_shows facts old new (Refuse refusal) reply laws sound orderly names does = subst (λ r. Shows facts new r) (sym does.0) tt
-does_shows facts old new (NotedAgain row) reply laws sound orderly names does = subst (λ r. Shows facts new r) (sym does.0) tt
-does_shows facts old new (RaisedAgain row) reply laws sound orderly names does = subst (λ r. Shows facts new r) (sym does.0) names
-does_shows facts old new (CutAgain window) reply laws sound orderly names does =
+does_shows facts old new (RaisedAgain row) reply laws sound orderly there does = subst (λ r. Shows facts new r) (sym does.0) there
+does_shows facts old new (CutAgain window) reply laws sound orderly there does =
     subst (λ r. Shows facts new r) (sym (does.0 ∙ ap (λ s. receipt facts s window) (sym does.1))) (receipt_shows facts new window laws sound orderly)
-does_shows facts old new (Note row) reply laws sound orderly names does = subst (λ r. Shows facts new r) (sym does.0) tt
-does_shows facts old new (Lift row) reply laws sound orderly names does = subst (λ r. Shows facts new r) (sym does.0) names
-does_shows facts old new Publish reply laws sound orderly names does = subst (λ r. Shows facts new r) (sym does.2) (is_round_shown facts new (old.now + 1) laws sound orderly)
-does_shows facts old new Finish reply laws sound orderly names does = subst (λ r. Shows facts new r) (sym does.0) (finals_show facts new laws sound orderly)
-does_shows facts old new (Tell question) reply laws sound orderly names does =
-    tells_shows facts new question reply laws sound orderly names (subst (λ s. Tells facts s question reply) (sym does.1) does.0)
+does_shows facts old new (Lift row) reply laws sound orderly there does = subst (λ r. Shows facts new r) (sym does.0) there
+does_shows facts old new Publish reply laws sound orderly there does = subst (λ r. Shows facts new r) (sym does.2) (is_round_shown facts new (old.now + 1) laws sound orderly)
+does_shows facts old new Finish reply laws sound orderly there does = subst (λ r. Shows facts new r) (sym does.0) (finals_show facts new laws sound orderly)
+does_shows facts old new (Tell question) reply laws sound orderly there does =
+    let same = sym does.1 in
+    tells_shows facts new question reply laws sound orderly (subst (λ s. IsThere facts s question) same there) (subst (λ s. Tells facts s question reply) same does.0)
+does_shows facts old new decision reply laws sound orderly there does = subst (λ r. Shows facts new r) (sym does.0) tt
 
 pub shows : (facts : SeasonFacts) (state : State) (reply : Reply) → ChooseWell → IsSound facts → IsOrderly facts state → CameOf facts state reply → CanBeShown facts state reply
 unfolding CanBeShown
 shows facts state reply laws sound orderly came =
-    does_shows facts came.old state (decided facts came.old came.request) reply laws sound orderly (decided_names facts came.old came.request.by came.request.ask) came.moves
+    does_shows facts came.old state (decided facts came.old came.request) reply laws sound orderly (decided_there facts came.old came.request.by came.request.ask) came.moves

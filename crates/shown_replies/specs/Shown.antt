@@ -8,22 +8,14 @@ use Rattle.office_moves.specs.Facts.{SeasonFacts}
 use Rattle.office_moves.specs.State.{State, round_at}
 use Rattle.office_moves.specs.Moves.{IsMove}
 use Rattle.office_moves.specs.declared.moves.Reply.{Reply}
-use Rattle.office_moves.specs.declared.moves.Reply.TheVariants.{Noted, Raised, Published, Final, SeatIs, WhyIs, ListIs, RoundIs, ChoicesAre, StateIs, Refused}
+use Rattle.office_moves.specs.declared.moves.Reply.TheVariants.{Published, RoundIs}
 use Rattle.reply_texts.specs.Replies.{IsReplyOf, reply_text}
 
 -- the round that the text of a reply shows: the one that the cut published, or the one that was asked for, and none with any other reply
 abbrev pub round_shown : State → Reply → Option Round
-round_shown state (Noted cand window turn choice) = None
-round_shown state (Raised window prog step seats) = None
 round_shown state (Published number seated) = round_at state.rounds number
-round_shown state (Final admitted) = None
-round_shown state (SeatIs cand number standing seat) = None
-round_shown state (WhyIs cand prog answer) = None
-round_shown state (ListIs number prog programme) = None
 round_shown state (RoundIs number) = round_at state.rounds number
-round_shown state (ChoicesAre cand progs) = None
-round_shown state (StateIs window rounds published) = None
-round_shown state (Refused refusal) = None
+round_shown state _ = None
 
 -- the final rows, once they are
 abbrev pub rows_shown : State → List AllotRow

@@ -42,15 +42,7 @@ pub fn shown_round<'a, P: Keeper>(office: &'a Office<P>, reply: &Reply) -> Optio
 {
     match reply {
         Reply::Published { round, .. } | Reply::RoundIs { round } => office.round(*round),
-        Reply::Noted { .. }
-        | Reply::Raised { .. }
-        | Reply::Final { .. }
-        | Reply::SeatIs { .. }
-        | Reply::WhyIs { .. }
-        | Reply::ListIs { .. }
-        | Reply::ChoicesAre { .. }
-        | Reply::StateIs { .. }
-        | Reply::Refused(_) => None,
+        _ => None,
     }
 }
 
