@@ -177,7 +177,7 @@ def routes():
     own = set(operations())
     named = re.findall(r"`(GET|POST) (/v1/[\w/]+)`", section("\n## Requests over HTTP\n").partition("\n### ")[0])
     told = {(method, re.sub(r"[A-Z]+", lambda it: "{" + it[0].lower() + "}", path)) for method, path in named}
-    in_code = set(re.findall(r'add\(&mut router, "([^"]+)"', text_of("crates/http_asks/src/roads.rt")))
+    in_code = set(re.findall(r'Road::\w+ => "([^"]+)"', text_of("crates/http_asks/src/roads.rt")))
     return differ("routes", (PATH, own), (FORMATS, told)) + differ("routes", (PATH, {it for _, it in own}), ("the code", in_code))
 
 

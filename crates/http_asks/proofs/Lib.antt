@@ -1,4 +1,6 @@
+mod EachRoad
 mod NamedLemmas
 mod PagesLemmas
-mod RoadsLemmas
+mod PiecesLemmas
+mod RouterLemmas
 mod WalkLemmas

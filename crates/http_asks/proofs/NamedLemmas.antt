@@ -1,23 +1,24 @@
 -- The path of a page names it.
-use Rattle.std.proofs.Common.{◌≡◌, ◌<◌, ◌≤◌, ◌^◌, ℕ, Bool, true, false, not, ◌&&◌, ◌==◌, leb, List, [], ◌∷◌, ◌++◌, Option, Some, None, unwrap_or, codes, refl, sym, ap, ◌∙◌, arith, eq-eqb, length, lit<}
+use Rattle.std.proofs.Common.{◌≡◌, ◌<◌, ◌≤◌, ◌^◌, ℕ, Bool, true, false, not, ◌&&◌, ◌==◌, leb, List, [], ◌∷◌, ◌++◌, Option, Some, None, unwrap_or, codes, refl, sym, ap, subst, ◌∙◌, arith, eq-eqb, length}
 use Rattle.std.specs.Char.{is_ascii_digit}
 use Rattle.std.specs.Fmt.{decimal}
 use Rattle.std.specs.List.{list_all}
-use Rattle.std.specs.Option.{option_and_then, option_map}
+use Rattle.std.specs.Option.{option_map}
 use Rattle.std.proofs.lemmas.Bool.{and_from, and_parts, cond-false, cond-true, eqb-true, false≢true, le-leb}
+use Rattle.std.proofs.lemmas.List.{append-nil}
 use Rattle.std.proofs.lemmas.List.Folds.{list_all-append}
 use Rattle.office_base.specs.Codes.{is_code, is_code_byte}
-use Rattle.office_base.specs.Limits.{last_id, last_window, longest_code, shortest_code}
-use Rattle.office_base.specs.declared.asks.Ask.{Ask}
-use Rattle.office_base.specs.declared.asks.Ask.TheVariants.{Answer, Cut, Seat, Why, List as ListOf, Round, Choices, State, Raise}
-use Rattle.office_base.specs.declared.person.CandId.{CandId}
+use Rattle.office_base.specs.Limits.{longest_code, shortest_code}
 use Rattle.office_text.specs.Lines.{cut_at, onto_first}
 use Rattle.office_text.specs.Names.{code_of}
 use Rattle.office_text.specs.Number.{AreInverse, is_number, number_within, value_of}
-use Rattle.http_asks.specs.Laws.{HasPath, IsReadable, page_text}
-use Rattle.http_asks.specs.Pages.{page_at, page_of, path_of, read_page}
+use Rattle.http_asks.specs.Laws.{HasPath, page_text}
+use Rattle.http_asks.specs.Pages.{first_of_pieces, page_at, page_of, path_of}
+use Rattle.http_asks.specs.Roads.{Shape, alone, number, number_and_code, asked_with, name_of, page_after, shape_of}
 use Rattle.http_asks.specs.declared.pages.Page.{Page}
-use Rattle.http_asks.specs.declared.pages.Page.TheVariants.{Answers, Cuts, Raises, Reads}
+use Rattle.http_asks.specs.declared.pages.Page.TheVariants.{Reads}
+use Rattle.http_asks.specs.declared.roads.Road.{Road}
+use Rattle.http_asks.proofs.EachRoad.{IsWithin, highest, name-bytes, on-road, own-row, page_with, small, tail_with, texts}
 use Rattle.http_asks.proofs.PagesLemmas.{cond-some}
 
 -- ---- texts without a mark
@@ -94,82 +95,71 @@ coded text e = cond-true (is_code text) (Some text) None e
 
 -- ---- pages
 
--- two pieces with a slash between, after which no query comes
-two_pieces : (number code : List ℕ) → list_all is_ascii_digit number ≡ true → list_all is_code_byte code ≡ true → cut_at 47 (number ++ 47 ∷ code) ≡ number ∷ code ∷ []
-two_pieces number code digits bytes =
-    cut_before is_ascii_digit 47 refl number code digits ∙ ap (λ (pieces : List (List ℕ)). number ∷ pieces) (uncut is_code_byte 47 refl code bytes)
+-- the pieces of a path after its name
+abbrev pieces_with : Shape → ℕ → List ℕ → List (List ℕ)
+pieces_with (alone page) n code = []
+pieces_with (number low high asked) n code = decimal n ∷ []
+pieces_with (number_and_code low high asked) n code = decimal n ∷ code ∷ []
 
-two_unqueried : (number code : List ℕ) → list_all is_ascii_digit number ≡ true → list_all is_code_byte code ≡ true → cut_at 63 (number ++ 47 ∷ code) ≡ (number ++ 47 ∷ code) ∷ []
-two_unqueried number code digits bytes =
-    uncut unqueried 63 refl (number ++ 47 ∷ code) (list_all-append unqueried number (47 ∷ code)
-    ∙ and_from (list_all unqueried number) (list_all unqueried (47 ∷ code)) (all_unqueried is_ascii_digit refl number digits) (all_unqueried is_code_byte refl code bytes))
+-- a name and what follows it: its pieces, the page that they name, and that no query begins
+record IsTail (name : List ℕ) (shape : Shape) (n : ℕ) (code : List ℕ) : Type 0 where
+  cut : cut_at 47 (name ++ tail_with shape n code) ≡ name ∷ pieces_with shape n code
+  names : page_after shape (pieces_with shape n code) ≡ Some (page_with shape n code)
+  bare : list_all unqueried (tail_with shape n code) ≡ true
 
-seat-at : (number : List ℕ) (id : ℕ) → IsDecimal 1 last_id id number → page_at (cut_at 47 (codes "/v1/seat/" ++ number)) ≡ Some (Reads (Seat (record { 0 = id })))
-seat-at number id is =
-    let one : cut_at 47 number ≡ number ∷ [] = uncut is_ascii_digit 47 refl number is.digits in
-    rw one (ap (λ (o : Option ℕ). read_page (option_map (λ (cand : CandId). Seat cand) (option_map (λ id. record { 0 = id }) o))) is.within)
-
-why-at : (number code : List ℕ) (id : ℕ) → IsDecimal 1 last_id id number → is_code code ≡ true → page_at (cut_at 47 (codes "/v1/why/" ++ number ++ 47 ∷ code)) ≡ Some (Reads (Why (record { 0 = id }) code))
-why-at number code id is spelled =
-    let two : cut_at 47 (number ++ 47 ∷ code) ≡ number ∷ code ∷ [] = two_pieces number code is.digits (code_bytes code spelled) in
-    rw two (ap (λ (o : Option ℕ). read_page (option_and_then (λ (cand : CandId). option_map (λ prog. Why cand prog) (code_of code)) (option_map (λ id. record { 0 = id }) o))) is.within
-    ∙ ap (λ (o : Option (List ℕ)). read_page (option_map (λ prog. Why (record { 0 = id }) prog) o)) (coded code spelled))
-
-list-at : (number code : List ℕ) (round : ℕ) → IsDecimal 0 last_window round number → is_code code ≡ true → page_at (cut_at 47 (codes "/v1/list/" ++ number ++ 47 ∷ code)) ≡ Some (Reads (ListOf round code))
-list-at number code round is spelled =
-    let two : cut_at 47 (number ++ 47 ∷ code) ≡ number ∷ code ∷ [] = two_pieces number code is.digits (code_bytes code spelled) in
-    rw two (ap (λ (o : Option ℕ). read_page (option_and_then (λ round. option_map (λ prog. ListOf round prog) (code_of code)) o)) is.within
-    ∙ ap (λ (o : Option (List ℕ)). read_page (option_map (λ prog. ListOf round prog) o)) (coded code spelled))
-
-round-at : (number : List ℕ) (round : ℕ) → IsDecimal 0 last_window round number → page_at (cut_at 47 (codes "/v1/round/" ++ number)) ≡ Some (Reads (Round round))
-round-at number round is =
-    let one : cut_at 47 number ≡ number ∷ [] = uncut is_ascii_digit 47 refl number is.digits in
-    rw one (ap (λ (o : Option ℕ). read_page (option_map (λ round. Round round) o)) is.within)
-
-choices-at : (number : List ℕ) (id : ℕ) → IsDecimal 1 last_id id number → page_at (cut_at 47 (codes "/v1/choices/" ++ number)) ≡ Some (Reads (Choices (record { 0 = id })))
-choices-at number id is =
-    let one : cut_at 47 number ≡ number ∷ [] = uncut is_ascii_digit 47 refl number is.digits in
-    rw one (ap (λ (o : Option ℕ). read_page (option_map (λ (cand : CandId). Choices cand) (option_map (λ id. record { 0 = id }) o))) is.within)
+tail : AreInverse → (name : List ℕ) → list_all is_code_byte name ≡ true → (shape : Shape) (n : ℕ) (code : List ℕ) → highest shape < 2 ^ 64 → IsWithin shape n code → IsTail name shape n code
+tail inverse name plain (alone page) n code small within = record {
+  cut = ap (cut_at 47) (append-nil name) ∙ uncut is_code_byte 47 refl name plain;
+  names = refl;
+  bare = refl;
+}
+tail inverse name plain (number low high asked) n code small within =
+    let is = decimals inverse low high n within.0 within.1 small in record {
+      cut = cut_before is_code_byte 47 refl name (decimal n) plain ∙ ap (λ (pieces : List (List ℕ)). name ∷ pieces) (uncut is_ascii_digit 47 refl (decimal n) is.digits);
+      names = ap (λ (o : Option ℕ). option_map (λ n. Reads (asked n)) o) is.within;
+      bare = all_unqueried is_ascii_digit refl (decimal n) is.digits;
+    }
+tail inverse name plain (number_and_code low high asked) n code small within =
+    let is = decimals inverse low high n within.0 within.1 small in
+    let bytes = code_bytes code within.2 in record {
+      cut = cut_before is_code_byte 47 refl name (decimal n ++ 47 ∷ code) plain
+          ∙ ap (λ (pieces : List (List ℕ)). name ∷ pieces) (cut_before is_ascii_digit 47 refl (decimal n) code is.digits)
+          ∙ ap (λ (pieces : List (List ℕ)). name ∷ decimal n ∷ pieces) (uncut is_code_byte 47 refl code bytes);
+      names = ap (λ (o : Option ℕ). asked_with asked o (code_of code)) is.within ∙ ap (λ (o : Option (List ℕ)). asked_with asked (Some n) o) (coded code within.2);
+      bare = list_all-append unqueried (decimal n) (47 ∷ code)
+          ∙ and_from (list_all unqueried (decimal n)) (list_all unqueried (47 ∷ code)) (all_unqueried is_ascii_digit refl (decimal n) is.digits) (all_unqueried is_code_byte refl code bytes);
+    }
 
 -- what the path of a page names, and that it has no query
 record IsPathOf (page : Page) : Type 0 where
   names : page_at (cut_at 47 (page_text page)) ≡ Some page
   bare : path_of (page_text page) ≡ page_text page
 
-read-path : AreInverse → (ask : Ask) → IsReadable ask → IsPathOf (Reads ask)
-read-path inverse (Seat cand) range =
-    let is = decimals inverse 1 last_id cand.0 range.0 range.1 (lit< tt) in
-    let one : cut_at 63 (decimal cand.0) ≡ decimal cand.0 ∷ [] = uncut is_ascii_digit 63 refl (decimal cand.0) is.digits in
-    record { names = seat-at (decimal cand.0) cand.0 is; bare = rw one refl }
-read-path inverse (Why cand prog) range =
-    let is = decimals inverse 1 last_id cand.0 range.0 range.1 (lit< tt) in
-    let one : cut_at 63 (decimal cand.0 ++ 47 ∷ prog) ≡ (decimal cand.0 ++ 47 ∷ prog) ∷ [] = two_unqueried (decimal cand.0) prog is.digits (code_bytes prog range.2) in
-    record { names = why-at (decimal cand.0) prog cand.0 is range.2; bare = rw one refl }
-read-path inverse (ListOf round prog) range =
-    let is = decimals inverse 0 last_window round (omega arith) range.0 (lit< tt) in
-    let one : cut_at 63 (decimal round ++ 47 ∷ prog) ≡ (decimal round ++ 47 ∷ prog) ∷ [] = two_unqueried (decimal round) prog is.digits (code_bytes prog range.1) in
-    record { names = list-at (decimal round) prog round is range.1; bare = rw one refl }
-read-path inverse (Round round) range =
-    let is = decimals inverse 0 last_window round (omega arith) range (lit< tt) in
-    let one : cut_at 63 (decimal round) ≡ decimal round ∷ [] = uncut is_ascii_digit 63 refl (decimal round) is.digits in
-    record { names = round-at (decimal round) round is; bare = rw one refl }
-read-path inverse (Choices cand) range =
-    let is = decimals inverse 1 last_id cand.0 range.0 range.1 (lit< tt) in
-    let one : cut_at 63 (decimal cand.0) ≡ decimal cand.0 ∷ [] = uncut is_ascii_digit 63 refl (decimal cand.0) is.digits in
-    record { names = choices-at (decimal cand.0) cand.0 is; bare = rw one refl }
-read-path inverse State range = record { names = refl; bare = refl }
-read-path inverse (Answer cand window turn choice) range = absurd range
-read-path inverse (Cut window) range = absurd range
-read-path inverse (Raise window prog step seats) range = absurd range
+-- the path on a road with a number and a code
+road-path : AreInverse → (road : Road) (n : ℕ) (code : List ℕ) → IsWithin (shape_of road) n code → IsPathOf (page_with (shape_of road) n code)
+road-path inverse road n code within =
+    let name = name_of road in
+    let end = tail_with (shape_of road) n code in
+    let is = tail inverse name (name-bytes road) (shape_of road) n code (small road) within in
+    let path : List ℕ = codes "/v1/" ++ name ++ end in
+    let text : page_text (page_with (shape_of road) n code) ≡ path = texts road n code in
+    let bare : list_all unqueried (name ++ end) ≡ true =
+    list_all-append unqueried name end ∙ and_from (list_all unqueried name) (list_all unqueried end) (all_unqueried is_code_byte refl name (name-bytes road)) is.bare in record {
+      names = ap (λ (path : List ℕ). page_at (cut_at 47 path)) text
+          ∙ ap (λ (pieces : List (List ℕ)). page_at ([] ∷ codes "v1" ∷ pieces)) is.cut
+          ∙ own-row road (pieces_with (shape_of road) n code)
+          ∙ is.names;
+      bare = ap path_of text ∙ ap first_of_pieces (uncut unqueried 63 refl path bare) ∙ sym text;
+    }
 
 path-of : AreInverse → (page : Page) → HasPath page → IsPathOf page
-path-of inverse Answers has = record { names = refl; bare = refl }
-path-of inverse Cuts has = record { names = refl; bare = refl }
-path-of inverse Raises has = record { names = refl; bare = refl }
-path-of inverse (Reads ask) has = read-path inverse ask has
+path-of inverse page has =
+    let on = on-road page has in
+    subst IsPathOf on.is (road-path inverse on.road on.n on.code on.within)
 
 -- Each target with the path of a page names it.
 pub queried_path : AreInverse → (target : List ℕ) (page : Page) → HasPath page → path_of target ≡ page_text page → page_of target ≡ Some page
+unfolding page_of
 queried_path inverse target page has same =
     ap (λ (path : List ℕ). page_at (cut_at 47 path)) same ∙ (path-of inverse page has).names
 

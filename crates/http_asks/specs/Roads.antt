@@ -1,58 +1,61 @@
--- The routes of pages as a router keeps them, and the paths that are on them.
-use Rattle.std.specs.Prelude.{◌≡◌, ℕ, List, [], ◌∷◌, ◌++◌, Option, None, Some, Result, Ok, Err, codes}
-use Rattle.matchit.specs.Route.{Scan}
-use Rattle.matchit.specs.Rows.{RowsOf}
-use Rattle.matchit.specs.Router.{RouteOf, nearest, rename}
-use Rattle.matchit.specs.declared.error.InsertError.{InsertError}
+-- The roads to the pages: a page's name, and what its paths have after the name.
+use Rattle.std.specs.Prelude.{ℕ, List, [], ◌∷◌, Option, None, Some, codes}
+use Rattle.std.specs.Option.{option_and_then, option_map}
+use Rattle.office_base.specs.Limits.{last_id, last_window}
+use Rattle.office_base.specs.declared.asks.Ask.{Ask}
+use Rattle.office_base.specs.declared.asks.Ask.TheVariants as ask
+use Rattle.office_base.specs.declared.person.CandId.{CandId}
+use Rattle.office_text.specs.Names.{code_of}
+use Rattle.office_text.specs.Number.{number_within}
+use Rattle.http_asks.specs.declared.pages.Page.{Page}
+use Rattle.http_asks.specs.declared.pages.Page.TheVariants.{Answers, Cuts, Raises, Reads}
 use Rattle.http_asks.specs.declared.roads.Road.{Road}
 use Rattle.http_asks.specs.declared.roads.Road.TheVariants.{Answer, Choices, Cut, Raise, Round, Seat, Why, RoundList, State}
 
--- how the paths of a road begin, up to the first parameter
-abbrev pub road_start : Road → List ℕ
-road_start Answer = codes "/v1/answer"
-road_start Cut = codes "/v1/cut"
-road_start Raise = codes "/v1/raise"
-road_start Seat = codes "/v1/seat/"
-road_start Why = codes "/v1/why/"
-road_start RoundList = codes "/v1/list/"
-road_start Round = codes "/v1/round/"
-road_start Choices = codes "/v1/choices/"
-road_start State = codes "/v1/state"
+-- What the paths of a page have after its name, and the page that they name: nothing and this page,
+-- a number within bounds and what is asked with it, or such a number and the code of a programme.
+pub data Shape : Type 0 where
+  alone : (page : Page) → Shape
+  number : (low high : ℕ) (asked : ℕ → Ask) → Shape
+  number_and_code : (low high : ℕ) (asked : ℕ → List ℕ → Ask) → Shape
 
--- what follows in the pattern of a road: 256 is a parameter, 47 is a slash
-abbrev pub road_parameters : Road → List ℕ
-road_parameters Answer = []
-road_parameters Cut = []
-road_parameters Raise = []
-road_parameters Seat = 256 ∷ []
-road_parameters Why = 256 ∷ 47 ∷ 256 ∷ []
-road_parameters RoundList = 256 ∷ 47 ∷ 256 ∷ []
-road_parameters Round = 256 ∷ []
-road_parameters Choices = 256 ∷ []
-road_parameters State = []
+-- a candidate's number
+abbrev pub candidate : (CandId → Ask) → Shape
+candidate asked = number 1 last_id (λ id. asked (record { 0 = id }))
 
--- a road with its pattern
-abbrev pub road_row : Road → List ℕ × Road
-road_row road = (road_start road ++ road_parameters road, road)
+-- a candidate's number and a code
+abbrev pub candidate_and_code : (CandId → List ℕ → Ask) → Shape
+candidate_and_code asked = number_and_code 1 last_id (λ id code. asked (record { 0 = id }) code)
 
--- the roads of all pages, by the order of their patterns
-abbrev pub road_rows : RowsOf Road
-road_rows =
-    road_row Answer ∷ road_row Choices ∷ road_row Cut ∷ road_row RoundList ∷ road_row Raise ∷ road_row Round ∷ road_row Seat ∷ road_row State ∷ road_row Why ∷ []
+-- the number of a round
+abbrev pub round : (ℕ → Ask) → Shape
+round asked = number 0 last_window asked
 
--- the patterns of routes, each with its road
-abbrev pub roads_of : RowsOf (RouteOf Road) → RowsOf Road
-roads_of routes = rename (λ route. route.value) routes
+-- the number of a round and a code
+abbrev pub round_and_code : (ℕ → List ℕ → Ask) → Shape
+round_and_code asked = number_and_code 0 last_window asked
 
--- a route that was read may be added to those: none of them conflicts with it
-abbrev pub Fits : Result Scan InsertError → RowsOf (RouteOf Road) → Type 0
-Fits (Ok route) routes = nearest route.pattern routes ≡ None
-Fits (Err fault) routes = ⊥
+-- the roads to all pages
+abbrev pub row_of : Road → List ℕ × Shape
+row_of Answer = (codes "answer", alone Answers)
+row_of Choices = (codes "choices", candidate (λ cand. ask.Choices cand))
+row_of Cut = (codes "cut", alone Cuts)
+row_of RoundList = (codes "list", round_and_code (λ round prog. ask.List round prog))
+row_of Raise = (codes "raise", alone Raises)
+row_of Round = (codes "round", round (λ round. ask.Round round))
+row_of Seat = (codes "seat", candidate (λ cand. ask.Seat cand))
+row_of State = (codes "state", alone (Reads ask.State))
+row_of Why = (codes "why", candidate_and_code (λ cand prog. ask.Why cand prog))
 
--- The path is on that road: it begins as its paths do, this comes after that,
--- and nothing does if the road has no parameters.
-abbrev pub IsOn : Road → List ℕ → List ℕ → Type 0
-IsOn road path rest = (path ≡ road_start road ++ rest) × (road_parameters road ≡ [] → rest ≡ [])
+abbrev pub all_roads : List Road
+all_roads = Answer ∷ Choices ∷ Cut ∷ RoundList ∷ Raise ∷ Round ∷ Seat ∷ State ∷ Why ∷ []
+
+-- the name of the page, and what comes after it
+abbrev pub name_of : Road → List ℕ
+name_of road = (row_of road).0
+
+abbrev pub shape_of : Road → Shape
+shape_of road = (row_of road).1
 
 -- the piece, if there is one alone
 abbrev pub one_of : List (List ℕ) → Option (List ℕ)
@@ -61,8 +64,21 @@ one_of (first ∷ []) = Some first
 one_of (first ∷ second ∷ pieces) = None
 
 -- the two pieces, if there are two
-abbrev pub two_of : List (List ℕ) → List (List ℕ)
-two_of [] = []
-two_of (first ∷ []) = []
-two_of (first ∷ second ∷ []) = first ∷ second ∷ []
-two_of (first ∷ second ∷ third ∷ pieces) = []
+abbrev pub two_of : List (List ℕ) → Option (List ℕ × List ℕ)
+two_of [] = None
+two_of (first ∷ []) = None
+two_of (first ∷ second ∷ []) = Some (first, second)
+two_of (first ∷ second ∷ third ∷ pieces) = None
+
+-- what is asked with a number and a code, if there are both
+abbrev pub asked_with : (ℕ → List ℕ → Ask) → Option ℕ → Option (List ℕ) → Option Page
+asked_with asked None code = None
+asked_with asked (Some n) code = option_map (λ code. Reads (asked n code)) code
+
+-- the page of a shape, by the pieces after the name
+abbrev pub page_after : Shape → List (List ℕ) → Option Page
+page_after (alone page) [] = Some page
+page_after (alone page) (piece ∷ pieces) = None
+page_after (number low high asked) pieces = option_map (λ n. Reads (asked n)) (option_and_then (λ piece. number_within low high piece) (one_of pieces))
+page_after (number_and_code low high asked) pieces =
+    option_and_then (λ both. asked_with asked (number_within low high both.0) (code_of both.1)) (two_of pieces)

@@ -8,7 +8,7 @@ ghost use Rattle.http_asks.specs.declared.judging.Judged.TheVariants.{Refused};
 
 use crate::bodies::{ask_in, read_body};
 use crate::pages::{Page, page_of};
-use crate::roads::Routes;
+use crate::router::Routes;
 use http_heads::{Fields, HeldMessage, Method};
 use office_base::{Ask, OutOfMemory};
 use std::alloc::Global;

@@ -13,8 +13,10 @@ pub mod bodies;
 pub mod judging;
 pub mod laws;
 pub mod pages;
+mod pieces;
 pub mod roads;
+pub mod router;
 
 pub use judging::{Judged, judge, token};
 pub use pages::Page;
-pub use roads::Routes;
+pub use router::Routes;

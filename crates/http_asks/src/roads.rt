@@ -1,105 +1,114 @@
-// The roads to the pages: which of them a path is on, found by the kit's `matchit`.
-ghost use Rattle.std.specs.Prelude.{◌≡◌, ℕ, List, None, Ok, IfSome, IfNone, OnOk};
+// The roads to the pages: the route of each, and the page that a path on it names.
+ghost use Rattle.std.specs.Prelude.{◌≡◌, ◌++◌, []};
 ghost use Rattle.matchit.specs.Route.{parse_route};
-ghost use Rattle.matchit.specs.Router.{InsertsRead};
 ghost use Rattle.office_text.specs.Lines.{cut_at};
-ghost use Rattle.http_asks.specs.Pages.{page_at};
-ghost use Rattle.http_asks.specs.Roads.{Fits, IsOn, road_rows, road_start, roads_of};
+ghost use Rattle.http_asks.specs.Pages.{first_of_pieces, page_at};
+ghost use Rattle.http_asks.specs.Roads.{page_after, shape_of};
+ghost use Rattle.http_asks.specs.Router.{IsRouteOf, parameters, road_start};
 
-use matchit::{InsertError, Router};
-use office_base::OutOfMemory;
-use std::alloc::Global;
+use crate::pages::Page;
+use crate::pieces::{first_piece, one_piece, read_candidate, read_round, two_pieces};
+use office_base::{Ask, Code};
 
 /// What the path of a page is for, before its parameters are read.
 #[derive(Clone, Copy, Debug, PartialEq, Eq)]
 pub enum Road {
     Answer,
-    Cut,
-    Raise,
-    Seat,
-    Why,
-    RoundList,
-    Round,
     Choices,
+    Cut,
+    RoundList,
+    Raise,
+    Round,
+    Seat,
     State,
+    Why,
 }
+
+/// The roads to all pages.
+pub(crate) const ROADS: [Road; 9] = [
+    Road::Answer,
+    Road::Choices,
+    Road::Cut,
+    Road::RoundList,
+    Road::Raise,
+    Road::Round,
+    Road::Seat,
+    Road::State,
+    Road::Why,
+];
 
 impl Road {
-    /// Returns how its paths begin, up to the first parameter.
-    fn start(self) -> &'static [u8]
-        ensures { result.now ≡ road_start self }
+    /// Returns its route for a router.
+    #[tactic(auto, unfolding(matchit::specs::Route::scan))]
+    pub(crate) fn route(self) -> &'static str
+        ensures read { IsRouteOf self (parse_route result.now) }
+        ensures start { first_of_pieces (cut_at 123 result.now) ≡ road_start self }
     {
         match self {
-            Road::Answer => b"/v1/answer",
-            Road::Cut => b"/v1/cut",
-            Road::Raise => b"/v1/raise",
-            Road::Seat => b"/v1/seat/",
-            Road::Why => b"/v1/why/",
-            Road::RoundList => b"/v1/list/",
-            Road::Round => b"/v1/round/",
-            Road::Choices => b"/v1/choices/",
-            Road::State => b"/v1/state",
+            Road::Answer => "/v1/answer",
+            Road::Choices => "/v1/choices/{cand}",
+            Road::Cut => "/v1/cut",
+            Road::RoundList => "/v1/list/{round}/{prog}",
+            Road::Raise => "/v1/raise",
+            Road::Round => "/v1/round/{round}",
+            Road::Seat => "/v1/seat/{cand}",
+            Road::State => "/v1/state",
+            Road::Why => "/v1/why/{cand}/{prog}",
         }
     }
-}
 
-/// The routes of all pages. They are made once; a path is looked up without an allocator.
-#[derive(Drop)]
-pub struct Routes {
-    router: Router<Road>,
-    pub ghost table: { roads_of router ≡ road_rows },
-}
-
-impl Routes {
-    /// Returns the routes of all pages, unless memory runs out.
-    pub fn new(alloc: Global) -> Result<Routes, OutOfMemory> {
-        let mut router = Router::new(alloc);
-        add(&mut router, "/v1/answer", Road::Answer)?;
-        add(&mut router, "/v1/cut", Road::Cut)?;
-        add(&mut router, "/v1/raise", Road::Raise)?;
-        add(&mut router, "/v1/seat/{cand}", Road::Seat)?;
-        add(&mut router, "/v1/why/{cand}/{prog}", Road::Why)?;
-        add(&mut router, "/v1/list/{round}/{prog}", Road::RoundList)?;
-        add(&mut router, "/v1/round/{round}", Road::Round)?;
-        add(&mut router, "/v1/choices/{cand}", Road::Choices)?;
-        add(&mut router, "/v1/state", Road::State)?;
-        Ok(Routes { router })
-    }
-
-    /// Returns the road that a path is on, and what comes after the start of its paths.
-    /// None only if the path is no page's.
-    pub fn road_of<'a>(&self, path: &'a str) -> Option<(Road, &'a [u8])>
-        ensures some { IfSome result (λ on. IsOn on.0 path.now on.1.now) }
-        ensures none { IfNone result (page_at (cut_at 47 path.now) ≡ None) }
+    /// Returns how its paths begin, up to the first parameter.
+    pub(crate) fn start(self) -> &'static [u8]
+        ensures { result.now ≡ road_start self }
     {
-        match self.router.at(path) {
-            Ok(found) => {
-                let road = *found.value;
-                Some((road, after_start(road, path)))
+        let (start, _) = first_piece(self.route().as_bytes(), b'{');
+        start
+    }
+
+    /// Returns the page that a path on this road names, by what comes after its start.
+    pub(crate) fn page(self, rest: &[u8]) -> Option<Page>
+        requires { parameters (shape_of self) ≡ [] → rest.now ≡ [] }
+        ensures { result ≡ page_at (cut_at 47 (road_start self ++ rest.now)) }
+    {
+        match self {
+            Road::Answer => Some(Page::Answers),
+            Road::Choices => {
+                let cand = read_candidate(one_piece(rest)?)?;
+                Some(Page::Reads(Ask::Choices { cand }))
             }
-            Err(_) => None,
+            Road::Cut => Some(Page::Cuts),
+            Road::RoundList => list_page(rest),
+            Road::Raise => Some(Page::Raises),
+            Road::Round => {
+                let round = read_round(one_piece(rest)?)?;
+                Some(Page::Reads(Ask::Round { round }))
+            }
+            Road::Seat => {
+                let cand = read_candidate(one_piece(rest)?)?;
+                Some(Page::Reads(Ask::Seat { cand }))
+            }
+            Road::State => Some(Page::Reads(Ask::State)),
+            Road::Why => why_page(rest),
         }
     }
 }
 
-/// Returns what comes after the start of the paths of a road.
-fn after_start<'a>(road: Road, path: &'a str) -> &'a [u8]
-    requires { (rest : List ℕ) × IsOn road path.now rest }
-    ensures { IsOn road path.now result.now }
+/// Returns the page of a programme's list of a round.
+fn list_page(rest: &[u8]) -> Option<Page>
+    ensures { result ≡ page_after (shape_of Road.RoundList) (cut_at 47 rest.now) }
 {
-    let (_, rest) = path.as_bytes().split_at(road.start().len());
-    rest
+    let (round, prog) = two_pieces(rest)?;
+    let round = read_round(round)?;
+    let prog = Code::read(prog)?;
+    Some(Page::Reads(Ask::List { round, prog }))
 }
 
-/// Adds a route that is read and that no other one conflicts with.
-/// It fails only if the router runs out of memory for it.
-fn add(router: &mut Router<Road>, route: &str, road: Road) -> Result<(), OutOfMemory>
-    requires { Fits (parse_route route.now) router.old }
-    ensures { OnOk result (InsertsRead (parse_route route.now) road router.old router.new (Ok tt)) }
+/// Returns the page of why a candidate has a seat of a programme or none.
+fn why_page(rest: &[u8]) -> Option<Page>
+    ensures { result ≡ page_after (shape_of Road.Why) (cut_at 47 rest.now) }
 {
-    match router.insert(route, road) {
-        Ok(()) => Ok(()),
-        Err(InsertError::OutOfMemory) => Err(OutOfMemory),
-        Err(_) => unreachable!("the route is read, and no other one conflicts with it"),
-    }
+    let (cand, prog) = two_pieces(rest)?;
+    let cand = read_candidate(cand)?;
+    let prog = Code::read(prog)?;
+    Some(Page::Reads(Ask::Why { cand, prog }))
 }

@@ -1,5 +1,5 @@
 use Rattle.std.proofs.Common.{◌∙◌, sym, lit<}
-use Rattle.http_asks.proofs.RoadsLemmas.{path-before, path-whole}
+use Rattle.http_asks.proofs.PiecesLemmas.{path-before, path-whole}
 use Rattle.http_asks.proofs.pages.path_of.Goals as goal
 
 pub returns-in-Some : goal.returns-in-Some

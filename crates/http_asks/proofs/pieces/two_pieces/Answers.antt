@@ -1,5 +1,5 @@
-use Rattle.http_asks.proofs.RoadsLemmas.{not-two}
-use Rattle.http_asks.proofs.pages.two_pieces.Goals as goal
+use Rattle.http_asks.proofs.PiecesLemmas.{not-two}
+use Rattle.http_asks.proofs.pieces.two_pieces.Goals as goal
 
 pub returns-in_default-Some-clause-none : goal.returns-in_default-Some-clause-none
 returns-in_default-Some-clause-none c =

@@ -2,7 +2,7 @@ use Rattle.std.proofs.Common.{arith, add-one, eq-eqb}
 use Rattle.std.proofs.lemmas.Bool.{eqb-true}
 use Rattle.std.proofs.lemmas.List.{take_rest}
 use Rattle.office_text.proofs.LinesLemmas.{cut_at-first, cut_at-whole}
-use Rattle.http_asks.proofs.pages.first_piece.Goals as goal
+use Rattle.http_asks.proofs.pieces.first_piece.Goals as goal
 
 pub returns-in-Some-clause-more : goal.returns-in-Some-clause-more
 returns-in-Some-clause-more c =

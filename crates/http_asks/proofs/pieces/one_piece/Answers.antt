@@ -1,6 +1,6 @@
 use Rattle.std.proofs.Common.{sym}
-use Rattle.http_asks.proofs.RoadsLemmas.{not-one}
-use Rattle.http_asks.proofs.pages.one_piece.Goals as goal
+use Rattle.http_asks.proofs.PiecesLemmas.{not-one}
+use Rattle.http_asks.proofs.pieces.one_piece.Goals as goal
 
 pub returns-in_default-Some : goal.returns-in_default-Some
 returns-in_default-Some c =

@@ -1,5 +1,5 @@
-use Rattle.http_asks.proofs.RoadsLemmas.{found-on, missing-none}
-use Rattle.http_asks.proofs.roads.Routes.road_of.Goals as goal
+use Rattle.http_asks.proofs.RouterLemmas.{found-on, missing-none}
+use Rattle.http_asks.proofs.router.Routes.road_of.Goals as goal
 
 pub after_start-requires : goal.after_start-requires
 after_start-requires c = found-on c.args.self.now.router c.args.path.now _ c.args.self.now.table c.in-Ok.ensures.found
