@@ -18,7 +18,7 @@ use Rattle.programme_lists.specs.declared.programme.Programme.{Programme}
 use Rattle.rank_lists.specs.Register.{row_of}
 use Rattle.round_laws.proofs.People.{row_at}
 use Rattle.office_moves.specs.Facts.{IsSound, SeasonFacts}
-use Rattle.publish.specs.declared.lists.ListRead.{ListRead}
+use Rattle.list_texts.specs.declared.lists.ListRead.{ListRead}
 use Rattle.audit_rules.specs.Cut.{Agree, Differ, is_named, lists_at, seat_given}
 use Rattle.audit_rules.specs.Papers.{rows_after, seat_told, seats_told}
 use Rattle.audit_rules.proofs.Agreeing.{named_by_id, somebody_named}

@@ -21,7 +21,7 @@ use Rattle.rounds.proofs.Entrants.{leaves_own, place_at}
 use Rattle.rounds.specs.Rule.{IsOwnList, ProgrammesChooseWell}
 use Rattle.programme_lists.specs.Chosen.{AreApplicants}
 use Rattle.programme_lists.specs.declared.programme.Programme.{Programme}
-use Rattle.publish.specs.declared.lists.ListRead.{ListRead}
+use Rattle.list_texts.specs.declared.lists.ListRead.{ListRead}
 use Rattle.seat_matrix.specs.Matrix.{SeatTable, list_in, seats_in}
 use Rattle.seeks.specs.Seek.{AreBelow, is_listed, seek_leaves}
 use Rattle.seeks.specs.declared.seek.Seek.{Seek}

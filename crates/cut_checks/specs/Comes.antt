@@ -7,7 +7,7 @@ use Rattle.office_base.specs.declared.step.StepKind.{StepKind}
 use Rattle.office_moves.specs.Facts.{SeasonFacts}
 use Rattle.placements.specs.Ranks.{AreDistinct}
 use Rattle.programme_lists.specs.declared.programme.Programme.{Programme}
-use Rattle.publish.specs.declared.lists.ListRead.{ListRead}
+use Rattle.list_texts.specs.declared.lists.ListRead.{ListRead}
 use Rattle.audit_rules.specs.Cut.{CutBreaks, CutHolds, Differ, HasStayed, IsListed, IsSought, IsSoundList, OfEach}
 use Rattle.audit_rules.specs.Papers.{lists_after}
 use Rattle.cut_checks.specs.AtCut.{Setting}

@@ -4,9 +4,9 @@ ghost use Rattle.list_audit.specs.Clauses.{list_of};
 ghost use Rattle.cut_checks.specs.Comes.{told_by};
 ghost use Rattle.cut_checks.specs.Entries.{entries_from, of_kind, of_programme, of_step};
 
+use list_texts::ListRead;
 use office_base::{CandId, OutOfMemory, Person, ProgId, Seat, StepKind, step_number};
 use programme_lists::Programme;
-use publish::ListRead;
 use std::alloc::Global;
 
 /// That a list names a candidate, for a seat of its programme under its step.

@@ -9,8 +9,8 @@ ghost use Rattle.cut_checks.specs.declared.entries.Entry.{Entry as AnyEntry};
 
 use crate::entries::{Entry, entries};
 use crate::stand::Stand;
+use list_texts::ListRead;
 use office_base::{CandId, OutOfMemory, ProgId, Seat};
-use publish::ListRead;
 use rank_lists::Register;
 use season_file::Season;
 use seat_matrix::Matrix;

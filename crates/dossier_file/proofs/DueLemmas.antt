@@ -4,15 +4,15 @@ use Rattle.std.proofs.lemmas.Bool.{false≢true}
 use Rattle.std.proofs.lemmas.List.{append-nil, length-take}
 use Rattle.std.specs.List.{AllByRecursion}
 use Rattle.office_base.specs.declared.person.Person.{Person}
-use Rattle.publish.specs.Reading.{Begins, Grammar, IsFaultLine, IsTextFault, first_lines, lines_in}
+use Rattle.text_readers.specs.Reading.{Begins, Grammar, IsFaultLine, IsTextFault, first_lines, lines_in}
+use Rattle.text_readers.specs.declared.fault.TextFault.{TextFault}
+use Rattle.text_readers.specs.declared.fault.TextFault.TheVariants.{Line, OutOfMemory}
+use Rattle.text_readers.proofs.LineLemmas.{first_lines-none}
+use Rattle.list_texts.specs.declared.lists.ListRead.{ListRead}
 use Rattle.publish.specs.Rows.{IsFinalText}
-use Rattle.publish.specs.declared.fault.TextFault.{TextFault}
-use Rattle.publish.specs.declared.fault.TextFault.TheVariants.{Line, OutOfMemory}
-use Rattle.publish.specs.declared.lists.ListRead.{ListRead}
 use Rattle.publish.specs.declared.reads.FinalRead.{FinalRead}
 use Rattle.publish.specs.declared.reads.RoundRead.{RoundRead}
 use Rattle.seat_matrix.specs.Matrix.{SeatTable}
-use Rattle.publish.proofs.LineLemmas.{first_lines-none}
 use Rattle.dossier_file.specs.Due.{IsDueOf}
 use Rattle.dossier_file.specs.Papers.{ArePapers, IsListOf, IsRoundOf, IsThen, no_papers, with_final, with_list, with_round}
 use Rattle.dossier_file.specs.Texts.{HasRoom, IsDueFault, IsFaultFrom, IsPut, IsReadFrom, after_lines, final_after, list_after, or_else, round_after}

@@ -2,8 +2,8 @@
 use Rattle.std.proofs.Common.{◌≡◌, ◌≢◌, ◌⊎◌, ℕ, List, [], ◌∷◌, ◌++◌, sym, ap, ◌∙◌, subst, inl, inr, arith, append-nil, append_assoc, length-append, length, take, drop, ◌-◌}
 use Rattle.std.proofs.Math.Seq.{take-append_seam}
 use Rattle.std.proofs.lemmas.List.{take-append-drop}
-use Rattle.publish.specs.Reading.{Grammar, HasNo}
-use Rattle.publish.proofs.PartsLemmas.{cut-one, has-one}
+use Rattle.text_readers.specs.Reading.{Grammar, HasNo}
+use Rattle.text_readers.proofs.PartsLemmas.{cut-one, has-one}
 use Rattle.dossier_file.specs.Texts.{AreOthers, IsCutAfter, IsEnded, IsEnding, IsLeast, IsUnending, joined}
 
 -- each text has its ending line once, as its last

@@ -1,7 +1,7 @@
 -- The line of the first fault of texts one after another.
 use Rattle.std.proofs.Common.{◌≡◌, ◌≤◌, ◌+◌, ◌-◌, ◌⊎◌, ℕ, false, List, [], ◌∷◌, ◌++◌, refl, sym, ap, ◌∙◌, subst, inl, inr, arith, append-nil, append_assoc}
 use Rattle.std.proofs.lemmas.Bool.{cases_lt}
-use Rattle.publish.specs.Reading.{Begins, Grammar, IsFaultLine, first_lines, lines_in}
+use Rattle.text_readers.specs.Reading.{Begins, Grammar, IsFaultLine, first_lines, lines_in}
 use Rattle.dossier_file.specs.Papers.{IsThen}
 use Rattle.dossier_file.specs.Texts.{IsEnded, IsLeast}
 use Rattle.dossier_file.proofs.LineLemmas.{all_taken, are_front, ended_lines, ended_then, nothing_left, short_same, two_fronts}

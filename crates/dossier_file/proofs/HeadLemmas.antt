@@ -1,10 +1,10 @@
 -- The faults of the texts of one head.
 use Rattle.std.proofs.Common.{◌≡◌, ◌≢◌, ◌⊎◌, ◌≤◌, ◌-◌, ◌+◌, ℕ, List, [], ◌∷◌, ◌++◌, length, sym, ap, ◌∙◌, subst, inl, inr, arith, append_assoc, length-append, false}
 use Rattle.std.proofs.lemmas.Bool.{cases_eq}
-use Rattle.publish.specs.Reading.{Begins, Grammar, HasNo, IsFaultLine, first_lines, lines_in}
+use Rattle.text_readers.specs.Reading.{Begins, Grammar, HasNo, IsFaultLine, first_lines, lines_in}
+use Rattle.text_readers.proofs.LineLemmas.{first_lines-none}
+use Rattle.text_readers.proofs.PartsLemmas.{cut-one, has-one}
 use Rattle.dossier_file.specs.Papers.{OwnTexts}
-use Rattle.publish.proofs.PartsLemmas.{cut-one, has-one}
-use Rattle.publish.proofs.LineLemmas.{first_lines-none}
 use Rattle.dossier_file.proofs.LineLemmas.{all_taken, are_front, first_line, one_line, some_line, some_lines, two_fronts, whole_line}
 
 -- a value is one of these exactly where its text has this head

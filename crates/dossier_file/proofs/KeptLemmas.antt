@@ -7,11 +7,11 @@ use Rattle.office_base.specs.declared.asks.Request.{Request}
 use Rattle.office_base.specs.declared.person.Person.{Person}
 use Rattle.office_base.specs.declared.step.StepKind.{StepKind}
 use Rattle.programme_lists.specs.declared.programme.StepList.{StepList}
-use Rattle.publish.specs.Listing.{AreEntries, AreStepLists, Entry, is_listed, persons_of, step_kinds}
-use Rattle.publish.specs.declared.lists.ListRead.{ListRead}
+use Rattle.list_texts.specs.Listing.{AreEntries, AreStepLists, Entry, is_listed, persons_of, step_kinds}
+use Rattle.list_texts.specs.declared.lists.ListRead.{ListRead}
+use Rattle.list_texts.proofs.FreeLemmas.{listed-here, listed-kept}
 use Rattle.publish.specs.declared.reads.FinalRead.{FinalRead}
 use Rattle.publish.specs.declared.reads.RoundRead.{RoundRead}
-use Rattle.publish.proofs.FreeLemmas.{listed-here, listed-kept}
 use Rattle.seat_matrix.specs.Matrix.{SeatTable}
 use Rattle.dossier_file.specs.Due.{IsDueOf, cuts_of, due, is_cut_by, lists_due, published_by}
 use Rattle.dossier_file.specs.Kept.{AreApart, HasTexts, NamesOnce}

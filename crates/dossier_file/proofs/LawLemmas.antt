@@ -22,9 +22,9 @@ use Rattle.season_file.specs.declared.fault.SeasonFault.TheVariants.{NotUtf8, Ba
 use Rattle.season_file.specs.declared.head.Head.{Head}
 use Rattle.season_file.specs.declared.season.Season.{Season}
 use Rattle.published_texts.specs.Texts.{code_in}
-use Rattle.publish.specs.Parts.{AreSpelled}
-use Rattle.publish.specs.Reading.{Begins, Grammar, IsFaultLine, first_lines}
-use Rattle.publish.proofs.WholeLemmas.{small-people}
+use Rattle.text_readers.specs.Parts.{AreSpelled}
+use Rattle.text_readers.specs.Reading.{Begins, Grammar, IsFaultLine, first_lines}
+use Rattle.text_readers.proofs.KnownLemmas.{small-people}
 use Rattle.dossier_file.specs.Dossier.{AreDossier, GivesContent, HasDossierFault, HasPublishedFault, HasSeasonFault, IsBundleFault, IsRequestsFault, IsScript}
 use Rattle.dossier_file.specs.Laws.{HaveOneDossier}
 use Rattle.dossier_file.specs.Papers.{AreDuePapers}

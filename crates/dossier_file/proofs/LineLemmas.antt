@@ -1,8 +1,8 @@
 -- The first lines of bytes, and of bytes one after another.
 use Rattle.std.proofs.Common.{length, eq-eqb, ◌≢◌, ◌≡◌, ◌≤◌, ◌<◌, ◌+◌, ◌-◌, ◌⊎◌, ℕ, zero, suc, Bool, true, false, cond, List, [], ◌∷◌, ◌++◌, refl, sym, ap, ◌∙◌, inl, inr, arith, ◌==◌, if◌then◌else◌}
 use Rattle.std.proofs.lemmas.Bool.{cases_Bool, cond-true, cond-false, eqb-true, false≢true, ne_eqb}
-use Rattle.publish.specs.Reading.{HasNo, first_lines, lines_after, lines_in}
-use Rattle.publish.proofs.LineLemmas.{first_lines-none}
+use Rattle.text_readers.specs.Reading.{HasNo, first_lines, lines_after, lines_in}
+use Rattle.text_readers.proofs.LineLemmas.{first_lines-none}
 
 -- of two ways to cut bytes in two, one cuts later
 pub two_fronts : {X : Type 0} (a b c d : List X) → a ++ b ≡ c ++ d → ((m : List X) × (c ≡ a ++ m) × (b ≡ m ++ d)) ⊎ ((m : List X) × (a ≡ c ++ m) × (d ≡ m ++ b))

@@ -10,18 +10,18 @@ use Rattle.programme_lists.specs.declared.programme.Programme.{Programme}
 use Rattle.programme_lists.specs.declared.programme.StepList.{StepList}
 use Rattle.published_texts.specs.Texts.{list_head, list_step, list_text}
 use Rattle.seat_matrix.specs.Matrix.{SeatTable}
-use Rattle.publish.specs.ListLines.{CanStand, IsLineThen, IsListEnd, IsListHead, IsStepHead, Said, entry_words, honoured_text, honoured_words, last_words, lines_text, list_words, most_slots, rows_text, slots_in, step_list, step_text, step_words, steps_text, with_step}
-use Rattle.publish.specs.ListReader.{AreKnown}
-use Rattle.publish.specs.Listing.{AreStepLists, Entry, IsListText, pair_of, step_kinds}
-use Rattle.publish.specs.Reading.{Begins, Grammar, HasNo}
-use Rattle.publish.specs.declared.lists.ListRead.{ListRead}
-use Rattle.publish.proofs.FollowLemmas.{slots-few}
-use Rattle.publish.proofs.FreeLemmas.{found-small}
-use Rattle.publish.proofs.ListTexts.{list-lines', head-lines}
-use Rattle.publish.proofs.PartsLemmas.{cut-one, has-no-tested, heads}
-use Rattle.publish.proofs.RowLemmas.{digits-clear}
-use Rattle.publish.proofs.StageLines.{entry-clear}
-use Rattle.publish.proofs.WordLemmas.{honoured-clear, list-clear, list-one, step-head-clear}
+use Rattle.text_readers.specs.Reading.{Begins, Grammar, HasNo}
+use Rattle.text_readers.proofs.NumberLemmas.{digits-clear}
+use Rattle.text_readers.proofs.PartsLemmas.{cut-one, has-no-tested, heads}
+use Rattle.list_texts.specs.ListLines.{CanStand, IsLineThen, IsListEnd, IsListHead, IsStepHead, Said, entry_words, honoured_text, honoured_words, last_words, lines_text, list_words, most_slots, rows_text, slots_in, step_list, step_text, step_words, steps_text, with_step}
+use Rattle.list_texts.specs.ListReader.{AreKnown}
+use Rattle.list_texts.specs.Listing.{AreStepLists, Entry, IsListText, pair_of, step_kinds}
+use Rattle.list_texts.specs.declared.lists.ListRead.{ListRead}
+use Rattle.list_texts.proofs.FollowLemmas.{slots-few}
+use Rattle.list_texts.proofs.FreeLemmas.{found-small}
+use Rattle.list_texts.proofs.ListTexts.{list-lines', head-lines}
+use Rattle.list_texts.proofs.StageLines.{entry-clear}
+use Rattle.list_texts.proofs.WordLemmas.{honoured-clear, list-clear, list-one, step-head-clear}
 use Rattle.dossier_file.specs.Papers.{IsListAt, IsListOf}
 use Rattle.dossier_file.specs.Texts.{joined}
 use Rattle.dossier_file.proofs.EndLemmas.{EndsOnce, line-first}

@@ -5,9 +5,10 @@ use Rattle.std.specs.Prelude.{codes}
 use Rattle.keeper_mem.specs.declared.rows.AllotRow.{AllotRow}
 use Rattle.office_base.specs.declared.person.Person.{Person}
 use Rattle.seat_matrix.specs.Matrix.{SeatTable}
-use Rattle.publish.specs.Laws.{AreDistinct, FinalsAreOne, ListsAreOne, RoundsAreOne}
-use Rattle.publish.specs.ListReader.{AreKnown}
-use Rattle.publish.specs.Reading.{Grammar, HasNo}
+use Rattle.text_readers.specs.Reading.{Grammar, HasNo}
+use Rattle.list_texts.specs.Laws.{ListsAreOne}
+use Rattle.list_texts.specs.ListReader.{AreKnown}
+use Rattle.publish.specs.Laws.{AreDistinct, FinalsAreOne, RoundsAreOne}
 use Rattle.publish.specs.Rows.{IsFinalText}
 use Rattle.publish.specs.declared.reads.FinalRead.{FinalRead}
 use Rattle.publish.specs.declared.reads.RoundRead.{RoundRead}

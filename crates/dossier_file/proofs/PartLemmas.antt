@@ -4,9 +4,9 @@ use Rattle.std.specs.Prelude.{Result, IfErr}
 use Rattle.office_base.specs.Limits.{most_bundle_bytes}
 use Rattle.office_base.specs.Outside.{IsAtEnd, Took}
 use Rattle.office_base.specs.declared.asks.Request.{Request}
-use Rattle.publish.specs.Reading.{IsTextFault}
-use Rattle.publish.specs.declared.fault.TextFault.{TextFault}
-use Rattle.publish.specs.declared.fault.TextFault.TheVariants.{Line, OutOfMemory as NoTextMemory}
+use Rattle.text_readers.specs.Reading.{IsTextFault}
+use Rattle.text_readers.specs.declared.fault.TextFault.{TextFault}
+use Rattle.text_readers.specs.declared.fault.TextFault.TheVariants.{Line, OutOfMemory as NoTextMemory}
 use Rattle.season_file.specs.Season.{IsSeason, IsSeasonFault, content_of}
 use Rattle.season_file.specs.declared.season.Season.{Season}
 use Rattle.dossier_file.specs.Papers.{AreDuePapers}

@@ -7,19 +7,19 @@ use Rattle.keeper_mem.specs.declared.rows.AllotRow.{AllotRow}
 use Rattle.office_base.specs.Lists.{IsSublist}
 use Rattle.office_base.specs.declared.person.Person.{Person}
 use Rattle.seat_matrix.specs.Matrix.{SeatTable}
-use Rattle.publish.specs.Parts.{AreSpelled, row_words}
-use Rattle.publish.specs.Reader.{AreSmall}
-use Rattle.publish.specs.Reading.{Begins, HasNo}
-use Rattle.publish.specs.Rows.{IsFinalText, IsRoundText, round_rows_text}
+use Rattle.text_readers.specs.Parts.{AreSmall, AreSpelled}
+use Rattle.text_readers.specs.Reading.{Begins, HasNo}
+use Rattle.text_readers.proofs.NumberLemmas.{digits-clear}
+use Rattle.text_readers.proofs.PartsLemmas.{has-no-append, has-no-tested, heads}
+use Rattle.list_texts.proofs.NumberLines.{numbers-one}
+use Rattle.publish.specs.Rows.{IsFinalText, IsRoundText, round_rows_text, row_words}
 use Rattle.publish.specs.declared.reads.FinalRead.{FinalRead}
 use Rattle.publish.specs.declared.reads.RoundRead.{RoundRead}
-use Rattle.publish.proofs.NumberLines.{numbers-one}
-use Rattle.publish.proofs.PartsLemmas.{has-no-append, has-no-tested, heads}
-use Rattle.publish.proofs.RowLemmas.{digits-clear, row-clear}
+use Rattle.publish.proofs.HeadLemmas.{round-clear, final-clear}
+use Rattle.publish.proofs.RowLemmas.{row-clear}
 use Rattle.publish.proofs.TailLemmas.{cands, ids, rows-can, sub-nothing, sub-rest, sub-small}
 use Rattle.publish.proofs.WholeLemmas.{text-final, text-round}
 use Rattle.published_texts.specs.Texts.{final_text}
-use Rattle.publish.proofs.HeadLemmas.{round-clear, final-clear}
 use Rattle.dossier_file.specs.Papers.{IsRoundOf}
 use Rattle.dossier_file.specs.Texts.{AreOthers, joined, round_start}
 use Rattle.dossier_file.proofs.EndLemmas.{EndsOnce, line-first}

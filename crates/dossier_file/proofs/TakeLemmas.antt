@@ -1,9 +1,9 @@
 -- What the piece that is cut off the bytes gives.
 use Rattle.std.proofs.Common.{◌≡◌, ◌⊎◌, ℕ, List, [], ◌∷◌, ◌++◌, refl, sym, ap, ◌∙◌, subst, inl, inr, append-nil, append_assoc}
-use Rattle.publish.specs.Reading.{Begins, Grammar, HasNo, IsFaultLine, IsTextFault}
-use Rattle.publish.specs.declared.fault.TextFault.{TextFault}
-use Rattle.publish.specs.declared.fault.TextFault.TheVariants.{Line, OutOfMemory}
-use Rattle.publish.proofs.PartsLemmas.{has-one}
+use Rattle.text_readers.specs.Reading.{Begins, Grammar, HasNo, IsFaultLine, IsTextFault}
+use Rattle.text_readers.specs.declared.fault.TextFault.{TextFault}
+use Rattle.text_readers.specs.declared.fault.TextFault.TheVariants.{Line, OutOfMemory}
+use Rattle.text_readers.proofs.PartsLemmas.{has-one}
 use Rattle.dossier_file.specs.Papers.{OwnTexts}
 use Rattle.dossier_file.specs.Texts.{IsCutAfter, IsEnding, IsFaultFrom, IsNoHead, IsReadFrom, IsTextsFault, IsUnending, joined, line_past}
 use Rattle.dossier_file.proofs.EndLemmas.{EndsOnce, ended_of, is_ended, least_of}

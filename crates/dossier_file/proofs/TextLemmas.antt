@@ -3,12 +3,12 @@ use Rattle.std.proofs.Common.{◌≡◌, ◌<◌, ◌^◌, ℕ, List, ◌++◌, 
 use Rattle.std.specs.Prelude.{codes}
 use Rattle.office_base.specs.declared.person.Person.{Person}
 use Rattle.published_texts.specs.Texts.{list_head}
-use Rattle.publish.specs.ListReader.{AreKnown}
-use Rattle.publish.specs.Listing.{IsListText}
-use Rattle.publish.specs.Reading.{IsTextFault}
+use Rattle.text_readers.specs.Reading.{IsTextFault}
+use Rattle.text_readers.specs.declared.fault.TextFault.{TextFault}
+use Rattle.list_texts.specs.ListReader.{AreKnown}
+use Rattle.list_texts.specs.Listing.{IsListText}
+use Rattle.list_texts.specs.declared.lists.ListRead.{ListRead}
 use Rattle.publish.specs.Rows.{IsFinalText, IsRoundText}
-use Rattle.publish.specs.declared.fault.TextFault.{TextFault}
-use Rattle.publish.specs.declared.lists.ListRead.{ListRead}
 use Rattle.publish.specs.declared.reads.FinalRead.{FinalRead}
 use Rattle.publish.specs.declared.reads.RoundRead.{RoundRead}
 use Rattle.seat_matrix.specs.Matrix.{SeatTable}

@@ -12,9 +12,9 @@ use Rattle.season_file.specs.declared.content.Content.{Content}
 use Rattle.season_file.specs.declared.fault.SeasonFault.{SeasonFault}
 use Rattle.season_file.specs.declared.fault.SeasonFault.TheVariants.{NotUtf8, BadRequest, OutOfMemory as NoSeasonMemory}
 use Rattle.season_file.specs.declared.season.Season.{Season}
-use Rattle.publish.specs.Reading.{IsFaultLine}
-use Rattle.publish.specs.declared.fault.TextFault.{TextFault}
-use Rattle.publish.specs.declared.fault.TextFault.TheVariants.{Line, OutOfMemory as NoTextMemory}
+use Rattle.text_readers.specs.Reading.{IsFaultLine}
+use Rattle.text_readers.specs.declared.fault.TextFault.{TextFault}
+use Rattle.text_readers.specs.declared.fault.TextFault.TheVariants.{Line, OutOfMemory as NoTextMemory}
 use Rattle.dossier_file.specs.Cut.{HasNoSection, IsCut}
 use Rattle.dossier_file.specs.Papers.{AreDuePapers}
 use Rattle.dossier_file.specs.declared.dossier.Dossier.{Dossier}

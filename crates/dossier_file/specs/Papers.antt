@@ -2,10 +2,10 @@
 use Rattle.std.specs.Prelude.{◌≡◌, ◌+◌, ℕ, List, [], ◌∷◌, ◌++◌, Some, None, length}
 use Rattle.office_base.specs.declared.person.Person.{Person}
 use Rattle.office_base.specs.declared.asks.Request.{Request}
-use Rattle.publish.specs.Listing.{IsListText}
-use Rattle.publish.specs.Reading.{Grammar}
+use Rattle.text_readers.specs.Reading.{Grammar}
+use Rattle.list_texts.specs.Listing.{IsListText}
+use Rattle.list_texts.specs.declared.lists.ListRead.{ListRead}
 use Rattle.publish.specs.Rows.{IsFinalText, IsRoundText}
-use Rattle.publish.specs.declared.lists.ListRead.{ListRead}
 use Rattle.publish.specs.declared.reads.FinalRead.{FinalRead}
 use Rattle.publish.specs.declared.reads.RoundRead.{RoundRead}
 use Rattle.seat_matrix.specs.Matrix.{SeatTable}

@@ -4,14 +4,13 @@ use Rattle.std.specs.Fmt.{decimal}
 use Rattle.std.specs.List.{AllByRecursion, flat_map}
 use Rattle.office_base.specs.Lists.{Pairwise}
 use Rattle.office_base.specs.declared.person.Person.{Person}
-use Rattle.publish.specs.ListReader.{AreRising}
-use Rattle.publish.specs.Parts.{AreSpelled}
-use Rattle.publish.specs.Reader.{AreSmall}
-use Rattle.publish.specs.Reading.{Grammar, HasNo, IsFaultLine}
+use Rattle.text_readers.specs.Parts.{AreSmall, AreSpelled}
+use Rattle.text_readers.specs.Reading.{Grammar, HasNo, IsFaultLine}
+use Rattle.text_readers.specs.declared.fault.TextFault.{TextFault}
+use Rattle.text_readers.specs.declared.fault.TextFault.TheVariants.{Line, OutOfMemory}
+use Rattle.list_texts.specs.ListReader.{AreRising}
+use Rattle.list_texts.specs.declared.lists.ListRead.{ListRead}
 use Rattle.publish.specs.Rows.{IsFinalText}
-use Rattle.publish.specs.declared.fault.TextFault.{TextFault}
-use Rattle.publish.specs.declared.fault.TextFault.TheVariants.{Line, OutOfMemory}
-use Rattle.publish.specs.declared.lists.ListRead.{ListRead}
 use Rattle.publish.specs.declared.reads.FinalRead.{FinalRead}
 use Rattle.publish.specs.declared.reads.RoundRead.{RoundRead}
 use Rattle.seat_matrix.specs.Matrix.{SeatTable, codes_in}

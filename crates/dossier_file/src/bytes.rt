@@ -1,6 +1,6 @@
 // Lines, and what bytes begin with.
 ghost use Rattle.std.specs.Prelude.{◌≡◌, ◌≢◌, ◌<◌, ◌≤◌, ◌^◌, ◌++◌, ◌∷◌, List, ℕ, IfNone, IfSome, length};
-ghost use Rattle.publish.specs.Reading.{HasNo, lines_in};
+ghost use Rattle.text_readers.specs.Reading.{HasNo, lines_in};
 ghost use Rattle.dossier_file.specs.Texts.{IsCutAfter, IsNoHead};
 
 use memchr::memchr;

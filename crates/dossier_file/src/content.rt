@@ -2,8 +2,8 @@
 ghost use Rattle.std.specs.Prelude.{◌≡◌, ◌≤◌, length, IfOk, IfErr, IsErrOf};
 ghost use Rattle.office_base.specs.Limits.{most_bundle_bytes};
 ghost use Rattle.office_base.specs.Outside.{Fails, IsAtEnd, Took};
-ghost use Rattle.publish.specs.Parts.{AreSpelled};
-ghost use Rattle.publish.specs.Reading.{IsTextFault};
+ghost use Rattle.text_readers.specs.Parts.{AreSpelled};
+ghost use Rattle.text_readers.specs.Reading.{IsTextFault};
 ghost use Rattle.dossier_file.specs.Dossier.{IsRequestsError, IsScript, IsUnread, papers_error, season_error};
 ghost use Rattle.dossier_file.specs.Papers.{AreDuePapers};
 ghost use Rattle.dossier_file.specs.Texts.{AreReadable};

@@ -14,6 +14,6 @@ pub fn texts_are_one()
     ensures { TextsAreOne }
 {
     publish::laws::rounds_are_one();
-    publish::laws::lists_are_one();
+    list_texts::laws::lists_are_one();
     publish::laws::finals_are_one();
 }

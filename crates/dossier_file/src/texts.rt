@@ -2,7 +2,7 @@
 ghost use Rattle.std.specs.Prelude.{◌≡◌, ◌<◌, ◌≤◌, ◌+◌, ◌-◌, ◌^◌, ◌++◌, IfOk, IfErr, length};
 ghost use Rattle.std.specs.List.{AllByRecursion};
 ghost use Rattle.published_texts.specs.Texts.{list_head};
-ghost use Rattle.publish.specs.Reading.{IsTextFault};
+ghost use Rattle.text_readers.specs.Reading.{IsTextFault};
 ghost use Rattle.publish.specs.Rows.{IsFinalText};
 ghost use Rattle.dossier_file.specs.Due.{IsDueOf};
 ghost use Rattle.dossier_file.specs.Papers.{ArePapers, IsListOf, IsRoundOf};

@@ -6,14 +6,14 @@ use Rattle.std.specs.Fmt.{decimal}
 use Rattle.std.specs.Prelude.{codes}
 use Rattle.office_base.specs.declared.person.Person.{Person}
 use Rattle.seat_matrix.specs.Matrix.{SeatTable}
+use Rattle.text_readers.specs.Reading.{Begins, EndsWithLines, HasNo, IsRefused, Leads}
+use Rattle.text_readers.proofs.NumberLemmas.{digits-clear}
+use Rattle.text_readers.proofs.PartsLemmas.{cut-one, has-no-append, has-no-tested, has-one}
+use Rattle.text_readers.proofs.PieceLemmas.{prefix-line, prefix-more}
 use Rattle.publish.specs.Pieces.{BeginsHead}
-use Rattle.publish.specs.Reading.{Begins, EndsWithLines, HasNo, IsRefused, Leads}
-use Rattle.publish.specs.Rows.{CanGoOn, IsNumber, IsRest, IsRowsText, Read, AreRows, head_words, tail_text}
+use Rattle.publish.specs.Rows.{AreRows, CanGoOn, IsNumber, IsRest, IsRowsText, Read, head_words, tail_text}
 use Rattle.publish.specs.declared.sort.Sort.{Sort}
 use Rattle.publish.specs.declared.sort.Sort.TheVariants.{Round, Final}
-use Rattle.publish.proofs.PartsLemmas.{cut-one, has-no-append, has-no-tested, has-one}
-use Rattle.publish.proofs.PieceLemmas.{prefix-line, prefix-more}
-use Rattle.publish.proofs.RowLemmas.{digits-clear}
 use Rattle.publish.proofs.TailLemmas.{can-tail, rows-can}
 
 -- another byte than LF

@@ -13,19 +13,19 @@ use Rattle.published_texts.specs.Texts.{AreSeatsOf, allot_line, allot_lines, cod
 use Rattle.rounds.specs.Round.{seated}
 use Rattle.seat_matrix.specs.Matrix.{SeatTable}
 use Rattle.step_lines.specs.Lines.{step_name}
+use Rattle.text_readers.specs.Parts.{AreSmall}
+use Rattle.text_readers.proofs.KnownLemmas.{code-clear, code-one}
+use Rattle.text_readers.proofs.NumberLemmas.{digits-clear}
+use Rattle.text_readers.proofs.PartsLemmas.{cut-one}
 use Rattle.publish.specs.Laws.{AreDistinct, FinalsAreOne, FinalsAreRead, RoundsAreOne, RoundsAreRead, rows_of}
-use Rattle.publish.specs.Parts.{IsRow, row_words}
-use Rattle.publish.specs.Reader.{AreSmall}
-use Rattle.publish.specs.Rows.{AreRows, IsRowsText, allot_row_line, head_words, tail_text, word}
+use Rattle.publish.specs.Rows.{AreRows, IsRow, IsRowsText, allot_row_line, head_words, row_words, tail_text, word}
 use Rattle.publish.specs.declared.sort.Sort.{Sort}
 use Rattle.publish.specs.declared.sort.Sort.TheVariants.{Round as RoundSort, Final}
 use Rattle.publish.proofs.HeadLemmas.{head-clear, head-one}
-use Rattle.publish.proofs.PartsLemmas.{cut-one}
-use Rattle.publish.proofs.RowLemmas.{code-clear, digits-clear, row-clear, row-code, row-one}
+use Rattle.publish.proofs.RowLemmas.{row-clear, row-code, row-one}
 use Rattle.publish.proofs.RowsLemmas.{word-clear}
 use Rattle.publish.proofs.TailLemmas.{cands, ids, rows-can, sub-nothing, sub-rest, sub-small, tail-more}
 use Rattle.publish.proofs.WholeLemmas.{text-final, text-round}
-use Rattle.publish.proofs.WordLemmas.{code-one}
 
 -- ---- what is written is read
 

@@ -12,15 +12,14 @@ use Rattle.office_base.specs.declared.step.StepKind.{StepKind}
 use Rattle.published_texts.specs.Texts.{code_in}
 use Rattle.seat_matrix.specs.Matrix.{SeatTable}
 use Rattle.step_lines.specs.Lines.{step_name}
-use Rattle.publish.specs.Parts.{AreSpelled, IsNoRow, IsRow, is_prefix, people_after, row_words}
+use Rattle.text_readers.specs.Parts.{AreSmall, AreSpelled, is_prefix}
+use Rattle.text_readers.specs.Reading.{Begins, EndsWithLines, HasNo, IsRefused, Leads}
+use Rattle.text_readers.proofs.PartsLemmas.{cut-one, has-no-tested, has-one}
+use Rattle.text_readers.proofs.PieceLemmas.{prefix-line, prefix-more}
 use Rattle.publish.specs.Pieces.{BeginsRows}
-use Rattle.publish.specs.Reader.{AreSmall}
-use Rattle.publish.specs.Reading.{Begins, EndsWithLines, HasNo, IsRefused, Leads}
-use Rattle.publish.specs.Rows.{AreRows, IsEnd, IsRest, IsTail, Read, ending, row_line, tail_text, word}
+use Rattle.publish.specs.Rows.{AreRows, IsEnd, IsNoRow, IsRest, IsRow, IsTail, Read, ending, people_after, row_line, row_words, tail_text, word}
 use Rattle.publish.specs.declared.sort.Sort.{Sort}
 use Rattle.publish.specs.declared.sort.Sort.TheVariants.{Round, Final}
-use Rattle.publish.proofs.PartsLemmas.{cut-one, has-no-tested, has-one}
-use Rattle.publish.proofs.PieceLemmas.{prefix-line, prefix-more}
 use Rattle.publish.proofs.RowLemmas.{row-clear, row-one}
 use Rattle.publish.proofs.TailLemmas.{IsFirstRow, can-tail, first-row, ids, cands, made, row-before, rows-can, sub-nothing, sub-short, tail-more, ids-length, cands-length}
 

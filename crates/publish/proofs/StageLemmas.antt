@@ -5,8 +5,8 @@ use Rattle.std.specs.List.{flat_map}
 use Rattle.keeper_mem.specs.declared.rows.AllotRow.{AllotRow}
 use Rattle.office_base.specs.declared.person.Person.{Person}
 use Rattle.seat_matrix.specs.Matrix.{SeatTable}
+use Rattle.text_readers.specs.Reading.{Begins, IsRefused}
 use Rattle.publish.specs.Pieces.{BeginsRow, BeginsRows}
-use Rattle.publish.specs.Reading.{Begins, IsRefused}
 use Rattle.publish.specs.Rows.{IsEnd, IsRest, IsRowsText, Read, ending, head_words, row_line, tail_text}
 use Rattle.publish.specs.declared.sort.Sort.{Sort}
 

@@ -8,11 +8,10 @@ use Rattle.office_base.specs.Lists.{IsSublist}
 use Rattle.office_base.specs.declared.person.Person.{Person}
 use Rattle.office_base.specs.declared.step.StepKind.TheVariants.{Open}
 use Rattle.seat_matrix.specs.Matrix.{SeatTable}
-use Rattle.publish.specs.Parts.{people_after, row_words}
-use Rattle.publish.specs.Reader.{AreSmall}
-use Rattle.publish.specs.Rows.{AreRows, CanGoOn, IsTail, ending, row_line, tail_text, word}
+use Rattle.text_readers.specs.Parts.{AreSmall}
+use Rattle.text_readers.proofs.PartsLemmas.{heads, tails}
+use Rattle.publish.specs.Rows.{AreRows, CanGoOn, IsTail, ending, people_after, row_line, row_words, tail_text, word}
 use Rattle.publish.specs.declared.sort.Sort.{Sort}
-use Rattle.publish.proofs.PartsLemmas.{heads, tails}
 
 -- the ids of people
 abbrev pub ids : List Person → List ℕ

@@ -1,21 +1,17 @@
 -- Whole texts of rows, as they are published.
-use Rattle.std.proofs.Common.{◌≡◌, ◌≤◌, ◌-◌, inl, inr, ℕ, eqb, List, [], ◌∷◌, ◌++◌, Some, length, refl, sym, ap, subst, ◌∙◌, arith, append_assoc, eq-eqb}
-use Rattle.std.proofs.lemmas.Bool.{cases_eq, cond-true, cond-false, ne_eqb}
+use Rattle.std.proofs.Common.{◌≡◌, ℕ, List, [], ◌∷◌, ◌++◌, length, refl, sym, ap, subst, ◌∙◌, arith, append_assoc}
 use Rattle.std.specs.Fmt.{decimal}
 use Rattle.std.specs.List.{flat_map}
 use Rattle.std.specs.Prelude.{codes}
 use Rattle.keeper_mem.specs.declared.rows.AllotRow.{AllotRow}
 use Rattle.office_base.specs.declared.person.Person.{Person}
 use Rattle.published_texts.specs.Texts.{admit_line, code_in, final_head, final_text, round_head, seat_line}
-use Rattle.rank_lists.specs.Register.{find_person}
 use Rattle.seat_matrix.specs.Matrix.{SeatTable}
 use Rattle.step_lines.specs.Lines.{step_name}
-use Rattle.rank_lists.proofs.Known.{found_id}
-use Rattle.publish.specs.Reader.{AreSmall}
-use Rattle.publish.specs.Reading.{Begins, Grammar, IsFaultLine, IsTextFault, first_lines}
-use Rattle.publish.specs.Rows.{IsFinalText, IsRoundText, IsRowsText, AreRows, allot_row_line, head_words, round_rows_text, row_line, tail_text, word}
-use Rattle.publish.specs.declared.fault.TextFault.{TextFault}
-use Rattle.publish.specs.declared.fault.TextFault.TheVariants.{Line, OutOfMemory}
+use Rattle.text_readers.specs.Reading.{Begins, IsTextFault}
+use Rattle.text_readers.specs.declared.fault.TextFault.{TextFault}
+use Rattle.text_readers.proofs.ReadLemmas.{fault-on}
+use Rattle.publish.specs.Rows.{AreRows, IsFinalText, IsRoundText, IsRowsText, allot_row_line, head_words, round_rows_text, row_line, tail_text, word}
 use Rattle.publish.specs.declared.reads.FinalRead.{FinalRead}
 use Rattle.publish.specs.declared.reads.RoundRead.{RoundRead}
 use Rattle.publish.specs.declared.sort.Sort.{Sort}
@@ -96,29 +92,6 @@ text-round table people known text read is = record { rows = is.rows; number = i
 
 -- ---- faults
 
--- two grammars with the same texts have the same faults
-module _ {V W : Type 0} (first : Grammar V) (second : Grammar W) (on : (text : List ℕ) (v : V) → first text v → (w : W) × second text w) (back : (text : List ℕ) (w : W) → second text w → (v : V) × first text v) where
-  begins-on : (bytes : List ℕ) → Begins first bytes → Begins second bytes
-  begins-on bytes (more, v, is) = let (w, there) = on (bytes ++ more) v is in (more, w, there)
-
-  begins-back : (bytes : List ℕ) → Begins second bytes → Begins first bytes
-  begins-back bytes (more, w, is) = let (v, there) = back (bytes ++ more) w is in (more, v, there)
-
-  line-on : (bytes : List ℕ) (n : ℕ) → IsFaultLine first bytes n → IsFaultLine second bytes n
-  line-on bytes n fault = record {
-    none = λ w is. let (v, there) = back bytes w is in fault.none v there;
-    some = fault.some;
-    before = begins-on (first_lines (n - 1) bytes) fault.before;
-    here = elim fault.here [
-      | inl (within, never) ↦ inl (within, λ begins. never (begins-back (first_lines n bytes) begins))
-      | inr (end, begins) ↦ inr (end, begins-on bytes begins)
-    ];
-  }
-
-  pub fault-on : (bytes : List ℕ) (fault : TextFault) → IsTextFault first bytes fault → IsTextFault second bytes fault
-  fault-on bytes (Line n) is = line-on bytes n is
-  fault-on bytes OutOfMemory is = tt
-
 pub final-fault : (table : SeatTable) (people : List Person) (known : ℕ) (text : List ℕ) (fault : TextFault) → IsTextFault (IsRowsText Final table people known) text fault → IsTextFault (IsFinalText table people known) text fault
 final-fault table people known text fault is =
     fault-on (IsRowsText Final table people known) (IsFinalText table people known)
@@ -130,16 +103,3 @@ round-fault table people known text fault is =
     fault-on (IsRowsText Round table people known) (IsRoundText table people)
     (λ bytes read there. (record { round = read.0; rows = read.1 }, round-text table people known read.0 bytes read.1 there))
     (λ bytes read there. ((read.round, read.rows), text-round table people known bytes read there)) text fault is
-
--- ---- ids
-
-pub small-people : (people : List Person) → ((id : ℕ) (person : Person) → find_person id people ≡ Some person → person.id.0 ≤ 999999999) → AreSmall people
-small-people [] known = tt
-small-people (p ∷ people) known =
-    let here : p.id.0 ≤ 999999999 = known p.id.0 p (cond-true (eqb p.id.0 p.id.0) (Some p) (find_person p.id.0 people) (eq-eqb p.id.0 p.id.0 refl)) in (
-      omega (arith, here),
-      small-people people (λ id person e. elim (cases_eq id p.id.0) [
-        | inl same ↦ omega (arith, same, here, found_id id people person e)
-        | inr other ↦ known id person (cond-false (eqb id p.id.0) (Some p) (find_person id people) (ne_eqb id p.id.0 other) ∙ e)
-      ]),
-    )

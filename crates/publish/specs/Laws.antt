@@ -1,26 +1,15 @@
--- That what is published is read back as it was written.
-use Rattle.std.specs.Prelude.{◌≡◌, ◌≢◌, ◌<◌, ◌^◌, ℕ, List, [], ◌∷◌, ◌++◌, Option, Some, None, length, map}
-use Rattle.std.specs.List.{AllByRecursion}
+-- That rounds and final admissions are read back as they were written.
+use Rattle.std.specs.Prelude.{◌≡◌, ◌≢◌, ◌<◌, ◌^◌, ℕ, List, [], ◌∷◌, ◌++◌, Option, Some, None, length}
 use Rattle.keeper_mem.specs.declared.rows.AllotRow.{AllotRow}
-use Rattle.office_base.specs.Lists.{IsSublist, Pairwise}
+use Rattle.office_base.specs.Lists.{Pairwise}
 use Rattle.office_base.specs.declared.asks.Seat.{Seat}
 use Rattle.office_base.specs.declared.person.CandId.{CandId}
 use Rattle.office_base.specs.declared.person.Person.{Person}
-use Rattle.office_base.specs.declared.person.ProgId.{ProgId}
-use Rattle.office_base.specs.declared.step.StepKind.{StepKind}
-use Rattle.office_base.specs.declared.step.StepKind.TheVariants.{Dereserved}
-use Rattle.programme_lists.specs.declared.programme.Programme.{Programme}
-use Rattle.programme_lists.specs.declared.programme.StepList.{StepList}
-use Rattle.published_texts.specs.Texts.{AreSeatsOf, final_text, list_text, round_text}
-use Rattle.rank_lists.specs.Register.{find_person}
+use Rattle.published_texts.specs.Texts.{AreSeatsOf, final_text, round_text}
 use Rattle.rounds.specs.declared.round.Round.{Round}
 use Rattle.seat_matrix.specs.Matrix.{SeatTable, codes_in}
-use Rattle.publish.specs.ListReader.{AreKnown}
-use Rattle.publish.specs.Listing.{AreStepLists, IsListText, IsStepList, step_kinds}
-use Rattle.publish.specs.Parts.{AreSpelled}
-use Rattle.publish.specs.Reader.{AreSmall}
+use Rattle.text_readers.specs.Parts.{AreSmall, AreSpelled}
 use Rattle.publish.specs.Rows.{AreRows, IsFinalText, IsRoundText}
-use Rattle.publish.specs.declared.lists.ListRead.{ListRead}
 use Rattle.publish.specs.declared.reads.FinalRead.{FinalRead}
 use Rattle.publish.specs.declared.reads.RoundRead.{RoundRead}
 
@@ -59,28 +48,3 @@ RoundsAreOne = (table : SeatTable) (people : List Person) (text : List ℕ) (a b
 -- a text is that of one list of final admissions
 abbrev pub FinalsAreOne : Type 0
 FinalsAreOne = (table : SeatTable) (people : List Person) (number : ℕ) (text : List ℕ) (a b : FinalRead) → number < 2 ^ 16 → AreDistinct table people → IsFinalText table people number text a → IsFinalText table people number text b → a.rows ≡ b.rows
-
--- A list as it is published: its persons are distinct ones of the register, and its pairs are in their order, as
--- those of the certificate are. In the step of the seats that categories left there are none.
-pub record IsWritten (people : List Person) (kind : StepKind) (list : StepList) : Type 0 where
-  pub named : list.kind ≡ kind
-  pub seats : list.seats < 2 ^ 32
-  pub candidates : list.candidates < 2 ^ 32
-  pub known : AllByRecursion (λ person. find_person person.id.0 people ≡ Some person) list.admitted
-  pub distinct : Pairwise (λ a b. a.id ≢ b.id) list.admitted
-  pub in_order : IsSublist (map (λ pair. pair.cand) list.cert.pairs) (map (λ person. person.id) list.admitted)
-  pub slots : AllByRecursion (λ pair. pair.slot < 6) list.cert.pairs
-  pub none : kind ≡ Dereserved → list.cert.pairs ≡ []
-
--- a text can spell a list as it is published
-abbrev pub ListsAreTold : Type 0
-ListsAreTold = (people : List Person) (kind : StepKind) (list : StepList) → IsWritten people kind list → IsStepList people kind list
-
--- the text of the list of a programme is one that is read, as this programme, if a text can spell its lists
-abbrev pub ListsAreRead : Type 0
-ListsAreRead = (table : SeatTable) (people : List Person) (number : ℕ) (prog : ProgId) (programme : Programme) → number < 2 ^ 16 → prog.0 < length table.programmes → AreStepLists people step_kinds programme.steps
-    → IsListText table people (list_text table number prog.0 programme) (record { round = number; prog = prog; programme = programme })
-
--- a text is that of one list
-abbrev pub ListsAreOne : Type 0
-ListsAreOne = (table : SeatTable) (people : List Person) (text : List ℕ) (a b : ListRead) → AreKnown table people → IsListText table people text a → IsListText table people text b → a ≡ b

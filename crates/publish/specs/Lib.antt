@@ -1,10 +1,4 @@
 pub mod Laws
-pub mod ListLines
-pub mod ListPieces
-pub mod ListReader
-pub mod Listing
-pub mod Parts
 pub mod Pieces
 pub mod Reader
-pub mod Reading
 pub mod Rows

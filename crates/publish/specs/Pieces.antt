@@ -6,7 +6,7 @@ use Rattle.office_base.specs.declared.step.StepKind.{StepKind}
 use Rattle.published_texts.specs.Texts.{code_in}
 use Rattle.seat_matrix.specs.Matrix.{SeatTable}
 use Rattle.step_lines.specs.Lines.{step_name}
-use Rattle.publish.specs.Parts.{is_prefix}
+use Rattle.text_readers.specs.Parts.{is_prefix}
 use Rattle.publish.specs.Rows.{IsNumber, head_words}
 use Rattle.publish.specs.declared.sort.Sort.{Sort}
 
@@ -35,12 +35,6 @@ pub record BeginsRow (word : List ℕ) (table : SeatTable) (id : ℕ) (piece : L
 abbrev pub BeginsRows : List ℕ → SeatTable → ℕ → List Person → List ℕ → Type 0
 BeginsRows word table left [] piece = ⊥
 BeginsRows word table left (person ∷ people) piece = ((left ≤ length people + 1) × BeginsRow word table person.id.0 piece) ⊎ BeginsRows word table left people piece
-
--- a number up to this one, and what follows it
-pub record BeginsNumber (high : ℕ) (tail : List ℕ) (piece : List ℕ) : Type 0 where
-  pub number : ℕ
-  pub within : number ≤ high
-  pub begins : is_prefix piece (decimal number ++ tail) ≡ true
 
 -- the first line with a count up to this one
 pub record BeginsHead (sort : Sort) (known most : ℕ) (piece : List ℕ) : Type 0 where

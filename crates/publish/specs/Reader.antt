@@ -1,18 +1,12 @@
 -- A reader of rows: what it keeps, and what completes its text.
 use Rattle.std.specs.Prelude.{◌≡◌, ◌<◌, ◌+◌, ◌^◌, ℕ, List, [], length}
-use Rattle.std.specs.List.{AllByRecursion}
 use Rattle.keeper_mem.specs.declared.rows.AllotRow.{AllotRow}
-use Rattle.office_base.specs.declared.person.Person.{Person}
-use Rattle.publish.specs.Parts.{AreSpelled}
-use Rattle.publish.specs.Reading.{Grammar}
+use Rattle.text_readers.specs.Parts.{AreSmall, AreSpelled}
+use Rattle.text_readers.specs.Reading.{Grammar}
 use Rattle.publish.specs.Rows.{IsEnd, IsRest, IsRowsText, Read}
 use Rattle.publish.specs.declared.rows.RowsReader.{RowsReader}
 use Rattle.publish.specs.declared.stage.Stage.{Stage}
 use Rattle.publish.specs.declared.stage.Stage.TheVariants.{Head, Rows, Done}
-
--- the ids fit 32 bits
-abbrev pub AreSmall : List Person → Type 0
-AreSmall people = AllByRecursion (λ person. person.id.0 < 2 ^ 32) people
 
 -- what completes the text of a reader at each stage
 abbrev pub grammar_at : Stage → RowsReader → Grammar Read

@@ -1,13 +1,15 @@
 -- The texts of rounds and of final admissions as they are read: rows of candidates, programmes and steps.
-use Rattle.std.specs.Prelude.{◌≡◌, ◌<◌, ◌≤◌, ◌^◌, ℕ, List, [], ◌∷◌, ◌++◌, length, map, codes}
+use Rattle.std.specs.Prelude.{◌≡◌, ◌<◌, ◌≤◌, ◌^◌, ◌==◌, ℕ, List, [], ◌∷◌, ◌++◌, Option, Some, None, length, map, codes, if◌then◌else◌}
 use Rattle.std.specs.Fmt.{decimal}
 use Rattle.std.specs.List.{AllByRecursion, flat_map}
 use Rattle.keeper_mem.specs.declared.rows.AllotRow.{AllotRow}
 use Rattle.office_base.specs.Lists.{IsSublist}
 use Rattle.office_base.specs.declared.person.Person.{Person}
-use Rattle.published_texts.specs.Texts.{final_text, round_head, seat_line}
+use Rattle.office_base.specs.declared.step.StepKind.{StepKind}
+use Rattle.published_texts.specs.Texts.{code_in, final_text, round_head, seat_line}
 use Rattle.seat_matrix.specs.Matrix.{SeatTable}
-use Rattle.publish.specs.Parts.{row_words}
+use Rattle.step_lines.specs.Lines.{step_name}
+use Rattle.publish.specs.declared.parts.Row.{Row}
 use Rattle.publish.specs.declared.reads.FinalRead.{FinalRead}
 use Rattle.publish.specs.declared.reads.RoundRead.{RoundRead}
 use Rattle.publish.specs.declared.sort.Sort.{Sort}
@@ -39,6 +41,24 @@ pub record IsRoundText (table : SeatTable) (people : List Person) (text : List �
   pub same : text ≡ round_rows_text table read.round read.rows
 
 -- ---- the same texts by their lines
+
+-- a candidate, a programme and a step, with the first word of their line
+abbrev pub row_words : List ℕ → SeatTable → ℕ → ℕ → StepKind → List ℕ
+row_words word table cand prog step = word ++ (decimal cand ++ 32 ∷ (code_in table prog ++ 32 ∷ step_name step))
+
+-- The line has these parts, and the programme is one of the matrix.
+pub record IsRow (word : List ℕ) (table : SeatTable) (line : List ℕ) (cand prog : ℕ) (step : StepKind) : Type 0 where
+  pub same : line ≡ row_words word table cand prog step
+  pub within : prog < length table.programmes
+
+-- no candidate, programme and step have this line
+abbrev pub IsNoRow : List ℕ → SeatTable → List ℕ → Type 0
+IsNoRow word table line = (cand prog : ℕ) (step : StepKind) → cand < 2 ^ 32 → IsRow word table line cand prog step → ⊥
+
+-- the people after the first of this id
+abbrev pub people_after : ℕ → List Person → Option (List Person)
+people_after id [] = None
+people_after id (person ∷ people) = if person.id.0 == id then Some people else people_after id people
 
 -- the first word of a row
 abbrev pub word : Sort → List ℕ
@@ -73,6 +93,10 @@ pub record IsTail (sort : Sort) (table : SeatTable) (people : List Person) (numb
   pub are : AreRows table people number rows
   pub count : length rows ≡ left
   pub same : text ≡ tail_text sort table rows
+
+-- these rows, and after them the row of these parts with this number as its round
+abbrev pub rows_with : ℕ → List AllotRow → Row → List AllotRow
+rows_with number rows row = rows ++ record { round = number; cand = row.cand; prog = row.prog; step = row.step } ∷ []
 
 -- So many rows can follow: there are people for them, and a programme where there is to be one.
 pub record CanGoOn (table : SeatTable) (people : List Person) (left : ℕ) : Type 0 where

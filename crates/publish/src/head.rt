@@ -1,13 +1,13 @@
 // The first line of a text of rows.
-ghost use Rattle.std.specs.Prelude.{◌≡◌, ◌≢◌, ◌<◌, ◌≤◌, ◌^◌, ◌∷◌, ◌++◌, [], ℕ, List, IfNone, IfSome, IsTrue, ◌↔◌};
-ghost use Rattle.publish.specs.Pieces.{BeginsHead, BeginsNumber, BeginsSeated, IsRoundNumber};
-ghost use Rattle.publish.specs.Reading.{HasNo};
+ghost use Rattle.std.specs.Prelude.{◌≡◌, ◌≢◌, ◌<◌, ◌^◌, ℕ, IfNone, IfSome, IsTrue, ◌↔◌};
+ghost use Rattle.text_readers.specs.Reading.{HasNo};
+ghost use Rattle.publish.specs.Pieces.{BeginsHead, BeginsSeated, IsRoundNumber};
 ghost use Rattle.publish.specs.Rows.{IsNumber, head_words};
 
-use crate::parts::{after, cut, left_after};
 use crate::sort::Sort;
 use office_text::laws::numbers_are_inverse;
 use office_text::read_number;
+use text_readers::{after, begins_number, cut, left_after};
 
 /// Holds what the first line of a text says.
 #[derive(Clone, Copy)]
@@ -67,16 +67,7 @@ fn read_final_head(known: u16, line: &[u8]) -> Option<Head>
     })
 }
 
-/// Whether a piece without this byte begins a number up to this one, and the byte.
-pub(crate) fn begins_number(high: u32, piece: &[u8]) -> bool
-    ensures { (byte : ℕ) (tail : List ℕ) → HasNo byte piece.now
-        → IsTrue result ↔ BeginsNumber high (byte ∷ tail) piece.now }
-{
-    numbers_are_inverse();
-    piece.is_empty() || read_number(piece, 0, high).is_some()
-}
-
-/// Whether a piece of a line begins the first line of a text, with a count up to this one.
+/// Returns whether a piece of a line begins the first line of a text, with a count up to this one.
 pub(crate) fn begins_head(sort: Sort, known: u16, most: u32, piece: &[u8]) -> bool
     requires { HasNo 10 piece.now }
     ensures { IsTrue result ↔ BeginsHead sort known most piece.now }
@@ -87,7 +78,7 @@ pub(crate) fn begins_head(sort: Sort, known: u16, most: u32, piece: &[u8]) -> bo
     }
 }
 
-/// Whether a piece of a line begins the first line of final admissions, with a count up to this one.
+/// Returns whether a piece of a line begins the first line of final admissions, with a count up to this one.
 fn begins_final_head(most: u32, piece: &[u8]) -> bool
     requires { HasNo 10 piece.now }
     ensures { (known : ℕ) → IsTrue result ↔ BeginsHead Sort.Final known most piece.now }
@@ -98,7 +89,7 @@ fn begins_final_head(most: u32, piece: &[u8]) -> bool
     }
 }
 
-/// Whether a piece of a line begins the first line of a round, with a count up to this one.
+/// Returns whether a piece of a line begins the first line of a round, with a count up to this one.
 fn begins_round_head(most: u32, piece: &[u8]) -> bool
     requires { HasNo 10 piece.now }
     ensures { (known : ℕ) → IsTrue result ↔ BeginsHead Sort.Round known most piece.now }
@@ -112,7 +103,7 @@ fn begins_round_head(most: u32, piece: &[u8]) -> bool
     }
 }
 
-/// Whether a text is the number of a round.
+/// Returns whether a text is the number of a round.
 fn is_round(text: &[u8]) -> bool
     ensures { IsTrue result ↔ IsRoundNumber text.now }
 {

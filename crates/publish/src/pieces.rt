@@ -1,16 +1,16 @@
 // What a piece of a line, whose end is missing, may begin.
 ghost use Rattle.std.specs.Prelude.{◌≡◌, ◌<◌, ◌++◌, ◌∷◌, [], IsTrue, ◌↔◌, length};
 ghost use Rattle.step_lines.specs.Lines.{step_name};
-ghost use Rattle.publish.specs.Parts.{is_prefix};
+ghost use Rattle.text_readers.specs.Parts.{is_prefix};
 ghost use Rattle.publish.specs.Pieces.{BeginsCode, BeginsRow, BeginsRows, BeginsSeat, BeginsStep};
 
-use crate::parts::left_after;
 use itoa::Buffer;
 use office_base::{CandId, Person, ProgId, StepKind};
 use seat_matrix::Matrix;
 use step_lines::step_name;
+use text_readers::{begins_whole, left_after};
 
-/// Whether a piece begins the name of a step with the end of the line.
+/// Returns whether a piece begins the name of a step with the end of the line.
 fn begins_step(piece: &[u8]) -> bool
     ensures { IsTrue result ↔ BeginsStep piece.now }
 {
@@ -22,27 +22,14 @@ fn begins_step(piece: &[u8]) -> bool
         || begins_name(piece, StepKind::Dereserved)
 }
 
-/// Whether a piece begins the name of this step with the end of the line.
+/// Returns whether a piece begins the name of this step with the end of the line.
 fn begins_name(piece: &[u8], step: StepKind) -> bool
     ensures { result ≡ is_prefix piece.now (step_name step ++ 10 ∷ []) }
 {
     begins_whole(piece, step_name(step).as_bytes())
 }
 
-/// Whether a piece begins these bytes with the end of the line.
-pub(crate) fn begins_whole(piece: &[u8], bytes: &[u8]) -> bool
-    ensures { result ≡ is_prefix piece.now (bytes.now ++ 10 ∷ []) }
-{
-    match left_after(piece, bytes) {
-        Some(rest) => match left_after(rest, b"\n") {
-            Some(rest) => rest.is_empty(),
-            None => false,
-        },
-        None => false,
-    }
-}
-
-/// Whether a piece begins the code of this programme with a step.
+/// Returns whether a piece begins the code of this programme with a step.
 fn begins_code(matrix: &Matrix, prog: ProgId, piece: &[u8]) -> bool
     requires { prog.0 < length matrix.now.programmes }
     ensures { IsTrue result ↔ BeginsCode matrix.now prog.0 piece.now }
@@ -57,7 +44,7 @@ fn begins_code(matrix: &Matrix, prog: ProgId, piece: &[u8]) -> bool
     }
 }
 
-/// Whether a piece begins the code of some programme with a step.
+/// Returns whether a piece begins the code of some programme with a step.
 fn begins_seat(matrix: &Matrix, piece: &[u8]) -> bool
     ensures { IsTrue result ↔ BeginsSeat matrix.now piece.now }
 {
@@ -69,7 +56,7 @@ fn begins_seat(matrix: &Matrix, piece: &[u8]) -> bool
     false
 }
 
-/// Whether a piece begins a row of this candidate.
+/// Returns whether a piece begins a row of this candidate.
 fn begins_row(matrix: &Matrix, word: &[u8], cand: CandId, piece: &[u8]) -> bool
     ensures { IsTrue result ↔ BeginsRow word.now matrix.now cand.0 piece.now }
 {
@@ -87,7 +74,7 @@ fn begins_row(matrix: &Matrix, word: &[u8], cand: CandId, piece: &[u8]) -> bool
     }
 }
 
-/// Whether a piece begins a row of one of these people after whom so many rows, with this one, can follow.
+/// Returns whether a piece begins a row of one of these people after whom so many rows, with this one, can follow.
 pub(crate) fn begins_rows(
     matrix: &Matrix,
     word: &[u8],

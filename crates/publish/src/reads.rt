@@ -1,36 +1,33 @@
 // The readers of rounds and of final admissions.
-ghost use Rattle.std.specs.Prelude.{◌≡◌, ◌<◌, ◌+◌, ◌^◌, IfOk, IfErr, length};
-ghost use Rattle.publish.specs.Parts.{AreSpelled};
-ghost use Rattle.publish.specs.Reader.{AreSmall};
-ghost use Rattle.publish.specs.Reading.{IsTextFault};
+ghost use Rattle.std.specs.Prelude.{◌<◌, ◌+◌, ◌^◌, IfOk, IfErr, length};
+ghost use Rattle.text_readers.specs.Parts.{AreSmall};
+ghost use Rattle.text_readers.specs.Reading.{IsTextFault};
 ghost use Rattle.publish.specs.Rows.{IsFinalText, IsRoundText, IsRowsText};
 
-use crate::fault::TextFault;
-use crate::reading::read_lines;
 use crate::rows::RowsReader;
 use crate::sort::Sort;
 use crate::stage::Stage;
 use keeper_mem::AllotRows;
-use office_base::{Person, ProgId};
-use rank_lists::Register;
+use office_base::Person;
 use season_file::Season;
 use seat_matrix::Matrix;
 use std::alloc::Global;
+use text_readers::{TextFault, codes_are_spelled, read_lines, small_people};
 
-/// A round as it was read: its number, and its rows in the order of the register.
+/// Holds a round as it was read: its number, and its rows in the order of the register.
 #[derive(Debug, Drop)]
 pub struct RoundRead {
     pub round: u16,
     pub rows: AllotRows,
 }
 
-/// Final admissions as they were read, in the order of the register. Their round is the number of rounds plus 1.
+/// Holds final admissions as they were read, in the order of the register. Their round is the number of rounds plus 1.
 #[derive(Debug, Drop)]
 pub struct FinalRead {
     pub rows: AllotRows,
 }
 
-/// The round that a text spells, or the line of its fault.
+/// Returns the round that a text spells, or the line of its fault.
 pub fn read_round(alloc: Global, season: &Season, text: &[u8]) -> Result<RoundRead, TextFault>
     ensures value { IfOk result (λ read.
         IsRoundText season.now.matrix season.now.register.people text.now read) }
@@ -44,7 +41,7 @@ pub fn read_round(alloc: Global, season: &Season, text: &[u8]) -> Result<RoundRe
     }
 }
 
-/// The final admissions that a text spells, or the line of its fault.
+/// Returns the final admissions that a text spells, or the line of its fault.
 pub fn read_final(alloc: Global, season: &Season, text: &[u8]) -> Result<FinalRead, TextFault>
     ensures value { IfOk result (λ read. IsFinalText season.now.matrix
         season.now.register.people (season.now.rounds + 1) text.now read) }
@@ -59,7 +56,7 @@ pub fn read_final(alloc: Global, season: &Season, text: &[u8]) -> Result<FinalRe
     }
 }
 
-/// The number of the round and the rows that a text spells, or the line of its fault.
+/// Returns the number of the round and the rows that a text spells, or the line of its fault.
 fn read_rows(
     alloc: Global,
     matrix: &Matrix,
@@ -87,23 +84,4 @@ fn read_rows(
     };
     read_lines(&mut reader, text)?;
     Ok((reader.number, reader.rows))
-}
-
-/// The people of a register, whose ids fit 32 bits.
-pub(crate) fn small_people(register: &Register) -> &[Person]
-    ensures same { result.now ≡ register.now.people }
-    ensures small { AreSmall result.now }
-    ensures few { length result.now < 2 ^ 31 }
-{
-    register.people()
-}
-
-/// All codes of a matrix are spelled as codes are.
-pub(crate) fn codes_are_spelled(matrix: &Matrix)
-    ensures { AreSpelled matrix.now }
-{
-    for prog in 0..matrix.count() {
-        let code = matrix.code(ProgId(prog));
-        let _ = code.bytes();
-    }
 }

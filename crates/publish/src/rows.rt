@@ -1,22 +1,22 @@
 // The reader of rows: the texts of rounds and of final admissions.
 ghost use Rattle.std.specs.Prelude.{◌≡◌, ◌<◌, ◌≤◌, ◌+◌, ◌-◌, ◌^◌, ◌∷◌, [], ◌++◌, ℕ, List, IfNone, IfSome, IfOk, OnOk, IsTrue, ◌↔◌, length};
 ghost use Rattle.keeper_mem.specs.declared.rows.AllotRow.{AllotRow as AnyRow};
-ghost use Rattle.publish.specs.Parts.{AreSpelled};
-ghost use Rattle.publish.specs.Reader.{AreSmall, KeepsRows, grammar_of, lines_left};
-ghost use Rattle.publish.specs.Reading.{Begins, EndsWithLines, HasNo, IsAnswered, IsRefused, IsWhole, Leads};
-ghost use Rattle.publish.specs.Rows.{CanGoOn, IsEnd, IsNumber, IsRest, IsRowsText, Read, ending, word};
+ghost use Rattle.text_readers.specs.Parts.{AreSmall, AreSpelled};
+ghost use Rattle.text_readers.specs.Reading.{Begins, EndsWithLines, HasNo, IsAnswered, IsRefused, IsWhole, Leads};
+ghost use Rattle.publish.specs.Reader.{KeepsRows, grammar_of, lines_left};
+ghost use Rattle.publish.specs.Rows.{CanGoOn, IsEnd, IsNumber, IsRest, IsRowsText, Read, ending, rows_with, word};
 
 use crate::head::{Head, begins_head, read_head};
 use crate::parts::{Row, people_after, read_row};
-use crate::pieces::{begins_rows, begins_whole};
-use crate::reading::Lines;
+use crate::pieces::begins_rows;
 use crate::sort::Sort;
 use crate::stage::Stage;
 use keeper_mem::{AllotRow, AllotRows};
 use office_base::{OutOfMemory, Person};
 use seat_matrix::Matrix;
+use text_readers::{Lines, begins_whole};
 
-/// A text of rows while it is read.
+/// Holds a text of rows while it is read.
 #[derive(Drop)]
 pub(crate) struct RowsReader<'a> {
     pub(crate) matrix: &'a Matrix,
@@ -30,7 +30,7 @@ pub(crate) struct RowsReader<'a> {
     pub(crate) rows: AllotRows,
 }
 
-/// The first word of a row.
+/// Returns the first word of a row.
 fn row_word(sort: Sort) -> &'static [u8]
     ensures { result.now ≡ word sort }
 {
@@ -40,7 +40,7 @@ fn row_word(sort: Sort) -> &'static [u8]
     }
 }
 
-/// The last line.
+/// Returns the last line.
 fn last_line(sort: Sort) -> &'static [u8]
     ensures { result.now ≡ ending sort }
 {
@@ -50,7 +50,7 @@ fn last_line(sort: Sort) -> &'static [u8]
     }
 }
 
-/// The greatest number of rows that these people can have: one for each, where there is a programme.
+/// Returns the greatest number of rows that these people can have: one for each, where there is a programme.
 fn most_rows(matrix: &Matrix, people: &[Person]) -> u32
     requires { length people.now < 2 ^ 31 }
     ensures few { (count : ℕ) → count ≤ result → CanGoOn matrix.now people.now count }
@@ -91,7 +91,7 @@ fn first_line(
     }
 }
 
-/// The row of a line, and the people after its candidate, where as many rows as are left, with this one, can follow.
+/// Returns the row of a line, and the people after its candidate, where as many rows as are left, with this one, can follow.
 fn next_row<'a>(
     matrix: &Matrix,
     people: &'a [Person],
@@ -103,8 +103,9 @@ fn next_row<'a>(
     requires small { AreSmall people.now }
     requires some { 0 < left }
     requires line { HasNo 10 line.now }
-    ensures some { IfSome result (λ next. (number : ℕ) (rows : List AnyRow) → Leads (IsRest sort matrix.now people.now number left rows)
-        (IsRest sort matrix.now next.1.now number (left - 1) (rows ++ record { round = number; cand = next.0.cand; prog = next.0.prog; step = next.0.step } ∷ [])) line.now) }
+    ensures some { IfSome result (λ it. (number : ℕ) (rows : List AnyRow)
+        → Leads (IsRest sort matrix.now people.now number left rows)
+        (IsRest sort matrix.now it.1.now number (left - 1) (rows_with number rows it.0)) line.now) }
     ensures small { IfSome result (λ next. AreSmall next.1.now) }
     ensures few { IfSome result (λ next. length next.1.now ≤ length people.now) }
     ensures none { IfNone result ((number : ℕ) (rows : List AnyRow)
@@ -126,7 +127,7 @@ fn next_row<'a>(
     }
 }
 
-/// Whether a piece of a line begins the next one of the rows and the last line.
+/// Returns whether a piece of a line begins the next one of the rows and the last line.
 fn begins_next(matrix: &Matrix, people: &[Person], sort: Sort, left: usize, piece: &[u8]) -> bool
     requires spelled { AreSpelled matrix.now }
     requires small { AreSmall people.now }
@@ -141,7 +142,7 @@ fn begins_next(matrix: &Matrix, people: &[Person], sort: Sort, left: usize, piec
     }
 }
 
-/// Whether a piece of a line begins the first line.
+/// Returns whether a piece of a line begins the first line.
 fn begins_first(matrix: &Matrix, people: &[Person], sort: Sort, known: u16, piece: &[u8]) -> bool
     requires few { length people.now < 2 ^ 31 }
     requires piece { HasNo 10 piece.now }

@@ -1,6 +1,6 @@
 // How far a text was read.
 
-/// Which line of a text comes next: the first, one of those after it, or none.
+/// Says which line of a text comes next: the first, one of those after it, or none.
 #[derive(Clone, Copy, Debug)]
 pub(crate) enum Stage {
     Head,

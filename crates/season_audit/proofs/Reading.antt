@@ -11,7 +11,7 @@ use Rattle.office_base.specs.declared.person.Person.{Person}
 use Rattle.list_audit.specs.Clauses.{no_list}
 use Rattle.programme_lists.specs.declared.programme.Programme.{Programme}
 use Rattle.programme_lists.specs.declared.programme.StepList.{StepList}
-use Rattle.publish.specs.declared.lists.ListRead.{ListRead}
+use Rattle.list_texts.specs.declared.lists.ListRead.{ListRead}
 use Rattle.dossier_file.specs.Kept.{NamesOnce}
 use Rattle.season_audit.specs.Audit.{NameOnce}
 

@@ -23,7 +23,7 @@ use Rattle.cut_checks.specs.AtCut.{IsAtCut, Setting}
 use Rattle.cut_checks.specs.Comes.{AreLists, CutComesTo, told_by}
 use Rattle.cut_checks.specs.declared.fault.Fault.{Fault}
 use Rattle.cut_checks.specs.declared.stand.Stand.{Stand}
-use Rattle.publish.specs.declared.lists.ListRead.{ListRead}
+use Rattle.list_texts.specs.declared.lists.ListRead.{ListRead}
 use Rattle.season_audit.specs.Audit.{ComesTo, IsUpTo, NameOnce, Passes}
 use Rattle.season_audit.specs.declared.auditor.Auditor.{Auditor}
 

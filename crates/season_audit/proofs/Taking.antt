@@ -51,7 +51,7 @@ use Rattle.cut_checks.proofs.Stood.{stand_answered, stand_other}
 use Rattle.cut_checks.proofs.Telling.{known, stands}
 use Rattle.cut_checks.specs.declared.fault.Fault.{Fault}
 use Rattle.dossier_file.specs.Due.{cuts_of as cuts_in}
-use Rattle.publish.specs.declared.lists.ListRead.{ListRead}
+use Rattle.list_texts.specs.declared.lists.ListRead.{ListRead}
 use Rattle.publish.specs.declared.reads.RoundRead.{RoundRead}
 use Rattle.season_audit.specs.Audit.{AllHold, IsUpTo, Passes, StandAfter}
 use Rattle.season_audit.specs.declared.auditor.Auditor.{Auditor}

@@ -4,7 +4,7 @@ use Rattle.office_base.specs.declared.asks.Request.{Request}
 use Rattle.office_base.specs.declared.step.StepKind.{StepKind}
 use Rattle.list_audit.specs.Clauses.{list_of}
 use Rattle.placements.specs.Ranks.{AreDistinct}
-use Rattle.publish.specs.declared.lists.ListRead.{ListRead}
+use Rattle.list_texts.specs.declared.lists.ListRead.{ListRead}
 use Rattle.office_moves.specs.Facts.{IsSound, SeasonFacts}
 use Rattle.office_moves.specs.Raised.{matrix_at}
 use Rattle.office_moves.specs.History.{newly}

@@ -6,7 +6,7 @@ ghost use Rattle.season_audit.specs.Audit.{NameOnce, papers_in};
 
 use dossier_file::Dossier;
 use keeper_mem::AllotRow;
-use publish::ListRead;
+use list_texts::ListRead;
 
 /// The rows of the round that follows so many; none where there is no text of it.
 pub fn rows_after(dossier: &Dossier, rounds: u16) -> &[AllotRow]

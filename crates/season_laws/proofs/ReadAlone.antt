@@ -3,10 +3,10 @@ use Rattle.std.proofs.Common.{◌≡◌, ◌<◌, ◌+◌, ◌^◌, ℕ, suc, Li
 use Rattle.std.specs.Prelude.{slice_get}
 use Rattle.std.specs.List.{AllByRecursion}
 use Rattle.office_base.specs.declared.person.Person.{Person}
-use Rattle.publish.specs.Laws.{AreDistinct, FinalsAreOne, ListsAreOne, RoundsAreOne}
-use Rattle.publish.specs.ListReader.{AreKnown}
-use Rattle.publish.specs.Parts.{AreSpelled}
-use Rattle.publish.specs.Reader.{AreSmall}
+use Rattle.text_readers.specs.Parts.{AreSmall, AreSpelled}
+use Rattle.list_texts.specs.Laws.{ListsAreOne}
+use Rattle.list_texts.specs.ListReader.{AreKnown}
+use Rattle.publish.specs.Laws.{AreDistinct, FinalsAreOne, RoundsAreOne}
 use Rattle.round_laws.proofs.People.{found_at}
 use Rattle.office_moves.specs.Facts.{IsSound, SeasonFacts}
 use Rattle.office_moves.specs.Moves.{allot_rows}

@@ -42,8 +42,9 @@ use Rattle.programme_lists.specs.declared.programme.StepList.{StepList}
 use Rattle.programme_lists.proofs.Taken.{length-without}
 use Rattle.open_then_category.specs.Laws.{AdmittedOnce, SlotsAreTraits}
 use Rattle.published_texts.specs.Texts.{AreSeatsOf, IsSeatOf, list_text, round_text}
-use Rattle.publish.specs.Laws.{FinalsAreRead, IsWritten, ListsAreRead, ListsAreTold, RoundsAreRead, row_of, rows_of}
-use Rattle.publish.specs.Listing.{AreStepLists, IsListText, step_kinds}
+use Rattle.list_texts.specs.Laws.{IsWritten, ListsAreRead, ListsAreTold}
+use Rattle.list_texts.specs.Listing.{AreStepLists, IsListText, step_kinds}
+use Rattle.publish.specs.Laws.{FinalsAreRead, RoundsAreRead, row_of, rows_of}
 use Rattle.publish.specs.Rows.{AreRows, IsRoundText}
 use Rattle.rounds.specs.Rule.{MayApplyIn, ProgrammesChooseWell, rule_of, seekers_of}
 use Rattle.rounds.specs.declared.round.Round.{Round}

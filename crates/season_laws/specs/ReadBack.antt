@@ -4,10 +4,10 @@ use Rattle.keeper_mem.specs.declared.rows.AllotRow.{AllotRow}
 use Rattle.office_base.specs.declared.person.ProgId.{ProgId}
 use Rattle.programme_lists.specs.declared.programme.Programme.{Programme}
 use Rattle.published_texts.specs.Texts.{final_text, list_text, round_text}
-use Rattle.publish.specs.Listing.{IsListText}
-use Rattle.publish.specs.Parts.{AreSpelled}
+use Rattle.text_readers.specs.Parts.{AreSpelled}
+use Rattle.list_texts.specs.Listing.{IsListText}
+use Rattle.list_texts.specs.declared.lists.ListRead.{ListRead}
 use Rattle.publish.specs.Rows.{IsFinalText, IsRoundText}
-use Rattle.publish.specs.declared.lists.ListRead.{ListRead}
 use Rattle.publish.specs.declared.reads.FinalRead.{FinalRead}
 use Rattle.publish.specs.declared.reads.RoundRead.{RoundRead}
 use Rattle.rounds.specs.declared.round.Round.{Round}

@@ -107,8 +107,8 @@ pub fn published_is_read()
     merit_choice::laws::in_merit_ranks();
     publish::laws::rounds_are_read();
     publish::laws::finals_are_read();
-    publish::laws::lists_are_told();
-    publish::laws::lists_are_read();
+    list_texts::laws::lists_are_told();
+    list_texts::laws::lists_are_read();
 }
 
 /// And it is read as nothing else, where each programme has a code.
@@ -118,5 +118,5 @@ pub fn published_is_read_alone()
     published_is_read();
     publish::laws::rounds_are_one();
     publish::laws::finals_are_one();
-    publish::laws::lists_are_one();
+    list_texts::laws::lists_are_one();
 }

@@ -1,7 +1,7 @@
 use Rattle.std.proofs.Common.{arith, add-one, eq-eqb}
 use Rattle.std.proofs.lemmas.Bool.{eqb-true}
 use Rattle.std.proofs.lemmas.List.{take_rest}
-use Rattle.publish.proofs.LineLemmas.{cut-first, none-before, none-at-all}
+use Rattle.text_readers.proofs.LineLemmas.{cut-first, none-before, none-at-all}
 use Rattle.dossier_file.proofs.bytes.cut_line.Goals as goal
 
 pub returns-in-Some-clause-some : goal.returns-in-Some-clause-some

@@ -1,5 +1,5 @@
 use Rattle.std.proofs.Common.{◌≡◌, ◌+◌, ℕ, List, ap, sym, ◌∙◌, arith}
-use Rattle.publish.specs.Reading.{lines_in}
+use Rattle.text_readers.specs.Reading.{lines_in}
 use Rattle.dossier_file.proofs.DueLemmas.{some_bytes}
 use Rattle.dossier_file.proofs.LineLemmas.{line_more, one_line}
 use Rattle.dossier_file.proofs.bytes.line_count.Goals as goal

@@ -1,5 +1,5 @@
 use Rattle.std.proofs.Common.{◌≡◌, ◌≤◌, ◌+◌, length}
-use Rattle.publish.specs.Reading.{lines_in}
+use Rattle.text_readers.specs.Reading.{lines_in}
 use Rattle.dossier_file.proofs.bytes.line_count.Given as goal
 
 abbrev pub invariant-lines : goal.invariant-lines

@@ -1,5 +1,5 @@
 use Rattle.std.proofs.Common.{arith}
-use Rattle.publish.proofs.WholeLemmas.{small-people}
+use Rattle.text_readers.proofs.KnownLemmas.{small-people}
 use Rattle.dossier_file.proofs.content.are_readable.Goals as goal
 
 pub returns : goal.returns

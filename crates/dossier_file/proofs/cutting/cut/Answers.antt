@@ -1,6 +1,6 @@
 use Rattle.std.proofs.Common.{ℕ, List, sym, subst}
 use Rattle.std.proofs.lemmas.List.{take_rest}
-use Rattle.publish.proofs.PartsLemmas.{if-none}
+use Rattle.text_readers.proofs.PartsLemmas.{if-none}
 use Rattle.dossier_file.specs.Cut.{HasNoSection, IsTitledAt}
 use Rattle.dossier_file.proofs.CutLemmas.{cut_made, none_made}
 use Rattle.dossier_file.proofs.cutting.cut.Goals as goal

@@ -4,7 +4,7 @@ use Rattle.std.proofs.lemmas.Bool.Decides.{Decides-eqb}
 use Rattle.std.proofs.lemmas.List.{drop-drop, length-drop}
 use Rattle.std.proofs.lemmas.Slice.Eq.{slice_eq-Decides}
 use Rattle.season_file.specs.Bundle.{line_len, title}
-use Rattle.publish.proofs.ReadLemmas.{no-bytes}
+use Rattle.text_readers.proofs.ReadLemmas.{no-bytes}
 use Rattle.dossier_file.proofs.CutLemmas.{begins_more, title_end, title_last, title_more}
 use Rattle.dossier_file.proofs.DueLemmas.{long_of, some_bytes}
 use Rattle.dossier_file.proofs.cutting.find_title.Goals as goal

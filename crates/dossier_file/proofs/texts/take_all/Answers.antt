@@ -1,8 +1,8 @@
 use Rattle.std.proofs.Common.{◌+◌, List, drop, sym, subst, ◌∙◌}
 use Rattle.std.proofs.lemmas.List.{drop_more}
-use Rattle.publish.specs.Reading.{IsTextFault}
-use Rattle.publish.specs.declared.fault.TextFault.{TextFault}
-use Rattle.publish.proofs.ReadLemmas.{no-bytes}
+use Rattle.text_readers.specs.Reading.{IsTextFault}
+use Rattle.text_readers.specs.declared.fault.TextFault.{TextFault}
+use Rattle.text_readers.proofs.ReadLemmas.{no-bytes}
 use Rattle.dossier_file.specs.Papers.{ArePapers}
 use Rattle.dossier_file.specs.declared.due.Due.{Due}
 use Rattle.dossier_file.proofs.DueLemmas.{IsAlong, along_done, along_fault, along_left, along_more, along_room, good_rest, none_left, some_bytes}

@@ -1,5 +1,5 @@
 use Rattle.std.proofs.Common.{[]}
-use Rattle.publish.proofs.NumberPieces.{final-from, final-to}
+use Rattle.publish.proofs.HeadPieces.{final-from, final-to}
 use Rattle.publish.proofs.head.begins_final_head.Goals as goal
 
 pub returns-in-Some : goal.returns-in-Some

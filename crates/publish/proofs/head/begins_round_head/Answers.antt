@@ -2,9 +2,9 @@ use Rattle.std.proofs.Common.{[], ◌∷◌, ◌++◌, sym, subst, ◌∙◌}
 use Rattle.std.proofs.lemmas.Bool.{false≢true}
 use Rattle.std.specs.Fmt.{decimal}
 use Rattle.std.specs.Prelude.{codes}
-use Rattle.publish.specs.Reading.{HasNo}
-use Rattle.publish.proofs.NumberPieces.{round-from, round-to, whole-from, whole-number, whole-seated}
-use Rattle.publish.proofs.PartsLemmas.{has-no-after}
+use Rattle.text_readers.specs.Reading.{HasNo}
+use Rattle.text_readers.proofs.PartsLemmas.{has-no-after}
+use Rattle.publish.proofs.HeadPieces.{round-from, round-to, whole-from, whole-number, whole-seated}
 use Rattle.publish.proofs.head.begins_round_head.Goals as goal
 
 pub begins_seated-requires : goal.begins_seated-requires

@@ -1,5 +1,5 @@
 use Rattle.std.proofs.Common.{[]}
-use Rattle.publish.proofs.NumberPieces.{seated-from, seated-to}
+use Rattle.publish.proofs.HeadPieces.{seated-from, seated-to}
 use Rattle.publish.proofs.head.begins_seated.Goals as goal
 
 pub returns-in-Some : goal.returns-in-Some

@@ -1,5 +1,5 @@
 use Rattle.std.proofs.Common.{sym, ap, ◌∙◌, is_some}
-use Rattle.publish.proofs.NumberPieces.{number-round, round-number}
+use Rattle.publish.proofs.HeadPieces.{number-round, round-number}
 use Rattle.publish.proofs.head.is_round.Goals as goal
 
 pub returns : goal.returns

@@ -1,11 +1,11 @@
 use Rattle.std.proofs.Common.{◌≢◌, ◌<◌, ◌^◌, ℕ, is_some, ap, ◌∙◌, arith}
 use Rattle.std.proofs.lemmas.Bool.{false≢true}
 use Rattle.office_text.specs.Number.{number_within}
+use Rattle.text_readers.proofs.NumberLemmas.{number-read}
+use Rattle.text_readers.proofs.PartsLemmas.{if-none}
 use Rattle.publish.specs.Rows.{head_words}
 use Rattle.publish.specs.declared.sort.Sort.TheVariants.{Round}
-use Rattle.publish.proofs.NumberPieces.{head-count, head-parts, head-whole}
-use Rattle.publish.proofs.PartsLemmas.{if-none}
-use Rattle.publish.proofs.RowLemmas.{number-read}
+use Rattle.publish.proofs.HeadPieces.{head-count, head-parts, head-whole}
 use Rattle.publish.proofs.head.read_round_head.Goals as goal
 
 pub returns-in_err-number-clause-none : goal.returns-in_err-number-clause-none

@@ -1,5 +1,5 @@
 use Rattle.std.proofs.Common.{◌≡◌, drop}
-use Rattle.publish.specs.Parts.{people_after}
+use Rattle.publish.specs.Rows.{people_after}
 use Rattle.publish.proofs.parts.people_after.Given as goal
 
 abbrev pub invariant-loop-at : goal.invariant-loop-at

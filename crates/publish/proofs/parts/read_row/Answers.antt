@@ -3,9 +3,10 @@ use Rattle.std.proofs.lemmas.Bool.{false≢true}
 use Rattle.std.specs.Fmt.{decimal}
 use Rattle.office_text.specs.Number.{number_within}
 use Rattle.published_texts.specs.Texts.{code_in}
-use Rattle.publish.specs.Parts.{IsNoRow}
-use Rattle.publish.proofs.PartsLemmas.{if-none}
-use Rattle.publish.proofs.RowLemmas.{number-read, number-written, row-cand, row-code, row-half, row-whole}
+use Rattle.text_readers.proofs.NumberLemmas.{number-read, number-written}
+use Rattle.text_readers.proofs.PartsLemmas.{if-none}
+use Rattle.publish.specs.Rows.{IsNoRow}
+use Rattle.publish.proofs.RowLemmas.{row-cand, row-code, row-half, row-whole}
 use Rattle.publish.proofs.parts.read_row.Goals as goal
 
 pub returns-in_err-cand-clause-none : goal.returns-in_err-cand-clause-none

@@ -1,8 +1,8 @@
 use Rattle.std.proofs.Common.{sym, ◌∙◌, arith}
 use Rattle.std.proofs.lemmas.Bool.{false≢true}
 use Rattle.publish.proofs.StageLemmas.{rows-skip}
-use Rattle.publish.proofs.pieces.begins_rows.Goals as goal
 use Rattle.publish.proofs.pieces.begins_rows.Goals.{else-left-people-via-then-left-people+else-begins_row, else-left-people-via-else-left-people}
+use Rattle.publish.proofs.pieces.begins_rows.Goals as goal
 
 pub loop-at-preserved : goal.loop-at-preserved
 loop-at-preserved c =

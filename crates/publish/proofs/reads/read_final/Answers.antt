@@ -1,5 +1,5 @@
 use Rattle.std.proofs.Common.{◌+◌, subst}
-use Rattle.publish.specs.Reading.{IsTextFault}
+use Rattle.text_readers.specs.Reading.{IsTextFault}
 use Rattle.publish.specs.Rows.{IsRowsText}
 use Rattle.publish.specs.declared.sort.Sort.TheVariants.{Final}
 use Rattle.publish.proofs.WholeLemmas.{final-fault, final-text}

@@ -1,7 +1,7 @@
 use Rattle.std.proofs.Common.{◌≡◌, ◌+◌, ◌-◌, ◌∷◌, ◌++◌, [], sym, ap, subst, ◌∙◌, arith}
-use Rattle.publish.specs.Parts.{is_prefix}
+use Rattle.text_readers.specs.Parts.{is_prefix}
+use Rattle.text_readers.specs.Reading.{Begins}
 use Rattle.publish.specs.Pieces.{BeginsRows}
-use Rattle.publish.specs.Reading.{Begins}
 use Rattle.publish.specs.Rows.{IsRest}
 use Rattle.publish.proofs.RowsLemmas.{begins-end, begins-rows, end-begins, rows-begin}
 use Rattle.publish.proofs.rows.begins_next.Goals as goal

@@ -1,5 +1,5 @@
 use Rattle.std.proofs.Common.{◌-◌, sym, subst, arith}
-use Rattle.publish.specs.Parts.{IsNoRow, IsRow}
+use Rattle.publish.specs.Rows.{IsNoRow, IsRow}
 use Rattle.publish.proofs.RowsLemmas.{cand-refused, few-refused, row-leads, row-refused}
 use Rattle.publish.proofs.TailLemmas.{after-short, after-small}
 use Rattle.publish.proofs.rows.next_row.Goals as goal

@@ -1,6 +1,6 @@
 use Rattle.std.proofs.Common.{◌≡◌, ◌+◌, ◌*◌, ◌∙◌, List, length, take, drop, ap, subst, sym}
 use Rattle.std.specs.Prelude.{◌-◌, min}
-use Rattle.publish.specs.declared.lists.ListRead.{ListRead}
+use Rattle.list_texts.specs.declared.lists.ListRead.{ListRead}
 use Rattle.cut_checks.specs.Comes.{told_by}
 use Rattle.season_audit.specs.Audit.{NameOnce}
 use Rattle.season_audit.proofs.Reading.{part_once, part_told}

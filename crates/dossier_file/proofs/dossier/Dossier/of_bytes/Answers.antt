@@ -1,6 +1,6 @@
 use Rattle.std.proofs.Common.{List, sym, subst, arith}
 use Rattle.office_base.specs.declared.asks.Request.{Request}
-use Rattle.publish.specs.Reading.{IsTextFault}
+use Rattle.text_readers.specs.Reading.{IsTextFault}
 use Rattle.season_file.specs.Season.{content_of}
 use Rattle.dossier_file.specs.Dossier.{IsBytesFault}
 use Rattle.dossier_file.specs.Papers.{AreDuePapers}

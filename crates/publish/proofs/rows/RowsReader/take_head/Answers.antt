@@ -1,6 +1,6 @@
 use Rattle.std.proofs.Common.{sym, subst}
+use Rattle.text_readers.specs.Reading.{IsRefused, Leads}
 use Rattle.publish.specs.Reader.{IsFresh, grammar_at}
-use Rattle.publish.specs.Reading.{IsRefused, Leads}
 use Rattle.publish.specs.Rows.{IsRest, IsRowsText}
 use Rattle.publish.proofs.rows.RowsReader.take_head.Goals as goal
 

@@ -2,8 +2,8 @@ use Rattle.std.proofs.Common.{◌≡◌, sym, subst, ◌∙◌}
 use Rattle.std.proofs.lemmas.Bool.{false≢true}
 use Rattle.std.proofs.lemmas.Bool.Decides.{Decides-eqb}
 use Rattle.std.proofs.lemmas.Slice.Eq.{slice_eq-Decides}
+use Rattle.text_readers.specs.Reading.{IsRefused, Leads}
 use Rattle.publish.specs.Reader.{grammar_at}
-use Rattle.publish.specs.Reading.{IsRefused, Leads}
 use Rattle.publish.specs.Rows.{IsEnd, IsRest, ending}
 use Rattle.publish.proofs.RowsLemmas.{end-leads, end-refused}
 use Rattle.publish.proofs.rows.RowsReader.take_last.Goals as goal

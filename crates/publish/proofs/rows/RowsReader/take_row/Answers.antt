@@ -1,6 +1,6 @@
 use Rattle.std.proofs.Common.{◌-◌, sym, subst}
+use Rattle.text_readers.specs.Reading.{IsRefused, Leads}
 use Rattle.publish.specs.Reader.{grammar_at}
-use Rattle.publish.specs.Reading.{IsRefused, Leads}
 use Rattle.publish.specs.Rows.{IsRest}
 use Rattle.publish.proofs.rows.RowsReader.take_row.Goals as goal
 

@@ -1,7 +1,7 @@
 use Rattle.std.proofs.Common.{◌↔◌, IsTrue, arith, rules, sym, subst}
 use Rattle.std.proofs.lemmas.Bool.{false≢true}
+use Rattle.text_readers.specs.Reading.{Begins, EndsWithLines}
 use Rattle.publish.specs.Reader.{grammar_at}
-use Rattle.publish.specs.Reading.{Begins, EndsWithLines}
 use Rattle.publish.proofs.HeadLemmas.{head-lines}
 use Rattle.publish.proofs.RowsLemmas.{end-lines, rest-lines}
 use Rattle.publish.proofs.StageLemmas.{done-begins}

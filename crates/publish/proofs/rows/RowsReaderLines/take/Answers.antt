@@ -1,6 +1,6 @@
 use Rattle.std.proofs.Common.{sym, subst}
+use Rattle.text_readers.specs.Reading.{IsRefused}
 use Rattle.publish.specs.Reader.{grammar_at}
-use Rattle.publish.specs.Reading.{IsRefused}
 use Rattle.publish.proofs.StageLemmas.{done-refused}
 use Rattle.publish.proofs.rows.RowsReaderLines.take.Goals as goal
 

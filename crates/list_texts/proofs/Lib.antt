@@ -1,0 +1,10 @@
+pub mod FollowLemmas
+pub mod FreeLemmas
+pub mod LineThen
+pub mod ListOnes
+pub mod ListPieceLemmas
+pub mod ListTexts
+pub mod NumberLines
+pub mod StageLines
+pub mod WordLemmas
+pub mod WrittenLists

@@ -1,0 +1,5 @@
+pub mod Laws
+pub mod ListLines
+pub mod ListPieces
+pub mod ListReader
+pub mod Listing
