@@ -1,5 +1,5 @@
 -- Doors that are made one after another.
-use Rattle.std.proofs.Common.{◌≡◌, ◌≤◌, ◌∙◌, ℕ, suc, zero, ◌+◌, Bool, true, false, List, [], ◌∷◌, ◌++◌, map, replicate, refl, ap, arith, not, if◌then◌else◌}
+use Rattle.std.proofs.Common.{◌≡◌, ◌≤◌, ◌∙◌, ℕ, suc, zero, ◌+◌, Bool, true, false, List, [], ◌∷◌, ◌++◌, length, map, replicate, ap, arith, not, if◌then◌else◌}
 use Rattle.std.specs.List.{AllByRecursion}
 use Rattle.std.proofs.lemmas.List.{map_push, replicate_more}
 use Rattle.loopback_links.specs.Counts.{DoorCounts}
@@ -31,6 +31,11 @@ one_more {L} listener made conns fine doors row door before same found is =
 pub all_made : {L : Type 0} → (made workers conns : ℕ) (doors : List (DoorCounts L)) → AreMade made conns doors → made ≤ workers → workers ≤ made → AreMade workers conns doors
 all_made {L} made workers conns doors are low high =
     let same : made ≡ workers = omega (arith, low, high) in are ∙ ap (λ (n : ℕ). replicate n conns) same
+
+-- No doors are few, and each has few connections to come.
+pub none_suit : {L : Type 0} → (doors : List (DoorCounts L)) → map (λ door. door.left) doors ≡ [] → (length doors ≤ 64) × AllByRecursion (λ door. door.left ≤ 100000) doors
+none_suit {L} [] are = (omega arith, tt)
+none_suit {L} (door ∷ doors) are = absurd (cc are)
 
 -- Each has no more connections to come than that.
 pub row_suits : {L : Type 0} → (workers conns : ℕ) (doors : List (DoorCounts L)) → AreMade workers conns doors → conns ≤ 100000 → AllByRecursion (λ door. door.left ≤ 100000) doors

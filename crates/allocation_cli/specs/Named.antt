@@ -1,5 +1,5 @@
 -- What the words of the program name.
-use Rattle.std.specs.Prelude.{◌≡◌, ◌⊎◌, ◌+◌, ℕ, List, Option, Some, None, option_and_then, sum}
+use Rattle.std.specs.Prelude.{◌≡◌, ◌⊎◌, ◌+◌, ℕ, List, Option, None, option_and_then, sum}
 use Rattle.command_words.specs.Words.{Spell, SpellNothing, file_of, service_of, store_of}
 use Rattle.command_words.specs.declared.words.Command.{Command}
 use Rattle.command_words.specs.declared.words.Service.{Service}
@@ -14,10 +14,6 @@ file_named command = option_and_then file_of (store_of command)
 abbrev pub AreNamed : List (List ℕ) → Option (List ℕ) → Option Service → Type 0
 AreNamed words file service = ((command : Command) × Spell words command × (file ≡ file_named command) × (service ≡ service_of command))
     ⊎ (SpellNothing words × (file ≡ None) × (service ≡ None))
-
--- the words spell a command that has an office served in this way
-abbrev pub NameService : List (List ℕ) → Service → Type 0
-NameService words service = (command : Command) × Spell words command × (service_of command ≡ Some service)
 
 -- if the words spell a command, the doors have as many connections to come as its words say
 abbrev pub AreDoorsFor : List (List ℕ) → List ℕ → Type 0

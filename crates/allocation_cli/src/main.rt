@@ -8,9 +8,10 @@
 // No crate depends on this one, and it decides nothing of seats itself.
 #![tactic(auto)]
 
-ghost use Rattle.std.specs.Prelude.{◌≡◌, ◌≤◌, IfOk, IfSome, length, map, replicate};
+ghost use Rattle.std.specs.Prelude.{◌≡◌, ◌≤◌, IfOk, IfSome, length, map};
 ghost use Rattle.std.specs.List.{AllByRecursion};
-ghost use Rattle.allocation_cli.specs.Named.{AreDoorsFor, AreNamed, HaveTaken, NameService};
+ghost use Rattle.allocation_cli.specs.Named.{AreDoorsFor, AreNamed, HaveTaken};
+ghost use Rattle.office_commands.specs.Named.{doors_named};
 
 use command_answers::{Status, tell_no_memory};
 use command_words::laws::one_spelling;
@@ -127,7 +128,8 @@ fn call_of(rt: &(impl Env + AllocGlobal), alloc: Global) -> Result<Call, OutOfMe
     }
 }
 
-// Runs the words over the store that they name.
+// Runs the words over the store that they name: a keeper over a file of this name, or one in memory.
+// What was kept is in the file and its log, even if the log cannot be copied into the file at the end.
 fn over_store<H: Threads + Wait + Sync + Net<Listener = TcpListener, Stream = TcpStream>, K: Sink>(
     rt: &HostRuntime,
     host: &H,
@@ -137,24 +139,9 @@ fn over_store<H: Threads + Wait + Sync + Net<Listener = TcpListener, Stream = Tc
 ) -> Result<Status, Unopened>
     requires { AreNamed call.now.words call.now.file call.now.service }
 {
-    match &call.file {
-        Some(name) => over_file(rt, host, alloc, call, sink, name),
-        None => answer(rt, host, alloc, call, sink, SureKeeper::new(alloc)).0,
-    }
-}
-
-// Runs the words over a keeper over the file of this name.
-// What was kept is in the file and its log, even if the log cannot be copied into the file at the end.
-fn over_file<H: Threads + Wait + Sync + Net<Listener = TcpListener, Stream = TcpStream>, K: Sink>(
-    rt: &HostRuntime,
-    host: &H,
-    alloc: Global,
-    call: &Call,
-    sink: &mut K,
-    name: &Text,
-) -> Result<Status, Unopened>
-    requires { AreNamed call.now.words call.now.file call.now.service }
-{
+    let Some(name) = &call.file else {
+        return answer(rt, host, alloc, call, sink, SureKeeper::new(alloc)).0;
+    };
     let Some(keeper) = open_keeper(rt, name) else {
         return Err(Unopened::Store);
     };
@@ -179,41 +166,18 @@ fn answer<
     requires { AreNamed call.now.words call.now.file call.now.service }
 {
     one_spelling();
-    match &call.service {
-        Some(service) => answer_at_doors(rt, host, alloc, &call.words, sink, keeper, service),
-        None => {
-            let mut none = Vec::new(alloc);
-            answer_at(rt, host, alloc, &call.words, sink, keeper, &mut none)
-        }
-    }
-}
-
-// Runs the words at the doors of this service.
-fn answer_at_doors<
-    H: Threads + Wait + Sync + Net<Listener = TcpListener, Stream = TcpStream>,
-    K: Sink,
-    P: Keeper + Send,
->(
-    rt: &HostRuntime,
-    host: &H,
-    alloc: Global,
-    words: &Words,
-    sink: &mut K,
-    keeper: P,
-    service: &Service,
-) -> (Result<Status, Unopened>, P)
-    requires { NameService words.now service.now }
-{
-    one_spelling();
     let edge = Edge::new(*rt, STORE_FAULTS);
-    let Some(mut doors) = doors_of(host, alloc, service, &edge) else {
+    let Some(mut doors) = doors_of(host, alloc, &call.service, &edge) else {
         return (Err(Unopened::Port), keeper);
     };
-    tell_service(rt, service);
-    answer_at(rt, host, alloc, words, sink, keeper, &mut doors)
+    if let Some(service) = &call.service {
+        tell_service(rt, service);
+    }
+    let (status, keeper) = answer_at(rt, host, alloc, &call.words, sink, keeper, &mut doors);
+    (Ok(status), keeper)
 }
 
-// Runs the words at these doors.
+// Runs the words at these doors. That these are the doors of the words can be said only where the doors are arguments.
 fn answer_at<H: Threads + Wait + Sync, K: Sink, P: Keeper + Send>(
     rt: &HostRuntime,
     host: &H,
@@ -222,15 +186,15 @@ fn answer_at<H: Threads + Wait + Sync, K: Sink, P: Keeper + Send>(
     sink: &mut K,
     keeper: P,
     doors: &mut Vec<SystemDoor<'_>>,
-) -> (Result<Status, Unopened>, P)
+) -> (Status, P)
     requires few { length doors.old.items ≤ 64 }
     requires suit { AllByRecursion (λ d. d.left ≤ 100000) doors.old.items }
     requires named { AreDoorsFor words.now (map (λ d. d.left) doors.old.items) }
-    ensures taken { IfOk result.0 (λ status. status ≡ Status.Ok → HaveTaken words.now
-        (map (λ d. d.left) doors.old.items) (map (λ d. d.left) doors.new.items)) }
+    ensures taken { result.0 ≡ Status.Ok → HaveTaken words.now
+        (map (λ d. d.left) doors.old.items) (map (λ d. d.left) doors.new.items) }
 {
     let mut source = StandardInput::new(rt.stdin());
-    let (status, keeper) = allocate(
+    allocate(
         host,
         alloc,
         words,
@@ -238,23 +202,24 @@ fn answer_at<H: Threads + Wait + Sync, K: Sink, P: Keeper + Send>(
         sink,
         keeper,
         doors.as_mut_slice(),
-    );
-    (Ok(status), keeper)
+    )
 }
 
-// Returns doors over one listener at the port of this machine: one for each worker, with as many connections to come
-// as a worker takes. It returns None if the port cannot be bound.
+// Returns the doors of a service over one listener at its port of this machine: one for each worker, with as many
+// connections to come as a worker takes. It returns no doors for no service, and None if the port cannot be bound.
 fn doors_of<'e, H: Net<Listener = TcpListener, Stream = TcpStream>>(
     host: &H,
     alloc: Global,
-    service: &Service,
+    service: &Option<Service>,
     edge: &'e Edge<HostRuntime>,
 ) -> Option<Vec<SystemDoor<'e>>>
-    ensures { IfSome result (λ doors. map (λ d. d.left) doors.items
-        ≡ replicate service.now.workers service.now.conns) }
+    ensures { IfSome result (λ doors. map (λ d. d.left) doors.items ≡ doors_named service.now) }
 {
-    let listener = TcpListener::bind(host, (Ipv4Addr::LOCALHOST, service.port)).ok()?;
     let mut doors = Vec::new(alloc);
+    let Some(service) = service else {
+        return Some(doors);
+    };
+    let listener = TcpListener::bind(host, (Ipv4Addr::LOCALHOST, service.port)).ok()?;
     for made in 0..service.workers {
         let _ = made;
         let Ok(other) = listener.try_clone() else {

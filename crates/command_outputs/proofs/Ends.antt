@@ -15,7 +15,7 @@ use Rattle.command_answers.specs.declared.status.Status.{Status}
 use Rattle.command_answers.specs.declared.status.Status.TheVariants.{Ok as Done, Usage, BadInput, Differs, Broken}
 use Rattle.command_answers.proofs.Answered.{by_answer}
 use Rattle.season_commands.specs.Check.{IsBundleFaultLine, IsLeftBundle, check_answers}
-use Rattle.season_commands.specs.Generated.{EndsMade, IsCountedText, summary_of}
+use Rattle.generate_command.specs.Generated.{EndsMade, IsCountedText, summary_of}
 use Rattle.season_commands.specs.Run.{EndsSeason, IsUnreadText}
 use Rattle.one_output.specs.Laws.{OneOutput, OneTally}
 use Rattle.command_outputs.specs.Laws.{ChecksAreOne, GeneratedRunsAreOne, RunsAreOne}

@@ -1,11 +1,11 @@
 -- Which objects the status of a command blames.
-use Rattle.std.proofs.Common.{◌≡◌, ◌≢◌, ◌⊎◌, ◌∙◌, ◌≤◌, inl, inr, ℕ, List, [], ◌∷◌, Option, map, refl, sym, subst}
-use Rattle.office_base.specs.Outside.{Appends, Rose}
+use Rattle.std.proofs.Common.{◌≡◌, ◌≢◌, ◌⊎◌, ◌∙◌, ◌≤◌, inl, inr, ℕ, List, [], ◌∷◌, Option, map, refl, sym}
+use Rattle.office_base.specs.Outside.{Rose}
 use Rattle.keeper_mem.specs.Tables.{Tables, still}
 use Rattle.season_file.specs.declared.season.Season.{Season}
 use Rattle.office_base.specs.declared.asks.Request.{Request}
 use Rattle.season_commands.specs.Check.{check_answers}
-use Rattle.season_commands.specs.Generated.{IsCountedText}
+use Rattle.generate_command.specs.Generated.{IsCountedText, IsGeneratedText}
 use Rattle.season_commands.specs.Resume.{EndsResume, IsUnaskedText, IsUnresumedText}
 use Rattle.season_commands.specs.Run.{EndsSeason, IsUnbegunText, IsUnreadText}
 use Rattle.office_moves.specs.Season.{facts_of}
@@ -23,7 +23,7 @@ use Rattle.command_answers.specs.declared.status.Status.TheVariants.{BadInput, R
 use Rattle.command_words.specs.declared.words.Command.{Command}
 use Rattle.command_words.specs.declared.words.Command.TheVariants.{Step, Check, Run, Resume, Units, Special, Serve, Audit, AuditBest, Generate}
 use Rattle.command_words.specs.declared.words.OutKind.TheVariants as out_kind
-use Rattle.office_commands.specs.Program.{Ends, IsGeneratedText, Serves}
+use Rattle.office_commands.specs.Program.{Ends, Serves}
 
 -- ---- doors are of `serve` alone
 

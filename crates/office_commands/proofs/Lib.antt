@@ -1,4 +1,3 @@
 mod Blaming
 mod Coming
 mod Ended
-mod GeneratedEnds

@@ -5,7 +5,7 @@ use Rattle.audit_command.specs.Audit.{AreDossier, AreFaultyDossier, EndsWell, Is
 use Rattle.audit_command.specs.Best.{IsBestText}
 use Rattle.command_answers.specs.Answers.{Answers, Tells}
 use Rattle.season_commands.specs.Check.{IsBundle, IsFaultyBundle, check_answers}
-use Rattle.season_commands.specs.Generated.{EndsGeneratedRun}
+use Rattle.generate_command.specs.Generated.{EndsGeneratedRun, IsGeneratedText}
 use Rattle.season_commands.specs.Resume.{EndsResume, IsScript, TellsSound}
 use Rattle.season_commands.specs.Run.{EndsRun, TellsNoSeason}
 use Rattle.special_command.specs.Special.{EndsSpecial}
@@ -14,14 +14,11 @@ use Rattle.serve_command.specs.Doors.{Doors}
 use Rattle.serve_command.specs.Serve.{EndsServe, EndsServeKept, IsFaultySeason, IsSeasonBundle}
 use Rattle.step_command.specs.Step.{IsFaultySheet, IsSheet, step_answers}
 use Rattle.command_words.specs.Words.{Spell, SpellNothing}
-use Rattle.season_generator.specs.Bundle.{generated}
-use Rattle.office_base.specs.FaultLines.{memory_line}
 use Rattle.command_answers.specs.Writes.{IsTextOf, IsWantText, Writes}
 use Rattle.command_answers.specs.declared.status.Status.{Status}
-use Rattle.command_answers.specs.declared.status.Status.TheVariants.{Ok as Done, Usage, OutOfMemory}
+use Rattle.command_answers.specs.declared.status.Status.TheVariants.{Ok as Done, Usage}
 use Rattle.command_words.specs.declared.words.Command.{Command}
 use Rattle.command_words.specs.declared.words.Command.TheVariants.{Step, Check, Run, Resume, Units, Special, Serve, Audit, AuditBest, Generate}
-use Rattle.command_words.specs.declared.words.OutKind.{OutKind}
 use Rattle.command_words.specs.declared.words.OutKind.TheVariants as out_kind
 use Rattle.command_words.specs.declared.words.Start.TheVariants as start
 
@@ -37,20 +34,9 @@ IsUsageText other text = ⊥
 abbrev pub EndsText : Answers → Option (List ℕ) → Tables → Tables → Status → List ℕ → Type 0
 EndsText answers left before after status output = Writes (IsTextOf answers left) status output × (after ≡ before)
 
--- the whole text that goes with each status if a season is generated and written
-abbrev pub IsGeneratedText : ℕ → ℕ → Status → List ℕ → Type 0
-IsGeneratedText n seed Done text = text ≡ generated n seed
-IsGeneratedText n seed OutOfMemory text = text ≡ memory_line
-IsGeneratedText n seed other text = ⊥
-
 -- what is written of a generated season, with its status; the tables are unchanged
 abbrev pub EndsGenerated : ℕ → ℕ → Tables → Tables → Status → List ℕ → Type 0
 EndsGenerated n seed before after status output = Writes (IsGeneratedText n seed) status output × (after ≡ before)
-
--- the same of a generated season, whatever is written of it
-abbrev pub EndsGenerate : ℕ → ℕ → OutKind → Tables → Tables → Status → List ℕ → Type 0
-EndsGenerate n seed out_kind.Text before after = EndsGenerated n seed before after
-EndsGenerate n seed out_kind.Run before after = EndsGeneratedRun n seed before after
 
 -- what is written of a dossier, with its status; the tables are unchanged
 abbrev pub EndsAudit : Option (List ℕ) → Tables → Tables → Status → List ℕ → Type 0
@@ -74,7 +60,8 @@ Ends (Serve conns workers start.New port store) left before after doors = EndsSe
 Ends (Serve conns workers start.Kept port store) left before after doors = EndsServeKept before after doors
 Ends Audit left before after doors = EndsAudit left before after
 Ends AuditBest left before after doors = EndsAuditBest left before after
-Ends (Generate n seed out) left before after doors = EndsGenerate n seed out before after
+Ends (Generate n seed out_kind.Text) left before after doors = EndsGenerated n seed before after
+Ends (Generate n seed out_kind.Run) left before after doors = EndsGeneratedRun n seed before after
 
 -- the same for words that spell no command: the tables are unchanged
 abbrev pub EndsUsage : Tables → Tables → Status → List ℕ → Type 0

@@ -5,7 +5,6 @@
 // It decides nothing of seats itself. It must never know what is behind a source, a sink or a keeper.
 #![tactic(auto)]
 
-mod generate;
 mod laws;
 mod program;
 

@@ -1,27 +1,20 @@
 // The top call of the office.
-ghost use Rattle.std.specs.Prelude.{◌≡◌, ◌≢◌, ◌≤◌, ℕ, length};
+ghost use Rattle.std.specs.Prelude.{◌≤◌, length};
 ghost use Rattle.std.specs.List.{AllByRecursion};
-ghost use Rattle.office_base.specs.Outside.{Rose};
-ghost use Rattle.keeper_mem.specs.Tables.{still};
 ghost use Rattle.office_commands.specs.Call.{call_of};
 ghost use Rattle.office_commands.specs.Keeping.{Runs, RunsWords};
-ghost use Rattle.office_commands.specs.Program.{BeginsOffice, EndsGenerate, IsReady};
-ghost use Rattle.season_commands.specs.Outside.{BlamesOffice, EndsWith, Writes, outside_of};
-ghost use Rattle.season_commands.specs.Run.{TellsSeason};
 ghost use Rattle.command_words.specs.Words.{IsInRange};
-ghost use Rattle.command_words.specs.declared.words.Command.TheVariants.{Generate, Serve};
-ghost use Rattle.command_words.specs.declared.words.Store.{Store as AnyStore};
 
-use crate::generate::generate_answer;
 use crate::laws::one_answer;
 use audit_command::{audit_best, audit_season};
 use command_answers::{Status, finish, tell_no_memory, write_answer};
 use command_words::laws::one_spelling;
 use command_words::{Command, OutKind, Start, WordsFault, read_words};
+use generate_command::{run_generated, write_generated};
 use keeper_mem::Keeper;
 use office_base::{Sink, Source, Words};
 use office_links::Door;
-use season_commands::{check_answer, resume_season, run_generated, run_season};
+use season_commands::{check_answer, resume_season, run_season};
 use serve_command::{serve_kept, serve_season};
 use special_command::special_season;
 use std::alloc::Global;
@@ -81,7 +74,7 @@ pub fn allocate<
     }
 }
 
-/// Runs a command.
+/// Runs a command. What it does is said of the command alone; `allocate` says it of the words that spell the command.
 fn run<R: Threads + Wait + Sync, S: Source, K: Sink, P: Keeper + Send, D: Door<Conn: Send> + Send>(
     rt: &R,
     alloc: Global,
@@ -105,67 +98,15 @@ fn run<R: Threads + Wait + Sync, S: Source, K: Sink, P: Keeper + Send, D: Door<C
         Command::Resume(_) => resume_season(alloc, source, sink, keeper),
         Command::Units(_) => units_season(alloc, source, sink, keeper),
         Command::Special(_) => special_season(alloc, source, sink, keeper),
-        Command::Serve { start, .. } => served(rt, alloc, start, source, sink, keeper, doors),
+        Command::Serve { start, .. } => match start {
+            Start::New => serve_season(rt, alloc, source, sink, keeper, doors),
+            Start::Kept => serve_kept(rt, alloc, sink, keeper, doors),
+        },
         Command::Audit => (audit_season(alloc, source, sink), keeper),
         Command::AuditBest => (audit_best(alloc, source, sink), keeper),
-        Command::Generate { n, seed, out } => generated(alloc, n, seed, out, sink, keeper),
-    }
-}
-
-/// Serves an office, which begins with the season that is read or resumes from what the keeper holds.
-fn served<
-    R: Threads + Wait + Sync,
-    S: Source,
-    K: Sink,
-    P: Keeper + Send,
-    D: Door<Conn: Send> + Send,
->(
-    rt: &R,
-    alloc: Global,
-    start: Start,
-    source: &mut S,
-    sink: &mut K,
-    keeper: P,
-    doors: &mut [D],
-) -> (Status, P)
-    requires few { length doors.old ≤ 64 }
-    requires suit { AllByRecursion (λ d. D.to_come d ≤ 100000) doors.old }
-    ensures { (conns workers port : ℕ) (store : AnyStore) → Runs (Serve conns workers start
-        port store) (call_of S.Source K.Sink P.Keeper D.Door D.Conn.Link source.old
-        source.new sink.old sink.new keeper result.1 doors.old doors.new) result.0 }
-{
-    match start {
-        Start::New => serve_season(rt, alloc, source, sink, keeper, doors),
-        Start::Kept => serve_kept(rt, alloc, sink, keeper, doors),
-    }
-}
-
-/// Makes up a season, and writes its bundle, or its summary over the keeper.
-fn generated<K: Sink, P: Keeper>(
-    alloc: Global,
-    n: u32,
-    seed: u32,
-    out: OutKind,
-    sink: &mut K,
-    keeper: P,
-) -> (Status, P)
-    requires low { 1 ≤ n }
-    requires high { n ≤ 100000 }
-    ensures written { Writes (EndsGenerate n seed out) (outside_of K.Sink P.Keeper sink.old keeper)
-        (outside_of K.Sink P.Keeper sink.new result.1) result.0 }
-    ensures untouched { ¬ BeginsOffice (Generate n seed out) → result.1 ≡ keeper }
-    ensures no_read_fault { result.0 ≢ Status.ReadFault }
-    ensures blamed { BlamesOffice result.0 (outside_of K.Sink P.Keeper sink.old keeper)
-        (outside_of K.Sink P.Keeper sink.new result.1) }
-    ensures complete { IsReady (Generate n seed out) (still (P.seen keeper).tables
-        (P.seen result.1).tables) → ¬ Rose (K.faults sink.old) (K.faults sink.new)
-        → ¬ Rose (P.seen keeper).faults (P.seen result.1).faults → EndsWith Status.Ok result.0 }
-    ensures not_empty { BeginsOffice (Generate n seed out) → TellsSeason (still (P.seen
-        keeper).tables (P.seen result.1).tables) → ¬ Rose (K.faults sink.old) (K.faults sink.new) →
-        ¬ Rose (P.seen keeper).faults (P.seen result.1).faults → EndsWith Status.BadInput result.0 }
-{
-    match out {
-        OutKind::Text => (finish(sink, generate_answer(alloc, n, seed)), keeper),
-        OutKind::Run => run_generated(alloc, n, seed, sink, keeper),
+        Command::Generate { n, seed, out } => match out {
+            OutKind::Text => (write_generated(alloc, n, seed, sink), keeper),
+            OutKind::Run => run_generated(alloc, n, seed, sink, keeper),
+        },
     }
 }

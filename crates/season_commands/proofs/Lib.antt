@@ -1,5 +1,4 @@
 pub mod CheckFaults
-mod GeneratedEnds
 mod OfficeEnds
 mod OneAnswer
 mod Requests

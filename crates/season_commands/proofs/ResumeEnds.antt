@@ -1,37 +1,31 @@
 -- How the command `resume` ends.
-use Rattle.std.proofs.Common.{◌≡◌, ◌≢◌, ◌⊎◌, ◌∙◌, ap, inl, inr, ℕ, Bool, false, List, [], Option, Some, None, Result, Ok, Err, refl, sym, subst}
+use Rattle.std.proofs.Common.{◌≡◌, ◌∙◌, ap, inl, inr, ℕ, false, List, Option, Result, Ok, Err, refl, subst}
 use Rattle.std.specs.Prelude.{IfOk}
 use Rattle.office_base.specs.declared.asks.Seat.{Seat}
 use Rattle.office_base.specs.declared.person.CandId.{CandId}
 use Rattle.office_base.specs.Outside.{Appends}
-use Rattle.keeper_mem.specs.Tables.{Tables, AreTold, IsFound, IsLoaded, IsTold as IsTablesTold, still}
-use Rattle.keeper_mem.specs.declared.rows.Kept.{Kept}
-use Rattle.office_moves.specs.Facts.{IsSound, SeasonFacts}
+use Rattle.keeper_mem.specs.Tables.{Tables, AreTold, IsFound, IsTold as IsTablesTold, still}
+use Rattle.office_moves.specs.Facts.{SeasonFacts}
 use Rattle.office_moves.specs.State.{State}
-use Rattle.round_cut.specs.Resume.{HaveStopped, IsResumed, IsUnresumed}
+use Rattle.round_cut.specs.Resume.{IsResumed, IsUnresumed}
 use Rattle.round_cut.specs.declared.resume.Unresumed.{Unresumed}
-use Rattle.round_cut.specs.declared.resume.Unresumed.TheVariants.{NoSeason as NoneKept, BadSeason, Stray, StrayRaise, Differs, KeeperFault, OutOfMemory as NoMemoryToResume}
-use Rattle.replays.specs.Faults.{IsReplayFault}
-use Rattle.replays.specs.Laws.{HaveOneEnd}
-use Rattle.replays.specs.declared.fault.ReplayFault.TheVariants.{Stray as StrayAnswer, StrayRaise as StrayLift, Differs as SeatsDiffer, OutOfMemory as NoMemoryToReplay}
-use Rattle.season_file.specs.Laws.{HaveOneReading}
-use Rattle.season_file.specs.Season.{IsSeason, content_of}
+use Rattle.round_cut.specs.declared.resume.Unresumed.TheVariants.{BadSeason, Stray, StrayRaise, Differs}
+use Rattle.replays.specs.declared.fault.ReplayFault.TheVariants.{Stray as StrayAnswer, StrayRaise as StrayLift, Differs as SeatsDiffer}
 use Rattle.season_file.specs.declared.fault.SeasonFault.{SeasonFault}
 use Rattle.season_file.specs.declared.season.Season.{Season}
 use Rattle.season_texts.specs.Texts.{fault_line}
-use Rattle.command_answers.specs.Answers.{IsFailureOf, Tells}
+use Rattle.command_answers.specs.Answers.{IsFailureOf}
 use Rattle.office_base.specs.FaultLines.{memory_line}
 use Rattle.command_answers.specs.Writes.{IsTold, Writes, keeper_line, status_of, text_of}
 use Rattle.command_answers.specs.declared.failure.Failure.{Failure}
 use Rattle.command_answers.specs.declared.failure.Failure.TheVariants.{Read, Bad, NoMemory}
 use Rattle.command_answers.specs.declared.status.Status.{Status}
-use Rattle.command_answers.specs.declared.status.Status.TheVariants.{Ok as Done, BadInput, ReadFault, WriteFault, KeeperFault as KeeperFailed, OutOfMemory, Differs as StatusDiffers}
+use Rattle.command_answers.specs.declared.status.Status.TheVariants.{BadInput, WriteFault, KeeperFault as KeeperFailed, OutOfMemory, Differs as StatusDiffers}
 use Rattle.command_answers.proofs.Ended.{told_is_written}
-use Rattle.season_commands.proofs.Still.{still_from, still_resumed, still_to}
+use Rattle.season_commands.proofs.Still.{still_from, still_resumed}
 use Rattle.seat_matrix.specs.Matrix.{SeatTable}
 use Rattle.round_cut.proofs.Standing.{told_on}
-use Rattle.season_commands.specs.Resume.{EndsAsked, EndsResume, HaveNoFault, IsScript, IsFaultyScript, IsUnaskedText, IsUnresumedText, HaveRowFault, HaveTextFault, TellsNoOffice, TellsRowFault, TellsSound, TellsTextFault, made_status, made_text, no_season_line, script_answers, unresumed_status}
-use Rattle.season_commands.specs.Run.{TellsNoSeason}
+use Rattle.season_commands.specs.Resume.{EndsAsked, EndsResume, EndsUnresumed, IsUnaskedText, IsUnresumedText, made_status, made_text, no_season_line, script_answers}
 use Rattle.season_commands.specs.Stray.{differs_line, raise_line_of, stray_line}
 
 -- ---- no office resumes
@@ -95,12 +89,12 @@ pub failed_is_written : (result : Status) (before after : Option (List ℕ)) (br
 failed_is_written result before after broke tables told = told_is_written (IsUnresumedText tables) KeeperFailed result keeper_line before after broke refl told
 
 -- What was written if no office resumes, by what is visible before and after.
-pub unresumed_ends : (left : Option (List ℕ)) (before after : Tables) (why : Unresumed) (written now : Option (List ℕ)) (status : Status) → AreTold before after → IsUnresumed after why
+pub unresumed_ends : (before after : Tables) (why : Unresumed) (written now : Option (List ℕ)) (status : Status) → AreTold before after → IsUnresumed after why
     → ((tables : Tables) → IsUnresumed tables why → (output : List ℕ) × Appends output written now × Writes (IsUnresumedText tables) status output)
-    → (output : List ℕ) × Appends output written now × EndsResume left before after status output
-unresumed_ends left before after why written now status told stopped writes =
+    → (output : List ℕ) × Appends output written now × EndsUnresumed before after status output
+unresumed_ends before after why written now status told stopped writes =
     let (output, appends, is) = writes (still before after) (still_from (λ t. IsUnresumed t why) before after told stopped) in
-    (output, appends, inl (is, told))
+    (output, appends, (is, told))
 
 -- ---- no requests are read
 

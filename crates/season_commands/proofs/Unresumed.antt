@@ -1,6 +1,6 @@
 -- When no office resumes, and why, by the tables that are visible before and after a command.
-use Rattle.std.proofs.Common.{◌≡◌, ◌≢◌, ◌⊎◌, ◌∙◌, ap, inl, inr, ℕ, Bool, false, List, [], refl, sym, subst}
-use Rattle.keeper_mem.specs.Tables.{Tables, Untold, NoSeason, Records, AreTold, IsTold, still}
+use Rattle.std.proofs.Common.{◌≡◌, ◌⊎◌, ◌∙◌, ap, inl, inr, ℕ, Bool, false, List, [], refl, sym, subst}
+use Rattle.keeper_mem.specs.Tables.{Tables, Untold, NoSeason, Records, AreTold, still}
 use Rattle.keeper_mem.specs.declared.rows.Kept.{Kept}
 use Rattle.office_moves.specs.Facts.{IsSound, SeasonFacts}
 use Rattle.office_moves.specs.State.{State}
@@ -15,7 +15,8 @@ use Rattle.season_file.specs.Season.{IsSeason, content_of}
 use Rattle.season_file.specs.declared.season.Season.{Season}
 use Rattle.command_answers.specs.declared.status.Status.{Status}
 use Rattle.command_answers.specs.declared.status.Status.TheVariants.{BadInput, WriteFault, OutOfMemory, Differs as StatusDiffers}
-use Rattle.season_commands.specs.Resume.{HaveNoFault, HaveRowFault, HaveTextFault, TellsNoOffice, TellsRowFault, TellsSound, TellsTextFault, unresumed_status}
+use Rattle.season_commands.specs.Outside.{Outside, held}
+use Rattle.season_commands.specs.Resume.{HaveNoFault, HaveRowFault, HaveTextFault, JudgesRecords, TellsNoOffice, TellsRowFault, TellsSound, TellsTextFault, unresumed_status}
 use Rattle.season_commands.specs.Run.{TellsNoSeason}
 use Rattle.season_commands.proofs.Still.{still_to}
 
@@ -83,7 +84,7 @@ spells_none : (records : Kept) (season : Season) → HaveOneReading false record
 spells_none records season reading (fault, has) read = reading.apart (content_of season read.row) [] fault read.given has
 
 -- An office does not resume from records whose text is no bundle.
-pub none_goes_on_from_no_bundle : (tables : Tables) (facts : SeasonFacts) (start : State) → ((requests : Bool) (bytes : List ℕ) → HaveOneReading requests bytes) → IsResumed tables facts start
+none_goes_on_from_no_bundle : (tables : Tables) (facts : SeasonFacts) (start : State) → ((requests : Bool) (bytes : List ℕ) → HaveOneReading requests bytes) → IsResumed tables facts start
     → TellsTextFault tables → ⊥
 none_goes_on_from_no_bundle Untold facts start reading resumed tells = tells
 none_goes_on_from_no_bundle NoSeason facts start reading resumed tells = tells
@@ -131,7 +132,7 @@ none_stops before tables fault result rose broke same tells judged =
     stops BadInput fault result rose broke (told_none tables fault (still_to (λ t. TellsNoSeason t) before tables same tells) judged)
 
 -- An office does not resume from records whose rows or seats have a fault.
-pub none_goes_on : (tables : Tables) (facts : SeasonFacts) (start : State) → ((facts : SeasonFacts) (kept : Kept) → IsSound facts → HaveOneEnd facts kept) → IsSound facts → IsResumed tables facts start
+none_goes_on : (tables : Tables) (facts : SeasonFacts) (start : State) → ((facts : SeasonFacts) (kept : Kept) → IsSound facts → HaveOneEnd facts kept) → IsSound facts → IsResumed tables facts start
     → TellsRowFault tables → ⊥
 none_goes_on Untold facts start law sound resumed tells = tells
 none_goes_on NoSeason facts start law sound resumed tells = tells
@@ -180,3 +181,11 @@ no_office_goes_on tables facts start reading law sound resumed tells =
     goes_on_from_a_season Untold resumed none = none
     goes_on_from_a_season NoSeason resumed none = resumed.1
     goes_on_from_a_season (Records kept) resumed none = none
+
+-- Records from which an office resumes are not refused.
+pub judged : (old new : Outside) (status : Status) → (TellsNoOffice (held old new) → ⊥) → JudgesRecords old new status
+judged old new status none = record {
+  none_kept = λ tells kept. absurd (none (inl tells));
+  kept_text = λ tells kept. absurd (none (inr (inl tells)));
+  differs = λ tells kept. absurd (none (inr (inr tells)));
+}

@@ -1,5 +1,4 @@
 pub mod Check
-pub mod Generated
 pub mod Office
 pub mod Outside
 pub mod Resume

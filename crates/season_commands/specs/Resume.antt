@@ -3,7 +3,7 @@
 use Rattle.std.specs.Prelude.{◌≡◌, ◌≢◌, ◌<◌, ◌≤◌, ◌⊎◌, ℕ, false, List, Option, Result, Ok, Err, codes, length}
 use Rattle.std.specs.Str.{IsUtf8}
 use Rattle.office_base.specs.Limits.{most_bundle_bytes}
-use Rattle.office_base.specs.Outside.{AreLeft, Rose}
+use Rattle.office_base.specs.Outside.{Appends, AreLeft, Rose}
 use Rattle.office_base.specs.Visible.{Readable}
 use Rattle.office_base.specs.declared.asks.Request.{Request}
 use Rattle.office_text.specs.Lines.{skip_mark}
@@ -30,9 +30,9 @@ use Rattle.command_answers.specs.Answers.{Answers, HasLeft, Tells}
 use Rattle.office_base.specs.FaultLines.{memory_line, read_line}
 use Rattle.command_answers.specs.Writes.{Writes, keeper_line}
 use Rattle.command_answers.specs.declared.status.Status.{Status}
-use Rattle.command_answers.specs.declared.status.Status.TheVariants.{Ok as Done, BadInput, ReadFault, KeeperFault, OutOfMemory, Differs}
+use Rattle.command_answers.specs.declared.status.Status.TheVariants.{Ok as Done, BadInput, ReadFault, KeeperFault, OutOfMemory, DoorFault, Differs}
 use Rattle.season_commands.specs.Office.{EndsOffice}
-use Rattle.season_commands.specs.Outside.{EndsWith, Held, Outside, held}
+use Rattle.season_commands.specs.Outside.{BlamesOffice, EndsWith, Held, Outside, held}
 use Rattle.season_commands.specs.Run.{TellsNoSeason}
 use Rattle.season_commands.specs.Stray.{replay_line}
 
@@ -104,17 +104,20 @@ IsUnaskedText left ReadFault text = text ≡ read_line
 IsUnaskedText left OutOfMemory text = text ≡ memory_line
 IsUnaskedText left other text = ⊥
 
+-- how a command ends if no office resumes: the tables are unchanged.
+-- What was kept is visible if the tables are visible both before and after.
+abbrev pub EndsUnresumed : Tables → Tables → Status → List ℕ → Type 0
+EndsUnresumed before after status output = Writes (IsUnresumedText (still before after)) status output × AreTold before after
+
 -- how an office that resumed ends: no requests are read, and the tables are unchanged;
 -- or they are answered from its state
 abbrev pub EndsAsked : SeasonFacts → State → Option (List ℕ) → Tables → Tables → Status → List ℕ → Type 0
 EndsAsked facts start left before after status output = (Writes (IsUnaskedText left) status output × AreTold before after)
     ⊎ ((script : List Request) × AreLeftRequests left script × EndsOffice facts start script after status output)
 
--- how `resume` ends: no office resumes, and the tables are unchanged; or the records lead to the state of a season, and
--- an office resumes from it.
--- What was kept is visible if the tables are visible both before and after.
+-- how `resume` ends: no office resumes; or the records lead to the state of a season, and an office resumes from it
 abbrev pub EndsResume : Option (List ℕ) → Tables → Tables → Status → List ℕ → Type 0
-EndsResume left before after status output = (Writes (IsUnresumedText (still before after)) status output × AreTold before after)
+EndsResume left before after status output = EndsUnresumed before after status output
     ⊎ ((facts : SeasonFacts) × (start : State) × IsResumed (still before after) facts start × EndsAsked facts start left before after status output)
 
 -- the records have no fault: their text is a bundle, and they replay
@@ -178,6 +181,15 @@ pub record JudgesRecords (old new : Outside) (status : Status) : Type 0 where
   pub none_kept : TellsNoSeason (held old new) → Held old new → EndsWith BadInput status
   pub kept_text : TellsTextFault (held old new) → Held old new → EndsWith BadInput status
   pub differs : TellsRowFault (held old new) → Held old new → EndsWith Differs status
+
+-- No office resumes, and this status reports it. If neither the sink nor the keeper failed, it says what is wrong with
+-- the records, and of sound records that memory ran out.
+pub record ReportsUnresumed (old new : Outside) (status : Status) : Type 0 where
+  pub written : (output : List ℕ) × Appends output old.written new.written × EndsUnresumed old.tables new.tables status output
+  pub never : (status ≢ Done) × (status ≢ ReadFault) × (status ≢ DoorFault)
+  pub blamed : BlamesOffice status old new
+  pub records : JudgesRecords old new status
+  pub sound : TellsSound (held old new) → Held old new → status ≡ OutOfMemory
 
 -- What comes after sound records: if nothing failed, an input without errors is answered, and a faulty one is refused.
 pub record AnswersAfter (IsInput IsFaulty : List ℕ → Type 0) (source now : Readable) (old new : Outside) (status : Status) : Type 0 where

@@ -5,12 +5,12 @@ ghost use Rattle.office_base.specs.Outside.{Rose, IsAtEnd, Appends};
 ghost use Rattle.keeper_mem.specs.Tables.{IsTold, Tables, still};
 ghost use Rattle.office_moves.specs.History.{IsHistory};
 ghost use Rattle.office_moves.specs.Stands.{Stand};
-ghost use Rattle.round_cut.specs.Resume.{IsUnresumed};
+ghost use Rattle.round_cut.specs.Resume.{GoesOn, IsUnresumed};
 ghost use Rattle.command_answers.specs.Answers.{IsFailureOf, Tells};
 ghost use Rattle.command_answers.specs.Writes.{IsTold as IsTextTold, Writes as WritesText};
 ghost use Rattle.office_base.specs.Visible.{source_of};
 ghost use Rattle.season_commands.specs.Outside.{BlamesOffice, BlamesSource, EndsWith, Writes, outside_of};
-ghost use Rattle.season_commands.specs.Resume.{AnswersAfter, AreLeftRequests, EndsAsked, EndsResume, IsFaultyScript, IsScript, IsUnresumedText, JudgesRecords, TellsNoOffice, made_status, made_text, script_answers, unresumed_status};
+ghost use Rattle.season_commands.specs.Resume.{AnswersAfter, AreLeftRequests, EndsAsked, EndsResume, IsFaultyScript, IsScript, IsUnresumedText, JudgesRecords, ReportsUnresumed, TellsNoOffice, made_status, made_text, script_answers, unresumed_status};
 
 use crate::bundle::bundle_failure;
 use crate::office::run_office;
@@ -53,14 +53,9 @@ pub fn resume_season<S: Source, K: Sink, P: Keeper>(
         ⊎ TellsNoOffice (still (P.seen keeper).tables (P.seen result.1).tables)
         → source.new ≡ source.old }
 {
-    one_end();
-    one_reading();
-    match Office::resume_or_season(alloc, keeper) {
-        Ok(office) => {
-            says_what_is_sound(office.season());
-            go_on(alloc, office, source, sink)
-        }
-        Err((keeper, stopped)) => (tell_unresumed(alloc, sink, &stopped), keeper),
+    match resume_office(alloc, sink, keeper) {
+        Ok(office) => go_on(alloc, office, source, sink),
+        Err(ended) => ended,
     }
 }
 
@@ -110,8 +105,34 @@ fn read_requests<S: Source>(alloc: Global, source: &mut S) -> Result<Script, Fai
     }
 }
 
+/// Resumes the office that the keeper holds.
+/// If none resumes, it writes why, and returns the status of that with the keeper.
+pub fn resume_office<K: Sink, P: Keeper>(
+    alloc: Global,
+    sink: &mut K,
+    keeper: P,
+) -> Result<Office<P>, (Status, P)>
+    ensures resumed { IfOk result (GoesOn P.seen keeper) }
+    ensures sound { IfOk result (λ office. (after : Tables)
+        → (IsTold after → IsTold (P.seen office.keeper).tables)
+        → ¬ TellsNoOffice (still (P.seen keeper).tables after)) }
+    ensures unwritten { OnOk result (sink.new ≡ sink.old) }
+    ensures unresumed { IfErr result (λ ended. ReportsUnresumed (outside_of K.Sink P.Keeper sink.old
+        keeper) (outside_of K.Sink P.Keeper sink.new ended.1) ended.0) }
+{
+    one_end();
+    one_reading();
+    match Office::resume_or_season(alloc, keeper) {
+        Ok(office) => {
+            says_what_is_sound(office.season());
+            Ok(office)
+        }
+        Err((keeper, stopped)) => Err((tell_unresumed(alloc, sink, &stopped), keeper)),
+    }
+}
+
 /// Writes why no office resumes.
-pub fn tell_unresumed<K: Sink>(alloc: Global, sink: &mut K, stopped: &Unresumed) -> Status
+fn tell_unresumed<K: Sink>(alloc: Global, sink: &mut K, stopped: &Unresumed) -> Status
     ensures written { (tables : Tables) → IsUnresumed tables stopped.now → (output : List ℕ)
         × Appends output (K.written sink.old) (K.written sink.new)
         × WritesText (IsUnresumedText tables) result output }

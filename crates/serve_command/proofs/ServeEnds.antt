@@ -1,22 +1,20 @@
 -- How the command `serve` ends.
-use Rattle.std.proofs.Common.{◌≡◌, inl, inr, ℕ, true, false, true≢false, List, [], Option, Some, None, Err, refl, sym, subst}
+use Rattle.std.proofs.Common.{◌≡◌, inl, inr, ℕ, true, false, List, [], Option, Some, None, Err, refl, subst}
 use Rattle.office_base.specs.Outside.{Appends}
 use Rattle.season_file.specs.Season.{content_of}
 use Rattle.season_file.specs.declared.season.Season.{Season}
-use Rattle.keeper_mem.specs.Tables.{Tables, Untold, NoSeason, Records, AreTold, IsFound, IsTold as IsTablesTold, still}
+use Rattle.keeper_mem.specs.Tables.{Tables, AreTold, IsFound, IsTold as IsTablesTold, still}
 use Rattle.office_moves.specs.Facts.{SeasonFacts}
 use Rattle.office_moves.specs.History.{IsHistory}
 use Rattle.office_moves.specs.Season.{facts_of}
 use Rattle.office_moves.specs.State.{State}
 use Rattle.office_moves.specs.declared.moves.Entry.{Entry}
-use Rattle.round_cut.specs.Resume.{HoldsTheKept, IsResumed, IsUnresumed}
+use Rattle.round_cut.specs.Resume.{HoldsTheKept, IsResumed}
 use Rattle.round_cut.specs.declared.fault.BeginFault.{BeginFault}
 use Rattle.round_cut.specs.declared.fault.BeginFault.TheVariants.{NotEmpty}
-use Rattle.round_cut.specs.declared.resume.Unresumed.{Unresumed}
-use Rattle.season_commands.specs.Resume.{IsUnresumedText}
-use Rattle.season_commands.specs.Run.{IsUnbegunText, TellsSeason, begin_status, begin_text}
+use Rattle.season_commands.specs.Run.{IsUnbegunText, begin_status, begin_text}
 use Rattle.command_answers.specs.Answers.{HaveOneAnswer, IsFailureOf, Tells}
-use Rattle.command_answers.specs.Writes.{IsTold, Writes, status_of, text_of}
+use Rattle.command_answers.specs.Writes.{IsTold, status_of, text_of}
 use Rattle.command_answers.specs.declared.failure.Failure.{Failure}
 use Rattle.command_answers.specs.declared.failure.Failure.TheVariants.{Read, Bad, NoMemory as NoMemoryToRead}
 use Rattle.command_answers.specs.declared.status.Status.{Status}
@@ -79,15 +77,6 @@ pub read_ends : (left : Option (List ℕ)) (before after : Tables) (doors : Door
     → (output : List ℕ) × Appends output written now × EndsServe left before after doors status output
 read_ends left before after doors season written now status is end = (end.0, end.1, inr (season, is, end.2))
 
--- Where an office began the keeper held no season.
-pub none_held : (before mid after : Tables) → IsFound false (still before mid) → (IsTablesTold after → IsTablesTold mid) → TellsSeason (still before after) → ⊥
-none_held before mid after empty was = apart (still before after) (still_later (λ t. IsFound false t) before mid after was tt empty)
-  where
-    apart : (tables : Tables) → IsFound false tables → TellsSeason tables → ⊥
-    apart Untold found tells = tells
-    apart NoSeason found tells = tells
-    apart (Records kept) found tells = true≢false (sym found)
-
 -- ---- an office resumes
 
 -- the entries of the records are kept by the tables that were visible before
@@ -106,11 +95,3 @@ kept_ends facts start held before mid after doors written now status resumed hol
   end.1,
   inr (facts, held, (start, still_resumed before mid after facts start told was resumed, still_held before mid after held told was holds, leads), end.2),
 )
-
--- No office went on.
-pub unresumed_ends : (before after : Tables) (doors : Doors) (why : Unresumed) (written now : Option (List ℕ)) (status : Status) → AreTold before after → IsUnresumed after why → doors.spared
-    → ((tables : Tables) → IsUnresumed tables why → (output : List ℕ) × Appends output written now × Writes (IsUnresumedText tables) status output)
-    → (output : List ℕ) × Appends output written now × EndsServeKept before after doors status output
-unresumed_ends before after doors why written now status told stopped spared writes =
-    let (output, appends, is) = writes (still before after) (still_from (λ t. IsUnresumed t why) before after told stopped) in
-    (output, appends, inl (is, told, spared))

@@ -22,7 +22,7 @@ use Rattle.office_moves.specs.State.{State}
 use Rattle.office_moves.specs.declared.moves.Entry.{Entry}
 use Rattle.reply_texts.specs.Replies.{state_line}
 use Rattle.round_cut.specs.Resume.{HoldsTheKept, IsResumed}
-use Rattle.season_commands.specs.Resume.{IsUnresumedText}
+use Rattle.season_commands.specs.Resume.{EndsUnresumed}
 use Rattle.season_commands.specs.Outside.{EndsWith, Held, Outside, held}
 use Rattle.season_commands.specs.Run.{IsUnbegunText, TellsNoSeason, TellsSeason}
 use Rattle.command_answers.specs.Answers.{Answers, HasLeft, Tells}
@@ -128,7 +128,7 @@ IsKept tables facts held = (start : State) × IsResumed tables facts start × Ho
 -- or the office of the records is served from the entries that they hold.
 -- What was kept is visible if the tables are visible both before and after.
 abbrev pub EndsServeKept : Tables → Tables → Doors → Status → List ℕ → Type 0
-EndsServeKept before after doors status output = (Writes (IsUnresumedText (still before after)) status output × AreTold before after × doors.spared)
+EndsServeKept before after doors status output = (EndsUnresumed before after status output × doors.spared)
     ⊎ ((facts : SeasonFacts) × (held : List Entry) × IsKept (still before after) facts held × EndsServed facts held after doors status output)
 
 -- ---- what `serve` keeps to

@@ -18,11 +18,7 @@ use command_answers::Status;
 use keeper_mem::Keeper;
 use office_base::Sink;
 use office_links::Door;
-use office_moves::says_what_is_sound;
-use replays::laws::one_end;
-use round_cut::Office;
-use season_commands::tell_unresumed;
-use season_file::laws::one_reading;
+use season_commands::resume_office;
 use std::alloc::Global;
 use std::sync::Wait;
 use std::thread::Threads;
@@ -52,13 +48,8 @@ pub fn serve_kept<R: Threads + Wait + Sync, K: Sink, P: Keeper + Send, D: Door<C
         → ¬ Rose (K.faults sink.old) (K.faults sink.new) → ¬ Rose (P.seen keeper).faults (P.seen
         result.1).faults → ¬ SomeRose D.faults doors.old doors.new → EndsWith Status.Ok result.0 }
 {
-    one_end();
-    one_reading();
-    match Office::resume_or_season(alloc, keeper) {
-        Ok(office) => {
-            says_what_is_sound(office.season());
-            serve_office(rt, alloc, office, sink, doors)
-        }
-        Err((keeper, stopped)) => (tell_unresumed(alloc, sink, &stopped), keeper),
+    match resume_office(alloc, sink, keeper) {
+        Ok(office) => serve_office(rt, alloc, office, sink, doors),
+        Err(ended) => ended,
     }
 }

@@ -1,12 +1,11 @@
 -- How the command `special` ends.
-use Rattle.std.proofs.Common.{◌≡◌, ◌≢◌, ◌<◌, ◌≤◌, ◌⊎◌, ◌∙◌, inl, inr, ℕ, List, Option, Some, None, Err, length, refl, sym, ap, subst}
+use Rattle.std.proofs.Common.{◌≡◌, ◌<◌, ◌≤◌, ◌⊎◌, inl, inr, ℕ, List, Option, Some, None, Err, length, refl, sym, subst}
 use Rattle.office_base.specs.Limits.{most_bundle_bytes}
-use Rattle.office_base.specs.Outside.{Appends, AreLeft}
+use Rattle.office_base.specs.Outside.{Appends}
 use Rattle.keeper_mem.specs.Tables.{Tables, AreTold, IsTold as IsTablesTold, still}
 use Rattle.office_moves.specs.Facts.{SeasonFacts}
 use Rattle.office_moves.specs.State.{State}
-use Rattle.round_cut.specs.Resume.{IsResumed, IsUnresumed}
-use Rattle.round_cut.specs.declared.resume.Unresumed.{Unresumed}
+use Rattle.round_cut.specs.Resume.{IsResumed}
 use Rattle.special_round.specs.Season.{IsSpecialFault}
 use Rattle.special_round.specs.declared.fault.SpecialFault.{SpecialFault}
 use Rattle.command_answers.specs.Answers.{HasLeft, IsFailureOf, IsInputFailure, Tells, TellsLine}
@@ -14,11 +13,10 @@ use Rattle.command_answers.specs.Writes.{IsTold, Writes, status_of, text_of}
 use Rattle.command_answers.specs.declared.failure.Failure.{Failure}
 use Rattle.command_answers.specs.declared.failure.Failure.TheVariants.{Read, Bad, NoMemory}
 use Rattle.command_answers.specs.declared.status.Status.{Status}
-use Rattle.command_answers.specs.declared.status.Status.TheVariants.{Ok as Done, BadInput, OutOfMemory}
+use Rattle.command_answers.specs.declared.status.Status.TheVariants.{Ok as Done, OutOfMemory}
 use Rattle.command_answers.proofs.Ended.{told_is_written}
-use Rattle.season_commands.proofs.Still.{still_from, still_resumed}
-use Rattle.season_commands.specs.Resume.{IsUnresumedText}
-use Rattle.special_command.specs.Special.{AreFaultyKeptLists, AreFaultyLists, AreKeptLists, AreSpecialLists, EndsSpecial, HaveOneSpecial, IsListsFaultLine, IsSpecialOutput, IsSpecialText, IsToldFault, special_answers, too_long_line}
+use Rattle.season_commands.proofs.Still.{still_resumed}
+use Rattle.special_command.specs.Special.{AreFaultyLists, AreSpecialLists, EndsSpecial, HaveOneSpecial, IsListsFaultLine, IsSpecialOutput, IsSpecialText, IsToldFault, special_answers, too_long_line}
 
 -- ---- why there is no special round
 
@@ -104,14 +102,6 @@ resumed_ends facts state left before held after written now status resumed told 
   end.1,
   inr (facts, state, still_here facts state before held after resumed told same, end.2, subst (λ (t : Tables). AreTold before t) (sym same) told),
 )
-
--- No office went on.
-pub unresumed_ends : (left : Option (List ℕ)) (before after : Tables) (why : Unresumed) (written now : Option (List ℕ)) (status : Status) → AreTold before after → IsUnresumed after why
-    → ((tables : Tables) → IsUnresumed tables why → (output : List ℕ) × Appends output written now × Writes (IsUnresumedText tables) status output)
-    → (output : List ℕ) × Appends output written now × EndsSpecial left before after status output
-unresumed_ends left before after why written now status told stopped writes =
-    let (output, appends, is) = writes (still before after) (still_from (λ t. IsUnresumed t why) before after told stopped) in
-    (output, appends, inl (is, told))
 
 -- What holds of the lists over every state holds over this one.
 pub tells_here : (Are : SeasonFacts → State → List ℕ → Type 0) (tables : Tables) (facts : SeasonFacts) (state : State) (left : Option (List ℕ)) → IsResumed tables facts state

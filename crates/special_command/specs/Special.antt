@@ -20,7 +20,7 @@ use Rattle.command_answers.specs.declared.failure.Failure.{Failure}
 use Rattle.command_answers.specs.declared.failure.Failure.TheVariants.{Read, Bad, NoMemory}
 use Rattle.command_answers.specs.declared.status.Status.{Status}
 use Rattle.season_commands.specs.Outside.{Outside, held}
-use Rattle.season_commands.specs.Resume.{AnswersAfter, IsUnresumedText}
+use Rattle.season_commands.specs.Resume.{AnswersAfter, EndsUnresumed}
 
 abbrev pub too_long_line : List ℕ
 too_long_line = codes "fault: special TooLong\n"
@@ -92,7 +92,7 @@ IsSpecialText facts state left = IsTextOf (special_answers facts state) left
 -- written, or why there is none.
 -- The tables are unchanged. What was kept is visible if the tables are visible both before and after.
 abbrev pub EndsSpecial : Option (List ℕ) → Tables → Tables → Status → List ℕ → Type 0
-EndsSpecial left before after status output = (Writes (IsUnresumedText (still before after)) status output × AreTold before after)
+EndsSpecial left before after status output = EndsUnresumed before after status output
     ⊎ ((facts : SeasonFacts) × (state : State) × IsResumed (still before after) facts state × Writes (IsSpecialText facts state left) status output × AreTold before after)
 
 -- what comes after sound records: lists without errors are answered, and faulty ones are refused

@@ -23,10 +23,8 @@ use keeper_mem::Keeper;
 use office_base::limits::MOST_BUNDLE_BYTES;
 use office_base::{OutOfMemory, ReadFault, Sink, Source, Steps, Text, read_whole};
 use office_moves::says_what_is_sound;
-use replays::laws::one_end;
 use round_cut::Office;
-use season_commands::tell_unresumed;
-use season_file::laws::one_reading;
+use season_commands::resume_office;
 use special_round::{Special, SpecialFault, special};
 use special_texts::laws::special_rounds_can_be_shown;
 use special_texts::{special_fault_text, special_text};
@@ -59,14 +57,9 @@ pub fn special_season<S: Source, K: Sink, P: Keeper>(
         ⊎ TellsNoOffice (still (P.seen keeper).tables (P.seen result.1).tables)
         → source.new ≡ source.old }
 {
-    one_end();
-    one_reading();
-    match Office::resume_or_season(alloc, keeper) {
-        Ok(office) => {
-            says_what_is_sound(office.season());
-            tell_round(alloc, office, source, sink)
-        }
-        Err((keeper, stopped)) => (tell_unresumed(alloc, sink, &stopped), keeper),
+    match resume_office(alloc, sink, keeper) {
+        Ok(office) => tell_round(alloc, office, source, sink),
+        Err(ended) => ended,
     }
 }
 

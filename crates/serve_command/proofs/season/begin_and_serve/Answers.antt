@@ -1,8 +1,9 @@
 use Rattle.std.proofs.Common.{refl, rules}
+use Rattle.season_commands.proofs.Still.{some_apart, still_none}
 use Rattle.serve_command.specs.Doors.{doors_of}
 use Rattle.serve_command.proofs.ServedEnds.{handed_in}
 use Rattle.door_histories.specs.Served.{telling}
-use Rattle.serve_command.proofs.ServeEnds.{begun_ends, none_held, unbegun_ends}
+use Rattle.serve_command.proofs.ServeEnds.{begun_ends, unbegun_ends}
 use Rattle.serve_command.proofs.season.begin_and_serve.Goals as goal
 
 pub returns-in-Ok-clause-written : goal.returns-in-Ok-clause-written
@@ -12,7 +13,7 @@ returns-in-Ok-clause-written g c =
     (handed_in (telling g.D.Door g.D.Conn.Link) _ _ _ _ _ _ _ _ _ _ _ _ c.serve_office.result.0 c.in-Ok.ensures.ok.blamed.room (c.in-Ok.ensures.ok.blamed.steady (λ none. none)) c.serve_office.ensures.written)
 
 pub returns-in-Ok-clause-not_empty : goal.returns-in-Ok-clause-not_empty
-returns-in-Ok-clause-not_empty g c tells wrote kept = absurd (none_held _ _ _ c.in-Ok.ensures.ok.empty c.serve_office.ensures.told_before tells)
+returns-in-Ok-clause-not_empty g c tells wrote kept = absurd (some_apart _ (still_none _ _ _ c.serve_office.ensures.told_before c.in-Ok.ensures.ok.empty) tells)
 
 pub returns-in-Err-clause-written : goal.returns-in-Err-clause-written
 returns-in-Err-clause-written g c =
