@@ -3,7 +3,7 @@ use Rattle.std.specs.Prelude.{◌≡◌, ◌+◌, ◌*◌, ℕ, ◌==◌, List, 
 use Rattle.std.specs.Option.{unwrap_or}
 use Rattle.office_base.specs.declared.asks.Seat.{Seat}
 use Rattle.office_base.specs.declared.person.Person.{Person}
-use Rattle.keeper_mem.specs.declared.rows.AllotRow.{AllotRow}
+use Rattle.kept_rows.specs.declared.rows.AllotRow.{AllotRow}
 use Rattle.programme_lists.specs.declared.programme.Programme.{Programme}
 
 -- The rows of each round's text, in the order of the rounds; the lists of all programmes for one round after another; and the final rows, where there is a

@@ -8,7 +8,7 @@ use Rattle.office_base.proofs.Lists.{all-get, there_is}
 use Rattle.office_base.specs.declared.asks.Seat.{Seat}
 use Rattle.office_base.specs.declared.person.Person.{Person}
 use Rattle.office_base.specs.declared.person.ProgId.{ProgId}
-use Rattle.keeper_mem.specs.declared.rows.AllotRow.{AllotRow}
+use Rattle.kept_rows.specs.declared.rows.AllotRow.{AllotRow}
 use Rattle.allocations.specs.Fair.{IsBest}
 use Rattle.allocations.specs.Market.{Seeker, rank_of}
 use Rattle.choice_lists.specs.Choices.{list_of}

@@ -1,7 +1,7 @@
 -- A command writes the same for the same input.
 use Rattle.std.proofs.Common.{◌≡◌, inl, inr, ℕ, true, List, Some, sym, ap, ◌∙◌, subst}
 use Rattle.office_base.specs.declared.asks.Request.{Request}
-use Rattle.keeper_mem.specs.Tables.{Tables}
+use Rattle.kept_rows.specs.Tables.{Tables}
 use Rattle.season_file.specs.Season.{IsSeasonWith, content_of}
 use Rattle.season_file.specs.declared.season.Season.{Season}
 use Rattle.season_generator.specs.Bundle.{generated}

@@ -5,7 +5,7 @@ use Rattle.std.proofs.lemmas.Bool.{and_from, and_parts, eq-eqb, eqb-true, ltb-tr
 use Rattle.std.proofs.lemmas.Bool.Decides.{nat_tests}
 use Rattle.office_base.specs.Limits.{most_matrix_seats, most_step_seats}
 use Rattle.office_base.specs.declared.asks.By.{By}
-use Rattle.keeper_mem.specs.declared.rows.RaiseRow.{RaiseRow}
+use Rattle.kept_rows.specs.declared.rows.RaiseRow.{RaiseRow}
 use Rattle.seat_matrix.specs.Seats.{is_dereserved}
 use Rattle.office_moves.specs.History.{newly}
 use Rattle.office_moves.specs.Judge.{is_clerk, judge_new_seats, judge_raise, not_open, refuse_as, refuse_if}

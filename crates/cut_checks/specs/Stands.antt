@@ -5,7 +5,7 @@ use Rattle.office_base.specs.declared.asks.By.{By}
 use Rattle.office_base.specs.declared.asks.Seat.{Seat}
 use Rattle.office_base.specs.declared.person.ProgId.{ProgId}
 use Rattle.allocations.specs.Market.{place_of}
-use Rattle.keeper_mem.specs.declared.rows.AnswerRow.{AnswerRow}
+use Rattle.kept_rows.specs.declared.rows.AnswerRow.{AnswerRow}
 use Rattle.round_options.specs.Options.{after_cut, may_follow, seek_after, standing_of}
 use Rattle.seeks.specs.declared.seek.Seek.{Seek}
 use Rattle.office_moves.specs.Facts.{SeasonFacts}

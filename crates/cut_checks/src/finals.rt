@@ -8,7 +8,7 @@ ghost use Rattle.cut_checks.specs.Finals.{GoesOn, rows_of};
 ghost use Rattle.cut_checks.specs.Stands.{stands_along};
 
 use crate::stand::Stand;
-use keeper_mem::AllotRow;
+use kept_rows::AllotRow;
 use office_base::{CandId, Seat};
 use season_file::Season;
 

@@ -2,7 +2,7 @@
 ghost use Rattle.std.specs.Prelude.{◌≡◌, ◌≤◌};
 ghost use Rattle.cut_checks.specs.Raises.{lifts, may_have};
 
-use keeper_mem::RaiseRow;
+use kept_rows::RaiseRow;
 use office_base::limits::{MOST_MATRIX_SEATS, MOST_STEP_SEATS};
 use office_base::{By, StepKind};
 use office_moves::RaiseLooks;

@@ -3,7 +3,7 @@ ghost use Rattle.std.specs.Prelude.{◌≡◌, ◌↔◌, ◌+◌, IsTrue};
 ghost use Rattle.office_moves.specs.Judge.{is_candidate, is_gone};
 ghost use Rattle.cut_checks.specs.Stands.{answered, cut, first_stand, may_answer, notes};
 
-use keeper_mem::AnswerRow;
+use kept_rows::AnswerRow;
 use office_base::limits::MOST_TURNS;
 use office_base::{By, CandId, Choice, Seat};
 use round_options::{Standing, after_cut, allowed, standing_of};

@@ -1,10 +1,10 @@
 // The seats that a round's text gives, along the register.
 ghost use Rattle.std.specs.Prelude.{◌≡◌, ◌∷◌, ◌++◌, [], IfOk, List, None, Some, length, replicate};
-ghost use Rattle.keeper_mem.specs.declared.rows.AllotRow.{AllotRow as AnyRow};
+ghost use Rattle.kept_rows.specs.declared.rows.AllotRow.{AllotRow as AnyRow};
 ghost use Rattle.audit_rules.specs.Papers.{seats_told};
 ghost use Rattle.cut_checks.specs.Stands.{or_seat};
 
-use keeper_mem::AllotRow;
+use kept_rows::AllotRow;
 use office_base::{OutOfMemory, Seat};
 use rank_lists::Register;
 use std::alloc::Global;

@@ -1,6 +1,6 @@
 // An office as it is given to a desk.
 ghost use Rattle.std.specs.Prelude.{◌≡◌, ◌<◌};
-ghost use Rattle.keeper_mem.specs.Tables.{IsTold};
+ghost use Rattle.kept_rows.specs.Tables.{IsTold};
 ghost use Rattle.office_asks.specs.Asking.{AsksOffice, token_of};
 ghost use Rattle.proceedings.specs.Proceeding.{last_of};
 
@@ -16,13 +16,13 @@ use std::marker::{Brand, Model, PhantomData};
 
 /// The visible tables of an office's keeper when the office was given to a desk. Each desk picks them.
 pub trait Beginning {
-    ghost use Rattle.keeper_mem.specs.Tables.{Tables};
+    ghost use Rattle.kept_rows.specs.Tables.{Tables};
 
     ghost tables: { Tables };
 }
 
 impl Beginning for Brand {
-    ghost use Rattle.keeper_mem.specs.Tables.{Untold};
+    ghost use Rattle.kept_rows.specs.Tables.{Untold};
 
     ghost tables = { Untold };
 }
@@ -34,7 +34,7 @@ pub struct Stood<K: Keeper, B: Beginning> {
 }
 
 impl<K: Keeper, B: Beginning> Model for Stood<K, B> {
-    ghost use Rattle.keeper_mem.specs.Tables.{IsTold};
+    ghost use Rattle.kept_rows.specs.Tables.{IsTold};
     ghost use Rattle.round_cut.specs.Office.{Opened};
 
     ghost Value = { Opened K };

@@ -3,7 +3,7 @@ use Rattle.std.proofs.Common.{◌≡◌, Bool}
 use Rattle.sqlite.specs.Store.{Ghosts}
 use Rattle.sqlite.specs.State.{HasCleanDisk}
 use Rattle.sqlite.specs.Held.{Held, IsNew, state}
-use Rattle.keeper_mem.specs.Tables.{NoSeason}
+use Rattle.kept_rows.specs.Tables.{NoSeason}
 use Rattle.stored_tables.specs.Told.{told, tables_in, without_raises}
 use Rattle.stored_tables.specs.Layout.{no_schema, first_four, stored}
 use Rattle.keeper_sqlite.specs.Stored.{Stored}

@@ -10,7 +10,7 @@ use Rattle.season_file.specs.Season.{IsSeasonFault, IsSeasonWith}
 use Rattle.season_file.specs.declared.fault.SeasonFault.{SeasonFault}
 use Rattle.season_file.specs.declared.fault.SeasonFault.TheVariants.{OutOfMemory as NoMemoryToRead}
 use Rattle.season_file.specs.declared.season.Season.{Season}
-use Rattle.keeper_mem.specs.Tables.{Tables, AreTold, IsFound, still}
+use Rattle.kept_rows.specs.Tables.{Tables, AreTold, IsFound, still}
 use Rattle.rounds.specs.declared.round.Round.{Round}
 use Rattle.office_moves.specs.Facts.{SeasonFacts}
 use Rattle.office_moves.specs.Season.{facts_of}

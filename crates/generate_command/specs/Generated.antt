@@ -5,7 +5,7 @@ use Rattle.std.specs.Prelude.{◌≡◌, ◌⊎◌, ℕ, true, false, List, Resu
 use Rattle.office_base.specs.declared.asks.Request.{Request}
 use Rattle.season_file.specs.Season.{IsSeasonWith}
 use Rattle.season_file.specs.declared.season.Season.{Season}
-use Rattle.keeper_mem.specs.Tables.{Tables, AreTold, IsFound, still}
+use Rattle.kept_rows.specs.Tables.{Tables, AreTold, IsFound, still}
 use Rattle.rounds.specs.Round.{seated}
 use Rattle.office_moves.specs.Facts.{SeasonFacts}
 use Rattle.office_moves.specs.Season.{facts_of}

@@ -11,8 +11,8 @@ use Rattle.office_base.specs.declared.asks.By.TheVariants.{Candidate, Clerk}
 use Rattle.office_base.specs.declared.asks.Request.{Request}
 use Rattle.office_base.specs.declared.person.ProgId.{ProgId}
 use Rattle.office_base.specs.declared.step.StepKind.{StepKind}
-use Rattle.keeper_mem.specs.declared.rows.AnswerRow.{AnswerRow}
-use Rattle.keeper_mem.specs.declared.rows.RaiseRow.{RaiseRow}
+use Rattle.kept_rows.specs.declared.rows.AnswerRow.{AnswerRow}
+use Rattle.kept_rows.specs.declared.rows.RaiseRow.{RaiseRow}
 use Rattle.office_moves.specs.State.{State, opening, view_of}
 use Rattle.office_moves.specs.Judge.{is_candidate, is_clerk, judge_answer, judge_cut, judge_new_answer, judge_new_seats, not_open, once_more, refuse_as, refuse_if, with_programme}
 use Rattle.office_moves.specs.Decided.{answer_looks, decide_raise, decided, decided_by, raise_looks}

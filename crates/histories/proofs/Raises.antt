@@ -4,7 +4,7 @@ use Rattle.std.specs.Prelude.{◌-◌, nat_le}
 use Rattle.std.proofs.lemmas.Bool.{cases_lt, lt-ltb, ltb-false}
 use Rattle.std.proofs.lemmas.Bool.Decides.{nat_tests}
 use Rattle.office_base.specs.Limits.{most_matrix_seats, most_step_seats}
-use Rattle.keeper_mem.specs.declared.rows.RaiseRow.{RaiseRow}
+use Rattle.kept_rows.specs.declared.rows.RaiseRow.{RaiseRow}
 use Rattle.seat_matrix.specs.Laws.{OneStepChanges}
 use Rattle.seat_matrix.specs.Matrix.{AreSeats, SeatTable}
 use Rattle.seat_matrix.specs.Seats.{is_dereserved}

@@ -1,8 +1,8 @@
 -- The rows of a candidate in a window, and the raises before a window, with a row more.
 use Rattle.std.proofs.Common.{◌≡◌, ◌<◌, ◌≤◌, inl, inr, ℕ, Bool, true, false, List, [], ◌∷◌, ◌++◌, refl, ap, ◌∙◌, nat_lt, ◌==◌, if◌then◌else◌, append-nil}
 use Rattle.std.proofs.lemmas.Bool.{cases_Bool, eq-eqb, eqb-false, eqb-true, lt-ltb, le-ltb}
-use Rattle.keeper_mem.specs.declared.rows.AnswerRow.{AnswerRow}
-use Rattle.keeper_mem.specs.declared.rows.RaiseRow.{RaiseRow}
+use Rattle.kept_rows.specs.declared.rows.AnswerRow.{AnswerRow}
+use Rattle.kept_rows.specs.declared.rows.RaiseRow.{RaiseRow}
 use Rattle.round_options.specs.Options.{standing_of}
 use Rattle.round_options.specs.declared.standing.Standing.{Standing}
 use Rattle.office_moves.specs.State.{answered, in_window, rows_of}

@@ -2,7 +2,7 @@
 use Rattle.std.proofs.Common.{◌≡◌, ◌<◌, ◌≤◌, ℕ, zero, suc, List, [], ◌∷◌, ◌++◌, Option, length, arith, refl, ap, ◌∙◌}
 use Rattle.office_base.proofs.Lists.{get-before}
 use Rattle.office_base.specs.declared.asks.Seat.{Seat}
-use Rattle.keeper_mem.specs.declared.rows.AnswerRow.{AnswerRow}
+use Rattle.kept_rows.specs.declared.rows.AnswerRow.{AnswerRow}
 use Rattle.rounds.specs.declared.round.Round.{Round}
 use Rattle.round_options.specs.Options.{after_cut}
 use Rattle.round_options.specs.declared.standing.Standing.{Standing}

@@ -1,6 +1,6 @@
 -- What holds of every state that a history reaches.
 use Rattle.std.specs.Prelude.{◌≡◌, ◌<◌, ◌≤◌, ◌+◌, ℕ, suc, true, false, List, [], ◌∷◌, Some, None, IsSome, length, slice_get}
-use Rattle.keeper_mem.specs.declared.rows.AnswerRow.{AnswerRow}
+use Rattle.kept_rows.specs.declared.rows.AnswerRow.{AnswerRow}
 use Rattle.seat_matrix.specs.Matrix.{AreSeats}
 use Rattle.rounds.specs.Rule.{AreSeeks}
 use Rattle.rounds.specs.declared.round.Round.{Round}

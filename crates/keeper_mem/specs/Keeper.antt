@@ -1,7 +1,7 @@
 -- What is seen of a keeper, and what a call of it does.
 use Rattle.std.specs.Prelude.{◌≡◌, ◌≤◌, ◌-◌, ℕ, Bool, true, Result, OnOk, OnErr, IsErrOf}
 use Rattle.office_base.specs.Outside.{Rose}
-use Rattle.keeper_mem.specs.Tables.{Tables, AreTold}
+use Rattle.kept_rows.specs.Tables.{Tables, AreTold}
 use Rattle.keeper_mem.specs.declared.keeper.KeepFault.{KeepFault}
 use Rattle.keeper_mem.specs.declared.keeper.KeepFault.TheVariants.{Failed}
 

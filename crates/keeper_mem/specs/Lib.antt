@@ -1,3 +1,2 @@
 pub mod Keeper
 pub mod Memory
-pub mod Tables

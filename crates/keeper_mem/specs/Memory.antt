@@ -2,10 +2,10 @@
 use Rattle.std.specs.Prelude.{true}
 use Rattle.keeper_mem.specs.Keeper.{Shelf}
 use Rattle.std.specs.Prelude.{ℕ, List, Option, Some, None}
-use Rattle.keeper_mem.specs.declared.rows.AnswerRow.{AnswerRow}
-use Rattle.keeper_mem.specs.declared.rows.AllotRow.{AllotRow}
-use Rattle.keeper_mem.specs.declared.rows.RaiseRow.{RaiseRow}
-use Rattle.keeper_mem.specs.Tables.{Tables, NoSeason, Records}
+use Rattle.kept_rows.specs.declared.rows.AnswerRow.{AnswerRow}
+use Rattle.kept_rows.specs.declared.rows.AllotRow.{AllotRow}
+use Rattle.kept_rows.specs.declared.rows.RaiseRow.{RaiseRow}
+use Rattle.kept_rows.specs.Tables.{Tables, NoSeason, Records}
 
 -- the tables, and how many answers can be put without allocating
 pub record Memory : Type 0 where

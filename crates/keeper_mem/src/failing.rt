@@ -4,10 +4,11 @@ ghost use Rattle.office_base.specs.Memory.{counted};
 ghost use Rattle.office_base.specs.Outside.{Rose};
 ghost use Rattle.keeper_mem.specs.Keeper.{IsLook, IsPut, TakesRoom};
 ghost use Rattle.keeper_mem.specs.Memory.{shelf_of};
-ghost use Rattle.keeper_mem.specs.Tables.{NoSeason, Records, with_season, with_answer, with_raise, with_cut, AreTold, IsFound, IsLoaded};
+ghost use Rattle.kept_rows.specs.Tables.{NoSeason, Records, with_season, with_answer, with_raise, with_cut, AreTold, IsFound, IsLoaded};
 
 use crate::memory::Memory;
-use crate::{AllotRow, AnswerRow, KeepFault, Keeper, Kept, RaiseRow, Teller};
+use crate::{KeepFault, Keeper, Teller};
+use kept_rows::{AllotRow, AnswerRow, Kept, RaiseRow};
 use office_base::{OutOfMemory, fails_at};
 use std::alloc::Global;
 use std::marker::Model;

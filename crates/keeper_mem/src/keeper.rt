@@ -2,7 +2,7 @@
 ghost use Rattle.std.specs.Prelude.{◌≡◌, true, false, IfOk, IsErrOf, MatchOption};
 ghost use Rattle.keeper_mem.specs.declared.keeper.KeepFault.TheVariants.{OutOfMemory as NoMemory};
 
-use crate::{AllotRow, AnswerRow, Kept, RaiseRow};
+use kept_rows::{AllotRow, AnswerRow, Kept, RaiseRow};
 use office_base::OutOfMemory;
 use std::alloc::Global;
 
@@ -27,7 +27,7 @@ impl From<OutOfMemory> for KeepFault {
 /// and no fewer answers can be put without allocating.
 pub trait Keeper {
     ghost use Rattle.keeper_mem.specs.Keeper.{Shelf, IsLook, IsPut, TakesRoom};
-    ghost use Rattle.keeper_mem.specs.Tables.{with_season, with_answer, with_raise, with_cut, IsFound, IsLoaded};
+    ghost use Rattle.kept_rows.specs.Tables.{with_season, with_answer, with_raise, with_cut, IsFound, IsLoaded};
 
     /// What a proof sees of it: its tables, if they are visible, how often it has failed, and its room for answers.
     ghost seen: { Self → Shelf };
@@ -72,7 +72,7 @@ pub trait Keeper {
 /// A keeper with tables that are always visible, and with room in advance. Both keepers in memory are such keepers.
 /// Without this trait, a keeper that keeps nothing and hides its tables meets every clause of `Keeper`.
 pub trait Teller: Keeper {
-    ghost use Rattle.keeper_mem.specs.Tables.{IsTold};
+    ghost use Rattle.kept_rows.specs.Tables.{IsTold};
 
     /// Shows that the tables are visible, and that room can be taken in advance. It does nothing.
     fn tells(&self)

@@ -1,8 +1,8 @@
 // The tables in memory, which both keepers in memory hold.
 ghost use Rattle.std.specs.Prelude.{◌≡◌, ◌≤◌, ◌-◌, ◌+◌, ℕ, Bool, true, false, List, OnOk, OnErr, IfOk, IsTrue, MatchOption};
-ghost use Rattle.keeper_mem.specs.Tables.{Tables, NoSeason, Records, with_season, with_answer, with_raise, with_cut, IsFound, IsLoaded, IsTold};
+ghost use Rattle.kept_rows.specs.Tables.{Tables, NoSeason, Records, with_season, with_answer, with_raise, with_cut, IsFound, IsLoaded, IsTold};
 
-use crate::{AllotRow, AnswerRow, Kept, RaiseRow};
+use kept_rows::{AllotRow, AnswerRow, Kept, RaiseRow};
 use office_base::{Listed, OutOfMemory, Text};
 use std::alloc::Global;
 use std::marker::Model;

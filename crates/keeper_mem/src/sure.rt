@@ -1,9 +1,10 @@
 // A keeper in memory that never fails: its count of faults is the constant 0.
 ghost use Rattle.std.specs.Prelude.{◌≡◌, ◌≤◌, ◌-◌, ℕ, Bool, true, false, List, OnOk, OnErr, IsErrOf, IfOk, MatchOption};
-ghost use Rattle.keeper_mem.specs.Tables.{NoSeason};
+ghost use Rattle.kept_rows.specs.Tables.{NoSeason};
 
 use crate::memory::Memory;
-use crate::{AllotRow, AnswerRow, KeepFault, Keeper, Kept, RaiseRow, Teller};
+use crate::{KeepFault, Keeper, Teller};
+use kept_rows::{AllotRow, AnswerRow, Kept, RaiseRow};
 use std::alloc::Global;
 use std::marker::Model;
 

@@ -15,11 +15,11 @@ use Rattle.sqlite.specs.Held.{Held, state}
 use Rattle.sqlite.proofs.StateLemmas.{survives_weaker}
 use Rattle.std.specs.Borrow.{Bor}
 use Rattle.std.proofs.lemmas.Bool.{cases_Bool}
-use Rattle.keeper_mem.specs.Tables.{Tables, Untold, NoSeason, Records, AreTold, IsTold, IsFound, with_answer, with_raise, with_season, with_cut}
+use Rattle.kept_rows.specs.Tables.{Tables, Untold, NoSeason, Records, AreTold, IsTold, IsFound, with_answer, with_raise, with_season, with_cut}
 use Rattle.keeper_mem.specs.declared.keeper.KeepFault.{KeepFault}
-use Rattle.keeper_mem.specs.declared.rows.AnswerRow.{AnswerRow}
-use Rattle.keeper_mem.specs.declared.rows.AllotRow.{AllotRow}
-use Rattle.keeper_mem.specs.declared.rows.RaiseRow.{RaiseRow}
+use Rattle.kept_rows.specs.declared.rows.AnswerRow.{AnswerRow}
+use Rattle.kept_rows.specs.declared.rows.AllotRow.{AllotRow}
+use Rattle.kept_rows.specs.declared.rows.RaiseRow.{RaiseRow}
 use Rattle.stored_tables.specs.Fits.{AnswerFits, RaiseFits}
 use Rattle.stored_tables.specs.Layout.{stored, first_four, no_schema, has_tables}
 use Rattle.stored_tables.proofs.CreateLemmas.{MakesAll, all_made, fifth_made, all_stand}

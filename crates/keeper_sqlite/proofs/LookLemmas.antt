@@ -7,12 +7,12 @@ use Rattle.sqlite.specs.Tree.{Trees}
 use Rattle.sqlite.specs.Effect.{Database}
 use Rattle.sqlite.specs.State.{HasCleanDisk}
 use Rattle.sqlite.specs.Held.{Held, state}
-use Rattle.keeper_mem.specs.Tables.{Tables, Untold, NoSeason, Records, IsFound, IsLoaded, IsTold}
+use Rattle.kept_rows.specs.Tables.{Tables, Untold, NoSeason, Records, IsFound, IsLoaded, IsTold}
 use Rattle.keeper_mem.specs.declared.keeper.KeepFault.{KeepFault}
-use Rattle.keeper_mem.specs.declared.rows.AnswerRow.{AnswerRow}
-use Rattle.keeper_mem.specs.declared.rows.AllotRow.{AllotRow}
-use Rattle.keeper_mem.specs.declared.rows.RaiseRow.{RaiseRow}
-use Rattle.keeper_mem.specs.declared.rows.Kept.{Kept}
+use Rattle.kept_rows.specs.declared.rows.AnswerRow.{AnswerRow}
+use Rattle.kept_rows.specs.declared.rows.AllotRow.{AllotRow}
+use Rattle.kept_rows.specs.declared.rows.RaiseRow.{RaiseRow}
+use Rattle.kept_rows.specs.declared.rows.Kept.{Kept}
 use Rattle.stored_tables.specs.Layout.{stored, has_tables}
 use Rattle.stored_tables.specs.Rising.{are_rising}
 use Rattle.stored_tables.specs.Rows.{rows_from, part_of, allot_of, answers_in, raises_in, allots_in, text_in, rising_alone, cuts_of}

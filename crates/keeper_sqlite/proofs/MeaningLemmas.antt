@@ -7,12 +7,12 @@ use Rattle.sqlite.specs.Effect.{Database}
 use Rattle.sqlite.specs.State.{HasCleanDisk, Shown, Executes}
 use Rattle.sqlite.specs.Held.{Held, state}
 use Rattle.sqlite.specs.declared.types.Value.TheVariants.{Int}
-use Rattle.keeper_mem.specs.declared.rows.AnswerRow.{AnswerRow}
-use Rattle.keeper_mem.specs.declared.rows.AllotRow.{AllotRow}
-use Rattle.keeper_mem.specs.declared.rows.RaiseRow.{RaiseRow}
+use Rattle.kept_rows.specs.declared.rows.AnswerRow.{AnswerRow}
+use Rattle.kept_rows.specs.declared.rows.AllotRow.{AllotRow}
+use Rattle.kept_rows.specs.declared.rows.RaiseRow.{RaiseRow}
 use Rattle.keeper_mem.specs.declared.keeper.KeepFault.{KeepFault}
-use Rattle.keeper_mem.specs.declared.rows.Kept.{Kept}
-use Rattle.keeper_mem.specs.Tables.{Tables, Records, IsTold, with_cut}
+use Rattle.kept_rows.specs.declared.rows.Kept.{Kept}
+use Rattle.kept_rows.specs.Tables.{Tables, Records, IsTold, with_cut}
 use Rattle.stored_tables.specs.Fits.{AnswerFits, RaiseFits, AllotFits}
 use Rattle.stored_tables.specs.Layout.{stored}
 use Rattle.stored_tables.specs.Rising.{are_rising as rise}

@@ -9,10 +9,10 @@ use Rattle.sqlite.specs.Tree.{Trees}
 use Rattle.sqlite.specs.Effect.{Database}
 use Rattle.sqlite.specs.State.{State, Executes, Shown}
 use Rattle.sqlite.specs.Held.{Held, state}
-use Rattle.keeper_mem.specs.Tables.{Tables, Untold, NoSeason, Records, with_answer, with_raise, with_cut, IsFound, opening_records}
-use Rattle.keeper_mem.specs.declared.rows.AnswerRow.{AnswerRow}
-use Rattle.keeper_mem.specs.declared.rows.AllotRow.{AllotRow}
-use Rattle.keeper_mem.specs.declared.rows.RaiseRow.{RaiseRow}
+use Rattle.kept_rows.specs.Tables.{Tables, Untold, NoSeason, Records, with_answer, with_raise, with_cut, IsFound, opening_records}
+use Rattle.kept_rows.specs.declared.rows.AnswerRow.{AnswerRow}
+use Rattle.kept_rows.specs.declared.rows.AllotRow.{AllotRow}
+use Rattle.kept_rows.specs.declared.rows.RaiseRow.{RaiseRow}
 use Rattle.stored_tables.specs.Layout.{stored, has_tables}
 use Rattle.stored_tables.specs.Fits.{AnswerFits, RaiseFits, AllotFits}
 use Rattle.stored_tables.specs.Rising.{comes_after, rise_after}

@@ -6,7 +6,7 @@ use Rattle.sqlite.specs.Effect.{Database}
 use Rattle.sqlite.specs.State.{HasCleanDisk, IsRolledBack, Survives}
 use Rattle.sqlite.specs.Steps.{FailsToCommit}
 use Rattle.sqlite.specs.Held.{Held, state}
-use Rattle.keeper_mem.specs.Tables.{Tables}
+use Rattle.kept_rows.specs.Tables.{Tables}
 use Rattle.stored_tables.specs.Rows.{cuts_of}
 use Rattle.stored_tables.specs.Told.{told, tables_in, without_raises}
 use Rattle.keeper_sqlite.specs.Commits.{CommitsNothing}

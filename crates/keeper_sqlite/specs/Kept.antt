@@ -9,8 +9,8 @@ use Rattle.sqlite.specs.Held.{Held, state}
 use Rattle.sqlite.specs.Listing.{understood}
 use Rattle.sqlite.specs.Outline.{Outline}
 use Rattle.sqlite.specs.Steps.{Outlines}
-use Rattle.keeper_mem.specs.declared.rows.AllotRow.{AllotRow}
-use Rattle.keeper_mem.specs.declared.rows.Kept.{Kept}
+use Rattle.kept_rows.specs.declared.rows.AllotRow.{AllotRow}
+use Rattle.kept_rows.specs.declared.rows.Kept.{Kept}
 pub use Rattle.stored_tables.specs.Texts.{answer_text, answer_values, raise_text, raise_values, allot_text, allot_values, cuts_text, cuts_values, phase_query, opening_text, opening_values, part_text, part_values, text_query, answers_query, raises_query, allots_query, key_query, any_part, any_answer, any_raise, any_allot, season_table, phase_table, answer_table, lift_table, allot_table}
 use Rattle.stored_tables.specs.Fits.{AllotFits}
 use Rattle.keeper_sqlite.specs.Columns.{IsPhaseRow, IsPartRow, IsAnswerRow, IsRaiseRow, IsAllotRow, TellsPhase, TellsKey}

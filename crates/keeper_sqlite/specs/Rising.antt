@@ -1,6 +1,6 @@
 -- The order of published seats: by round, and inside a round by candidate.
 use Rattle.std.specs.Prelude.{◌==◌, ◌&&◌, ◌||◌, nat_lt, Bool, true, List, [], ◌∷◌, Option, Some, None}
-use Rattle.keeper_mem.specs.declared.rows.AllotRow.{AllotRow}
+use Rattle.kept_rows.specs.declared.rows.AllotRow.{AllotRow}
 use Rattle.keeper_sqlite.specs.declared.rising.Key.{Key}
 
 abbrev pub key_of : AllotRow → Key

@@ -11,7 +11,7 @@ ghost use Rattle.keeper_sqlite.specs.Kept.{DidAll, TellsRecords, allots_query, a
 ghost use Rattle.stored_tables.specs.Layout.{stored};
 ghost use Rattle.stored_tables.specs.Puts.{PutsAllot};
 ghost use Rattle.stored_tables.specs.Rows.{allots_in};
-ghost use Rattle.keeper_mem.specs.declared.rows.AllotRow.{AllotRow};
+ghost use Rattle.kept_rows.specs.declared.rows.AllotRow.{AllotRow};
 ghost use Rattle.keeper_sqlite.specs.Rising.{key_after};
 ghost use Rattle.keeper_sqlite.specs.Stops.{LosesKey, LosesRecords};
 ghost use Rattle.keeper_sqlite.specs.Kept.Call.{Runs, Asks, Readies};
@@ -21,7 +21,7 @@ use crate::columns::{number_at, small_number_at, step_at};
 use crate::halt::Halt;
 use crate::records::{Record, records_of};
 use crate::rising::Key;
-use keeper_mem::{AllotRow, AllotRows};
+use kept_rows::{AllotRow, AllotRows};
 use office_base::{CandId, ProgId, step_number};
 use sqlite::{Alter, Row, Statement, Transaction, params};
 use std::alloc::Global;

@@ -8,7 +8,7 @@ ghost use Rattle.keeper_sqlite.specs.Kept.{Ran, TellsRecords, answers_query, ans
 ghost use Rattle.stored_tables.specs.Layout.{stored};
 ghost use Rattle.stored_tables.specs.Puts.{PutsAnswer};
 ghost use Rattle.stored_tables.specs.Rows.{answers_in};
-ghost use Rattle.keeper_mem.specs.declared.rows.AnswerRow.{AnswerRow};
+ghost use Rattle.kept_rows.specs.declared.rows.AnswerRow.{AnswerRow};
 ghost use Rattle.keeper_sqlite.specs.Stops.{StopsIn, LosesRecords};
 ghost use Rattle.keeper_sqlite.specs.Kept.Call.{Runs, Asks};
 
@@ -17,7 +17,7 @@ use crate::columns::{choice_at, expect_number, number_at, small_number_at};
 use crate::halt::Halt;
 use crate::numbers::number_of_choice;
 use crate::records::{Record, records_of};
-use keeper_mem::{AnswerRow, AnswerRows};
+use kept_rows::{AnswerRow, AnswerRows};
 use office_base::CandId;
 use sqlite::{Alter, Row, Transaction, params};
 use std::alloc::Global;

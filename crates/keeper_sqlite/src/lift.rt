@@ -8,7 +8,7 @@ ghost use Rattle.keeper_sqlite.specs.Kept.{Ran, TellsRecords, raises_query, lift
 ghost use Rattle.stored_tables.specs.Layout.{stored};
 ghost use Rattle.stored_tables.specs.Puts.{PutsRaise};
 ghost use Rattle.stored_tables.specs.Rows.{raises_in};
-ghost use Rattle.keeper_mem.specs.declared.rows.RaiseRow.{RaiseRow};
+ghost use Rattle.kept_rows.specs.declared.rows.RaiseRow.{RaiseRow};
 ghost use Rattle.keeper_sqlite.specs.Stops.{StopsIn, LosesRecords};
 ghost use Rattle.keeper_sqlite.specs.Kept.Call.{Runs, Asks};
 
@@ -16,7 +16,7 @@ use crate::calls::{ask, expect_none, run};
 use crate::columns::{expect_number, small_number_at, step_at};
 use crate::halt::Halt;
 use crate::records::{Record, records_of};
-use keeper_mem::{RaiseRow, RaiseRows};
+use kept_rows::{RaiseRow, RaiseRows};
 use office_base::{ProgId, step_number};
 use sqlite::{Alter, Row, Transaction, params};
 use std::alloc::Global;

@@ -2,7 +2,7 @@
 ghost use Rattle.std.specs.Prelude.{◌≡◌};
 ghost use Rattle.keeper_sqlite.specs.Rising.{are_rising, is_above};
 
-use keeper_mem::AllotRow;
+use kept_rows::AllotRow;
 use office_base::CandId;
 
 /// The key of a published seat.

@@ -13,7 +13,7 @@ ghost use Rattle.keeper_sqlite.specs.Kept.{Keeps, MadeBy, Looks, TellsSeason, Te
 use crate::halt::Halt;
 use crate::rising::are_rising;
 use crate::{allot, answer, lift, phase, season};
-use keeper_mem::{AllotRow, AnswerRow, Kept, RaiseRow};
+use kept_rows::{AllotRow, AnswerRow, Kept, RaiseRow};
 use sqlite::{Alter, Connection, Transaction};
 use std::alloc::Global;
 

@@ -3,7 +3,8 @@ use crate::stores::{
     Put, Records, Store, after, allot, answer, empty, holds, holds_nothing, over, puts, raise,
     refuses, refuses_load,
 };
-use keeper_mem::{AllotRow, AnswerRow, KeepFault, Keeper, RaiseRow};
+use keeper_mem::{KeepFault, Keeper};
+use kept_rows::{AllotRow, AnswerRow, RaiseRow};
 use office_base::{Choice, StepKind};
 use std::alloc::Global;
 use std::test::Fail;

@@ -1,7 +1,8 @@
 // Keepers over databases in memory, and what is asked of them. Nothing here has a clause, and a trial makes few calls, so that its proof does not
 // carry the state of each call on a database.
-use keeper_mem::{AllotRow, AnswerRow, KeepFault, Keeper, RaiseRow};
+use keeper_mem::{KeepFault, Keeper};
 use keeper_sqlite::SqliteKeeper;
+use kept_rows::{AllotRow, AnswerRow, RaiseRow};
 use office_base::{CandId, Choice, ProgId, StepKind};
 use sqlite::{Connection, MemStore};
 use std::alloc::Global;

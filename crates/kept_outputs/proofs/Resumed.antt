@@ -1,7 +1,7 @@
 -- The same visible tables lead to one state of one season, but for the order in which a register keeps its tokens; or they have one line of a fault.
 use Rattle.std.proofs.Common.{◌≡◌, inl, inr, ℕ, Bool, false, List, [], refl, sym, ap, ◌∙◌, subst}
-use Rattle.keeper_mem.specs.Tables.{IsTold, NoSeason, Records, Tables, Untold, still}
-use Rattle.keeper_mem.specs.declared.rows.Kept.{Kept}
+use Rattle.kept_rows.specs.Tables.{IsTold, NoSeason, Records, Tables, Untold, still}
+use Rattle.kept_rows.specs.declared.rows.Kept.{Kept}
 use Rattle.seat_matrix.specs.Matrix.{SeatTable}
 use Rattle.season_file.specs.Laws.{HasFault, HaveOneReading}
 use Rattle.season_file.specs.Season.{IsSeason, content_of}

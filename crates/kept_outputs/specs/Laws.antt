@@ -1,6 +1,6 @@
 -- The same requests over the same kept records give the same output of `resume`.
 use Rattle.std.specs.Prelude.{◌≡◌, ℕ, List, Some}
-use Rattle.keeper_mem.specs.Tables.{IsTold, Tables, still}
+use Rattle.kept_rows.specs.Tables.{IsTold, Tables, still}
 use Rattle.command_answers.specs.Status.{IsAnswered}
 use Rattle.command_answers.specs.declared.status.Status.{Status}
 use Rattle.season_commands.specs.Resume.{EndsResume}

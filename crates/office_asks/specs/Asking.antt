@@ -6,7 +6,7 @@ use Rattle.office_base.specs.declared.asks.By.{By}
 use Rattle.office_base.specs.declared.asks.By.TheVariants.{Nobody}
 use Rattle.office_base.specs.declared.asks.Request.{Request}
 use Rattle.keeper_mem.specs.Keeper.{Shelf}
-use Rattle.keeper_mem.specs.Tables.{AreTold, IsTold}
+use Rattle.kept_rows.specs.Tables.{AreTold, IsTold}
 use Rattle.office_moves.specs.Facts.{SeasonFacts}
 use Rattle.office_moves.specs.State.{State}
 use Rattle.office_moves.specs.Decided.{decided}

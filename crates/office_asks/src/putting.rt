@@ -1,6 +1,6 @@
 // An ask with its token, put to an office.
 ghost use Rattle.std.specs.Prelude.{◌≡◌, ◌<◌, option_copied};
-ghost use Rattle.keeper_mem.specs.Tables.{IsTold};
+ghost use Rattle.kept_rows.specs.Tables.{IsTold};
 ghost use Rattle.office_asks.specs.Asking.{AsksOffice, IsAnswerOf, request_of, token_of};
 ghost use Rattle.proceedings.specs.Proceeding.{last_of};
 ghost use Rattle.shown_replies.specs.Shown.{CameOf, CanBeShown};

@@ -1,7 +1,7 @@
 -- Which objects the status of a command blames.
 use Rattle.std.proofs.Common.{◌≡◌, ◌≢◌, ◌⊎◌, ◌∙◌, ◌≤◌, inl, inr, ℕ, List, [], ◌∷◌, Option, map, refl, sym}
 use Rattle.office_base.specs.Outside.{Rose}
-use Rattle.keeper_mem.specs.Tables.{Tables, still}
+use Rattle.kept_rows.specs.Tables.{Tables, still}
 use Rattle.season_file.specs.declared.season.Season.{Season}
 use Rattle.office_base.specs.declared.asks.Request.{Request}
 use Rattle.season_commands.specs.Check.{check_answers}

@@ -2,7 +2,7 @@
 use Rattle.std.proofs.Common.{◌≡◌, ◌∙◌, inl, inr, ℕ, List, Option, Result, Ok, Err, refl, sym, arith}
 use Rattle.std.specs.Prelude.{IfOk, IfErr, IsErrOf}
 use Rattle.office_base.specs.Outside.{Appends, Rose}
-use Rattle.keeper_mem.specs.Tables.{Tables}
+use Rattle.kept_rows.specs.Tables.{Tables}
 use Rattle.command_answers.specs.Answers.{Answers, HasLeft, IsFailureOf}
 use Rattle.command_answers.specs.Writes.{IsTold, status_of, text_of}
 use Rattle.office_commands.specs.Blames.{Blames}

@@ -5,7 +5,7 @@ use Rattle.office_base.specs.declared.outside.Source.{Ghosts as SourceGhosts}
 use Rattle.office_base.specs.declared.outside.Sink.{Ghosts as SinkGhosts}
 use Rattle.office_links.specs.declared.outside.Door.{Ghosts as DoorGhosts}
 use Rattle.office_links.specs.declared.outside.Link.{Ghosts as LinkGhosts}
-use Rattle.keeper_mem.specs.Tables.{Tables, still}
+use Rattle.kept_rows.specs.Tables.{Tables, still}
 use Rattle.keeper_mem.specs.declared.keeper.Keeper.{Ghosts as KeeperGhosts}
 use Rattle.door_histories.specs.Ending.{SomeRose}
 use Rattle.door_histories.specs.Served.{telling}

@@ -1,6 +1,6 @@
 -- What the program keeps to under a command, in addition to what it writes and which objects it blames.
 use Rattle.std.specs.Prelude.{◌≡◌, ◌⊎◌, ◌+◌, ℕ, List, sum}
-use Rattle.keeper_mem.specs.Tables.{still, Tables}
+use Rattle.kept_rows.specs.Tables.{still, Tables}
 use Rattle.office_base.specs.Outside.{Appends, IsAtEnd, Rose}
 use Rattle.command_answers.specs.Answers.{Tells}
 use Rattle.command_answers.specs.declared.status.Status.{Status}

@@ -1,6 +1,6 @@
 -- What the program writes and how it ends.
 use Rattle.std.specs.Prelude.{◌≡◌, ◌⊎◌, ℕ, List, Option, codes}
-use Rattle.keeper_mem.specs.Tables.{Tables}
+use Rattle.kept_rows.specs.Tables.{Tables}
 use Rattle.audit_command.specs.Audit.{AreDossier, AreFaultyDossier, EndsWell, IsAuditText}
 use Rattle.audit_command.specs.Best.{IsBestText}
 use Rattle.command_answers.specs.Answers.{Answers, Tells}

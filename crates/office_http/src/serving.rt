@@ -3,7 +3,7 @@ ghost use Rattle.std.specs.Prelude.{◌≡◌, ◌≤◌, ◌<◌, ◌^◌, ◌+
 ghost use Rattle.std.specs.List.{AllByRecursion};
 ghost use Rattle.door_histories.specs.Served.{telling};
 ghost use Rattle.door_histories.specs.Workers.{IsRow};
-ghost use Rattle.keeper_mem.specs.Tables.{IsTold};
+ghost use Rattle.kept_rows.specs.Tables.{IsTold};
 ghost use Rattle.office_asks.specs.Asking.{AnswersAt, UnanswersAt};
 ghost use Rattle.office_desk.specs.Words.{belongs, count_of, left_of, origin_of, own_of, seen_of, shares_of, tickets_of};
 ghost use Rattle.office_http.specs.Hands.{worker_of};

@@ -9,8 +9,8 @@ use Rattle.office_base.specs.declared.asks.By.{By}
 use Rattle.office_base.specs.declared.asks.Choice.{Choice}
 use Rattle.office_base.specs.declared.asks.Choice.TheVariants.{Freeze, Float, Slide, Withdraw}
 use Rattle.office_base.specs.declared.person.ProgId.{ProgId}
-use Rattle.keeper_mem.specs.declared.rows.AnswerRow.{AnswerRow}
-use Rattle.keeper_mem.specs.declared.rows.RaiseRow.{RaiseRow}
+use Rattle.kept_rows.specs.declared.rows.AnswerRow.{AnswerRow}
+use Rattle.kept_rows.specs.declared.rows.RaiseRow.{RaiseRow}
 use Rattle.office_moves.specs.Judge.{is_candidate, is_clerk, is_gone, is_withdraw, judge_answer, judge_cut, judge_new_answer, judge_new_seats, judge_next_answer, judge_raise, not_open, once_more, refuse_as, refuse_if, same_choice, with_programme}
 use Rattle.office_moves.specs.History.{newly}
 use Rattle.office_moves.specs.declared.decide.AnswerLooks.{AnswerLooks}

@@ -2,7 +2,7 @@
 use Rattle.std.proofs.Common.{◌≡◌, Some, length, sym, ap, ◌∙◌, subst}
 use Rattle.office_base.specs.declared.asks.Ask.TheVariants.{Answer, Seat, Why, Choices}
 use Rattle.office_base.specs.declared.person.CandId.{CandId}
-use Rattle.keeper_mem.specs.declared.rows.AnswerRow.{AnswerRow}
+use Rattle.kept_rows.specs.declared.rows.AnswerRow.{AnswerRow}
 use Rattle.office_moves.specs.Facts.{SeasonFacts, find_programme}
 use Rattle.office_moves.specs.State.{State, view_of}
 use Rattle.office_moves.specs.Decided.{answer_looks, decide_answer, decide_why, is_chosen_by, is_known}

@@ -8,8 +8,8 @@ use Rattle.office_base.specs.declared.asks.Choice.TheVariants.{Freeze as ToFreez
 use Rattle.office_base.specs.declared.person.CandId.{CandId}
 use Rattle.office_base.specs.declared.person.ProgId.{ProgId}
 use Rattle.seat_matrix.specs.Seats.{is_dereserved}
-use Rattle.keeper_mem.specs.declared.rows.AnswerRow.{AnswerRow}
-use Rattle.keeper_mem.specs.declared.rows.RaiseRow.{RaiseRow}
+use Rattle.kept_rows.specs.declared.rows.AnswerRow.{AnswerRow}
+use Rattle.kept_rows.specs.declared.rows.RaiseRow.{RaiseRow}
 use Rattle.round_options.specs.Options.{may_follow}
 use Rattle.round_options.specs.declared.standing.Standing.{Standing}
 use Rattle.round_options.specs.declared.standing.Standing.TheVariants.{Waiting, Offered, Freeze, Float, Slide, Withdrawn, NoShow}

@@ -1,7 +1,7 @@
 -- What the office promises of every state that a history reaches.
 use Rattle.std.specs.Prelude.{◌≡◌, ◌<◌, ◌≤◌, ◌+◌, ℕ, suc, true, List, Option, Some, None, IsSome, length, map, option_map, slice_get, if◌then◌else◌}
 use Rattle.office_base.specs.declared.asks.Seat.{Seat}
-use Rattle.keeper_mem.specs.declared.rows.AllotRow.{AllotRow}
+use Rattle.kept_rows.specs.declared.rows.AllotRow.{AllotRow}
 use Rattle.allocations.specs.Fair.{HasClaim, IsBest}
 use Rattle.allocations.specs.Market.{applicants, place_of}
 use Rattle.choice_lists.specs.Choices.{list_of}

@@ -1,10 +1,10 @@
 -- What kept tables represent.
 use Rattle.std.specs.Prelude.{◌≡◌, ◌+◌, ℕ, ◌==◌, ◌&&◌, List, [], ◌∷◌, Option, Some, None, if◌then◌else◌}
 use Rattle.office_base.specs.declared.asks.Seat.{Seat}
-use Rattle.keeper_mem.specs.Tables.{Tables, Untold, NoSeason, Records}
-use Rattle.keeper_mem.specs.declared.rows.AllotRow.{AllotRow}
-use Rattle.keeper_mem.specs.declared.rows.Kept.{Kept}
-use Rattle.keeper_mem.specs.declared.rows.RaiseRow.{RaiseRow}
+use Rattle.kept_rows.specs.Tables.{Tables, Untold, NoSeason, Records}
+use Rattle.kept_rows.specs.declared.rows.AllotRow.{AllotRow}
+use Rattle.kept_rows.specs.declared.rows.Kept.{Kept}
+use Rattle.kept_rows.specs.declared.rows.RaiseRow.{RaiseRow}
 use Rattle.office_moves.specs.Facts.{SeasonFacts}
 use Rattle.office_moves.specs.State.{State, in_window, seat_in}
 

@@ -3,7 +3,7 @@ ghost use Rattle.std.specs.Prelude.{◌≡◌, ◌≤◌};
 ghost use Rattle.office_moves.specs.Judge.{choice_of, is_gone, judge_answer, judge_cut, judge_list, judge_new_answer, judge_new_seats, judge_next_answer, judge_own, judge_raise, judge_round, judge_why, may_ask, not_open};
 
 use crate::refusal::Refusal;
-use keeper_mem::{AnswerRow, RaiseRow};
+use kept_rows::{AnswerRow, RaiseRow};
 use office_base::limits::{MOST_MATRIX_SEATS, MOST_STEP_SEATS, MOST_TURNS};
 use office_base::{By, CandId, Choice, ProgId, StepKind};
 use round_options::{Standing, allowed};

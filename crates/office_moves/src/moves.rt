@@ -3,7 +3,7 @@ ghost use Rattle.std.specs.Prelude.{◌≡◌};
 ghost use Rattle.office_moves.specs.Moves.{noted, raised_reply};
 
 use crate::refusal::Refusal;
-use keeper_mem::{AnswerRow, RaiseRow};
+use kept_rows::{AnswerRow, RaiseRow};
 use office_base::{CandId, Choice, Listed, ProgId, Seat, StepKind};
 use programme_lists::Programme;
 use reasons::WhyAnswer;

@@ -6,7 +6,7 @@ ghost use Rattle.office_moves.specs.Raised.{matrix_at};
 ghost use Rattle.office_moves.specs.Season.{facts_of};
 ghost use Rattle.office_moves.specs.State.{round_at};
 
-use keeper_mem::AllotRows;
+use kept_rows::AllotRows;
 use office_moves::Entry;
 use office_turns::TurnTable;
 use raised_seats::RaisedSeats;

@@ -12,7 +12,7 @@ ghost use Rattle.proceedings.specs.Changes.{StillAfter};
 
 use crate::book::Proceedings;
 use crate::room::put_last;
-use keeper_mem::{AllotRows, AnswerRow, RaiseRow};
+use kept_rows::{AllotRows, AnswerRow, RaiseRow};
 use office_base::{Choice, OutOfMemory};
 use office_moves::{Act, Decision, Entry, says_what_is_sound};
 use office_turns::TurnTable;

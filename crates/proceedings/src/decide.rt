@@ -7,7 +7,7 @@ ghost use Rattle.office_moves.specs.State.{view_of};
 ghost use Rattle.office_moves.specs.Decided.{answer_looks, decide_answer, decide_list, decide_own, decide_raise, decide_raise_of, decide_why, decided, is_chosen_by, is_known, raise_looks};
 
 use crate::book::Proceedings;
-use keeper_mem::{AnswerRow, RaiseRow};
+use kept_rows::{AnswerRow, RaiseRow};
 use office_base::{Ask, By, CandId, Code, ProgId, Request};
 use office_moves::{
     AnswerLooks, Decision, Question, RaiseLooks, Refusal, judge_answer, judge_cut, judge_list,

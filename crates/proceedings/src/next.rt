@@ -6,7 +6,7 @@ ghost use Rattle.office_turns.specs.Turns.{no_turns};
 ghost use Rattle.rounds.specs.Rule.{AreSeeks};
 
 use crate::book::Proceedings;
-use keeper_mem::AllotRows;
+use kept_rows::AllotRows;
 use office_base::OutOfMemory;
 use office_turns::TurnTable;
 use rounds::{Round, Seeks};

@@ -2,7 +2,8 @@
 // An office over given records. Damaged records are in cases/stores.txt.
 use crate::commands::{REQUESTS, asked_season, first_replies, over};
 use command_answers::Status;
-use keeper_mem::{Keeper, Kept, MemKeeper};
+use keeper_mem::{Keeper, MemKeeper};
+use kept_rows::Kept;
 use round_cut::{Office, ResumeFault};
 use std::alloc::Global;
 use std::sync::Wait;

@@ -1,6 +1,6 @@
 -- A reader of rows: what it keeps, and what completes its text.
 use Rattle.std.specs.Prelude.{◌≡◌, ◌<◌, ◌+◌, ◌^◌, ℕ, List, [], length}
-use Rattle.keeper_mem.specs.declared.rows.AllotRow.{AllotRow}
+use Rattle.kept_rows.specs.declared.rows.AllotRow.{AllotRow}
 use Rattle.text_readers.specs.Parts.{AreSmall, AreSpelled}
 use Rattle.text_readers.specs.Reading.{Grammar}
 use Rattle.publish.specs.Rows.{IsEnd, IsRest, IsRowsText, Read}

@@ -7,7 +7,7 @@ ghost use Rattle.publish.specs.Rows.{IsFinalText, IsRoundText, IsRowsText};
 use crate::rows::RowsReader;
 use crate::sort::Sort;
 use crate::stage::Stage;
-use keeper_mem::AllotRows;
+use kept_rows::AllotRows;
 use office_base::Person;
 use season_file::Season;
 use seat_matrix::Matrix;

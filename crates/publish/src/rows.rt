@@ -1,6 +1,6 @@
 // The reader of rows: the texts of rounds and of final admissions.
 ghost use Rattle.std.specs.Prelude.{◌≡◌, ◌<◌, ◌≤◌, ◌+◌, ◌-◌, ◌^◌, ◌∷◌, [], ◌++◌, ℕ, List, IfNone, IfSome, IfOk, OnOk, IsTrue, ◌↔◌, length};
-ghost use Rattle.keeper_mem.specs.declared.rows.AllotRow.{AllotRow as AnyRow};
+ghost use Rattle.kept_rows.specs.declared.rows.AllotRow.{AllotRow as AnyRow};
 ghost use Rattle.text_readers.specs.Parts.{AreSmall, AreSpelled};
 ghost use Rattle.text_readers.specs.Reading.{Begins, EndsWithLines, HasNo, IsAnswered, IsRefused, IsWhole, Leads};
 ghost use Rattle.publish.specs.Reader.{KeepsRows, grammar_of, lines_left};
@@ -11,7 +11,7 @@ use crate::parts::{Row, people_after, read_row};
 use crate::pieces::begins_rows;
 use crate::sort::Sort;
 use crate::stage::Stage;
-use keeper_mem::{AllotRow, AllotRows};
+use kept_rows::{AllotRow, AllotRows};
 use office_base::{OutOfMemory, Person};
 use seat_matrix::Matrix;
 use text_readers::{Lines, begins_whole};

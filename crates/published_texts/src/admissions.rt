@@ -4,7 +4,7 @@ ghost use Rattle.std.specs.List.{AllByRecursion};
 ghost use Rattle.published_texts.specs.Texts.{admit_line, final_head, final_text};
 
 use crate::seat::{LONGEST_ENDS, LONGEST_LINE, push_seat};
-use keeper_mem::AllotRow;
+use kept_rows::AllotRow;
 use office_base::{OutOfMemory, Text};
 use seat_matrix::Matrix;
 use std::alloc::Global;

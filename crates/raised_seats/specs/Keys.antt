@@ -1,7 +1,7 @@
 -- Accepted raises as keys.
 use Rattle.std.specs.Prelude.{ℕ, Bool, ◌==◌, List, map}
 use Rattle.std.specs.Ordering.{eq_of_both, on}
-use Rattle.keeper_mem.specs.declared.rows.RaiseRow.{RaiseRow}
+use Rattle.kept_rows.specs.declared.rows.RaiseRow.{RaiseRow}
 use Rattle.office_base.specs.StepNumbers.{step_number}
 use Rattle.raised_seats.specs.declared.accepted.Key.{Key}
 

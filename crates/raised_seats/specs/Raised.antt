@@ -1,7 +1,7 @@
 -- A season's seats with what was raised.
 use Rattle.std.specs.Prelude.{ℕ, List}
 use Rattle.std.specs.List.{list_any}
-use Rattle.keeper_mem.specs.declared.rows.RaiseRow.{RaiseRow}
+use Rattle.kept_rows.specs.declared.rows.RaiseRow.{RaiseRow}
 use Rattle.seat_matrix.specs.Matrix.{SeatTable, seating_in}
 use Rattle.office_moves.specs.Decided.{same_raise}
 use Rattle.office_moves.specs.Raised.{total_seats}

@@ -9,7 +9,7 @@ ghost use Rattle.office_moves.specs.Decided.{same_raise};
 ghost use Rattle.raised_seats.specs.Keys.{same_key};
 
 use indexmap::IndexSet;
-use keeper_mem::RaiseRow;
+use kept_rows::RaiseRow;
 use office_base::{OutOfMemory, step_number};
 use std::alloc::Global;
 use std::hash::{Hash, Hasher};

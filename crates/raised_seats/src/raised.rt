@@ -11,7 +11,7 @@ ghost use Rattle.office_moves.specs.Raised.{raised_to, total_seats};
 
 use crate::accepted::AcceptedRaises;
 use crate::total::total_seats;
-use keeper_mem::RaiseRow;
+use kept_rows::RaiseRow;
 use office_base::OutOfMemory;
 use office_moves::RaiseLooks;
 use seat_matrix::Matrix;

@@ -1,6 +1,6 @@
 -- What holds of the records that are kept of a history.
 use Rattle.std.specs.Prelude.{◌≡◌, List}
-use Rattle.keeper_mem.specs.declared.rows.Kept.{Kept}
+use Rattle.kept_rows.specs.declared.rows.Kept.{Kept}
 use Rattle.office_moves.specs.Facts.{IsSound, SeasonFacts}
 use Rattle.office_moves.specs.History.{IsHistory}
 use Rattle.office_moves.specs.Stands.{AreRecordsOf}

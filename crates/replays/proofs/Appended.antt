@@ -1,6 +1,6 @@
 -- The rows of a window of two lists, one after the other.
 use Rattle.std.proofs.Common.{◌≡◌, ℕ, List, ◌++◌, sym, ap, ◌∙◌}
-use Rattle.keeper_mem.specs.declared.rows.RaiseRow.{RaiseRow}
+use Rattle.kept_rows.specs.declared.rows.RaiseRow.{RaiseRow}
 use Rattle.office_moves.specs.Stands.{raises_in}
 use Rattle.replays.proofs.Tables.{raise_of, raises_as, with_append, with_number}
 

@@ -1,6 +1,6 @@
 -- A fault of the records of a season that is handed back.
 use Rattle.std.proofs.Common.{◌≡◌}
-use Rattle.keeper_mem.specs.declared.rows.Kept.{Kept}
+use Rattle.kept_rows.specs.declared.rows.Kept.{Kept}
 use Rattle.office_moves.specs.Facts.{SeasonFacts}
 use Rattle.office_moves.specs.Season.{facts_of}
 use Rattle.season_file.specs.declared.season.Season.{Season}

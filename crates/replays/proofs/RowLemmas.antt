@@ -10,9 +10,9 @@ use Rattle.office_base.specs.Lists.{Pairwise}
 use Rattle.office_base.specs.declared.asks.Ask.TheVariants.{Raise as AskRaise}
 use Rattle.office_base.specs.declared.asks.By.TheVariants.{Candidate, Clerk}
 use Rattle.office_base.specs.declared.person.ProgId.{ProgId}
-use Rattle.keeper_mem.specs.declared.rows.AnswerRow.{AnswerRow}
-use Rattle.keeper_mem.specs.declared.rows.Kept.{Kept}
-use Rattle.keeper_mem.specs.declared.rows.RaiseRow.{RaiseRow}
+use Rattle.kept_rows.specs.declared.rows.AnswerRow.{AnswerRow}
+use Rattle.kept_rows.specs.declared.rows.Kept.{Kept}
+use Rattle.kept_rows.specs.declared.rows.RaiseRow.{RaiseRow}
 use Rattle.seat_matrix.specs.Matrix.{AreSeats, SeatTable, codes_in}
 use Rattle.seat_matrix.specs.declared.entry.Home.{Home}
 use Rattle.office_moves.specs.Decided.{answer_looks, decide_raise_of, decided, raise_looks}

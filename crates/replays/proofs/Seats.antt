@@ -10,7 +10,7 @@ use Rattle.office_base.specs.declared.person.CandId.{CandId}
 use Rattle.office_base.specs.declared.person.Person.{Person}
 use Rattle.office_base.proofs.Lists.{all-get}
 use Rattle.office_base.proofs.People.{at_person-get}
-use Rattle.keeper_mem.specs.declared.rows.AllotRow.{AllotRow}
+use Rattle.kept_rows.specs.declared.rows.AllotRow.{AllotRow}
 use Rattle.rank_lists.specs.Register.{row_of}
 use Rattle.rank_lists.proofs.Known.{none_when}
 use Rattle.office_moves.specs.Moves.{row_before, rows_along}

@@ -2,8 +2,8 @@
 use Rattle.std.proofs.Common.{◌≡◌, ◌≢◌, ◌<◌, ◌≤◌, ◌+◌, ◌⊎◌, inl, inr, ℕ, Bool, true, false, List, [], ◌∷◌, ◌++◌, arith, refl, sym, ap, ◌∙◌, subst, append-nil, ◌==◌, if◌then◌else◌}
 use Rattle.std.specs.Prelude.{map}
 use Rattle.std.proofs.lemmas.Bool.{cases_lt, eqb-true, ne_eqb}
-use Rattle.keeper_mem.specs.declared.rows.AnswerRow.{AnswerRow}
-use Rattle.keeper_mem.specs.declared.rows.RaiseRow.{RaiseRow}
+use Rattle.kept_rows.specs.declared.rows.AnswerRow.{AnswerRow}
+use Rattle.kept_rows.specs.declared.rows.RaiseRow.{RaiseRow}
 use Rattle.office_moves.specs.Stands.{raises_in}
 use Rattle.office_moves.specs.State.{in_window}
 

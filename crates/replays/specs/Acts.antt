@@ -1,7 +1,7 @@
 -- What is kept, as acts in the order in which they are accepted again: window after window its raises, in the order of their table, then its answers in theirs, and then
 -- its cut, where it is counted.
 use Rattle.std.specs.Prelude.{◌+◌, ℕ, zero, suc, Bool, true, false, ◌==◌, nat_lt, List, [], ◌∷◌, ◌++◌, map, if◌then◌else◌}
-use Rattle.keeper_mem.specs.declared.rows.Kept.{Kept}
+use Rattle.kept_rows.specs.declared.rows.Kept.{Kept}
 use Rattle.office_moves.specs.Stands.{raises_in}
 use Rattle.office_moves.specs.State.{in_window}
 use Rattle.office_moves.specs.declared.moves.Act.{Act}

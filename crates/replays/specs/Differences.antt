@@ -4,7 +4,7 @@ use Rattle.std.specs.Option.{option_and_then}
 use Rattle.office_base.specs.Person.{at_person}
 use Rattle.office_base.specs.declared.asks.Seat.{Seat}
 use Rattle.office_base.specs.declared.person.Person.{Person}
-use Rattle.keeper_mem.specs.declared.rows.AllotRow.{AllotRow}
+use Rattle.kept_rows.specs.declared.rows.AllotRow.{AllotRow}
 use Rattle.rank_lists.specs.Register.{row_of}
 use Rattle.office_moves.specs.Stands.{first_allot}
 use Rattle.replays.specs.declared.compare.Difference.{Difference}

@@ -1,6 +1,6 @@
 -- What holds of kept records, however they are replayed.
 use Rattle.std.specs.Prelude.{◌≡◌, ◌≢◌}
-use Rattle.keeper_mem.specs.declared.rows.Kept.{Kept}
+use Rattle.kept_rows.specs.declared.rows.Kept.{Kept}
 use Rattle.office_moves.specs.Facts.{SeasonFacts}
 use Rattle.office_moves.specs.State.{State}
 use Rattle.replays.specs.Faults.{IsReplayFault}

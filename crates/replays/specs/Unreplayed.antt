@@ -1,6 +1,6 @@
 -- Why records are not replayed, with the season whose codes tell a difference.
 use Rattle.std.specs.Prelude.{◌≡◌}
-use Rattle.keeper_mem.specs.declared.rows.Kept.{Kept}
+use Rattle.kept_rows.specs.declared.rows.Kept.{Kept}
 use Rattle.office_moves.specs.Facts.{SeasonFacts}
 use Rattle.office_moves.specs.Season.{facts_of}
 use Rattle.season_file.specs.declared.season.Season.{Season}

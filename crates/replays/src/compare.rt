@@ -1,11 +1,11 @@
 // The kept seats of a round against those that were computed.
 ghost use Rattle.std.specs.Prelude.{◌≡◌, ◌<◌, ◌∷◌, [], ℕ, List, Option, Some, IfOk, length, option_map, slice_get};
 ghost use Rattle.office_base.specs.declared.asks.Seat.{Seat as AnySeat};
-ghost use Rattle.keeper_mem.specs.declared.rows.AllotRow.{AllotRow as AnyRow};
+ghost use Rattle.kept_rows.specs.declared.rows.AllotRow.{AllotRow as AnyRow};
 ghost use Rattle.office_moves.specs.Stands.{first_allot};
 ghost use Rattle.replays.specs.Differences.{AreFound, IsComparison, IsComparisonOf, IsFirstPlace, IsOfNobody, IsOfPeople, IsStranger, seat_along};
 
-use keeper_mem::AllotRow;
+use kept_rows::AllotRow;
 use office_base::{CandId, OutOfMemory, Person, Seat};
 use rank_lists::Register;
 use std::alloc::Global;

@@ -16,7 +16,7 @@ use crate::cut::replay_cut;
 use crate::fault::{ReplayFault, Unreplayed};
 use crate::later::{later_round, later_window};
 use crate::rows::replay_rows;
-use keeper_mem::Kept;
+use kept_rows::Kept;
 use office_base::{OutOfMemory, Seat};
 use office_moves::says_what_is_sound;
 use proceedings::Proceedings;

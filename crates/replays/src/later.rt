@@ -4,7 +4,7 @@ ghost use Rattle.replays.specs.Later.{IsLaterRound, IsLaterWindow, is_later, is_
 ghost use Rattle.replays.specs.Replay.{window_of};
 
 use crate::rows::KeptRow;
-use keeper_mem::{AllotRow, Kept};
+use kept_rows::{AllotRow, Kept};
 
 /// The smaller of a number, where there is one, and another.
 fn lesser(best: Option<u16>, number: u16) -> u16

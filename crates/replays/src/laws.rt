@@ -1,5 +1,5 @@
 // The laws of kept records, over the definitions alone. Each is the contract of a function that does nothing.
-ghost use Rattle.keeper_mem.specs.declared.rows.Kept.{Kept};
+ghost use Rattle.kept_rows.specs.declared.rows.Kept.{Kept};
 ghost use Rattle.office_moves.specs.Facts.{IsSound, SeasonFacts};
 ghost use Rattle.replays.specs.Laws.{HaveOneEnd};
 

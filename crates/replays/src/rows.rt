@@ -13,7 +13,7 @@ ghost use Rattle.replays.specs.declared.fault.ReplayFault.{ReplayFault as AnyFau
 ghost use Rattle.replays.specs.declared.fault.ReplayFault.TheVariants.{Stray, StrayRaise};
 
 use crate::fault::ReplayFault;
-use keeper_mem::{AnswerRow, Kept, RaiseRow};
+use kept_rows::{AnswerRow, Kept, RaiseRow};
 use office_base::{Ask, By, OutOfMemory, Request};
 use office_moves::Decision;
 use proceedings::Proceedings;

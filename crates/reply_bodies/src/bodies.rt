@@ -13,7 +13,7 @@ use crate::refusals::refused_value;
 use crate::shown::round_value;
 use crate::spelled::{noted_text, seat_text, state_text};
 use crate::texts::{answers_are_ascii, code_value, codes_are_ascii, text_value};
-use keeper_mem::AllotRow;
+use kept_rows::AllotRow;
 use office_base::{CandId, OutOfMemory, ProgId, StepKind, Text};
 use office_moves::Reply;
 use programme_lists::Programme;

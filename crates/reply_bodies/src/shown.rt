@@ -6,7 +6,7 @@ ghost use Rattle.reply_texts.specs.Replies.{AreShownOf, shown_text};
 ghost use Rattle.reply_bodies.specs.Bodies.{round_data};
 
 use crate::texts::{all_codes_are_ascii, text_value};
-use keeper_mem::AllotRow;
+use kept_rows::AllotRow;
 use office_base::OutOfMemory;
 use reply_texts::shown_text;
 use rounds::Round;

@@ -10,7 +10,7 @@ use crate::receipts::{
     push_final, push_noted, push_published, push_raised, push_standing, push_state,
 };
 use crate::refusals::push_refusal;
-use keeper_mem::AllotRow;
+use kept_rows::AllotRow;
 use office_base::{CandId, Choice, OutOfMemory, Person, ProgId, Seat, StepKind, Text};
 use office_moves::{Refusal, Reply};
 use published_texts::{final_text, list_text, reason_text, round_text};

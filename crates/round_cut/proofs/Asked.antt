@@ -11,8 +11,8 @@ use Rattle.office_base.specs.declared.asks.Request.{Request}
 use Rattle.office_base.specs.declared.person.CandId.{CandId}
 use Rattle.office_base.specs.declared.person.ProgId.{ProgId}
 use Rattle.office_base.specs.declared.step.StepKind.{StepKind}
-use Rattle.keeper_mem.specs.declared.rows.AnswerRow.{AnswerRow}
-use Rattle.keeper_mem.specs.declared.rows.RaiseRow.{RaiseRow}
+use Rattle.kept_rows.specs.declared.rows.AnswerRow.{AnswerRow}
+use Rattle.kept_rows.specs.declared.rows.RaiseRow.{RaiseRow}
 use Rattle.seat_matrix.specs.declared.entry.Home.{Home}
 use Rattle.office_moves.specs.Facts.{SeasonFacts, code_in, find_programme}
 use Rattle.office_moves.specs.Judge.{is_candidate, is_clerk, judge_answer, judge_cut}

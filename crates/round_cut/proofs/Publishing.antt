@@ -4,8 +4,8 @@ use Rattle.std.specs.Prelude.{slice_get}
 use Rattle.std.proofs.lemmas.Bool.{eq-eqb, eqb-true}
 use Rattle.office_base.specs.declared.asks.Seat.{Seat}
 use Rattle.office_base.proofs.Lists.{get-after}
-use Rattle.keeper_mem.specs.Tables.{Tables, Untold, NoSeason, Records, with_cut}
-use Rattle.keeper_mem.specs.declared.rows.AllotRow.{AllotRow}
+use Rattle.kept_rows.specs.Tables.{Tables, Untold, NoSeason, Records, with_cut}
+use Rattle.kept_rows.specs.declared.rows.AllotRow.{AllotRow}
 use Rattle.rounds.specs.declared.round.Round.{Round}
 use Rattle.office_moves.specs.Facts.{SeasonFacts}
 use Rattle.office_moves.specs.Moves.{allot_rows, final_rows, final_seat}

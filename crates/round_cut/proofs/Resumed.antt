@@ -1,9 +1,9 @@
 -- Why an office does not resume, by its records and its tables.
 use Rattle.std.proofs.Common.{◌≡◌, false, refl, sym, subst}
-use Rattle.keeper_mem.specs.Tables.{AreTold, IsFound, IsLoaded, IsTold, Tables, Untold, NoSeason as NoneTold, Records, still}
+use Rattle.kept_rows.specs.Tables.{AreTold, IsFound, IsLoaded, IsTold, Tables, Untold, NoSeason as NoneTold, Records, still}
 use Rattle.keeper_mem.specs.declared.keeper.KeepFault.{KeepFault}
 use Rattle.keeper_mem.specs.declared.keeper.KeepFault.TheVariants.{Failed, OutOfMemory as NoRoom}
-use Rattle.keeper_mem.specs.declared.rows.Kept.{Kept}
+use Rattle.kept_rows.specs.declared.rows.Kept.{Kept}
 use Rattle.season_file.specs.Season.{IsSeason, IsSeasonFault}
 use Rattle.season_file.specs.declared.fault.SeasonFault.{SeasonFault}
 use Rattle.season_file.specs.declared.fault.SeasonFault.TheVariants as reading

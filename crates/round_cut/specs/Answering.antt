@@ -1,6 +1,6 @@
 -- What a reply of the office does to the office and to its keeper.
 use Rattle.std.specs.Prelude.{◌≡◌, ℕ, Some, Result, IfOk, OnOk, OnErr, IsErrOf}
-use Rattle.keeper_mem.specs.Tables.{AreTold, IsTold}
+use Rattle.kept_rows.specs.Tables.{AreTold, IsTold}
 use Rattle.office_moves.specs.History.{grown}
 use Rattle.office_moves.specs.Moves.{Does}
 use Rattle.office_moves.specs.declared.decide.Decision.{Decision}

@@ -4,8 +4,8 @@ use Rattle.season_file.specs.Laws.{HasFault}
 use Rattle.season_file.specs.Season.{IsSeason}
 use Rattle.season_file.specs.declared.season.Season.{Season}
 use Rattle.keeper_mem.specs.Keeper.{Blames, Shelf}
-use Rattle.keeper_mem.specs.Tables.{AreTold, IsFound, IsLoaded, Tables, still}
-use Rattle.keeper_mem.specs.declared.rows.Kept.{Kept}
+use Rattle.kept_rows.specs.Tables.{AreTold, IsFound, IsLoaded, Tables, still}
+use Rattle.kept_rows.specs.declared.rows.Kept.{Kept}
 use Rattle.office_moves.specs.Facts.{SeasonFacts}
 use Rattle.office_moves.specs.Season.{facts_of}
 use Rattle.office_moves.specs.History.{IsHistory}

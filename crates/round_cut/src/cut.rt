@@ -4,7 +4,7 @@ ghost use Rattle.office_moves.specs.Moves.{IsNextRound, allot_rows, final_rows};
 ghost use Rattle.office_turns.specs.Turns.{no_turns};
 ghost use Rattle.rounds.specs.Round.{seated};
 
-use keeper_mem::AllotRows;
+use kept_rows::AllotRows;
 use next_rounds::next_round;
 use office_base::OutOfMemory;
 use office_turns::TurnTable;

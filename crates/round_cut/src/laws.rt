@@ -1,7 +1,7 @@
 // What holds of an office over a keeper with tables that are always visible.
 ghost use Rattle.std.specs.Prelude.{◌≡◌, ◌<◌, true, IsOk};
-ghost use Rattle.keeper_mem.specs.Tables.{Records};
-ghost use Rattle.keeper_mem.specs.declared.rows.Kept.{Kept as AnyKept};
+ghost use Rattle.kept_rows.specs.Tables.{Records};
+ghost use Rattle.kept_rows.specs.declared.rows.Kept.{Kept as AnyKept};
 ghost use Rattle.office_moves.specs.Decided.{decided};
 ghost use Rattle.office_moves.specs.Stands.{AreRecordsOf};
 ghost use Rattle.proceedings.specs.Proceeding.{last_of};

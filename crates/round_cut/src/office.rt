@@ -2,7 +2,7 @@
 ghost use Rattle.std.specs.Prelude.{◌≡◌, ◌≤◌, [], true, false, None, Some, IfOk, IfErr, OnOk, OnErr, IsErrOf, MatchOption, length, option_copied};
 ghost use Rattle.office_base.specs.declared.asks.By.TheVariants.{Nobody};
 ghost use Rattle.season_file.specs.Season.{IsSeason};
-ghost use Rattle.keeper_mem.specs.Tables.{AreTold, IsFound, IsTold, still};
+ghost use Rattle.kept_rows.specs.Tables.{AreTold, IsFound, IsTold, still};
 ghost use Rattle.office_moves.specs.History.{IsHistory};
 ghost use Rattle.office_moves.specs.Raised.{matrix_at};
 ghost use Rattle.office_moves.specs.Season.{facts_of};
@@ -14,7 +14,8 @@ ghost use Rattle.round_cut.specs.Office.{HasRoom, who_by};
 ghost use Rattle.round_cut.specs.Resume.{Begins};
 
 use crate::fault::BeginFault;
-use keeper_mem::{AllotRow, Keeper};
+use keeper_mem::Keeper;
+use kept_rows::AllotRow;
 use office_base::{Booked, By};
 use office_moves::Entry;
 use proceedings::Proceedings;

@@ -1,6 +1,6 @@
 // An office resumes from what its keeper holds.
 ghost use Rattle.std.specs.Prelude.{◌≡◌, ◌≤◌, IfOk, IfErr, OnOk, IsErrOf};
-ghost use Rattle.keeper_mem.specs.Tables.{AreTold, IsLoaded};
+ghost use Rattle.kept_rows.specs.Tables.{AreTold, IsLoaded};
 ghost use Rattle.office_moves.specs.History.{IsHistory};
 ghost use Rattle.office_moves.specs.Promise.{KeepsItsWord};
 ghost use Rattle.office_moves.specs.Stands.{AreRecordsOf, Stand};
@@ -14,7 +14,8 @@ ghost use Rattle.round_cut.specs.Unresumed.{fault_of, load_fault, replay_fault, 
 
 use crate::fault::ResumeFault;
 use crate::office::Office;
-use keeper_mem::{KeepFault, Keeper, Kept};
+use keeper_mem::{KeepFault, Keeper};
+use kept_rows::Kept;
 use office_base::{CandId, Seat};
 use proceedings::Proceedings;
 use replays::{Unreplayed, replay};

@@ -5,7 +5,7 @@ use Rattle.std.proofs.lemmas.List.{take_all, take_more}
 use Rattle.office_base.specs.Numbered.{last_of}
 use Rattle.office_base.specs.Outside.{Appends}
 use Rattle.office_base.specs.declared.asks.Request.{Request}
-use Rattle.keeper_mem.specs.Tables.{Tables}
+use Rattle.kept_rows.specs.Tables.{Tables}
 use Rattle.office_moves.specs.Facts.{SeasonFacts}
 use Rattle.office_moves.specs.State.{State}
 use Rattle.office_moves.specs.Decided.{decided}

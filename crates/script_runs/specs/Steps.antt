@@ -1,7 +1,7 @@
 -- One request of a run, from the moment before it to the moment after it.
 use Rattle.std.specs.Prelude.{◌≡◌, ◌⊎◌, ◌+◌, ℕ, List, length, take}
 use Rattle.keeper_mem.specs.Keeper.{Shelf}
-use Rattle.keeper_mem.specs.Tables.{IsTold}
+use Rattle.kept_rows.specs.Tables.{IsTold}
 use Rattle.office_base.specs.Outside.{Appends}
 use Rattle.office_base.specs.declared.asks.Request.{Request}
 use Rattle.office_moves.specs.Facts.{SeasonFacts}

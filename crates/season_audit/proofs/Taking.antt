@@ -12,9 +12,9 @@ use Rattle.office_base.specs.declared.asks.By.{By}
 use Rattle.office_base.specs.declared.asks.By.TheVariants.{Clerk, Candidate, Nobody}
 use Rattle.office_base.specs.declared.asks.Request.{Request}
 use Rattle.office_base.specs.declared.person.Person.{Person}
-use Rattle.keeper_mem.specs.declared.rows.AllotRow.{AllotRow}
-use Rattle.keeper_mem.specs.declared.rows.AnswerRow.{AnswerRow}
-use Rattle.keeper_mem.specs.declared.rows.RaiseRow.{RaiseRow}
+use Rattle.kept_rows.specs.declared.rows.AllotRow.{AllotRow}
+use Rattle.kept_rows.specs.declared.rows.AnswerRow.{AnswerRow}
+use Rattle.kept_rows.specs.declared.rows.RaiseRow.{RaiseRow}
 use Rattle.rank_lists.specs.Register.{find_person, row_of}
 use Rattle.seat_matrix.specs.Laws.{OneStepChanges}
 use Rattle.seat_matrix.specs.Matrix.{SeatTable, matrix_with, seating_in}

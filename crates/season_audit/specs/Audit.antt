@@ -11,7 +11,7 @@ use Rattle.office_moves.specs.History.{newly}
 use Rattle.office_moves.specs.State.{State, with_row}
 use Rattle.office_moves.specs.declared.decide.Decision.{Decision}
 use Rattle.office_moves.specs.declared.decide.Decision.TheVariants.{Note}
-use Rattle.keeper_mem.specs.declared.rows.AnswerRow.{AnswerRow}
+use Rattle.kept_rows.specs.declared.rows.AnswerRow.{AnswerRow}
 use Rattle.cut_checks.specs.declared.stand.Stand.{Stand}
 use Rattle.audit_rules.specs.Cut.{BreaksAt, HoldsAt}
 use Rattle.audit_rules.specs.InOrder.{IsInOrder}

@@ -17,7 +17,7 @@ ghost use Rattle.cut_checks.specs.Stands.{stands_along};
 use crate::texts::{lists_after, rows_after};
 use cut_checks::{Fault, Stand, are_final, cut_fault, lifts, seats_told, stands_after};
 use dossier_file::Dossier;
-use keeper_mem::{AnswerRow, RaiseRow};
+use kept_rows::{AnswerRow, RaiseRow};
 use list_audit::Clause;
 use office_base::{Ask, By, Code, OutOfMemory, ProgId, Request};
 use office_moves::says_what_is_sound;

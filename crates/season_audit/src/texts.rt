@@ -5,7 +5,7 @@ ghost use Rattle.cut_checks.specs.Comes.{told_by};
 ghost use Rattle.season_audit.specs.Audit.{NameOnce, papers_in};
 
 use dossier_file::Dossier;
-use keeper_mem::AllotRow;
+use kept_rows::AllotRow;
 use list_texts::ListRead;
 
 /// The rows of the round that follows so many; none where there is no text of it.

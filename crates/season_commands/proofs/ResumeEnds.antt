@@ -4,7 +4,7 @@ use Rattle.std.specs.Prelude.{IfOk}
 use Rattle.office_base.specs.declared.asks.Seat.{Seat}
 use Rattle.office_base.specs.declared.person.CandId.{CandId}
 use Rattle.office_base.specs.Outside.{Appends}
-use Rattle.keeper_mem.specs.Tables.{Tables, AreTold, IsFound, IsTold as IsTablesTold, still}
+use Rattle.kept_rows.specs.Tables.{Tables, AreTold, IsFound, IsTold as IsTablesTold, still}
 use Rattle.office_moves.specs.Facts.{SeasonFacts}
 use Rattle.office_moves.specs.State.{State}
 use Rattle.round_cut.specs.Resume.{IsResumed, IsUnresumed}

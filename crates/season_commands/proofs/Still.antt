@@ -1,6 +1,6 @@
 -- The tables before a command, if the tables after it are visible.
 use Rattle.std.proofs.Common.{◌≡◌, Bool, false, refl, sym, subst}
-use Rattle.keeper_mem.specs.Tables.{Tables, Untold, NoSeason, Records, AreTold, IsFound, IsTold, still}
+use Rattle.kept_rows.specs.Tables.{Tables, Untold, NoSeason, Records, AreTold, IsFound, IsTold, still}
 use Rattle.office_moves.specs.Facts.{SeasonFacts}
 use Rattle.office_moves.specs.State.{State}
 use Rattle.round_cut.specs.Resume.{IsResumed}

@@ -1,7 +1,7 @@
 -- When no office resumes, and why, by the tables that are visible before and after a command.
 use Rattle.std.proofs.Common.{◌≡◌, ◌⊎◌, ◌∙◌, ap, inl, inr, ℕ, Bool, false, List, [], refl, sym, subst}
-use Rattle.keeper_mem.specs.Tables.{Tables, Untold, NoSeason, Records, AreTold, still}
-use Rattle.keeper_mem.specs.declared.rows.Kept.{Kept}
+use Rattle.kept_rows.specs.Tables.{Tables, Untold, NoSeason, Records, AreTold, still}
+use Rattle.kept_rows.specs.declared.rows.Kept.{Kept}
 use Rattle.office_moves.specs.Facts.{IsSound, SeasonFacts}
 use Rattle.office_moves.specs.State.{State}
 use Rattle.round_cut.specs.Resume.{HaveStopped, IsResumed, IsUnresumed}

@@ -4,7 +4,7 @@ use Rattle.std.specs.Prelude.{◌≡◌, ◌≢◌, ◌≤◌, ◌⊎◌, ℕ, L
 use Rattle.office_base.specs.Outside.{Appends, Rose}
 use Rattle.office_base.specs.Visible.{Readable}
 use Rattle.office_base.specs.declared.outside.Sink.{Ghosts as SinkGhosts}
-use Rattle.keeper_mem.specs.Tables.{Tables, still}
+use Rattle.kept_rows.specs.Tables.{Tables, still}
 use Rattle.keeper_mem.specs.declared.keeper.Keeper.{Ghosts as KeeperGhosts}
 use Rattle.command_answers.specs.declared.status.Status.{Status}
 use Rattle.command_answers.specs.declared.status.Status.TheVariants.{ReadFault, WriteFault, KeeperFault, OutOfMemory}

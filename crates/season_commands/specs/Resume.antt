@@ -15,8 +15,8 @@ use Rattle.season_file.specs.declared.fault.SeasonFault.{SeasonFault}
 use Rattle.season_file.specs.declared.fault.SeasonFault.TheVariants.{TooLong, NotUtf8, BadRequest}
 use Rattle.season_file.specs.declared.season.Season.{Season}
 use Rattle.season_texts.specs.Texts.{fault_line}
-use Rattle.keeper_mem.specs.Tables.{Tables, Records, AreTold, IsFound, IsLoaded, still}
-use Rattle.keeper_mem.specs.declared.rows.Kept.{Kept}
+use Rattle.kept_rows.specs.Tables.{Tables, Records, AreTold, IsFound, IsLoaded, still}
+use Rattle.kept_rows.specs.declared.rows.Kept.{Kept}
 use Rattle.office_moves.specs.Facts.{SeasonFacts}
 use Rattle.office_moves.specs.Season.{facts_of}
 use Rattle.office_moves.specs.State.{State}

@@ -1,7 +1,7 @@
 // Requests that are answered over an office, and why they are not all answered.
 ghost use Rattle.std.specs.Prelude.{◌≡◌, ℕ, List};
 ghost use Rattle.office_base.specs.Outside.{Rose, Appends};
-ghost use Rattle.keeper_mem.specs.Tables.{IsTold};
+ghost use Rattle.kept_rows.specs.Tables.{IsTold};
 ghost use Rattle.office_moves.specs.History.{IsHistory};
 ghost use Rattle.office_moves.specs.Stands.{Stand};
 ghost use Rattle.season_commands.specs.Office.{EndsOffice};

@@ -2,7 +2,7 @@
 // and answered one after another.
 ghost use Rattle.std.specs.Prelude.{◌≡◌, ◌≢◌, ◌≤◌, ◌⊎◌, ℕ, List, IfOk, IfErr, OnOk, IsErrOf};
 ghost use Rattle.office_base.specs.Outside.{Rose, IsAtEnd, Appends};
-ghost use Rattle.keeper_mem.specs.Tables.{IsTold, Tables, still};
+ghost use Rattle.kept_rows.specs.Tables.{IsTold, Tables, still};
 ghost use Rattle.office_moves.specs.History.{IsHistory};
 ghost use Rattle.office_moves.specs.Stands.{Stand};
 ghost use Rattle.round_cut.specs.Resume.{GoesOn, IsUnresumed};

@@ -3,7 +3,7 @@
 ghost use Rattle.std.specs.Prelude.{◌≡◌, ◌≢◌, ◌≤◌, ◌⊎◌, ℕ, List, [], true, take, IsErrOf};
 ghost use Rattle.office_base.specs.Outside.{Rose, IsAtEnd, Appends};
 ghost use Rattle.season_file.specs.Season.{IsSeason};
-ghost use Rattle.keeper_mem.specs.Tables.{still};
+ghost use Rattle.kept_rows.specs.Tables.{still};
 ghost use Rattle.office_moves.specs.Stands.{Stand};
 ghost use Rattle.office_moves.specs.State.{opening};
 ghost use Rattle.command_answers.specs.Answers.{IsFailureOf, Tells};

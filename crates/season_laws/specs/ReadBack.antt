@@ -1,6 +1,6 @@
 -- That what an office publishes is read back.
 use Rattle.std.specs.Prelude.{◌≡◌, ◌+◌, ℕ, List, Some, slice_get}
-use Rattle.keeper_mem.specs.declared.rows.AllotRow.{AllotRow}
+use Rattle.kept_rows.specs.declared.rows.AllotRow.{AllotRow}
 use Rattle.office_base.specs.declared.person.ProgId.{ProgId}
 use Rattle.programme_lists.specs.declared.programme.Programme.{Programme}
 use Rattle.published_texts.specs.Texts.{final_text, list_text, round_text}

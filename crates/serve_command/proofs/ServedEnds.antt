@@ -3,7 +3,7 @@ use Rattle.std.proofs.Common.{◌≡◌, ◌≢◌, ◌⊎◌, ◌∙◌, inl, i
 use Rattle.std.specs.Prelude.{IfOk}
 use Rattle.office_base.specs.FaultLines.{memory_line}
 use Rattle.office_base.specs.Outside.{Appends}
-use Rattle.keeper_mem.specs.Tables.{Tables}
+use Rattle.kept_rows.specs.Tables.{Tables}
 use Rattle.office_moves.specs.Facts.{IsSound, SeasonFacts}
 use Rattle.office_moves.specs.History.{IsHistory, Reaches}
 use Rattle.office_moves.specs.Promise.{KeepsItsWord}

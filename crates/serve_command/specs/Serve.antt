@@ -12,7 +12,7 @@ use Rattle.season_file.specs.declared.content.Content.{Content}
 use Rattle.season_file.specs.declared.fault.SeasonFault.{SeasonFault}
 use Rattle.season_file.specs.declared.season.Season.{Season}
 use Rattle.season_texts.specs.Texts.{fault_line}
-use Rattle.keeper_mem.specs.Tables.{Tables, AreTold, IsFound, still}
+use Rattle.kept_rows.specs.Tables.{Tables, AreTold, IsFound, still}
 use Rattle.office_moves.specs.Facts.{SeasonFacts}
 use Rattle.office_moves.specs.History.{IsHistory}
 use Rattle.office_moves.specs.Promise.{KeepsItsWord}

@@ -2,7 +2,7 @@
 ghost use Rattle.std.specs.Prelude.{◌≡◌, ◌≢◌, ◌≤◌, ◌⊎◌, ℕ, List, length};
 ghost use Rattle.std.specs.List.{AllByRecursion};
 ghost use Rattle.office_base.specs.Outside.{Rose, Appends};
-ghost use Rattle.keeper_mem.specs.Tables.{still};
+ghost use Rattle.kept_rows.specs.Tables.{still};
 ghost use Rattle.door_histories.specs.Ending.{SomeRose};
 ghost use Rattle.door_histories.specs.Served.{telling};
 ghost use Rattle.command_answers.specs.Ends.{BlamesSink};

@@ -3,7 +3,7 @@ ghost use Rattle.std.specs.Prelude.{◌≡◌, ◌≢◌, ◌≤◌, ◌⊎◌, 
 ghost use Rattle.std.specs.List.{AllByRecursion};
 ghost use Rattle.office_base.specs.Outside.{Rose, IsAtEnd, Appends};
 ghost use Rattle.season_file.specs.Season.{IsSeason};
-ghost use Rattle.keeper_mem.specs.Tables.{still};
+ghost use Rattle.kept_rows.specs.Tables.{still};
 ghost use Rattle.command_answers.specs.Answers.{IsFailureOf};
 ghost use Rattle.door_histories.specs.Ending.{SomeRose};
 ghost use Rattle.door_histories.specs.Served.{telling};

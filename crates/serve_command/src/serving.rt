@@ -2,7 +2,7 @@
 ghost use Rattle.std.specs.Prelude.{◌≡◌, ◌≢◌, ◌≤◌, ◌⊎◌, ℕ, List, length, map};
 ghost use Rattle.std.specs.List.{AllByRecursion};
 ghost use Rattle.office_base.specs.Outside.{Rose, Appends};
-ghost use Rattle.keeper_mem.specs.Tables.{IsTold};
+ghost use Rattle.kept_rows.specs.Tables.{IsTold};
 ghost use Rattle.office_moves.specs.History.{IsHistory};
 ghost use Rattle.office_moves.specs.Stands.{Stand};
 ghost use Rattle.door_histories.specs.Ending.{AllEnded, SomeRose};

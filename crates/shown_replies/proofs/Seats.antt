@@ -10,7 +10,7 @@ use Rattle.allocations.proofs.Places.{place_read}
 use Rattle.office_base.specs.declared.asks.Seat.{Seat}
 use Rattle.office_base.specs.declared.person.Person.{Person}
 use Rattle.office_base.proofs.Lists.{all_from, there_is}
-use Rattle.keeper_mem.specs.declared.rows.AllotRow.{AllotRow}
+use Rattle.kept_rows.specs.declared.rows.AllotRow.{AllotRow}
 use Rattle.programme_lists.specs.declared.programme.Programme.{Programme}
 use Rattle.open_then_category.specs.Laws.{SlotsAreTraits}
 use Rattle.seat_matrix.specs.Matrix.{seats_in}

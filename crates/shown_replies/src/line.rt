@@ -2,7 +2,8 @@
 ghost use Rattle.std.specs.Prelude.{◌≡◌, IfOk, option_copied};
 ghost use Rattle.shown_replies.specs.Shown.{CanBeShown, reply_bytes, round_shown, rows_shown};
 
-use keeper_mem::{AllotRow, Keeper};
+use keeper_mem::Keeper;
+use kept_rows::AllotRow;
 use office_base::{OutOfMemory, Text};
 use office_moves::Reply;
 use reply_texts::reply_text;

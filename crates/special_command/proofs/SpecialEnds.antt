@@ -2,7 +2,7 @@
 use Rattle.std.proofs.Common.{◌≡◌, ◌<◌, ◌≤◌, ◌⊎◌, inl, inr, ℕ, List, Option, Some, None, Err, length, refl, sym, subst}
 use Rattle.office_base.specs.Limits.{most_bundle_bytes}
 use Rattle.office_base.specs.Outside.{Appends}
-use Rattle.keeper_mem.specs.Tables.{Tables, AreTold, IsTold as IsTablesTold, still}
+use Rattle.kept_rows.specs.Tables.{Tables, AreTold, IsTold as IsTablesTold, still}
 use Rattle.office_moves.specs.Facts.{SeasonFacts}
 use Rattle.office_moves.specs.State.{State}
 use Rattle.round_cut.specs.Resume.{IsResumed}

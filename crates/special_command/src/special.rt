@@ -3,7 +3,7 @@
 ghost use Rattle.std.specs.Prelude.{◌≡◌, ◌≢◌, ◌<◌, ◌≤◌, ◌⊎◌, ℕ, List, length, IfOk, IfErr, OnOk, IsErrOf};
 ghost use Rattle.office_base.specs.Limits.{most_bundle_bytes};
 ghost use Rattle.office_base.specs.Outside.{Rose, IsAtEnd};
-ghost use Rattle.keeper_mem.specs.Tables.{still};
+ghost use Rattle.kept_rows.specs.Tables.{still};
 ghost use Rattle.office_moves.specs.Facts.{SeasonFacts};
 ghost use Rattle.office_moves.specs.State.{State};
 ghost use Rattle.special_round.specs.Special.{IsSpecial};

@@ -11,7 +11,7 @@ use Rattle.office_base.specs.declared.step.StepKind.TheVariants.{Open, Ews, Obc,
 use Rattle.placements.specs.Ranks.{AreDistinct}
 use Rattle.slot_cert.specs.Laws.{OneCertificate}
 use Rattle.merit_choice.proofs.InMerit.{all_in_merit, pairwise_with}
-use Rattle.keeper_mem.specs.declared.rows.AllotRow.{AllotRow}
+use Rattle.kept_rows.specs.declared.rows.AllotRow.{AllotRow}
 use Rattle.rank_lists.specs.Register.{find_person}
 use Rattle.seat_matrix.specs.Matrix.{AreSeats, SeatTable, list_in, seating_in, steps_in}
 use Rattle.seat_matrix.specs.Seats.{is_dereserved, no_seatings}

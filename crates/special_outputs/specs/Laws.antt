@@ -1,6 +1,6 @@
 -- The same lists over the same kept records give the same output of `special`.
 use Rattle.std.specs.Prelude.{◌≡◌, ℕ, List, Some}
-use Rattle.keeper_mem.specs.Tables.{Tables}
+use Rattle.kept_rows.specs.Tables.{Tables}
 use Rattle.command_answers.specs.Status.{IsAnswered}
 use Rattle.command_answers.specs.declared.status.Status.{Status}
 use Rattle.special_command.specs.Special.{EndsSpecial}

@@ -3,7 +3,7 @@ use Rattle.std.proofs.Common.{◌≡◌, ◌≢◌, ◌⊎◌, inl, inr, ℕ, Li
 use Rattle.section_rows.specs.Rows.{Row, rows_of}
 use Rattle.section_rows.specs.declared.fault.TableFault.{TableFault}
 use Rattle.section_rows.specs.declared.fault.TableFault.TheVariants.{Bad, OutOfMemory as NoMemory}
-use Rattle.keeper_mem.specs.declared.rows.AllotRow.{AllotRow}
+use Rattle.kept_rows.specs.declared.rows.AllotRow.{AllotRow}
 use Rattle.rank_lists.specs.Register.{Ranks}
 use Rattle.seat_matrix.specs.Matrix.{SeatTable}
 use Rattle.choice_lists.specs.Choices.{IsFault, IsRead, Lists as ChoiceLists}

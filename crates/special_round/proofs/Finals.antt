@@ -10,7 +10,7 @@ use Rattle.office_base.specs.declared.step.StepKind.{StepKind}
 use Rattle.office_base.specs.declared.step.StepKind.TheVariants.{Dereserved, Ews, Obc}
 use Rattle.office_base.proofs.Lists.{there_is}
 use Rattle.office_base.proofs.Options.{is_some_from}
-use Rattle.keeper_mem.specs.declared.rows.AllotRow.{AllotRow}
+use Rattle.kept_rows.specs.declared.rows.AllotRow.{AllotRow}
 use Rattle.seat_matrix.specs.Matrix.{SeatTable, seating_in, seats_in}
 use Rattle.seat_matrix.specs.Seats.{is_dereserved}
 use Rattle.rounds.specs.Rule.{IsRaised}

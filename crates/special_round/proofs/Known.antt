@@ -16,7 +16,7 @@ use Rattle.office_base.specs.declared.person.Person.{Person}
 use Rattle.office_base.specs.declared.person.ProgId.{ProgId}
 use Rattle.office_base.specs.declared.step.StepKind.{StepKind}
 use Rattle.office_base.proofs.Options.{some_value}
-use Rattle.keeper_mem.specs.declared.rows.AllotRow.{AllotRow}
+use Rattle.kept_rows.specs.declared.rows.AllotRow.{AllotRow}
 use Rattle.rank_lists.specs.Register.{AreRanks, Ranks, find_person}
 use Rattle.rank_lists.proofs.Known.{found_id}
 use Rattle.seat_matrix.specs.Matrix.{SeatTable, list_in}

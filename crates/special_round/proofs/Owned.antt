@@ -6,7 +6,7 @@ use Rattle.office_base.specs.StepNumbers.{step_number}
 use Rattle.office_base.specs.declared.person.Person.{Person}
 use Rattle.office_base.specs.declared.step.StepKind.{StepKind}
 use Rattle.office_base.specs.declared.step.StepKind.TheVariants.{Open, Ews, Obc, Sc, St, Dereserved}
-use Rattle.keeper_mem.specs.declared.rows.AllotRow.{AllotRow}
+use Rattle.kept_rows.specs.declared.rows.AllotRow.{AllotRow}
 use Rattle.rank_lists.specs.Register.{find_person}
 use Rattle.seat_matrix.specs.Matrix.{SeatTable, list_in, seating_in}
 use Rattle.seat_matrix.specs.Seats.{is_dereserved}

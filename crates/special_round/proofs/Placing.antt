@@ -1,6 +1,6 @@
 -- What holds of the final rows of an office holds for the season and the matrix that it shows.
 use Rattle.std.proofs.Common.{◌≡◌, ◌<◌, ℕ, List, Some, length, sym, subst}
-use Rattle.keeper_mem.specs.declared.rows.AllotRow.{AllotRow}
+use Rattle.kept_rows.specs.declared.rows.AllotRow.{AllotRow}
 use Rattle.season_file.specs.declared.season.Season.{Season}
 use Rattle.seat_matrix.specs.Matrix.{SeatTable}
 use Rattle.office_moves.specs.Facts.{IsSound, SeasonFacts}

@@ -8,7 +8,7 @@ use Rattle.std.proofs.lemmas.Bool.{cases_Bool, cases_order, eq-eqb, eqb-true, ne
 use Rattle.std.proofs.lemmas.List.Sorted.{searched}
 use Rattle.office_base.specs.Lists.{Pairwise}
 use Rattle.choice_lists.proofs.FoundLemmas.{never_falls}
-use Rattle.keeper_mem.specs.declared.rows.AllotRow.{AllotRow}
+use Rattle.kept_rows.specs.declared.rows.AllotRow.{AllotRow}
 use Rattle.special_round.specs.Season.{has_final, is_admitted}
 
 -- numbers rise

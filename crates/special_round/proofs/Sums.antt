@@ -4,7 +4,7 @@ use Rattle.office_base.specs.StepNumbers.{step_number}
 use Rattle.office_base.specs.declared.asks.Seat.{Seat}
 use Rattle.office_base.specs.declared.step.StepKind.{StepKind}
 use Rattle.office_base.specs.declared.step.StepKind.TheVariants.{Open, Ews, Obc, Sc, St, Dereserved}
-use Rattle.keeper_mem.specs.declared.rows.AllotRow.{AllotRow}
+use Rattle.kept_rows.specs.declared.rows.AllotRow.{AllotRow}
 use Rattle.seat_matrix.specs.Matrix.{SeatTable, seating_in, steps_in}
 use Rattle.office_moves.specs.Raised.{seats_in_all}
 use Rattle.special_round.specs.Laws.{FitInto, RoundsFit, TogetherWithin}

@@ -16,7 +16,7 @@ use Rattle.section_rows.specs.Rows.{Row, field, rows_of}
 use Rattle.section_rows.specs.Steps.{after, first_of, needs}
 use Rattle.section_rows.specs.Table.{entries_after, entries_of, with_entry}
 use Rattle.section_rows.proofs.StepsLemmas.{after_ok, first_of-other}
-use Rattle.keeper_mem.specs.declared.rows.AllotRow.{AllotRow}
+use Rattle.kept_rows.specs.declared.rows.AllotRow.{AllotRow}
 use Rattle.rank_lists.specs.Register.{AreRanks, Ranks, find_person}
 use Rattle.rank_lists.proofs.Known.{found_id}
 use Rattle.seat_matrix.specs.Matrix.{SeatTable}

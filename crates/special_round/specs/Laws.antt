@@ -4,7 +4,7 @@ use Rattle.office_base.specs.declared.person.Person.{Person}
 use Rattle.office_base.specs.declared.person.ProgId.{ProgId}
 use Rattle.office_base.specs.declared.step.StepKind.{StepKind}
 use Rattle.office_base.specs.declared.step.StepKind.TheVariants.{Dereserved, Ews, Obc}
-use Rattle.keeper_mem.specs.declared.rows.AllotRow.{AllotRow}
+use Rattle.kept_rows.specs.declared.rows.AllotRow.{AllotRow}
 use Rattle.seat_matrix.specs.Matrix.{AreSeats, SeatTable, seating_in, steps_in}
 use Rattle.seat_matrix.specs.Seats.{is_dereserved}
 use Rattle.seeks.specs.declared.seek.Seek.{Seek}

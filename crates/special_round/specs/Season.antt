@@ -4,7 +4,7 @@ use Rattle.office_base.specs.Limits.{last_id}
 use Rattle.office_text.specs.Number.{number_within}
 use Rattle.section_rows.specs.Rows.{Row, field, rows_of}
 use Rattle.section_rows.specs.declared.fault.TableFault.TheVariants.{Bad, OutOfMemory as NoMemory}
-use Rattle.keeper_mem.specs.declared.rows.AllotRow.{AllotRow}
+use Rattle.kept_rows.specs.declared.rows.AllotRow.{AllotRow}
 use Rattle.seat_matrix.specs.Matrix.{AreSeats, SeatTable}
 use Rattle.choice_lists.specs.Choices.{IsFault, IsRead, Lists as ChoiceLists}
 use Rattle.season_file.specs.declared.season.Season.{Season}

@@ -4,7 +4,7 @@ use Rattle.std.specs.List.{filter}
 use Rattle.office_base.specs.Merit.{CanBeRanked}
 use Rattle.office_base.specs.declared.person.Person.{Person}
 use Rattle.office_base.specs.declared.step.StepKind.{StepKind}
-use Rattle.keeper_mem.specs.declared.rows.AllotRow.{AllotRow}
+use Rattle.kept_rows.specs.declared.rows.AllotRow.{AllotRow}
 use Rattle.rank_lists.specs.Register.{AreRanks, Ranks}
 use Rattle.seat_matrix.specs.Matrix.{HasSeating, SeatTable, list_in, seating_in}
 use Rattle.seat_matrix.specs.Seats.{is_dereserved}

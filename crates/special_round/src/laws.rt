@@ -7,7 +7,7 @@ ghost use Rattle.rounds.specs.Rule.{AreSeeks};
 ghost use Rattle.round_laws.specs.Laws.{lists_in};
 ghost use Rattle.special_round.specs.Special.{all_whole};
 ghost use Rattle.office_base.specs.Lists.{Pairwise};
-ghost use Rattle.keeper_mem.specs.declared.rows.AllotRow.{AllotRow};
+ghost use Rattle.kept_rows.specs.declared.rows.AllotRow.{AllotRow};
 ghost use Rattle.office_base.specs.declared.step.Pair.{Pair};
 ghost use Rattle.office_moves.specs.Facts.{SeasonFacts};
 ghost use Rattle.office_moves.specs.State.{State};

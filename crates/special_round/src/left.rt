@@ -10,7 +10,7 @@ ghost use Rattle.special_round.specs.Rows.{rows_of_step};
 
 use crate::laws::left_is_within;
 use crate::rows::count_of_step;
-use keeper_mem::AllotRow;
+use kept_rows::AllotRow;
 use merit_choice::in_merit_order;
 use office_base::{ListId, OutOfMemory, Pair, Person, ProgId, Protections, StepKind};
 use seat_matrix::{Matrix, Seating};

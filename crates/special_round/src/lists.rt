@@ -4,11 +4,11 @@ ghost use Rattle.office_base.specs.Lists.{Pairwise};
 ghost use Rattle.office_base.specs.Limits.{last_id};
 ghost use Rattle.office_text.specs.Number.{number_within};
 ghost use Rattle.section_rows.specs.Rows.{field, rows_of};
-ghost use Rattle.keeper_mem.specs.declared.rows.AllotRow.{AllotRow};
+ghost use Rattle.kept_rows.specs.declared.rows.AllotRow.{AllotRow};
 ghost use Rattle.special_round.specs.Season.{first_admitted, is_admitted};
 
 use crate::laws::ids_rise;
-use keeper_mem::AllotRow;
+use kept_rows::AllotRow;
 use office_base::OutOfMemory;
 use office_base::limits::LAST_ID;
 use office_text::read_number;

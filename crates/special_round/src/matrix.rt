@@ -12,7 +12,7 @@ ghost use Rattle.special_round.specs.Set.{AreLeftIn, IsSetIn};
 use crate::laws::{own_rows_rank, own_rows_say_all};
 use crate::left::{seating_left, step_seats_left};
 use crate::rows::{persons_of_step, rows_of_programme};
-use keeper_mem::AllotRow;
+use kept_rows::AllotRow;
 use office_base::{OutOfMemory, ProgId, StepKind};
 use rank_lists::Register;
 use seat_matrix::Matrix;

@@ -15,7 +15,7 @@ use crate::laws::{together_within, whole_for_all, whole_seeks_fit};
 use crate::season::left_season;
 use crate::vacant::vacant_seats;
 use apply_engine::round;
-use keeper_mem::AllotRow;
+use kept_rows::AllotRow;
 use office_base::{OutOfMemory, Person, Steps};
 use office_moves::says_what_is_sound;
 use rounds::{Round, Seeks};

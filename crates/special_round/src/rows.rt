@@ -3,7 +3,7 @@ ghost use Rattle.std.specs.Prelude.{◌≡◌, ◌==◌, ◌&&◌, IfOk};
 ghost use Rattle.std.specs.List.{filter};
 ghost use Rattle.special_round.specs.Rows.{finals_of, is_row_in, is_row_of, rows_of_step};
 
-use keeper_mem::AllotRow;
+use kept_rows::AllotRow;
 use office_base::{OutOfMemory, Person, ProgId, StepKind, step_number};
 use rank_lists::Register;
 use std::alloc::Global;

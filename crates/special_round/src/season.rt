@@ -12,7 +12,7 @@ use crate::lists::first_of_admitted;
 use crate::matrix::remaining_matrix;
 use choice_lists::Choices;
 use choice_lists::laws::{one_reading, same_reading};
-use keeper_mem::AllotRow;
+use kept_rows::AllotRow;
 use office_base::Text;
 use rank_lists::Register;
 use season_file::Season;

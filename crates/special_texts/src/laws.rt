@@ -1,6 +1,6 @@
 // What holds of special rounds and their texts.
 ghost use Rattle.std.specs.Prelude.{ℕ, List};
-ghost use Rattle.keeper_mem.specs.declared.rows.AllotRow.{AllotRow};
+ghost use Rattle.kept_rows.specs.declared.rows.AllotRow.{AllotRow};
 ghost use Rattle.office_moves.specs.Facts.{IsSound, SeasonFacts};
 ghost use Rattle.office_moves.specs.Season.{facts_of};
 ghost use Rattle.seat_matrix.specs.Matrix.{SeatTable};

@@ -1,8 +1,8 @@
 // The season over two files whose disk stops at a call. Each later call on that file fails, and a crash leaves what was synced.
 // What is opened then holds the requests that were reported as accepted, perhaps one more, and resumes from there.
 use crate::seasons::{goes_on, run_told, whole};
-use keeper_mem::Kept;
 use keeper_sqlite::SqliteKeeper;
+use kept_rows::Kept;
 use sqlite::{Connection, FileStore, Files, Options};
 use sqlite_disk::{Crash, Disk, Fuse, Memory};
 use std::alloc::Global;

@@ -1,7 +1,8 @@
 // The season of the trials, and the commands on it over any keeper. Nothing here has a clause, and each function makes few calls; that a keeper is let go
 // is proved of any, which is less than of one over a database.
 use command_answers::Status;
-use keeper_mem::{Keeper, Kept, SureKeeper};
+use keeper_mem::{Keeper, SureKeeper};
+use kept_rows::Kept;
 use office_base::{MemSink, MemSource};
 use season_commands::{resume_season, run_season};
 use std::alloc::Global;

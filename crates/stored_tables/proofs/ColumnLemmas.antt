@@ -7,9 +7,9 @@ use Rattle.office_base.specs.declared.asks.Choice.{Choice}
 use Rattle.office_base.specs.declared.asks.Choice.TheVariants.{Freeze, Float, Slide, Withdraw}
 use Rattle.office_base.specs.declared.step.StepKind.{StepKind}
 use Rattle.office_base.specs.declared.step.StepKind.TheVariants.{Open, Ews, Obc, Sc, St, Dereserved}
-use Rattle.keeper_mem.specs.declared.rows.AnswerRow.{AnswerRow}
-use Rattle.keeper_mem.specs.declared.rows.AllotRow.{AllotRow}
-use Rattle.keeper_mem.specs.declared.rows.RaiseRow.{RaiseRow}
+use Rattle.kept_rows.specs.declared.rows.AnswerRow.{AnswerRow}
+use Rattle.kept_rows.specs.declared.rows.AllotRow.{AllotRow}
+use Rattle.kept_rows.specs.declared.rows.RaiseRow.{RaiseRow}
 use Rattle.stored_tables.specs.Numbers.{choice_number}
 use Rattle.stored_tables.specs.Texts.{answer_values, raise_values, allot_values}
 use Rattle.stored_tables.specs.Fits.{AnswerFits, RaiseFits, AllotFits}

@@ -12,7 +12,7 @@ use Rattle.sqlite.specs.Does.{Tally, Does, Defines, MakesTable, MakesSequence, l
 use Rattle.sqlite.specs.Listing.{understood}
 use Rattle.sqlite.specs.State.{State, mode_of, Executes}
 use Rattle.sqlite.proofs.Callers.{IsPlain, command_of, statement_of, runs_as}
-use Rattle.keeper_mem.specs.Tables.{NoSeason}
+use Rattle.kept_rows.specs.Tables.{NoSeason}
 use Rattle.stored_tables.specs.Layout.{season, answer, allot, phase, lift, answer_index, stored, first_four, no_schema}
 use Rattle.stored_tables.specs.Texts.{season_table, answer_table, allot_table, phase_table, lift_table}
 use Rattle.stored_tables.specs.Told.{tables_in}

@@ -10,7 +10,7 @@ use Rattle.sqlite.specs.Order.{Row, column, value_cmp}
 use Rattle.sqlite.specs.Tree.{IsAscending}
 use Rattle.sqlite_value.proofs.OrderLemmas.{value_cmp_total}
 use Rattle.office_base.proofs.Lists.{all_push}
-use Rattle.keeper_mem.specs.declared.rows.AllotRow.{AllotRow}
+use Rattle.kept_rows.specs.declared.rows.AllotRow.{AllotRow}
 use Rattle.stored_tables.specs.Rising.{comes_after, rise_after, are_rising}
 use Rattle.stored_tables.specs.Rows.{allot_of, rows_from, rising_alone}
 use Rattle.stored_tables.proofs.RowLemmas.{begins, cmp_below}

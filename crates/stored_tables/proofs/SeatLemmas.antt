@@ -1,11 +1,11 @@
 -- Visible seats rise.
 use Rattle.std.proofs.Common.{◌≡◌, inl, inr, ℕ, cond, Bool, true, false, List, Option, Some, None, refl, sym, ap, ◌∙◌}
 use Rattle.std.proofs.lemmas.Bool.{cases_Bool}
-use Rattle.keeper_mem.specs.declared.rows.AnswerRow.{AnswerRow}
-use Rattle.keeper_mem.specs.declared.rows.AllotRow.{AllotRow}
-use Rattle.keeper_mem.specs.declared.rows.RaiseRow.{RaiseRow}
-use Rattle.keeper_mem.specs.declared.rows.Kept.{Kept}
-use Rattle.keeper_mem.specs.Tables.{Untold, NoSeason, Records}
+use Rattle.kept_rows.specs.declared.rows.AnswerRow.{AnswerRow}
+use Rattle.kept_rows.specs.declared.rows.AllotRow.{AllotRow}
+use Rattle.kept_rows.specs.declared.rows.RaiseRow.{RaiseRow}
+use Rattle.kept_rows.specs.declared.rows.Kept.{Kept}
+use Rattle.kept_rows.specs.Tables.{Untold, NoSeason, Records}
 use Rattle.stored_tables.specs.Rising.{are_rising}
 use Rattle.stored_tables.specs.Rows.{rows_from, allot_of, rising_alone, cuts_of, text_in, answers_in, raises_in, allots_in}
 use Rattle.stored_tables.specs.Told.{records_of, are_bare, tables_with}

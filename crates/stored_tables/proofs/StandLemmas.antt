@@ -12,9 +12,9 @@ use Rattle.office_base.specs.declared.asks.Choice.TheVariants.{Freeze, Float, Sl
 use Rattle.office_base.specs.declared.step.StepKind.{StepKind}
 use Rattle.office_base.specs.declared.step.StepKind.TheVariants.{Open, Ews, Obc, Sc, St, Dereserved}
 use Rattle.office_base.proofs.StepNumbers.{one_number}
-use Rattle.keeper_mem.specs.declared.rows.AnswerRow.{AnswerRow}
-use Rattle.keeper_mem.specs.declared.rows.AllotRow.{AllotRow}
-use Rattle.keeper_mem.specs.declared.rows.RaiseRow.{RaiseRow}
+use Rattle.kept_rows.specs.declared.rows.AnswerRow.{AnswerRow}
+use Rattle.kept_rows.specs.declared.rows.AllotRow.{AllotRow}
+use Rattle.kept_rows.specs.declared.rows.RaiseRow.{RaiseRow}
 use Rattle.stored_tables.specs.Numbers.{choice_number, choice_of}
 use Rattle.stored_tables.specs.Rows.{number_in, choice_in, step_in, bytes_in, answer_of, raise_of, allot_of, part_of, rows_from}
 use Rattle.stored_tables.specs.Columns.{IsAnswerRow, IsRaiseRow, IsAllotRow, IsPartRow}

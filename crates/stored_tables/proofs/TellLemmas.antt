@@ -4,10 +4,10 @@ use Rattle.std.specs.List.{concat}
 use Rattle.sqlite.specs.Tree.{Trees}
 use Rattle.sqlite.specs.Effect.{Database}
 use Rattle.std.proofs.lemmas.Bool.{and_right, and_left}
-use Rattle.keeper_mem.specs.Tables.{Untold, NoSeason, Records, with_answer, with_raise, with_cut, IsFound, opening_records}
-use Rattle.keeper_mem.specs.declared.rows.AnswerRow.{AnswerRow}
-use Rattle.keeper_mem.specs.declared.rows.AllotRow.{AllotRow}
-use Rattle.keeper_mem.specs.declared.rows.RaiseRow.{RaiseRow}
+use Rattle.kept_rows.specs.Tables.{Untold, NoSeason, Records, with_answer, with_raise, with_cut, IsFound, opening_records}
+use Rattle.kept_rows.specs.declared.rows.AnswerRow.{AnswerRow}
+use Rattle.kept_rows.specs.declared.rows.AllotRow.{AllotRow}
+use Rattle.kept_rows.specs.declared.rows.RaiseRow.{RaiseRow}
 use Rattle.stored_tables.specs.Rows.{rows_from, part_of, answer_of, raise_of, allot_of, rising_alone, text_in, answers_in, raises_in, allots_in, cuts_of}
 use Rattle.stored_tables.specs.Told.{is_bare, are_bare, records_of, tables_with, tables_in}
 use Rattle.stored_tables.specs.Puts.{PutsAnswer, PutsRaise, Stay}

@@ -1,8 +1,8 @@
 -- The numbers of a record fit the columns of its table.
 use Rattle.std.specs.Prelude.{◌<◌, ◌^◌}
-use Rattle.keeper_mem.specs.declared.rows.AnswerRow.{AnswerRow}
-use Rattle.keeper_mem.specs.declared.rows.AllotRow.{AllotRow}
-use Rattle.keeper_mem.specs.declared.rows.RaiseRow.{RaiseRow}
+use Rattle.kept_rows.specs.declared.rows.AnswerRow.{AnswerRow}
+use Rattle.kept_rows.specs.declared.rows.AllotRow.{AllotRow}
+use Rattle.kept_rows.specs.declared.rows.RaiseRow.{RaiseRow}
 
 -- the numbers of an answer fit their columns
 pub record AnswerFits (row : AnswerRow) : Type 0 where

@@ -1,6 +1,6 @@
 -- The order of published seats: by round, and inside a round by candidate.
 use Rattle.std.specs.Prelude.{◌==◌, ◌&&◌, ◌||◌, nat_lt, Bool, true, ℕ, List, [], ◌∷◌}
-use Rattle.keeper_mem.specs.declared.rows.AllotRow.{AllotRow}
+use Rattle.kept_rows.specs.declared.rows.AllotRow.{AllotRow}
 
 -- the row comes after this round and candidate
 abbrev pub comes_after : ℕ → ℕ → AllotRow → Bool

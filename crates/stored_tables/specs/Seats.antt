@@ -1,8 +1,8 @@
 -- The published seats that are visible.
 use Rattle.std.specs.Prelude.{◌≡◌, true}
 use Rattle.sqlite.specs.Tree.{Trees}
-use Rattle.keeper_mem.specs.declared.rows.Kept.{Kept}
-use Rattle.keeper_mem.specs.Tables.{Records}
+use Rattle.kept_rows.specs.declared.rows.Kept.{Kept}
+use Rattle.kept_rows.specs.Tables.{Records}
 use Rattle.stored_tables.specs.Rising.{are_rising}
 use Rattle.stored_tables.specs.Told.{tables_in}
 

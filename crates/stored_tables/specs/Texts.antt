@@ -3,9 +3,9 @@ use Rattle.std.specs.Prelude.{ℕ, pos, List, [], ◌∷◌, codes}
 use Rattle.sqlite.specs.Order.{Row}
 use Rattle.sqlite.specs.declared.types.Value.TheVariants.{Int, Blob}
 use Rattle.office_base.specs.StepNumbers.{step_number}
-use Rattle.keeper_mem.specs.declared.rows.AnswerRow.{AnswerRow}
-use Rattle.keeper_mem.specs.declared.rows.AllotRow.{AllotRow}
-use Rattle.keeper_mem.specs.declared.rows.RaiseRow.{RaiseRow}
+use Rattle.kept_rows.specs.declared.rows.AnswerRow.{AnswerRow}
+use Rattle.kept_rows.specs.declared.rows.AllotRow.{AllotRow}
+use Rattle.kept_rows.specs.declared.rows.RaiseRow.{RaiseRow}
 use Rattle.stored_tables.specs.Numbers.{choice_number}
 
 -- ---- the five tables, each made where it is not there

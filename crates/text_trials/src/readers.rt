@@ -1,5 +1,5 @@
 // Published texts read back, and the lines of those that are damaged.
-use keeper_mem::AllotRow;
+use kept_rows::AllotRow;
 use office_base::{CandId, ProgId, StepKind};
 use publish::{TextFault, read_final, read_round};
 use season_file::Season;

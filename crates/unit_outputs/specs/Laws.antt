@@ -1,6 +1,6 @@
 -- The same bytes give the same output of `units`.
 use Rattle.std.specs.Prelude.{◌≡◌, ℕ, List, Some}
-use Rattle.keeper_mem.specs.Tables.{Tables}
+use Rattle.kept_rows.specs.Tables.{Tables}
 use Rattle.command_answers.specs.Status.{IsAnswered}
 use Rattle.command_answers.specs.declared.status.Status.{Status}
 use Rattle.units_command.specs.Units.{EndsUnits}

@@ -7,7 +7,7 @@ use Rattle.office_base.specs.declared.asks.Seat.{Seat}
 use Rattle.office_base.specs.declared.person.CandId.{CandId}
 use Rattle.office_base.specs.declared.person.Person.{Person}
 use Rattle.office_base.specs.declared.person.ProgId.{ProgId}
-use Rattle.keeper_mem.specs.declared.rows.AllotRow.{AllotRow}
+use Rattle.kept_rows.specs.declared.rows.AllotRow.{AllotRow}
 use Rattle.choice_lists.specs.Choices.{list_of}
 use Rattle.season_file.specs.Laws.{HaveOneReading}
 use Rattle.season_file.specs.Season.{IsSeasonWith, content_of}

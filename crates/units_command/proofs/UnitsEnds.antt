@@ -12,7 +12,7 @@ use Rattle.season_file.specs.Season.{IsSeasonFault, content_of}
 use Rattle.season_file.specs.declared.fault.SeasonFault.{SeasonFault}
 use Rattle.season_file.specs.declared.fault.SeasonFault.TheVariants as season
 use Rattle.season_file.specs.declared.season.Season.{Season}
-use Rattle.keeper_mem.specs.Tables.{Tables}
+use Rattle.kept_rows.specs.Tables.{Tables}
 use Rattle.command_answers.specs.Answers.{HaveOneAnswer, IsFailureOf, Tells}
 use Rattle.command_answers.specs.Writes.{IsTold, status_of, text_of}
 use Rattle.command_answers.specs.declared.failure.Failure.{Failure}

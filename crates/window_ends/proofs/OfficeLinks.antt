@@ -12,8 +12,8 @@ use Rattle.office_base.specs.Person.{at_person}
 use Rattle.office_base.specs.declared.asks.Choice.{Choice}
 use Rattle.office_base.specs.declared.asks.Seat.{Seat}
 use Rattle.office_base.specs.declared.person.Person.{Person}
-use Rattle.keeper_mem.specs.declared.rows.AllotRow.{AllotRow}
-use Rattle.keeper_mem.specs.declared.rows.AnswerRow.{AnswerRow}
+use Rattle.kept_rows.specs.declared.rows.AllotRow.{AllotRow}
+use Rattle.kept_rows.specs.declared.rows.AnswerRow.{AnswerRow}
 use Rattle.choice_lists.specs.Choices.{Lists, list_of}
 use Rattle.rounds.specs.declared.round.Round.{Round}
 use Rattle.round_options.specs.Options.{after_cut, standing_of}

@@ -2,7 +2,7 @@
 use Rattle.std.specs.Prelude.{ℕ, List, [], ◌∷◌, Option, None, if◌then◌else◌}
 use Rattle.office_base.specs.declared.asks.Seat.{Seat}
 use Rattle.office_base.specs.declared.person.Person.{Person}
-use Rattle.keeper_mem.specs.declared.rows.AllotRow.{AllotRow}
+use Rattle.kept_rows.specs.declared.rows.AllotRow.{AllotRow}
 use Rattle.round_options.specs.Options.{holds}
 use Rattle.round_options.specs.declared.standing.Standing.{Standing}
 use Rattle.office_moves.specs.Moves.{row_before}

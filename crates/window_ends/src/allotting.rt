@@ -5,7 +5,7 @@ ghost use Rattle.window_ends.specs.Rows.{kept_seat, kept_seats, rows_of_seats};
 ghost use Rattle.window_ends.specs.WindowEnd.{seats_of, standings};
 
 use crate::standing::{round_seat, stand};
-use keeper_mem::{AllotRow, AllotRows};
+use kept_rows::{AllotRow, AllotRows};
 use office_base::{CandId, Listed, OutOfMemory, Person, Seat};
 use office_turns::TurnTable;
 use round_options::Standing;

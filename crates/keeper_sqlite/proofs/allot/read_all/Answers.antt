@@ -1,6 +1,6 @@
 use Rattle.keeper_sqlite.proofs.MeaningLemmas.{allots_stand}
 use Rattle.keeper_sqlite.proofs.StopLemmas.{rows_lost}
-use Rattle.keeper_mem.specs.declared.rows.AllotRow.{AllotRow}
+use Rattle.kept_rows.specs.declared.rows.AllotRow.{AllotRow}
 use Rattle.std.specs.List.{AllZip}
 use Rattle.std.proofs.Common.{inl, List}
 use Rattle.std.proofs.lemmas.Result.{err_from_is_err_and}

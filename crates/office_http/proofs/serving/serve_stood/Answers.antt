@@ -1,5 +1,5 @@
 use Rattle.std.proofs.Common.{◌≡◌, rules, subst, sym}
-use Rattle.keeper_mem.specs.Tables.{IsTold}
+use Rattle.kept_rows.specs.Tables.{IsTold}
 use Rattle.office_desk.specs.Words.{origin_of}
 use Rattle.round_cut.specs.Office.{Opened}
 use Rattle.door_histories.specs.Served.{telling}

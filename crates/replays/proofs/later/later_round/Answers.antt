@@ -1,5 +1,5 @@
 use Rattle.std.proofs.Common.{◌∙◌, List, None, ap}
-use Rattle.keeper_mem.specs.declared.rows.AllotRow.{AllotRow}
+use Rattle.kept_rows.specs.declared.rows.AllotRow.{AllotRow}
 use Rattle.replays.specs.Later.{is_uncounted, least_by}
 use Rattle.replays.proofs.Least.{later_round}
 use Rattle.replays.proofs.later.later_round.Goals as goal

@@ -1,6 +1,6 @@
 use Rattle.std.proofs.Common.{◌∙◌, List, None, Some, ap, subst, sym}
-use Rattle.keeper_mem.specs.declared.rows.AnswerRow.{AnswerRow}
-use Rattle.keeper_mem.specs.declared.rows.RaiseRow.{RaiseRow}
+use Rattle.kept_rows.specs.declared.rows.AnswerRow.{AnswerRow}
+use Rattle.kept_rows.specs.declared.rows.RaiseRow.{RaiseRow}
 use Rattle.replays.specs.Later.{IsLaterWindow, is_later, least_by}
 use Rattle.replays.proofs.Least.{answer_later, no_answer_later, next_answer, next_raise}
 use Rattle.replays.proofs.later.later_window.Goals as goal

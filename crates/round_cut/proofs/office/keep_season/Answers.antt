@@ -1,5 +1,5 @@
 use Rattle.std.proofs.Common.{◌∙◌, ap, subst, false}
-use Rattle.keeper_mem.specs.Tables.{AreTold, with_season}
+use Rattle.kept_rows.specs.Tables.{AreTold, with_season}
 use Rattle.office_moves.specs.Facts.{SeasonFacts}
 use Rattle.round_cut.proofs.Standing.{found_told, stand_begun}
 use Rattle.round_cut.proofs.office.keep_season.Goals as goal

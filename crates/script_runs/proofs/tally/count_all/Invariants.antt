@@ -1,5 +1,5 @@
 use Rattle.std.proofs.Common.{◌≤◌}
-use Rattle.keeper_mem.specs.Tables.{IsTold}
+use Rattle.kept_rows.specs.Tables.{IsTold}
 use Rattle.script_runs.proofs.Tallying.{IsCounting}
 use Rattle.script_runs.proofs.tally.count_all.Given as goal
 

@@ -1,6 +1,6 @@
 use Rattle.std.proofs.Common.{rules, subst, sym}
-use Rattle.keeper_mem.specs.Tables.{AreTold}
-use Rattle.keeper_mem.proofs.Unchanged.{told_same}
+use Rattle.kept_rows.specs.Tables.{AreTold}
+use Rattle.kept_rows.proofs.Unchanged.{told_same}
 use Rattle.season_commands.proofs.ResumeEnds.{unasked_ends}
 use Rattle.season_commands.proofs.resume.go_on.Goals as goal
 

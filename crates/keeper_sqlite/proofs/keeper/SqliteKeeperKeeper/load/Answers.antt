@@ -6,7 +6,7 @@ use Rattle.sqlite.specs.Held.{state}
 use Rattle.keeper_sqlite.specs.Kept.{Looks, TellsKept}
 use Rattle.keeper_sqlite.specs.Stored.{Stored}
 use Rattle.keeper_sqlite.proofs.CommitLemmas.{value_told}
-use Rattle.keeper_mem.specs.Tables.{AreTold}
+use Rattle.kept_rows.specs.Tables.{AreTold}
 use Rattle.stored_tables.specs.Told.{told}
 use Rattle.keeper_sqlite.proofs.CommitLemmas.{same_after}
 use Rattle.keeper_sqlite.proofs.KeeperLemmas.{open_told}

@@ -1,6 +1,6 @@
 use Rattle.keeper_sqlite.proofs.MeaningLemmas.{cut_rises}
 use Rattle.sqlite.specs.Held.{state}
-use Rattle.keeper_mem.specs.Tables.{with_cut}
+use Rattle.kept_rows.specs.Tables.{with_cut}
 use Rattle.stored_tables.specs.Told.{told}
 use Rattle.keeper_sqlite.specs.Kept.{MakesCut}
 use Rattle.keeper_sqlite.proofs.KeeperLemmas.{ok_told, err_told, cut_stays, cut_crash, alone_kept}

@@ -1,6 +1,6 @@
 use Rattle.std.proofs.Common.{rules}
 use Rattle.sqlite.specs.Held.{state}
-use Rattle.keeper_mem.specs.Tables.{with_raise}
+use Rattle.kept_rows.specs.Tables.{with_raise}
 use Rattle.stored_tables.specs.Told.{told}
 use Rattle.keeper_sqlite.specs.Kept.{Ran, raise_text, raise_values}
 use Rattle.keeper_sqlite.proofs.KeeperLemmas.{ok_told, err_told, raise_stays, raise_crash, alone_kept}

@@ -1,5 +1,5 @@
 use Rattle.sqlite.specs.Held.{state}
-use Rattle.keeper_mem.specs.Tables.{with_season}
+use Rattle.kept_rows.specs.Tables.{with_season}
 use Rattle.stored_tables.specs.Told.{told}
 use Rattle.keeper_sqlite.specs.Kept.{PutsText, season_calls}
 use Rattle.keeper_sqlite.proofs.KeeperLemmas.{ok_told, err_told, season_stays, season_crash, alone_kept, season_empty}

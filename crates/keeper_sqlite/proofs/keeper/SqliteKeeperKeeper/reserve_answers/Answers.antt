@@ -1,7 +1,7 @@
 use Rattle.std.proofs.Common.{rules}
 use Rattle.sqlite.specs.Held.{state}
 use Rattle.stored_tables.specs.Told.{told}
-use Rattle.keeper_mem.proofs.Unchanged.{told_same}
+use Rattle.kept_rows.proofs.Unchanged.{told_same}
 use Rattle.keeper_sqlite.proofs.keeper.SqliteKeeperKeeper.reserve_answers.Goals as goal
 
 pub returns : goal.returns

@@ -1,5 +1,5 @@
 use Rattle.std.proofs.Common.{◌≡◌, List, IfOk, length, sym, ap, ◌∙◌, subst}
-use Rattle.keeper_mem.specs.declared.rows.AllotRow.{AllotRow}
+use Rattle.kept_rows.specs.declared.rows.AllotRow.{AllotRow}
 use Rattle.office_moves.specs.Moves.{IsNextRound, allot_rows}
 use Rattle.office_moves.specs.Season.{facts_of}
 use Rattle.proceedings.specs.Kept.{state_of}

@@ -6,7 +6,7 @@ use Rattle.office_moves.specs.Moves.{allot_rows}
 use Rattle.office_moves.specs.State.{State, with_round}
 use Rattle.office_moves.specs.declared.decide.Decision.TheVariants.{Publish}
 use Rattle.office_moves.specs.declared.moves.Act.TheVariants.{Cut}
-use Rattle.keeper_mem.specs.Tables.{AreTold, with_cut}
+use Rattle.kept_rows.specs.Tables.{AreTold, with_cut}
 use Rattle.proceedings.proofs.ChangeLemmas.{published_early}
 use Rattle.round_cut.proofs.Publishing.{stand_round}
 use Rattle.round_cut.proofs.Standing.{stand_moved, stand_told}

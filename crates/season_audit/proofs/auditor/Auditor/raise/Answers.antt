@@ -1,6 +1,6 @@
 use Rattle.std.proofs.Common.{◌≡◌, ◌∙◌, ◌++◌, ◌∷◌, [], List, ap, refl, sym}
 use Rattle.std.specs.List.{list_any}
-use Rattle.keeper_mem.specs.declared.rows.RaiseRow.{RaiseRow}
+use Rattle.kept_rows.specs.declared.rows.RaiseRow.{RaiseRow}
 use Rattle.seat_matrix.specs.Matrix.{SeatTable, matrix_with, seating_in}
 use Rattle.office_moves.specs.Decided.{same_raise}
 use Rattle.office_moves.specs.Raised.{raised_to}

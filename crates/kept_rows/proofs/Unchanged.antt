@@ -1,6 +1,6 @@
 -- Tables that are unchanged.
 use Rattle.std.proofs.Common.{refl}
-use Rattle.keeper_mem.specs.Tables.{Tables, AreTold, Untold, NoSeason, Records}
+use Rattle.kept_rows.specs.Tables.{Tables, AreTold, Untold, NoSeason, Records}
 
 -- the tables are the tables, if they are visible
 pub told_same : (tables : Tables) → AreTold tables tables
