@@ -3,7 +3,7 @@ use Rattle.std.proofs.Common.{◌≡◌, ◌⊎◌, inl, inr, ℕ, List, Option,
 use Rattle.std.specs.Prelude.{IfOk, IfErr}
 use Rattle.office_base.specs.Outside.{Appends}
 use Rattle.command_answers.specs.Answers.{HasLeft, IsFailureOf, Tells}
-use Rattle.command_answers.specs.Writes.{IsTold, Writes}
+use Rattle.command_answers.specs.Writes.{IsTextOut, Writes}
 use Rattle.command_answers.specs.declared.failure.Failure.{Failure}
 use Rattle.command_answers.specs.declared.failure.Failure.TheVariants.{Read, Bad, NoMemory}
 use Rattle.command_answers.specs.declared.status.Status.{Status}
@@ -24,7 +24,7 @@ text_of_answer left failed (Err NoMemory) made cause = refl
 
 -- What was written of an audit.
 pub audit_is_written : (left : Option (List ℕ)) (failed : Type 0) (answer : Result Audited Failure) (result : Status) (before after : Option (List ℕ)) (broke : Type 0)
-    → IfOk answer (IsAuditOf left) → IfErr answer (IsFailureOf audit_answers left failed) → IsTold (status_of_audit answer) (text_of_audit answer) before after broke result
+    → IfOk answer (IsAuditOf left) → IfErr answer (IsFailureOf audit_answers left failed) → IsTextOut (status_of_audit answer) (text_of_audit answer) before after broke result
     → (output : List ℕ) × Appends output before after × Writes (IsAuditText left) result output
 audit_is_written left failed answer result before after broke made cause told =
     told_is_written (IsAuditText left) (status_of_audit answer) result (text_of_audit answer) before after broke (text_of_answer left failed answer made cause) told
@@ -40,7 +40,7 @@ not_dossier (Some bytes) output laws tells made = (laws bytes).apart (subst AreD
 
 -- A dossier is audited, if neither side failed and memory did not run out.
 pub dossier_is_audited : (left : Option (List ℕ)) (failed : Type 0) (answer : Result Audited Failure) (result : Status) (before after : Option (List ℕ)) (broke : Type 0)
-    → ((bytes : List ℕ) → HaveOneAudit bytes) → IfErr answer (IsFailureOf audit_answers left failed) → IsTold (status_of_audit answer) (text_of_audit answer) before after broke result
+    → ((bytes : List ℕ) → HaveOneAudit bytes) → IfErr answer (IsFailureOf audit_answers left failed) → IsTextOut (status_of_audit answer) (text_of_audit answer) before after broke result
     → Tells AreDossier left → (failed → ⊥) → (broke → ⊥) → EndsWell result ⊎ (result ≡ OutOfMemory)
 dossier_is_audited left failed (Ok (SoundText text)) result before after broke laws cause told tells read wrote = inl (inl (status_is_told Done result text before after broke told wrote))
 dossier_is_audited left failed (Ok (BrokenText text)) result before after broke laws cause told tells read wrote = inl (inr (status_is_told Broken result text before after broke told wrote))
@@ -51,7 +51,7 @@ dossier_is_audited left failed (Err NoMemory) result before after broke laws cau
 -- Bytes with a fault are refused, if neither side failed and memory did not run out.
 pub fault_is_refused : (left : Option (List ℕ)) (failed : Type 0) (answer : Result Audited Failure) (result : Status) (before after : Option (List ℕ)) (broke : Type 0)
     → ((bytes : List ℕ) → HaveOneAudit bytes) → IfOk answer (IsAuditOf left) → IfErr answer (IsFailureOf audit_answers left failed)
-    → IsTold (status_of_audit answer) (text_of_audit answer) before after broke result
+    → IsTextOut (status_of_audit answer) (text_of_audit answer) before after broke result
     → Tells AreFaultyDossier left → (failed → ⊥) → (broke → ⊥) → (result ≡ BadInput) ⊎ (result ≡ OutOfMemory)
 fault_is_refused left failed (Ok (SoundText text)) result before after broke laws made cause told tells read wrote = absurd (not_dossier left text laws tells (made.0, made.1, inl made.2))
 fault_is_refused left failed (Ok (BrokenText text)) result before after broke laws made cause told tells read wrote = absurd (not_dossier left text laws tells (made.0, made.1, inr made.2))

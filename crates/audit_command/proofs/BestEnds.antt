@@ -7,7 +7,7 @@ use Rattle.best_rounds.specs.declared.verdict.BestVerdict.TheVariants.{Best, Not
 use Rattle.dossier_file.specs.Dossier.{GaveDossier}
 use Rattle.dossier_file.specs.declared.dossier.Dossier.{Dossier}
 use Rattle.command_answers.specs.Answers.{HasLeft, IsFailureOf, Tells}
-use Rattle.command_answers.specs.Writes.{IsTold, Writes}
+use Rattle.command_answers.specs.Writes.{IsTextOut, Writes}
 use Rattle.command_answers.specs.declared.failure.Failure.{Failure}
 use Rattle.command_answers.specs.declared.failure.Failure.TheVariants.{Read, Bad, NoMemory}
 use Rattle.command_answers.specs.declared.status.Status.{Status}
@@ -53,7 +53,7 @@ text_of_answer left failed (Err NoMemory) made cause = refl
 
 -- What was written of an audit with a second verdict.
 pub best_is_written : (left : Option (List ℕ)) (failed : Type 0) (answer : Result Audited Failure) (result : Status) (before after : Option (List ℕ)) (broke : Type 0)
-    → IfOk answer (IsBestOf left) → IfErr answer (IsFailureOf best_answers left failed) → IsTold (status_of_audit answer) (text_of_audit answer) before after broke result
+    → IfOk answer (IsBestOf left) → IfErr answer (IsFailureOf best_answers left failed) → IsTextOut (status_of_audit answer) (text_of_audit answer) before after broke result
     → (output : List ℕ) × Appends output before after × Writes (IsBestText left) result output
 best_is_written left failed answer result before after broke made cause told =
     told_is_written (IsBestText left) (status_of_audit answer) result (text_of_audit answer) before after broke (text_of_answer left failed answer made cause) told
@@ -71,7 +71,7 @@ not_dossier (Some bytes) output laws tells made = (laws bytes).apart (subst AreD
 -- Bytes with a fault are refused, if neither side failed and there was memory.
 pub best_is_refused : (left : Option (List ℕ)) (failed : Type 0) (answer : Result Audited Failure) (result : Status) (before after : Option (List ℕ)) (broke : Type 0)
     → ((bytes : List ℕ) → HaveOneAudit bytes) → IfOk answer (IsBestOf left) → IfErr answer (IsFailureOf best_answers left failed)
-    → IsTold (status_of_audit answer) (text_of_audit answer) before after broke result
+    → IsTextOut (status_of_audit answer) (text_of_audit answer) before after broke result
     → Tells AreFaultyDossier left → (failed → ⊥) → (broke → ⊥) → (result ≡ BadInput) ⊎ (result ≡ OutOfMemory)
 best_is_refused left failed (Ok (SoundText text)) result before after broke laws made cause told tells read wrote = absurd (not_dossier left text laws tells (made.0, made.1, inl made.2))
 best_is_refused left failed (Ok (BrokenText text)) result before after broke laws made cause told tells read wrote = absurd (not_dossier left text laws tells (made.0, made.1, inr made.2))

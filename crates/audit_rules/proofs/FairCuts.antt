@@ -16,7 +16,7 @@ use Rattle.allocations.specs.Market.{Seeker, place_of, seat_at}
 use Rattle.allocations.proofs.Claims.{applicants_may, fair_justified}
 use Rattle.allocations.proofs.Places.{place_read}
 use Rattle.choice_lists.specs.Choices.{list_of as choices_of}
-use Rattle.list_audit.specs.Clauses.{list_of, named_by}
+use Rattle.list_audit.specs.Clauses.{list_of_step, named_by}
 use Rattle.list_audit.specs.Laws.{SoundListsAreTheChoice}
 use Rattle.open_then_category.specs.Laws.{OneProgrammeChoice}
 use Rattle.programme_lists.specs.Chosen.{ChoosesFrom}
@@ -135,9 +135,9 @@ chooses facts papers state p programme cut less there =
 -- whom a step's list names
 abbrev pub named_of : Option Programme → StepKind → List Person
 named_of None kind = []
-named_of (Some programme) kind = (list_of programme kind).admitted
+named_of (Some programme) kind = (list_of_step programme kind).admitted
 
-same_named : (programme : Programme) (kind : StepKind) → admitted_by (named_by programme) kind ≡ (list_of programme kind).admitted
+same_named : (programme : Programme) (kind : StepKind) → admitted_by (named_by programme) kind ≡ (list_of_step programme kind).admitted
 same_named programme Open = refl
 same_named programme _ = refl
 
@@ -168,7 +168,7 @@ agrees facts papers state p i s kind cut less there =
     let found = is_there facts papers state p cut less in
     let entry = enters facts state i s cut.sound there in
     let agree = cut.holds.listed p found.0 found.1 i s.person entry.person_at kind in
-    let named : named_of (lists_at facts papers state p) kind ≡ (list_of found.0 kind).admitted = ap (λ (o : Option Programme). named_of o kind) found.1 in
+    let named : named_of (lists_at facts papers state p) kind ≡ (list_of_step found.0 kind).admitted = ap (λ (o : Option Programme). named_of o kind) found.1 in
     let given = seats_at papers facts state i s.person entry.person_at in (
       (λ is. given ∙ ap Some (agree.0 (subst (λ (l : List Person). IsTrue (is_named s.person.id.0 l)) named is))),
       (λ has. subst (λ (l : List Person). IsTrue (is_named s.person.id.0 l)) (sym named) (agree.1 (same_Some (seat_given papers state s.person.id.0) (Some (seat_at p kind)) (sym given ∙ has)))),

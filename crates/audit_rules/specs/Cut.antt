@@ -8,7 +8,7 @@ use Rattle.office_base.specs.declared.step.StepKind.{StepKind}
 use Rattle.allocations.specs.Fair.{IsOwn}
 use Rattle.allocations.specs.Market.{Seeker, applicants, seat_at}
 use Rattle.choice_lists.specs.Choices.{list_of as choices_of}
-use Rattle.list_audit.specs.Clauses.{IsListFault, list_of}
+use Rattle.list_audit.specs.Clauses.{IsListFault, list_of_step}
 use Rattle.list_audit.specs.declared.clause.Clause.{Clause}
 use Rattle.list_audit.specs.declared.clause.Clause.TheVariants.{NotSought, Fell, Unlisted, WrongNumbers, NotCandidate, WrongSize, BadCertificate, Overtaken, FinalDiffers}
 use Rattle.office_moves.specs.Facts.{SeasonFacts, lists_in_order}
@@ -64,7 +64,7 @@ is_named id (person ∷ people) = if person.id.0 == id then true else is_named i
 -- The lists of the programme name the candidate under exactly that step under which the round's text gives a seat of it.
 abbrev pub Agree : Papers → State → ℕ → Programme → Person → Type 0
 Agree papers state p programme person =
-    (kind : StepKind) → IsTrue (is_named person.id.0 (list_of programme kind).admitted) ↔ (seat_given papers state person.id.0 ≡ Some (seat_at p kind))
+    (kind : StepKind) → IsTrue (is_named person.id.0 (list_of_step programme kind).admitted) ↔ (seat_given papers state person.id.0 ≡ Some (seat_at p kind))
 
 -- it holds of each of some people
 abbrev pub OfEach : (Person → Type 0) → List Person → Type 0

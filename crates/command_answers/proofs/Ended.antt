@@ -4,7 +4,7 @@ use Rattle.std.proofs.lemmas.List.{append-nil}
 use Rattle.std.specs.Prelude.{IfOk, IfErr, IsErrOf}
 use Rattle.office_base.specs.Outside.{Appends, AreLeft, IsAtEnd, Took, TookMore}
 use Rattle.command_answers.specs.Answers.{Answers, HasLeft, HaveOneAnswer, IsFailureOf, IsInputFailure, Tells}
-use Rattle.command_answers.specs.Writes.{IsTextOf, IsTold, Writes, status_of, text_of}
+use Rattle.command_answers.specs.Writes.{IsTextOf, IsTextOut, Writes, status_of, text_of}
 use Rattle.command_answers.specs.declared.failure.Failure.{Failure}
 use Rattle.command_answers.specs.declared.failure.Failure.TheVariants.{Read, Bad, NoMemory}
 use Rattle.command_answers.specs.declared.status.Status.{Status}
@@ -12,7 +12,7 @@ use Rattle.command_answers.specs.declared.status.Status.TheVariants.{Ok as Done,
 
 -- The text of some status was written.
 pub told_is_written : (IsText : Status → List ℕ → Type 0) (status result : Status) (text : List ℕ) (before after : Option (List ℕ)) (failed : Type 0)
-    → IsText status text → IsTold status text before after failed result → (output : List ℕ) × Appends output before after × Writes IsText result output
+    → IsText status text → IsTextOut status text before after failed result → (output : List ℕ) × Appends output before after × Writes IsText result output
 told_is_written IsText status result text before after failed is told =
     elim told [
       | inl whole ↦ (text, whole.1, inl (subst (λ (s : Status). IsText s text) (sym whole.0) is))
@@ -29,13 +29,13 @@ text_of_answer answers left failed (Err NoMemory) made cause = refl
 
 -- What was written of an answer.
 pub answer_is_written : (answers : Answers) (left : Option (List ℕ)) (failed : Type 0) (answer : Result (List ℕ) Failure) (result : Status) (before after : Option (List ℕ)) (broke : Type 0)
-    → IfOk answer (HasLeft answers.IsOutput left) → IfErr answer (IsFailureOf answers left failed) → IsTold (status_of answer) (text_of answer) before after broke result
+    → IfOk answer (HasLeft answers.IsOutput left) → IfErr answer (IsFailureOf answers left failed) → IsTextOut (status_of answer) (text_of answer) before after broke result
     → (output : List ℕ) × Appends output before after × Writes (IsTextOf answers left) result output
 answer_is_written answers left failed answer result before after broke made cause told =
     told_is_written (IsTextOf answers left) (status_of answer) result (text_of answer) before after broke (text_of_answer answers left failed answer made cause) told
 
 -- if the sink did not fail, the status is that of the text
-pub status_is_told : (status result : Status) (text : List ℕ) (before after : Option (List ℕ)) (broke : Type 0) → IsTold status text before after broke result → (broke → ⊥) → result ≡ status
+pub status_is_told : (status result : Status) (text : List ℕ) (before after : Option (List ℕ)) (broke : Type 0) → IsTextOut status text before after broke result → (broke → ⊥) → result ≡ status
 status_is_told status result text before after broke told held = elim told [ inl whole ↦ whole.0 | inr cut ↦ absurd (held cut.1) ]
 
 -- visible bytes without faults have no fault's line, and visible bytes with a fault have no output
@@ -49,7 +49,7 @@ not_input answers (Some bytes) output laws tells made = (laws bytes).apart (subs
 
 -- An input without faults is answered, if neither side failed and memory did not run out.
 pub input_is_answered : (answers : Answers) (left : Option (List ℕ)) (failed : Type 0) (answer : Result (List ℕ) Failure) (result : Status) (before after : Option (List ℕ)) (broke : Type 0)
-    → ((bytes : List ℕ) → HaveOneAnswer answers bytes) → IfErr answer (IsFailureOf answers left failed) → IsTold (status_of answer) (text_of answer) before after broke result
+    → ((bytes : List ℕ) → HaveOneAnswer answers bytes) → IfErr answer (IsFailureOf answers left failed) → IsTextOut (status_of answer) (text_of answer) before after broke result
     → Tells answers.IsInput left → (failed → ⊥) → (broke → ⊥) → (result ≡ Done) ⊎ (result ≡ OutOfMemory)
 input_is_answered answers left failed (Ok output) result before after broke laws cause told tells read wrote = inl (status_is_told Done result output before after broke told wrote)
 input_is_answered answers left failed (Err Read) result before after broke laws cause told tells read wrote = absurd (read cause)
@@ -59,7 +59,7 @@ input_is_answered answers left failed (Err NoMemory) result before after broke l
 -- An input with a fault is refused, if neither side failed and memory did not run out.
 pub fault_is_refused : (answers : Answers) (left : Option (List ℕ)) (failed : Type 0) (answer : Result (List ℕ) Failure) (result : Status) (before after : Option (List ℕ)) (broke : Type 0)
     → ((bytes : List ℕ) → HaveOneAnswer answers bytes) → IfOk answer (HasLeft answers.IsOutput left) → IfErr answer (IsFailureOf answers left failed)
-    → IsTold (status_of answer) (text_of answer) before after broke result
+    → IsTextOut (status_of answer) (text_of answer) before after broke result
     → Tells answers.IsFaulty left → (failed → ⊥) → (broke → ⊥) → (result ≡ BadInput) ⊎ (result ≡ OutOfMemory)
 fault_is_refused answers left failed (Ok output) result before after broke laws made cause told tells read wrote = absurd (not_input answers left output laws tells made)
 fault_is_refused answers left failed (Err Read) result before after broke laws made cause told tells read wrote = absurd (read cause)
@@ -68,7 +68,7 @@ fault_is_refused answers left failed (Err NoMemory) result before after broke la
 
 -- If the status reports no fault of either side, the source did not fail.
 pub source_held : (answer : Result (List ℕ) Failure) (result : Status) (before after : Option (List ℕ)) (broke Held : Type 0) → ((IsErrOf answer Read → ⊥) → Held)
-    → IsTold (status_of answer) (text_of answer) before after broke result → (result ≡ ReadFault → ⊥) → (result ≡ WriteFault → ⊥) → Held
+    → IsTextOut (status_of answer) (text_of answer) before after broke result → (result ≡ ReadFault → ⊥) → (result ≡ WriteFault → ⊥) → Held
 source_held (Ok output) result before after broke Held steady told read wrote = steady (λ same. cc)
 source_held (Err Read) result before after broke Held steady told read wrote = elim told [ inl whole ↦ absurd (read whole.0) | inr cut ↦ absurd (wrote cut.0) ]
 source_held (Err (Bad line)) result before after broke Held steady told read wrote = steady (λ same. cc)

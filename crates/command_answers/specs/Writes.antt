@@ -20,12 +20,12 @@ Writes IsText status output =
 
 -- The text is written whole and the status is the one that goes with it;
 -- or the sink failed, and a prefix of the text is written.
-abbrev pub IsTold : Status → List ℕ → Option (List ℕ) → Option (List ℕ) → Type 0 → Status → Type 0
-IsTold status text before after failed result = ((result ≡ status) × Appends text before after) ⊎ ((result ≡ WriteFault) × failed × ((n : ℕ) × Appends (take n text) before after))
+abbrev pub IsTextOut : Status → List ℕ → Option (List ℕ) → Option (List ℕ) → Type 0 → Status → Type 0
+IsTextOut status text before after failed result = ((result ≡ status) × Appends text before after) ⊎ ((result ≡ WriteFault) × failed × ((n : ℕ) × Appends (take n text) before after))
 
 -- A text is written to a sink with its status, and the sink did not fail unless the result says so.
 pub record Told (status : Status) (text : List ℕ) (old new : Writable) (result : Status) : Type 0 where
-  pub told : IsTold status text old.written new.written (Rose old.faults new.faults) result
+  pub told : IsTextOut status text old.written new.written (Rose old.faults new.faults) result
   pub steady : result ≢ WriteFault → new.faults ≡ old.faults
 
 -- the whole text that goes with each status of a command that answers with one text,

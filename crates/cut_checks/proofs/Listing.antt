@@ -13,7 +13,7 @@ use Rattle.office_base.specs.declared.step.StepKind.{StepKind}
 use Rattle.office_base.specs.declared.step.StepKind.TheVariants.{Open, Ews, Obc, Sc, St, Dereserved}
 use Rattle.office_base.proofs.Lists.{there_is, among_left, among_right}
 use Rattle.allocations.specs.Market.{seat_at}
-use Rattle.list_audit.specs.Clauses.{list_of}
+use Rattle.list_audit.specs.Clauses.{list_of_step}
 use Rattle.programme_lists.specs.declared.programme.Programme.{Programme}
 use Rattle.rank_lists.specs.Register.{row_of}
 use Rattle.round_laws.proofs.People.{row_at}
@@ -126,24 +126,24 @@ record IsEntry (programmes : List Programme) (entry : Entry) : Type 0 where
   there : slice_get programmes p ≡ Some programme
   kind : StepKind
   person : Person
-  named : IsAmong person (list_of programme kind).admitted
+  named : IsAmong person (list_of_step programme kind).admitted
   is : entry ≡ entry_of p kind person
 
 is_entry : (programmes : List Programme) (entry : Entry) → IsAmong entry (entries_from 0 programmes) → IsEntry programmes entry
 is_entry programmes entry h =
     let all = from_all 0 programmes entry h in
     let kind = from_programme (0 + all.0) all.1 entry all.3 in
-    let who = from_step (0 + all.0) kind.0 entry (list_of all.1 kind.0).admitted kind.1 in
+    let who = from_step (0 + all.0) kind.0 entry (list_of_step all.1 kind.0).admitted kind.1 in
     let number : 0 + all.0 ≡ all.0 = omega arith in
     record { p = all.0; programme = all.1; there = all.2; kind = kind.0; person = who.0; named = who.1; is = who.2 ∙ ap (λ (n : ℕ). entry_of n kind.0 who.0) number }
 
-to_entry : (programmes : List Programme) (p : ℕ) (programme : Programme) (kind : StepKind) (person : Person) → slice_get programmes p ≡ Some programme → IsAmong person (list_of programme kind).admitted
+to_entry : (programmes : List Programme) (p : ℕ) (programme : Programme) (kind : StepKind) (person : Person) → slice_get programmes p ≡ Some programme → IsAmong person (list_of_step programme kind).admitted
     → IsAmong (entry_of p kind person) (entries_from 0 programmes)
 to_entry programmes p programme kind person there h =
     let number : p ≡ 0 + p = omega arith in
     into_all 0 p programmes programme (entry_of p kind person) there
     (into_programme (0 + p) programme kind (entry_of p kind person)
-    (subst (λ (n : ℕ). IsAmong (entry_of p kind person) (of_kind n programme kind)) number (into_step p kind person (list_of programme kind).admitted h)))
+    (subst (λ (n : ℕ). IsAmong (entry_of p kind person) (of_kind n programme kind)) number (into_step p kind person (list_of_step programme kind).admitted h)))
 
 -- ---- seats are the same or not
 
@@ -209,7 +209,7 @@ agree : (facts : SeasonFacts) (at : Setting) (seats : List (Option Seat)) (lists
     → (IsMiss facts.people seats (all_of lists) marks (length lists) (length seats) p k → ⊥) → Agree at.papers at.state p programme person
 agree facts at seats lists marks first p k programme person w there who none kind = (
   (λ named.
-      let some = somebody_named person.id.0 (list_of programme kind).admitted named in
+      let some = somebody_named person.id.0 (list_of_step programme kind).admitted named in
       let entry = entry_of p kind some.0 in
       let place : row_of some.0.id.0 facts.people ≡ Some k = ap (λ (n : ℕ). row_of n facts.people) some.2 ∙ row_at facts.people k person w.sound.ranks.rising who in
       let has = seat_there facts at seats k person w.seats_are who in
@@ -239,10 +239,10 @@ agree facts at seats lists marks first p k programme person w there who none kin
             let stood = stands right.0.cand.0 facts.people k right.2 in
             let one : person ≡ stood.0 = same_Some person stood.0 (sym who ∙ stood.1) in
             let id : e.person.id.0 ≡ person.id.0 = ap (λ (x : Entry). x.cand.0) (sym e.is) ∙ (sym stood.2 ∙ ap (λ (x : Person). x.id.0) (sym one)) in
-            let named : is_named e.person.id.0 (list_of programme kind).admitted ≡ true =
-            named_by_id e.person (list_of programme kind).admitted
-            (subst (λ (x : StepKind). IsAmong e.person (list_of programme x).admitted) step (subst (λ (x : Programme). IsAmong e.person (list_of x e.kind).admitted) same e.named)) in
-            subst (λ (n : ℕ). IsTrue (is_named n (list_of programme kind).admitted)) id named
+            let named : is_named e.person.id.0 (list_of_step programme kind).admitted ≡ true =
+            named_by_id e.person (list_of_step programme kind).admitted
+            (subst (λ (x : StepKind). IsAmong e.person (list_of_step programme x).admitted) step (subst (λ (x : Programme). IsAmong e.person (list_of_step x e.kind).admitted) same e.named)) in
+            subst (λ (n : ℕ). IsTrue (is_named n (list_of_step programme kind).admitted)) id named
         | inr no' ↦ absurd (none (inr (
           seat_at p kind,
           slice_get_within seats k (Some (seat_at p kind)) has,
@@ -277,8 +277,8 @@ differ facts at seats lists marks first p k w (inl wrong) =
       person = stood.0;
       who = stood.1;
       differs = λ agrees.
-          let named : IsTrue (is_named stood.0.id.0 (list_of e.programme e.kind).admitted) =
-          subst (λ (n : ℕ). IsTrue (is_named n (list_of e.programme e.kind).admitted)) id (named_by_id e.person (list_of e.programme e.kind).admitted e.named) in
+          let named : IsTrue (is_named stood.0.id.0 (list_of_step e.programme e.kind).admitted) =
+          subst (λ (n : ℕ). IsTrue (is_named n (list_of_step e.programme e.kind).admitted)) id (named_by_id e.person (list_of_step e.programme e.kind).admitted e.named) in
           let given = (agrees e.kind).0 named in
           let seat : seat_at p e.kind ≡ entry.seat = ap (λ (n : ℕ). seat_at n e.kind) (sym prog) ∙ ap (λ (x : Entry). x.seat) (sym e.is) in
           wrong.4 (seat_there facts at seats k stood.0 w.seats_are stood.1 ∙ (ap Some given ∙ ap (λ (s : Seat). Some (Some s)) seat));
@@ -299,7 +299,7 @@ differ facts at seats lists marks first p k w (inr missed) =
           let given : seat_given at.papers at.state who.0.id.0 ≡ Some seat = same_Some (seat_given at.papers at.state who.0.id.0) (Some seat) (sym has ∙ missed.2) in
           let mine : seat ≡ seat_at p seat.step = ap (λ (n : ℕ). seat_at n seat.step) missed.3 in
           let named = (agrees seat.step).1 (given ∙ ap Some mine) in
-          let some = somebody_named who.0.id.0 (list_of found.0 seat.step).admitted named in
+          let some = somebody_named who.0.id.0 (list_of_step found.0 seat.step).admitted named in
           let place : row_of some.0.id.0 facts.people ≡ Some k = ap (λ (n : ℕ). row_of n facts.people) some.2 ∙ row_at facts.people k who.0 w.sound.ranks.rising who.1 in
           let marked = w.marked.marked k (entry_of p seat.step some.0, to_entry (told_by lists) p found.0 seat.step some.0 found.1 some.1, place, missed.2 ∙ ap (λ (s : Seat). Some (Some s)) mine) in
           let no = missed.5 in

@@ -11,7 +11,7 @@ use Rattle.histories.proofs.Rows.{answered_last, window_more, window_same}
 use Rattle.histories.proofs.Turns.{greater_next}
 use Rattle.audit_rules.specs.InOrder.{IsInOrder}
 use Rattle.audit_rules.proofs.Ordering.{cut_left, cut_stands, last_is, row_left}
-use Rattle.cut_checks.specs.Stands.{answered, cut, stand_of}
+use Rattle.cut_checks.specs.Stands.{after_answer, cut, stand_of}
 use Rattle.cut_checks.specs.declared.stand.Stand.{Stand}
 
 -- ---- the last turn
@@ -48,7 +48,7 @@ same_stand l l' t t' s s' seat seat' a b c d =
     ∙ (ap (λ (z : ℕ). standing_so l' z s seat) b ∙ (ap (λ (z : Standing). standing_so l' t' z seat) c ∙ ap (λ (z : Option Seat). standing_so l' t' s' z) d))
 
 pub stand_answered : (facts : SeasonFacts) (old : State) (row : AnswerRow) → row.window ≡ old.now → row.turn ≡ (stand_of facts old row.cand.0).last + 1
-    → stand_of facts (with_row old row) row.cand.0 ≡ answered (stand_of facts old row.cand.0) row
+    → stand_of facts (with_row old row) row.cand.0 ≡ after_answer (stand_of facts old row.cand.0) row
 stand_answered facts old row opened turn =
     let id = row.cand.0 in
     let more = window_more old.now id old.answers row refl opened in

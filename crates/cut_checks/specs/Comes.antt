@@ -1,6 +1,6 @@
 -- What a cut comes to.
 use Rattle.std.specs.Prelude.{◌≡◌, ℕ, List, Option, Some, None, length, map, slice_get}
-use Rattle.list_audit.specs.Clauses.{list_of}
+use Rattle.list_audit.specs.Clauses.{list_of_step}
 use Rattle.office_base.specs.declared.person.CandId.{CandId}
 use Rattle.office_base.specs.declared.person.ProgId.{ProgId}
 use Rattle.office_base.specs.declared.step.StepKind.{StepKind}
@@ -20,7 +20,7 @@ told_by lists = map (λ read. read.programme) lists
 -- The lists are those of the round that the cut publishes, and in no step of one is a person named twice.
 pub record AreLists (facts : SeasonFacts) (at : Setting) (lists : List ListRead) : Type 0 where
   pub same : told_by lists ≡ lists_after at.papers (length facts.matrix.programmes) at.state.now
-  pub once : (p : ℕ) (read : ListRead) (kind : StepKind) → slice_get lists p ≡ Some read → AreDistinct (list_of read.programme kind).admitted
+  pub once : (p : ℕ) (read : ListRead) (kind : StepKind) → slice_get lists p ≡ Some read → AreDistinct (list_of_step read.programme kind).admitted
 
 -- the programme of everybody's seat is sought, and each candidate who keeps a seat has one
 pub record HoldOn (facts : SeasonFacts) (at : Setting) : Type 0 where

@@ -5,7 +5,7 @@ use Rattle.office_base.specs.declared.asks.Seat.{Seat}
 use Rattle.office_base.specs.declared.person.Person.{Person}
 use Rattle.office_base.specs.declared.step.StepKind.{StepKind}
 use Rattle.office_base.specs.declared.step.StepKind.TheVariants.{Open, Ews, Obc, Sc, St, Dereserved}
-use Rattle.list_audit.specs.Clauses.{list_of}
+use Rattle.list_audit.specs.Clauses.{list_of_step}
 use Rattle.programme_lists.specs.declared.programme.Programme.{Programme}
 use Rattle.rank_lists.specs.Register.{row_of}
 use Rattle.cut_checks.specs.declared.entries.Entry.{Entry}
@@ -16,7 +16,7 @@ abbrev pub of_step : ℕ → StepKind → List Person → List Entry
 of_step p kind people = map (λ person. record { seat = record { prog = record { 0 = p }; step = kind }; cand = person.id }) people
 
 abbrev pub of_kind : ℕ → Programme → StepKind → List Entry
-of_kind p programme kind = of_step p kind (list_of programme kind).admitted
+of_kind p programme kind = of_step p kind (list_of_step programme kind).admitted
 
 -- of the six lists of a programme
 abbrev pub of_programme : ℕ → Programme → List Entry

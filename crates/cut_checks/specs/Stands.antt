@@ -32,8 +32,8 @@ abbrev pub stands_along : SeasonFacts → State → List Stand
 stands_along facts state = map (λ person. stand_of facts state person.id.0) facts.people
 
 -- after an answer
-abbrev pub answered : Stand → AnswerRow → Stand
-answered stand row = record { left = stand.left; last = row.turn; standing = standing_of row.choice; seat = stand.seat }
+abbrev pub after_answer : Stand → AnswerRow → Stand
+after_answer stand row = record { left = stand.left; last = row.turn; standing = standing_of row.choice; seat = stand.seat }
 
 -- after a cut that gives this seat
 abbrev pub cut : Stand → Option Seat → Stand

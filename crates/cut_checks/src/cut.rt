@@ -1,6 +1,6 @@
 // A cut, clause by clause.
 ghost use Rattle.std.specs.Prelude.{◌≡◌, ◌<◌, ◌≤◌, IfOk, length};
-ghost use Rattle.list_audit.specs.Clauses.{IsListFault, list_of};
+ghost use Rattle.list_audit.specs.Clauses.{IsListFault, list_of_step};
 ghost use Rattle.office_base.specs.declared.step.StepKind.{StepKind as AnyStep};
 ghost use Rattle.placements.specs.Ranks.{AreDistinct};
 ghost use Rattle.programme_lists.specs.Chosen.{AreApplicants};
@@ -36,7 +36,7 @@ fn fault_of_list(
     requires known { prog.0 < length matrix.now.programmes }
     requires applicants { AreApplicants (list_in matrix.now prog.0)
         (picked season.now.register.people group.now) }
-    requires once { (kind : AnyStep) → AreDistinct (list_of programme.now kind).admitted }
+    requires once { (kind : AnyStep) → AreDistinct (list_of_step programme.now kind).admitted }
     ensures { IfOk result (λ fault. IsListFault season.now.version (seats_in matrix.now prog.0)
         (picked season.now.register.people group.now) programme.now fault) }
 {

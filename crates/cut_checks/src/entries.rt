@@ -1,6 +1,6 @@
 // The entries of all programmes' lists.
 ghost use Rattle.std.specs.Prelude.{◌≡◌, ◌<◌, ◌≤◌, ◌^◌, ◌++◌, IfOk, OnOk, length, take};
-ghost use Rattle.list_audit.specs.Clauses.{list_of};
+ghost use Rattle.list_audit.specs.Clauses.{list_of_step};
 ghost use Rattle.cut_checks.specs.Comes.{told_by};
 ghost use Rattle.cut_checks.specs.Entries.{entries_from, of_kind, of_programme, of_step};
 

@@ -1,7 +1,7 @@
 // The standing of a candidate in the open window of a replay.
 ghost use Rattle.std.specs.Prelude.{◌≡◌, ◌↔◌, ◌+◌, IsTrue};
 ghost use Rattle.office_moves.specs.Judge.{is_candidate, is_gone};
-ghost use Rattle.cut_checks.specs.Stands.{answered, cut, first_stand, may_answer, notes};
+ghost use Rattle.cut_checks.specs.Stands.{after_answer, cut, first_stand, may_answer, notes};
 
 use kept_rows::AnswerRow;
 use office_base::limits::MOST_TURNS;
@@ -72,7 +72,7 @@ impl Stand {
 
     /// Returns the `Stand` of the candidate after an answer that is noted.
     pub fn answered(&self, row: AnswerRow) -> Stand
-        ensures { result ≡ answered self.now row }
+        ensures { result ≡ after_answer self.now row }
     {
         Stand {
             left: self.left,

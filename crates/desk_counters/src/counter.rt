@@ -4,7 +4,7 @@ ghost use Rattle.office_asks.specs.Asking.{AsksOffice, token_of};
 ghost use Rattle.office_desk.specs.Words.{belongs};
 ghost use Rattle.proceedings.specs.Proceeding.{last_of};
 
-use crate::stood::{Beginning, Stood};
+use crate::stood::{DeskOffice, TablesBefore};
 use http_sessions::{Answered, Counter};
 use http_wire::Fault;
 use keeper_mem::Keeper;
@@ -35,7 +35,7 @@ impl<'a, V: Booked, R: Wait> DeskCounter<'a, V, R> {
     }
 }
 
-impl<K: Keeper, B: Beginning, R: Wait> Counter for DeskCounter<'_, Stood<K, B>, R> {
+impl<K: Keeper, B: TablesBefore, R: Wait> Counter for DeskCounter<'_, DeskOffice<K, B>, R> {
     ghost use Rattle.std.specs.Prelude.{◌≡◌};
     ghost use Rattle.desk_counters.specs.Knowing.{AsksInTurn, known_of};
     ghost use Rattle.office_desk.specs.Words.{left_of, origin_of};
@@ -52,7 +52,7 @@ impl<K: Keeper, B: Beginning, R: Wait> Counter for DeskCounter<'_, Stood<K, B>, 
         self.desk.turn(
             self.rt,
             self.pass,
-            |office: &mut Stood<K, B>, number: u64| -> Result<Answered, Fault>
+            |office: &mut DeskOffice<K, B>, number: u64| -> Result<Answered, Fault>
                 requires { last_of office.old.entries < number }
                 ensures { AsksOffice K.seen number (token_of has_token bytes.entry.now)
                     ask.entry.now result office.old office.new }

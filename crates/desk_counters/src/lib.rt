@@ -9,4 +9,4 @@ mod counter;
 mod stood;
 
 pub use counter::DeskCounter;
-pub use stood::{Beginning, Stood};
+pub use stood::{DeskOffice, TablesBefore};

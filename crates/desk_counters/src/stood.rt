@@ -15,25 +15,25 @@ use std::alloc::Global;
 use std::marker::{Brand, Model, PhantomData};
 
 /// The visible tables of an office's keeper when the office was given to a desk. Each desk picks them.
-pub trait Beginning {
+pub trait TablesBefore {
     ghost use Rattle.kept_rows.specs.Tables.{Tables};
 
     ghost tables: { Tables };
 }
 
-impl Beginning for Brand {
+impl TablesBefore for Brand {
     ghost use Rattle.kept_rows.specs.Tables.{Untold};
 
     ghost tables = { Untold };
 }
 
 /// An office whose keeper's tables are visible only if they were visible at the beginning.
-pub struct Stood<K: Keeper, B: Beginning> {
+pub struct DeskOffice<K: Keeper, B: TablesBefore> {
     pub(crate) office: Office<K>,
     of: PhantomData<B>,
 }
 
-impl<K: Keeper, B: Beginning> Model for Stood<K, B> {
+impl<K: Keeper, B: TablesBefore> Model for DeskOffice<K, B> {
     ghost use Rattle.kept_rows.specs.Tables.{IsTold};
     ghost use Rattle.round_cut.specs.Office.{Opened};
 
@@ -45,7 +45,7 @@ impl<K: Keeper, B: Beginning> Model for Stood<K, B> {
 }
 
 /// It is the same book as the office.
-impl<K: Keeper, B: Beginning> Booked for Stood<K, B> {
+impl<K: Keeper, B: TablesBefore> Booked for DeskOffice<K, B> {
     type Item = Entry;
 
     ghost use Rattle.std.specs.Prelude.{Bool};
@@ -67,13 +67,13 @@ impl<K: Keeper, B: Beginning> Booked for Stood<K, B> {
     }
 }
 
-impl<K: Keeper, B: Beginning> Stood<K, B> {
+impl<K: Keeper, B: TablesBefore> DeskOffice<K, B> {
     /// Takes the office as it is at the beginning.
-    pub fn new(office: Office<K>) -> Stood<K, B>
+    pub fn new(office: Office<K>) -> DeskOffice<K, B>
         requires { (K.seen office.keeper).tables ≡ B.tables }
         ensures { result ≡ office }
     {
-        Stood {
+        DeskOffice {
             office,
             of: PhantomData,
         }
@@ -100,7 +100,7 @@ impl<K: Keeper, B: Beginning> Stood<K, B> {
         ensures same { result ≡ self }
         ensures told { IsTold (K.seen result.keeper).tables → IsTold B.tables }
     {
-        let Stood { office, of: _ } = self;
+        let DeskOffice { office, of: _ } = self;
         office
     }
 }

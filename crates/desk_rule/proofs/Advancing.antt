@@ -6,7 +6,7 @@ use mathlib.Core.Option.{none}
 use native.Mathlib.Decide.{ℕ_discrete, dec_le}
 use Rattle.atomic_table.specs.Table.{Me, homes_after, rest, gives, step, Allows}
 use Rattle.std.specs.declared.snapshot.Snapshot.{Snapshot}
-use Rattle.office_base.specs.Numbered.{last_of, rises}
+use Rattle.office_base.specs.Numbered.{last_of_numbers, rises}
 use Rattle.desk_rule.specs.declared.view.View.{View}
 use Rattle.desk_rule.specs.declared.view.Stage.{Stage}
 use Rattle.desk_rule.specs.declared.view.Stage.TheVariants.{Idle, Waits, Holds, Joined}
@@ -62,14 +62,14 @@ module _ {V I B : Type 0} (basis : V → B) (entries : V → List I) (number : I
     all_joined (λ e. first_ticket entries number key.value ≤ number e) goes.0 (more.0 ∷ []) goes.2 (let is = more.1 in omega (arith, is, le), tt),
   )
 
-  rises_later : (history later : List I) (serving : ℕ) → rises 0 (map number history) ≡ true → last_of (map number history) < serving → AppendsAtMost number serving history later
-      → (rises 0 (map number later) ≡ true) × (last_of (map number later) < serving + 1)
+  rises_later : (history later : List I) (serving : ℕ) → rises 0 (map number history) ≡ true → last_of_numbers (map number history) < serving → AppendsAtMost number serving history later
+      → (rises 0 (map number later) ≡ true) × (last_of_numbers (map number later) < serving + 1)
   rises_later history later serving up past (inl same) =
-      (ap (λ l. rises 0 (map number l)) same ∙ up, (let as_was : last_of (map number later) ≡ last_of (map number history) = ap (λ l. last_of (map number l)) same in omega (arith, as_was, past)))
+      (ap (λ l. rises 0 (map number l)) same ∙ up, (let as_was : last_of_numbers (map number later) ≡ last_of_numbers (map number history) = ap (λ l. last_of_numbers (map number l)) same in omega (arith, as_was, past)))
   rises_later history later serving up past (inr more) =
       let numbers : map number later ≡ map number history ++ serving ∷ [] = ap (map number) more.2 ∙ map_push number history more.0 ∙ ap (λ k. map number history ++ k ∷ []) more.1 in (
         ap (rises 0) numbers ∙ rises-snoc 0 (map number history) serving past up,
-        (let last : last_of (map number later) ≡ serving = ap last_of numbers ∙ last_from-snoc 0 (map number history) serving in omega (arith, last)),
+        (let last : last_of_numbers (map number later) ≡ serving = ap last_of_numbers numbers ∙ last_from-snoc 0 (map number history) serving in omega (arith, last)),
       )
 
   pub advances : (n id : ℕ) (m : Me (Option V) (View V I)) (x : V) (t c new : ℕ) (kept : List I) → m.1 ≡ (0, Some x) ∷ [] → m.0.stage ≡ Holds t kept c

@@ -7,7 +7,7 @@ use native.Mathlib.Decide.{ℕ_discrete, dec_le}
 use lib.ListN.{get_elem?}
 use Rattle.atomic_table.specs.Table.{State, Me, keeps, takes, step, Allows}
 use Rattle.std.specs.declared.snapshot.Snapshot.{Snapshot}
-use Rattle.office_base.specs.Numbered.{last_of, rises}
+use Rattle.office_base.specs.Numbered.{last_of_numbers, rises}
 use Rattle.desk_rule.specs.declared.view.View.{View}
 use Rattle.desk_rule.specs.declared.view.Stage.{Stage}
 use Rattle.desk_rule.specs.declared.view.Stage.TheVariants.{Idle, Waits, Holds, Joined}
@@ -85,12 +85,12 @@ module _ {V I B : Type 0} (basis : V → B) (entries : V → List I) (number : I
       let alive : 1 ≤ v.shares = dite (dec_le 1 v.shares) (λ le. le) (λ none. absurd (let nothing = (f.spent (omega (arith, none))).1 in let left = waits.1 in omega (arith, nothing, left))) in
       let bound = next_small basis entries number count key s h in
       let below : h.serving < h.next = (let one = total_at waiting_of s.views id v at in let opened : waiting_of v ≡ 1 = ap (λ st. length (open_of st)) stage in let sum = h.waiting in omega (arith, one, opened, sum)) in
-      let last : last_of (map number h.history) < h.serving = h.past in
+      let last : last_of_numbers (map number h.history) < h.serving = h.past in
       let taken : IsTaken basis entries number count t v x = record {
         about = λ origin e. home.3.0 ∙ ap (λ (k : Snapshot V). basis k.value) (same_Some _ _ (sym (f.about alive) ∙ e));
         begins = subst (HasSeen number v.tickets v.seen) (sym home.3.1) f.begins;
         rising = ap (λ l. rises 0 (map number l)) home.3.1 ∙ h.rising;
-        last = (let same : last_of (map number (entries x)) ≡ last_of (map number h.history) = ap (λ l. last_of (map number l)) home.3.1 in omega (arith, same, last, serves));
+        last = (let same : last_of_numbers (map number (entries x)) ≡ last_of_numbers (map number h.history) = ap (λ l. last_of_numbers (map number l)) home.3.1 in omega (arith, same, last, serves));
         past = subst (λ k. AllByRecursion (λ u. u < k) v.tickets) (sym serves) f.past;
         counts = (let seen = f.counts in let most = home.3.2 in omega (arith, seen, most));
         small = omega (arith, serves, below, bound);

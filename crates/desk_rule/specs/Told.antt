@@ -3,7 +3,7 @@ use Rattle.std.specs.Prelude.{◌≡◌, ◌≢◌, ◌-◌, ◌^◌, ◌<◌, �
 use Rattle.std.specs.List.{AllByRecursion}
 use Rattle.atomic_table.specs.Table.{Me, Step, rest}
 use Rattle.std.specs.declared.snapshot.Snapshot.{Snapshot}
-use Rattle.office_base.specs.Numbered.{last_of, rises}
+use Rattle.office_base.specs.Numbered.{last_of_numbers, rises}
 use Rattle.desk_rule.specs.declared.view.View.{View}
 use Rattle.desk_rule.specs.declared.view.Stage.{Stage}
 use Rattle.desk_rule.specs.declared.view.Stage.TheVariants.{Idle, Waits, Holds, Joined}
@@ -26,7 +26,7 @@ module _ {V I : Type 0} where
       pub about : (key : Snapshot V) → v.about ≡ Some key → basis x ≡ basis key.value
       pub begins : HasSeen number v.tickets v.seen (entries x)
       pub rising : rises 0 (map number (entries x)) ≡ true
-      pub last : last_of (map number (entries x)) < t
+      pub last : last_of_numbers (map number (entries x)) < t
       pub past : AllByRecursion (λ u. u < t) v.tickets
       pub counts : v.count ≤ count x
       pub small : t < 2 ^ 41

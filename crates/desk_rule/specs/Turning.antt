@@ -6,7 +6,7 @@ use mathlib.Core.Option.{some, none}
 use lib.ListN.{get_elem?}
 use Rattle.atomic_table.specs.Table.{State}
 use Rattle.std.specs.declared.snapshot.Snapshot.{Snapshot}
-use Rattle.office_base.specs.Numbered.{last_of, rises}
+use Rattle.office_base.specs.Numbered.{last_of_numbers, rises}
 use Rattle.desk_rule.specs.declared.view.View.{View}
 use Rattle.desk_rule.specs.declared.view.Stage.{Stage}
 use Rattle.desk_rule.specs.declared.view.Stage.TheVariants.{Idle, Waits, Holds, Joined}
@@ -68,7 +68,7 @@ module _ {V I : Type 0} where
 
   -- the first ticket of a desk that begins with this value
   abbrev pub first_ticket : (V → List I) → (I → ℕ) → V → ℕ
-  first_ticket entries number origin = last_of (map number (entries origin)) + 1
+  first_ticket entries number origin = last_of_numbers (map number (entries origin)) + 1
 
   module _ {B : Type 0} (basis : V → B) (entries : V → List I) (number : I → ℕ) (count : V → ℕ) where
     -- what holds of an open ticket, of a value that is out, and of a view that was joined
@@ -114,7 +114,7 @@ module _ {V I : Type 0} where
       pub goes_on : (rest : List I) × (history ≡ entries key.value ++ rest) × AllByRecursion (λ e. first_ticket entries number key.value ≤ number e) rest
       -- the numbers of the history rise, and all are past
       pub rising : rises 0 (map number history) ≡ true
-      pub past : last_of (map number history) < serving
+      pub past : last_of_numbers (map number history) < serving
       -- what holds of each view
       pub views : Each (Fits key history serving most) s.views
       -- some view that is not spent has seen the whole history

@@ -1,6 +1,6 @@
 // A book of numbered rows.
 ghost use Rattle.std.specs.Prelude.{◌≡◌, ◌<◌, ℕ, List, true, map, [], ◌∷◌, ◌++◌, OnOk, OnErr};
-ghost use Rattle.office_base.specs.Numbered.{last_of, rises};
+ghost use Rattle.office_base.specs.Numbered.{last_of_numbers, rises};
 
 use office_base::{Booked, OutOfMemory};
 use std::alloc::Global;
@@ -22,7 +22,7 @@ pub struct Book {
     pub opened_with: u64,
     last: u64,
     ghost rising: { rises 0 (map (λ r. r.number) rows.items) ≡ true },
-    ghost last_is: { last ≡ last_of (map (λ r. r.number) rows.items) },
+    ghost last_is: { last ≡ last_of_numbers (map (λ r. r.number) rows.items) },
 }
 
 impl Booked for Book {
@@ -59,7 +59,7 @@ impl Book {
 
     /// Writes a row at the end. Where there is no memory for it, the book is as it was.
     pub fn put(&mut self, row: Row) -> Result<(), OutOfMemory>
-        requires { last_of (map (λ r. r.number) self.old.rows.items) < row.number }
+        requires { last_of_numbers (map (λ r. r.number) self.old.rows.items) < row.number }
         ensures name { self.new.name ≡ self.old.name }
         ensures ok { OnOk result (self.new.rows.items ≡ self.old.rows.items ++ row ∷ []) }
         ensures err { OnErr result (self.new.rows.items ≡ self.old.rows.items) }

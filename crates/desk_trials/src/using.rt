@@ -1,6 +1,6 @@
 // Callers who use the book in turns.
 ghost use Rattle.std.specs.Prelude.{◌≡◌, ◌≤◌, ◌<◌, ◌+◌, ◌∷◌, [], ◌++◌, ℕ, length, map, IfOk, OnOk, OnErr};
-ghost use Rattle.office_base.specs.Numbered.{last_of};
+ghost use Rattle.office_base.specs.Numbered.{last_of_numbers};
 ghost use Rattle.desk_trials.specs.Rows.{row};
 ghost use Rattle.office_desk.specs.Words.{belongs, left_of, shares_of, seen_of, own_of};
 
@@ -29,7 +29,7 @@ pub fn write<W: Wait>(
         rt,
         pass,
         |book: &mut Book, number: u64| -> Result<u64, OutOfMemory>
-            requires { last_of (map (λ r. r.number) book.old.rows.items) < number }
+            requires { last_of_numbers (map (λ r. r.number) book.old.rows.items) < number }
             ensures { (book.new.name ≡ book.old.name) × IfOk result (λ n. (n ≡ number)
                 × (book.new.rows.items ≡ book.old.rows.items ++ row number by nth ∷ []))
                 × OnErr result (book.new.rows.items ≡ book.old.rows.items) }
@@ -54,7 +54,7 @@ pub fn count_rows<W: Wait>(rt: &W, desk: &Desk<Book>, pass: &mut Pass<Book>) -> 
         rt,
         pass,
         |book: &mut Book, number: u64| -> usize
-            requires { last_of (map (λ r. r.number) book.old.rows.items) < number }
+            requires { last_of_numbers (map (λ r. r.number) book.old.rows.items) < number }
             ensures { (book.new.name ≡ book.old.name) × (book.new.rows.items ≡ book.old.rows.items)
                 × (result ≡ length book.old.rows.items) }
         {

@@ -11,7 +11,7 @@ use Rattle.http_wire.specs.declared.faults.Fault.{Fault}
 use Rattle.http_wire.specs.declared.faults.Fault.TheVariants.{Keeper, Memory}
 use Rattle.door_histories.specs.Counts.{RoseBy}
 use Rattle.door_histories.specs.Desk.{Known, AsksDesk}
-use Rattle.door_histories.specs.Served.{Telling, IsPlaced, IsServing, AreServed, DoorServed}
+use Rattle.door_histories.specs.Served.{DoorLooks, IsPlaced, IsServing, AreServed, DoorServed}
 use Rattle.door_histories.proofs.Counting.{begins_self, begins_same, begins_trans, begins_more, nothing_more, more_twice, rose_none, rose_same, rose_once, rose_on}
 
 -- what was asked, of a message that asks
@@ -188,7 +188,7 @@ module _ {I : Type 0} (Answers : List I → Option (List ℕ) → Ask → Answer
         serving = (one.added, one.n, one.behind, rest.entries, rest.failures, one.placed (knows c').seen rest.moves.seen, rest.serving, refl, refl);
       }
 
-  module _ {D L : Type 0} (of : Telling D L) where
+  module _ {D L : Type 0} (of : DoorLooks D L) where
     -- the links of a door, one after another
     record Held_from (c c' : C) (pairs : List (L × L)) : Type 0 where
       entries : List I

@@ -8,7 +8,7 @@ use Rattle.http_sessions.specs.declared.counter.Answered.{Answered}
 use Rattle.http_wire.specs.declared.faults.Fault.{Fault}
 use Rattle.door_histories.specs.Counts.{RoseBy}
 use Rattle.door_histories.specs.Ending.{SomeRose, AllEnded}
-use Rattle.door_histories.specs.Served.{Telling, AllDoorsServed, DoorServed, EachDoor}
+use Rattle.door_histories.specs.Served.{DoorLooks, AllDoorsServed, DoorServed, EachDoor}
 use Rattle.door_histories.specs.Workers.{Worker, IsHired, IsTakenIn, HasWorked, IsRow}
 use Rattle.door_histories.proofs.Bits.{some_is, not_both}
 use Rattle.door_histories.proofs.Counting.{begins_self, begins_same, begins_trans, merged_sym, rose_within}
@@ -26,7 +26,7 @@ module _ {I : Type 0} where
     | inr a ↦ subst (λ (x : List I). Begins w.knows.seen x) (sym a.1) a.0
   ]
 
-module _ {I : Type 0} (Answers : List I → Option (List ℕ) → Ask → Answered → List I → Type 0) (Unanswers : List I → Option (List ℕ) → Ask → Fault → Type 0) {D L : Type 0} (of : Telling D L) where
+module _ {I : Type 0} (Answers : List I → Option (List ℕ) → Ask → Answered → List I → Type 0) (Unanswers : List I → Option (List ℕ) → Ask → Fault → Type 0) {D L : Type 0} (of : DoorLooks D L) where
   -- a later history, and a larger count
   later : (A : List I) (c : ℕ) (ds ds' : List D) (Es : List (List I)) (fs : List ℕ) (H K : List I) (k l : ℕ) → Begins H K → k ≤ l
       → EachDoor Answers Unanswers of A c ds ds' Es fs H k → EachDoor Answers Unanswers of A c ds ds' Es fs K l

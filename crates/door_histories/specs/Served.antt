@@ -17,7 +17,7 @@ use Rattle.http_wire.specs.declared.faults.Fault.TheVariants.{Keeper, Memory}
 use Rattle.door_histories.specs.Counts.{RoseBy}
 
 -- what is read of a door and of its links
-pub record Telling (D L : Type 0) : Type 0 where
+pub record DoorLooks (D L : Type 0) : Type 0 where
   pub to_come : D → ℕ
   pub out : D → ℕ
   pub told : D → Option (Visits L)
@@ -27,7 +27,7 @@ pub record Telling (D L : Type 0) : Type 0 where
   pub failures : L → ℕ
 
 -- the same, by the ghost members of a door and of its links
-abbrev pub telling : {D L : Type 0} → DoorGhosts D L → LinkGhosts L → Telling D L
+abbrev pub telling : {D L : Type 0} → DoorGhosts D L → LinkGhosts L → DoorLooks D L
 telling d l = record { to_come = d.to_come; out = d.out; told = d.told; faults = d.faults; left = l.left; written = l.written; failures = l.faults }
 
 -- how many failures of the keeper a fault is
@@ -66,7 +66,7 @@ module _ {I : Type 0} (Answers : List I → Option (List ℕ) → Ask → Answer
   IsServing A (item ∷ items) (outcome ∷ outcomes) E f B = (added : List I) × (n : ℕ) × (behind : List I) × (more : List I) × (k : ℕ)
       × IsPlaced A B item outcome added n behind × IsServing behind items outcomes more k B × (E ≡ added ++ more) × (f ≡ n + k)
 
-  module _ {D L : Type 0} (of : Telling D L) where
+  module _ {D L : Type 0} (of : DoorLooks D L) where
     -- A link, as its session found it and left it, is served from the history A to the history B, with the entries E
     -- and f reported failures of the keeper.
     -- Its session ends with a fault if and only if the link failed.

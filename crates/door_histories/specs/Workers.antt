@@ -8,7 +8,7 @@ use Rattle.http_wire.specs.declared.faults.Fault.{Fault}
 use Rattle.door_histories.specs.Counts.{RoseBy}
 use Rattle.door_histories.specs.Desk.{Known}
 use Rattle.door_histories.specs.Ending.{SomeRose, AllEnded}
-use Rattle.door_histories.specs.Served.{Telling, AreAllMerged, DoorServed, EachDoor}
+use Rattle.door_histories.specs.Served.{DoorLooks, AreAllMerged, DoorServed, EachDoor}
 
 pub record Worker (I : Type 0) : Type 0 where
   pub knows : Known I
@@ -38,7 +38,7 @@ module _ {I : Type 0} where
     pub most : w.knows.count ≤ p.knows.count
     pub failed : p.failed ≡ m.failed || w.failed
 
-module _ {I : Type 0} (Answers : List I → Option (List ℕ) → Ask → Answered → List I → Type 0) (Unanswers : List I → Option (List ℕ) → Ask → Fault → Type 0) {D L : Type 0} (of : Telling D L) where
+module _ {I : Type 0} (Answers : List I → Option (List ℕ) → Ask → Answered → List I → Type 0) (Unanswers : List I → Option (List ℕ) → Ask → Fault → Type 0) {D L : Type 0} (of : DoorLooks D L) where
   -- The worker of this number served a door: from what it had seen to what it has seen then.
   -- With it come the entries by which its own grew, and the failures of the keeper by which the count rose.
   -- It reports whether the door failed.

@@ -13,7 +13,7 @@ use Rattle.list_texts.proofs.FreeLemmas.{listed-here, listed-kept}
 use Rattle.publish.specs.declared.reads.FinalRead.{FinalRead}
 use Rattle.publish.specs.declared.reads.RoundRead.{RoundRead}
 use Rattle.seat_matrix.specs.Matrix.{SeatTable}
-use Rattle.dossier_file.specs.Due.{IsDueOf, cuts_of, due, is_cut_by, lists_due, published_by}
+use Rattle.dossier_file.specs.Due.{IsDueOf, cuts_accepted, due, is_cut_by, lists_due, published_by}
 use Rattle.dossier_file.specs.Kept.{AreApart, HasTexts, NamesOnce}
 use Rattle.dossier_file.specs.Papers.{ArePapers}
 use Rattle.dossier_file.specs.declared.due.Due.{Due}
@@ -23,12 +23,12 @@ use Rattle.dossier_file.specs.declared.papers.Papers.{Papers}
 -- ---- accepted cuts
 
 -- no more cuts are accepted than there are windows
-pub cuts_within : (rounds now : ℕ) (script : List Request) → now ≤ rounds + 1 → now + cuts_of rounds now script ≤ rounds + 1
+pub cuts_within : (rounds now : ℕ) (script : List Request) → now ≤ rounds + 1 → now + cuts_accepted rounds now script ≤ rounds + 1
 cuts_within rounds now [] within = omega (arith, within)
 cuts_within rounds now (request ∷ script) within = by (is_cut_by now request.by request.ask && nat_le now rounds) refl (cuts_within rounds (suc now) script) (cuts_within rounds now script within)
   where
-    by : (b : Bool) → (is_cut_by now request.by request.ask && nat_le now rounds) ≡ b → (suc now ≤ rounds + 1 → suc now + cuts_of rounds (suc now) script ≤ rounds + 1) → now + cuts_of rounds now script ≤ rounds + 1
-        → now + cond b (suc (cuts_of rounds (suc now) script)) (cuts_of rounds now script) ≤ rounds + 1
+    by : (b : Bool) → (is_cut_by now request.by request.ask && nat_le now rounds) ≡ b → (suc now ≤ rounds + 1 → suc now + cuts_accepted rounds (suc now) script ≤ rounds + 1) → now + cuts_accepted rounds now script ≤ rounds + 1
+        → now + cond b (suc (cuts_accepted rounds (suc now) script)) (cuts_accepted rounds now script) ≤ rounds + 1
     by true is later here =
         let below = leb-true now rounds (and_parts (is_cut_by now request.by request.ask) (nat_le now rounds) is).1 in
         let more = later (omega (arith, below)) in
@@ -202,19 +202,19 @@ module _ (table : SeatTable) (people : List Person) (rounds : ℕ) where
 
   module _ (script : List Request) (reads : List RoundRead) (lists : List ListRead) (last : Option FinalRead) (has : HasTexts table people rounds script reads lists last) where
     cuts : ℕ
-    cuts = cuts_of rounds 0 script
+    cuts = cuts_accepted rounds 0 script
 
-    all_due : AreAsDue (due rounds (length table.programmes) (cuts_of rounds 0 script)) (record { rounds = reads; lists = lists; last = last })
-    all_due = as_due (due rounds (length table.programmes) (cuts_of rounds 0 script)) has.0 (record { rounds = reads; lists = lists; last = last }) has.1
+    all_due : AreAsDue (due rounds (length table.programmes) (cuts_accepted rounds 0 script)) (record { rounds = reads; lists = lists; last = last })
+    all_due = as_due (due rounds (length table.programmes) (cuts_accepted rounds 0 script)) has.0 (record { rounds = reads; lists = lists; last = last }) has.1
 
-    few : cuts_of rounds 0 script ≤ rounds + 1
+    few : cuts_accepted rounds 0 script ≤ rounds + 1
     few = (let h = cuts_within rounds 0 script (omega arith) in omega (arith, h))
 
-    pub rounds_whole : length reads ≡ min rounds (cuts_of rounds 0 script)
-    rounds_whole = all_due.rounds ∙ due_rounds rounds (length table.programmes) (cuts_of rounds 0 script) few
+    pub rounds_whole : length reads ≡ min rounds (cuts_accepted rounds 0 script)
+    rounds_whole = all_due.rounds ∙ due_rounds rounds (length table.programmes) (cuts_accepted rounds 0 script) few
 
     pub lists_whole : length lists ≡ length reads * length table.programmes
-    lists_whole = all_due.lists ∙ (due_lists rounds (length table.programmes) (cuts_of rounds 0 script) few ∙ ap (λ (n : ℕ). n * length table.programmes) (sym rounds_whole))
+    lists_whole = all_due.lists ∙ (due_lists rounds (length table.programmes) (cuts_accepted rounds 0 script) few ∙ ap (λ (n : ℕ). n * length table.programmes) (sym rounds_whole))
 
     pub named_once : NamesOnce lists
     named_once = all_due.once

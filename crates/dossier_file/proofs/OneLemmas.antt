@@ -12,7 +12,7 @@ use Rattle.publish.specs.Laws.{AreDistinct, FinalsAreOne, RoundsAreOne}
 use Rattle.publish.specs.Rows.{IsFinalText}
 use Rattle.publish.specs.declared.reads.FinalRead.{FinalRead}
 use Rattle.publish.specs.declared.reads.RoundRead.{RoundRead}
-use Rattle.dossier_file.specs.Due.{cuts_of, due}
+use Rattle.dossier_file.specs.Due.{cuts_accepted, due}
 use Rattle.dossier_file.specs.Laws.{TextsAreOne}
 use Rattle.dossier_file.specs.Papers.{ArePapers, IsListOf, IsRoundOf, IsThen, with_final, with_list, with_round}
 use Rattle.dossier_file.specs.Texts.{AreReadable}
@@ -79,4 +79,4 @@ module _ (rounds_one : RoundsAreOne) (lists_one : ListsAreOne) (finals_one : Fin
 
 pub texts_one : RoundsAreOne → ListsAreOne → FinalsAreOne → TextsAreOne
 texts_one rounds_one lists_one finals_one table people rounds script text papers more fits readable is its =
-    papers_one rounds_one lists_one finals_one table people rounds fits readable (due rounds (length table.programmes) (cuts_of rounds 0 script)) text papers more is its
+    papers_one rounds_one lists_one finals_one table people rounds fits readable (due rounds (length table.programmes) (cuts_accepted rounds 0 script)) text papers more is its

@@ -21,9 +21,9 @@ is_cut_by now _ ask = false
 
 -- How many cuts of a script are accepted, where the windows before this one were cut: the clerk cuts the open window, and the
 -- window after the last round is the last.
-abbrev pub cuts_of : ℕ → ℕ → List Request → ℕ
-cuts_of rounds now [] = 0
-cuts_of rounds now (request ∷ script) = if is_cut_by now request.by request.ask && nat_le now rounds then suc (cuts_of rounds (suc now) script) else cuts_of rounds now script
+abbrev pub cuts_accepted : ℕ → ℕ → List Request → ℕ
+cuts_accepted rounds now [] = 0
+cuts_accepted rounds now (request ∷ script) = if is_cut_by now request.by request.ask && nat_le now rounds then suc (cuts_accepted rounds (suc now) script) else cuts_accepted rounds now script
 
 -- the lists of a round, of so many programmes
 abbrev pub lists_due : ℕ → ℕ → List Due

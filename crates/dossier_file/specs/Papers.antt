@@ -9,7 +9,7 @@ use Rattle.publish.specs.Rows.{IsFinalText, IsRoundText}
 use Rattle.publish.specs.declared.reads.FinalRead.{FinalRead}
 use Rattle.publish.specs.declared.reads.RoundRead.{RoundRead}
 use Rattle.seat_matrix.specs.Matrix.{SeatTable}
-use Rattle.dossier_file.specs.Due.{cuts_of, due}
+use Rattle.dossier_file.specs.Due.{cuts_accepted, due}
 use Rattle.dossier_file.specs.declared.due.Due.{Due}
 use Rattle.dossier_file.specs.declared.due.Due.TheVariants.{Round as RoundDue, List as ListDue, Final as FinalDue}
 use Rattle.dossier_file.specs.declared.papers.Papers.{Papers}
@@ -63,4 +63,4 @@ ArePapers table people rounds (FinalDue ∷ dues) text papers = IsThen with_fina
 
 -- the texts that the accepted cuts of a script publish in a season of so many rounds
 abbrev pub AreDuePapers : SeatTable → List Person → ℕ → List Request → Grammar Papers
-AreDuePapers table people rounds script = ArePapers table people rounds (due rounds (length table.programmes) (cuts_of rounds 0 script))
+AreDuePapers table people rounds script = ArePapers table people rounds (due rounds (length table.programmes) (cuts_accepted rounds 0 script))

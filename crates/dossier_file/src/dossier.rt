@@ -1,6 +1,6 @@
 // A dossier, read from a source.
 ghost use Rattle.std.specs.Prelude.{◌≡◌, ◌*◌, length, min};
-ghost use Rattle.dossier_file.specs.Due.{cuts_of};
+ghost use Rattle.dossier_file.specs.Due.{cuts_accepted};
 ghost use Rattle.dossier_file.specs.Kept.{HasTexts, NamesOnce, NamesOnce-prop};
 
 use crate::content::{papers_error, read_bytes, read_papers, read_requests, season_error};
@@ -24,7 +24,7 @@ pub struct Dossier {
     /// The final admissions, exactly where the last window was cut.
     pub last: Option<FinalRead>,
     pub ghost texts: { ∥ HasTexts season.matrix season.register.people season.rounds script rounds lists last ∥₁ },
-    pub ghost whole_rounds: { length rounds ≡ min season.rounds (cuts_of season.rounds 0 script) },
+    pub ghost whole_rounds: { length rounds ≡ min season.rounds (cuts_accepted season.rounds 0 script) },
     pub ghost whole_lists: { length lists ≡ length rounds * length season.matrix.programmes },
     pub ghost once: { NamesOnce lists } by { NamesOnce-prop lists },
 }

@@ -1,6 +1,6 @@
 // Which texts the accepted cuts of a script publish.
 ghost use Rattle.std.specs.Prelude.{◌≡◌, ◌<◌, ◌≤◌, ◌+◌, ◌++◌, IfOk, OnOk};
-ghost use Rattle.dossier_file.specs.Due.{cuts_of, due, is_cut_by, published_by};
+ghost use Rattle.dossier_file.specs.Due.{cuts_accepted, due, is_cut_by, published_by};
 
 use office_base::{Ask, By, Listed, OutOfMemory, ProgId, Request};
 use std::alloc::Global;
@@ -29,7 +29,7 @@ fn is_cut_by(request: &Request, now: u16) -> bool
 /// How many cuts of a script are accepted.
 pub(crate) fn accepted_cuts(rounds: u16, script: &[Request]) -> u16
     requires { rounds ≤ 10 }
-    ensures value { result ≡ cuts_of rounds 0 script.now }
+    ensures value { result ≡ cuts_accepted rounds 0 script.now }
     ensures within { result ≤ rounds + 1 }
 {
     let mut now: u16 = 0;

@@ -23,7 +23,7 @@ use Rattle.script_runs.specs.Tally.{CountsAll, StopsWithin}
 use Rattle.script_runs.specs.declared.tally.Tally.{Tally}
 use Rattle.season_generator.specs.Bundle.{generated}
 use Rattle.season_generator.specs.Summary.{summary_text}
-use Rattle.command_answers.specs.Writes.{IsTold, IsWantText, Writes}
+use Rattle.command_answers.specs.Writes.{IsTextOut, IsWantText, Writes}
 use Rattle.command_answers.specs.declared.status.Status.{Status}
 use Rattle.command_answers.specs.declared.status.Status.TheVariants.{Ok as Done, ReadFault, WriteFault, KeeperFault, OutOfMemory}
 use Rattle.season_commands.proofs.Still.{still_from}
@@ -34,14 +34,14 @@ use Rattle.season_commands.proofs.RunEnds.{text_of_begin}
 
 -- ---- no season was made
 
-pub unmade_ends : (n seed : ℕ) (tables : Tables) (written now : Option (List ℕ)) (broke : Type 0) (result : Status) → IsTold OutOfMemory memory_line written now broke result
+pub unmade_ends : (n seed : ℕ) (tables : Tables) (written now : Option (List ℕ)) (broke : Type 0) (result : Status) → IsTextOut OutOfMemory memory_line written now broke result
     → (output : List ℕ) × Appends output written now × EndsGeneratedRun n seed tables tables result output
 unmade_ends n seed tables written now broke result is =
     let (output, appends, writes) = told_is_written IsWantText OutOfMemory result memory_line written now broke refl is in
     (output, appends, inl (writes, refl))
 
 -- if the sink takes all, the status reports that memory ran out
-pub unmade_is_told : (written now : Option (List ℕ)) (broke : Type 0) (result : Status) → IsTold OutOfMemory memory_line written now broke result → (broke → ⊥) → result ≡ OutOfMemory
+pub unmade_is_told : (written now : Option (List ℕ)) (broke : Type 0) (result : Status) → IsTextOut OutOfMemory memory_line written now broke result → (broke → ⊥) → result ≡ OutOfMemory
 unmade_is_told written now broke result told wrote = elim told [ inl whole ↦ whole.0 | inr cut ↦ absurd (wrote cut.1) ]
 
 -- bytes without a fault are not read only when memory runs out
@@ -59,7 +59,7 @@ made_ends n seed before after season script shown written now status is same end
 
 -- no office began
 pub unbegun_made : (n seed : ℕ) (season : Season) (script : List Request) (before after : Tables) (fault : BeginFault) (written now : Option (List ℕ)) (broke : Type 0) (result : Status)
-    → (fault ≡ NotEmpty → IsFound true after) → AreTold before after → IsTold (begin_status fault) (begin_text fault) written now broke result
+    → (fault ≡ NotEmpty → IsFound true after) → AreTold before after → IsTextOut (begin_status fault) (begin_text fault) written now broke result
     → (output : List ℕ) × Appends output written now × EndsMade n seed season script before after result output
 unbegun_made n seed season script before after fault written now broke result held told is =
     let (output, appends, writes) = told_is_written (IsUnbegunText (still before after)) (begin_status fault) result (begin_text fault) written now broke
@@ -91,7 +91,7 @@ text_of_counted n seed facts script tables (Err NoMemory) made keeper memory = (
 
 pub counted_ends : (n seed : ℕ) (facts : SeasonFacts) (script : List Request) (tables : Tables) (summary : Result (List ℕ) OfficeFault) (written now : Option (List ℕ)) (broke : Type 0) (result : Status)
     → IfOk summary (IsSummed n seed facts script tables) → (IsErrOf summary NoKeeper → StandsForFirst facts script tables)
-    → (IsErrOf summary NoMemory → StandsForFirst facts script tables ⊎ StandsForAll facts script tables) → IsTold (summed_status summary) (summed_text summary) written now broke result
+    → (IsErrOf summary NoMemory → StandsForFirst facts script tables ⊎ StandsForAll facts script tables) → IsTextOut (summed_status summary) (summed_text summary) written now broke result
     → (output : List ℕ) × Appends output written now × Writes (IsCountedText n seed facts script tables) result output
 counted_ends n seed facts script tables summary written now broke result made keeper memory told =
     told_is_written (IsCountedText n seed facts script tables) (summed_status summary) result (summed_text summary) written now broke (text_of_counted n seed facts script tables summary made keeper memory) told
@@ -139,7 +139,7 @@ told_whole (Err NoMemory) broke result is = record {
   complete = λ wrote kept. inr is;
 }
 
-pub summary_told : (summary : Result (List ℕ) OfficeFault) (written now : Option (List ℕ)) (broke : Type 0) (result : Status) → IsTold (summed_status summary) (summed_text summary) written now broke result
+pub summary_told : (summary : Result (List ℕ) OfficeFault) (written now : Option (List ℕ)) (broke : Type 0) (result : Status) → IsTextOut (summed_status summary) (summed_text summary) written now broke result
     → IsSummaryTold summary broke result
 summary_told summary written now broke result told =
     elim told [ inl whole ↦ told_whole summary broke result whole.0 | inr cut ↦ told_in_part summary broke result cut.0 cut.1 ]
@@ -150,7 +150,7 @@ whole_held (Ok text) Held result is held kept = held (λ failed. cc)
 whole_held (Err NoKeeper) Held result is held kept = absurd (kept is)
 whole_held (Err NoMemory) Held result is held kept = held (λ failed. cc)
 
-pub summary_held : (summary : Result (List ℕ) OfficeFault) (written now : Option (List ℕ)) (broke Held : Type 0) (result : Status) → IsTold (summed_status summary) (summed_text summary) written now broke result
+pub summary_held : (summary : Result (List ℕ) OfficeFault) (written now : Option (List ℕ)) (broke Held : Type 0) (result : Status) → IsTextOut (summed_status summary) (summed_text summary) written now broke result
     → ((IsErrOf summary NoKeeper → ⊥) → Held) → (result ≡ KeeperFault → ⊥) → (result ≡ WriteFault → ⊥) → Held
 summary_held summary written now broke Held result told held kept wrote =
     elim told [ inl whole ↦ whole_held summary Held result whole.0 held kept | inr cut ↦ absurd (wrote cut.0) ]

@@ -12,7 +12,7 @@ ghost use Rattle.office_moves.specs.State.{opening};
 ghost use Rattle.season_generator.specs.Bundle.{generated};
 ghost use Rattle.command_answers.specs.Writes.{WritesFor};
 ghost use Rattle.generate_command.specs.Generated.{EndsGeneratedRun, EndsMade, IsCountedText, IsSummed, StandsForAll, StandsForFirst};
-ghost use Rattle.season_commands.specs.Outside.{BlamesOffice, EndsWith, Writes, outside_of};
+ghost use Rattle.season_commands.specs.Outside.{BlamesOffice, EndsWith, Outputs, outside_of};
 ghost use Rattle.season_commands.specs.Run.{RunsScript};
 
 use crate::summed::{tallied_text, write_summary};
@@ -40,7 +40,7 @@ pub fn run_generated<K: Sink, P: Keeper>(
 ) -> (Status, P)
     requires low { 1 ≤ n }
     requires high { n ≤ 100000 }
-    ensures written { Writes (EndsGeneratedRun n seed) (outside_of K.Sink P.Keeper sink.old keeper)
+    ensures written { Outputs (EndsGeneratedRun n seed) (outside_of K.Sink P.Keeper sink.old keeper)
         (outside_of K.Sink P.Keeper sink.new result.1) result.0 }
     ensures runs { RunsScript (outside_of K.Sink P.Keeper sink.old keeper)
         (outside_of K.Sink P.Keeper sink.new result.1) result.0 }
@@ -85,7 +85,7 @@ fn run_made<K: Sink, P: Keeper>(
     keeper: P,
 ) -> (Status, P)
     requires { IsSeason season.text season }
-    ensures written { Writes (EndsMade n seed season script.now) (outside_of K.Sink P.Keeper
+    ensures written { Outputs (EndsMade n seed season script.now) (outside_of K.Sink P.Keeper
         sink.old keeper) (outside_of K.Sink P.Keeper sink.new result.1) result.0 }
     ensures runs { RunsScript (outside_of K.Sink P.Keeper sink.old keeper)
         (outside_of K.Sink P.Keeper sink.new result.1) result.0 }

@@ -4,7 +4,7 @@ ghost use Rattle.office_base.specs.Outside.{Rose};
 ghost use Rattle.rounds.specs.Round.{seated};
 ghost use Rattle.shown_replies.specs.Shown.{rows_shown};
 ghost use Rattle.season_generator.specs.Summary.{summary_text};
-ghost use Rattle.command_answers.specs.Writes.{IsTold};
+ghost use Rattle.command_answers.specs.Writes.{IsTextOut};
 ghost use Rattle.generate_command.specs.Generated.{summary_of, summed_status, summed_text};
 
 use command_answers::{Status, tell_keeper_fault, tell_no_memory, write_answer};
@@ -66,7 +66,7 @@ fn final_admissions<P: Keeper>(office: &Office<P>) -> usize
 
 /// Writes the summary, or why there is none.
 pub(crate) fn write_summary<K: Sink>(sink: &mut K, summary: Result<Text, OfficeFault>) -> Status
-    ensures told { IsTold (summed_status summary) (summed_text summary) (K.written sink.old)
+    ensures told { IsTextOut (summed_status summary) (summed_text summary) (K.written sink.old)
         (K.written sink.new) (Rose (K.faults sink.old) (K.faults sink.new)) result }
     ensures steady { result ≢ Status.WriteFault → K.faults sink.new ≡ K.faults sink.old }
 {

@@ -20,8 +20,8 @@ use Rattle.seat_matrix.specs.Matrix.{SeatTable, codes_in, find_home}
 use Rattle.seat_matrix.specs.declared.entry.Home.{Home}
 use Rattle.choice_lists.specs.Choices.{Entry, all_choices, choice, choices, choices_after, header, is_chosen, is_ranked, judge, list_at, programme_of, reading}
 use Rattle.choice_lists.specs.declared.fault.ChoiceKind.TheVariants.{BadHeader}
-use Rattle.season_generator.specs.Bundle.{code_of as programme_code, lines, profile_of}
-use Rattle.season_generator.specs.Draws.{after}
+use Rattle.season_generator.specs.Bundle.{programme_code, lines, profile_of}
+use Rattle.season_generator.specs.Draws.{state_after}
 use Rattle.season_generator.specs.declared.profile.Profile.{Profile}
 use Rattle.generated_season.proofs.Numbers.{are-digits, read-within}
 use Rattle.generated_season.proofs.Plain.{AreWordRows, AreWords, IsWordRow, further, line_of, text_of}
@@ -232,7 +232,7 @@ chosen inverse count most n state first second ranks table short small people ha
     let reads = reads-table BadHeader header (reading ranks table) header (flat_map (rows_at most state) (range_with_len 0 n)) (entries_to most state n) refl
     (reads-range (reading ranks table) (rows_at most state) (entries_at most state) 0 n [] (λ i less. (
       row-read inverse count ranks table (entries_to most state i) most (i + 1) (profile_of state i) (slice_index first i) (slice_index second i) short (omega arith) (omega (arith, less, small))
-          (profile-drawn (after (6 * i) state)) has (people i (omega (arith, less)))
+          (profile-drawn (state_after (6 * i) state)) has (people i (omega (arith, less)))
           (none-found (λ entry. (i + 1) == entry.candidate) (λ entry. entry.programmes) (entries_at most state) 0 i
           (λ j from to. found-none (λ entry. (i + 1) == entry.candidate) (λ entry. entry.programmes) (entry_made most (j + 1) (profile_of state j)) (ne_eqb (i + 1) (j + 1) (λ e. omega (arith, e, to)))))
           (omega (arith, few-choices most state 0 i 0 short, less, small)),

@@ -8,8 +8,8 @@ use Rattle.std.proofs.lemmas.List.FromFn.{length-map-range_with_len}
 use Rattle.office_base.specs.declared.person.Category.{Category}
 use Rattle.office_base.specs.declared.person.Category.TheVariants.{Gen, Ews, Obc, Sc, St}
 use Rattle.section_rows.specs.Rows.{Row}
-use Rattle.season_generator.specs.Bundle.{category_name, choice_name, code_of as programme_code, profile_of, traits_name}
-use Rattle.season_generator.specs.Draws.{after, drawn}
+use Rattle.season_generator.specs.Bundle.{category_name, choice_name, programme_code, profile_of, traits_name}
+use Rattle.season_generator.specs.Draws.{state_after, drawn}
 use Rattle.season_generator.specs.declared.profile.Profile.{Profile}
 use Rattle.generated_season.proofs.Numbers.{own-token}
 use Rattle.generated_season.proofs.Places.{ArePlaces}
@@ -173,11 +173,11 @@ answer-length window id choice low most short =
 
 window-length : (n state before : ℕ) → n ≤ 100000 → before < 6 → length (text_of (window_at n state before)) ≤ n * 61 + 31
 window-length n state before most low =
-    let from = after (n * before) state in
+    let from = state_after (n * before) state in
     let answers = flat_map (answers_at (before + 1) from) (range_with_len 0 n) in
     let own : List Row = cut_words (before + 1) ∷ [] in
     let all : length (text_of answers) ≤ n * 61 =
-    range-length (answers_at (before + 1) from) 61 0 n (λ i less. answer-length (before + 1) (i + 1) (choice_name (drawn 20 (after i from))) (omega (arith, low)) (omega (arith, less, most)) (choice-short (drawn 20 (after i from)))) in
+    range-length (answers_at (before + 1) from) 61 0 n (λ i less. answer-length (before + 1) (i + 1) (choice_name (drawn 20 (state_after i from))) (omega (arith, low)) (omega (arith, less, most)) (choice-short (drawn 20 (state_after i from)))) in
     let split : length (text_of (answers ++ own)) ≡ length (text_of answers ++ text_of own) = ap length (text-append answers own) in
     omega (arith, all, cut-length (before + 1) (omega (arith, low)), split, length-append (text_of answers) (text_of own))
 

@@ -24,7 +24,7 @@ use Rattle.rank_lists.specs.Register.{any_relaxed, header, holder_at, is_general
 use Rattle.rank_lists.specs.declared.entry.Entry.{Entry}
 use Rattle.rank_lists.specs.declared.fault.RankKind.TheVariants.{BadHeader}
 use Rattle.season_generator.specs.Bundle.{category_name, eight_digits, has_relaxed, lines, place_field, profile_at, profile_of, register_row, register_text, stride_of, traits_name}
-use Rattle.season_generator.specs.Draws.{after, drawn}
+use Rattle.season_generator.specs.Draws.{state_after, drawn}
 use Rattle.season_generator.specs.declared.profile.Profile.{Profile}
 use Rattle.season_generator.proofs.PlaceLemmas.{drawn_below}
 use Rattle.generated_season.proofs.Numbers.{are-digits, common-place, eight-apart, own-token, read-within, relaxed-place, word-append}
@@ -45,10 +45,10 @@ pub record IsProfile (profile : Profile) : Type 0 where
 pub profile-drawn : (state : ℕ) → IsProfile (profile_at state)
 unfolding profile_at
 profile-drawn state = record {
-  chance = drawn 10 (after 3 state) == 0;
+  chance = drawn 10 (state_after 3 state) == 0;
   relaxed = refl;
-  first = drawn_below 100 (after 4 state) (omega arith);
-  number = drawn 4 (after 5 state);
+  first = drawn_below 100 (state_after 4 state) (omega arith);
+  number = drawn 4 (state_after 5 state);
   stride = refl;
 }
 
@@ -251,7 +251,7 @@ registered inverse n state first second most firsts seconds =
     let reads = reads-table BadHeader header reading header (flat_map (rows_at state first second) (range_with_len 0 n)) (entries_to state first second n) refl
     (reads-range reading (rows_at state first second) (entries_at state first second) 0 n [] (λ i less. (
       row-read inverse (entries_to state first second i) (i + 1) (profile_of state i) (slice_index first i) (slice_index second i) (omega arith) (omega (arith, less, most)) (firsts.low i (omega (arith, less)))
-          (omega (arith, firsts.high i (omega (arith, less)), most)) (seconds.low i (omega (arith, less))) (omega (arith, seconds.high i (omega (arith, less)), most)) (profile-drawn (after (6 * i) state))
+          (omega (arith, firsts.high i (omega (arith, less)), most)) (seconds.low i (omega (arith, less))) (omega (arith, seconds.high i (omega (arith, less)), most)) (profile-drawn (state_after (6 * i) state))
           (new-row inverse n state first second i most firsts seconds (omega (arith, less))),
       tt,
     )) refl) in

@@ -16,7 +16,7 @@ use Rattle.office_text.specs.Number.{AreInverse, number_within}
 use Rattle.section_rows.specs.Rows.{Row}
 use Rattle.request_rows.specs.Requests.{request_of, script_from, script_of}
 use Rattle.season_generator.specs.Bundle.{answer_row, choice_name, cut_row, lines, requests_text, window_rows}
-use Rattle.season_generator.specs.Draws.{after, drawn}
+use Rattle.season_generator.specs.Draws.{state_after, drawn}
 use Rattle.generated_season.proofs.Numbers.{are-digits, read-within}
 use Rattle.generated_season.proofs.Plain.{AreWordRows, IsWordRow, is_word, line_of, rows-append, text-append, text_of}
 use Rattle.generated_season.proofs.Ranges.{text-range, words-range}
@@ -115,10 +115,10 @@ answer-read inverse window id choice low some most is =
 -- ---- all rows
 
 abbrev pub answers_at : ℕ → ℕ → ℕ → List Row
-answers_at window state candidate = answer_words window (candidate + 1) (choice_name (drawn 20 (after candidate state))) ∷ []
+answers_at window state candidate = answer_words window (candidate + 1) (choice_name (drawn 20 (state_after candidate state))) ∷ []
 
 abbrev pub window_at : ℕ → ℕ → ℕ → List Row
-window_at n state before = flat_map (answers_at (before + 1) (after (n * before) state)) (range_with_len 0 n) ++ cut_words (before + 1) ∷ []
+window_at n state before = flat_map (answers_at (before + 1) (state_after (n * before) state)) (range_with_len 0 n) ++ cut_words (before + 1) ∷ []
 
 abbrev pub request_rows : ℕ → ℕ → List Row
 request_rows n state = cut_words 0 ∷ flat_map (window_at n state) (range_with_len 0 6)
@@ -130,27 +130,27 @@ pub record AreRequested (n state : ℕ) (rows : List Row) : Type 0 where
   pub script : List Request
   pub read : script_of rows ≡ Ok script
 
-window-text : (n state before : ℕ) → window_rows n (after (n * before) state) (before + 1) ≡ text_of (window_at n state before)
+window-text : (n state before : ℕ) → window_rows n (state_after (n * before) state) (before + 1) ≡ text_of (window_at n state before)
 unfolding window_rows lines
 window-text n state before =
-    let from = after (n * before) state in
+    let from = state_after (n * before) state in
     let answers = flat_map (answers_at (before + 1) from) (range_with_len 0 n) in
     ap (λ (l : List ℕ). l ++ cut_row (before + 1))
-    (text-range (λ candidate. answer_row (before + 1) (candidate + 1) (choice_name (drawn 20 (after candidate from)))) (answers_at (before + 1) from) 0 n (λ i. row-single (answer_words (before + 1) (i + 1) (choice_name (drawn 20 (after i from)))) _ (answer-line (before + 1) (i + 1) (choice_name (drawn 20 (after i from))))))
+    (text-range (λ candidate. answer_row (before + 1) (candidate + 1) (choice_name (drawn 20 (state_after candidate from)))) (answers_at (before + 1) from) 0 n (λ i. row-single (answer_words (before + 1) (i + 1) (choice_name (drawn 20 (state_after i from)))) _ (answer-line (before + 1) (i + 1) (choice_name (drawn 20 (state_after i from))))))
     ∙ ap (λ (l : List ℕ). text_of answers ++ l) (row-single (cut_words (before + 1)) _ (cut-line (before + 1)))
     ∙ sym (text-append answers (cut_words (before + 1) ∷ []))
 
 window-words : (n state before : ℕ) → n ≤ 100000 → before < 6 → AreWordRows (window_at n state before)
 window-words n state before most low =
-    rows-append (flat_map (answers_at (before + 1) (after (n * before) state)) (range_with_len 0 n)) (cut_words (before + 1) ∷ [])
-    (words-range (answers_at (before + 1) (after (n * before) state)) 0 n (λ i less. (answer-is-words (before + 1) (i + 1) (choice_name (drawn 20 (after i (after (n * before) state)))) (omega (arith, low)) (omega (arith, less, most)) (choice-drawn (drawn 20 (after i (after (n * before) state)))).word, tt)))
+    rows-append (flat_map (answers_at (before + 1) (state_after (n * before) state)) (range_with_len 0 n)) (cut_words (before + 1) ∷ [])
+    (words-range (answers_at (before + 1) (state_after (n * before) state)) 0 n (λ i less. (answer-is-words (before + 1) (i + 1) (choice_name (drawn 20 (state_after i (state_after (n * before) state)))) (omega (arith, low)) (omega (arith, less, most)) (choice-drawn (drawn 20 (state_after i (state_after (n * before) state)))).word, tt)))
     (cut-is-words (before + 1) (omega (arith, low)), tt)
 
 window-requests : AreInverse → (n state before : ℕ) → n ≤ 100000 → before < 6 → AreRequests (window_at n state before)
 window-requests inverse n state before most low =
-    requests-append (flat_map (answers_at (before + 1) (after (n * before) state)) (range_with_len 0 n)) (cut_words (before + 1) ∷ [])
-    (requests-range (answers_at (before + 1) (after (n * before) state)) 0 n (λ i less.
-    (answer-read inverse (before + 1) (i + 1) (choice_name (drawn 20 (after i (after (n * before) state)))) (omega (arith, low)) (omega arith) (omega (arith, less, most)) (choice-drawn (drawn 20 (after i (after (n * before) state)))), tt)))
+    requests-append (flat_map (answers_at (before + 1) (state_after (n * before) state)) (range_with_len 0 n)) (cut_words (before + 1) ∷ [])
+    (requests-range (answers_at (before + 1) (state_after (n * before) state)) 0 n (λ i less.
+    (answer-read inverse (before + 1) (i + 1) (choice_name (drawn 20 (state_after i (state_after (n * before) state)))) (omega (arith, low)) (omega arith) (omega (arith, less, most)) (choice-drawn (drawn 20 (state_after i (state_after (n * before) state)))), tt)))
     (cut-read inverse (before + 1) (omega (arith, low)), tt)
 
 pub requested : AreInverse → (n state : ℕ) → n ≤ 100000 → AreRequested n state (request_rows n state)
@@ -159,9 +159,9 @@ requested inverse n state most =
     let windows = requests-range (window_at n state) 0 6 (λ i less. window-requests inverse n state i most (omega (arith, less))) in
     let read = script-read 1 (request_rows n state) (cut-read inverse 0 (omega arith), windows) in
     record {
-      text = append_assoc (codes "[requests]\n") (cut_row 0) (flat_map (λ before. window_rows n (after (n * before) state) (before + 1)) (range_with_len 0 6))
-          ∙ ap (λ (l : List ℕ). codes "[requests]\n" ++ (l ++ flat_map (λ before. window_rows n (after (n * before) state) (before + 1)) (range_with_len 0 6))) (cut-line 0)
-          ∙ ap (λ (l : List ℕ). codes "[requests]\n" ++ (line_of (cut_words 0) ++ l)) (text-range (λ before. window_rows n (after (n * before) state) (before + 1)) (window_at n state) 0 6 (window-text n state));
+      text = append_assoc (codes "[requests]\n") (cut_row 0) (flat_map (λ before. window_rows n (state_after (n * before) state) (before + 1)) (range_with_len 0 6))
+          ∙ ap (λ (l : List ℕ). codes "[requests]\n" ++ (l ++ flat_map (λ before. window_rows n (state_after (n * before) state) (before + 1)) (range_with_len 0 6))) (cut-line 0)
+          ∙ ap (λ (l : List ℕ). codes "[requests]\n" ++ (line_of (cut_words 0) ++ l)) (text-range (λ before. window_rows n (state_after (n * before) state) (before + 1)) (window_at n state) 0 6 (window-text n state));
       words = (cut-is-words 0 (omega arith), words-range (window_at n state) 0 6 (λ i less. window-words n state i most (omega (arith, less))));
       script = read.0;
       read = read.1;

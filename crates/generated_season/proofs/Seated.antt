@@ -27,7 +27,7 @@ use Rattle.seat_matrix.specs.declared.entry.Home.{Home}
 use Rattle.seat_matrix.specs.declared.fault.MatrixKind.TheVariants.{BadHeader}
 use Rattle.seat_matrix.specs.declared.seats.Seating.{Seating}
 use Rattle.seat_matrix.proofs.SeatsLemmas.{seats-push}
-use Rattle.season_generator.specs.Bundle.{code_of as programme_code, lines, matrix_row, programme_rows}
+use Rattle.season_generator.specs.Bundle.{programme_code, lines, matrix_row, programme_rows}
 use Rattle.generated_season.proofs.Numbers.{are-digits, digit-byte, digit-plain, not-empty, read-within}
 use Rattle.generated_season.proofs.Plain.{AreWordRows, IsWordRow, is_word, line_of, text_of}
 use Rattle.generated_season.proofs.Ranges.{Reads, first-found, none-found, reads-range, reads-table, text-range, words-range}

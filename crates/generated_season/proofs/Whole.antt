@@ -18,8 +18,8 @@ use Rattle.seat_matrix.specs.Matrix as seat_grammar
 use Rattle.choice_lists.specs.Laws as choice_laws
 use Rattle.choice_lists.specs.Choices as choice_grammar
 use Rattle.request_rows.specs.Requests.{script_of}
-use Rattle.season_generator.specs.Bundle.{choices_row, choices_text, code_of as programme_code, generated, lines, matrix_text, places, programme_rows, register_text, requests_text, season_head}
-use Rattle.season_generator.specs.Draws.{after}
+use Rattle.season_generator.specs.Bundle.{choices_row, choices_text, programme_code, generated, lines, matrix_text, places, programme_rows, register_text, requests_text, season_head}
+use Rattle.season_generator.specs.Draws.{state_after}
 use Rattle.season_file.specs.Bundle.{bundle_of}
 use Rattle.season_file.specs.Head.{head_of}
 use Rattle.season_file.specs.Season.{BundleGives, IsText, SectionsGive, request_rows_of}
@@ -180,9 +180,9 @@ bundle-given bytes register matrix choices requests give =
 generated-by : Readers → (n seed count most : ℕ) → n ≤ 100000 → count ≡ 100 → most ≡ 40 → IsSeasonBundle (generated n seed)
 unfolding generated
 generated-by readers n seed count most small is-count is-most =
-    let second = after (n - 1) seed in
-    let profiles = after (n - 1) second in
-    let answers = after (6 * n) profiles in
+    let second = state_after (n - 1) seed in
+    let profiles = state_after (n - 1) second in
+    let answers = state_after (6 * n) profiles in
     let size = n / 800 + 1 in
     let size-small : size ≤ 126 = omega (arith, small) in
     let inverse = readers.inverse in

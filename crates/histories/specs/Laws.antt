@@ -1,6 +1,6 @@
 -- What holds of accepted requests and of histories.
 use Rattle.std.specs.Prelude.{◌≡◌, ◌<◌, ◌≤◌, ◌+◌, ℕ, suc, List, Some, None, IsSome, length, map}
-use Rattle.office_base.specs.Numbered.{last_of}
+use Rattle.office_base.specs.Numbered.{last_of_numbers}
 use Rattle.office_base.specs.declared.asks.Request.{Request}
 use Rattle.seat_matrix.specs.Matrix.{AreSeats, SeatTable}
 use Rattle.seeks.specs.declared.seek.Seek.{Seek}
@@ -26,7 +26,7 @@ AcceptedByItsAct facts = (state : State) (request : Request) (act : Act) → new
 -- Any request after a history leads to the state of a history again: of the entries with its act, where it was newly accepted, and a number above theirs.
 abbrev pub HistoryGrows : SeasonFacts → Type 0
 HistoryGrows facts = (entries : List Entry) (old new : State) (request : Request) (reply : Reply) (number : ℕ) → IsHistory facts entries old
-    → last_of (map (λ entry. entry.number) entries) < number → IsMove facts old request reply new
+    → last_of_numbers (map (λ entry. entry.number) entries) < number → IsMove facts old request reply new
     → IsHistory facts (grown entries number (newly old.now (decided facts old request))) new
 
 -- In every state that a history reaches the turns of each candidate in each window count from 1, and are few.

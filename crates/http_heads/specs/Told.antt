@@ -6,8 +6,8 @@ use Rattle.http_heads.specs.Fields.{Pair}
 use Rattle.http_heads.specs.Messages.{Message, pairs, Answer, whole, refused, unfinished}
 use Rattle.http_heads.specs.declared.fields.Fields.{Fields}
 use Rattle.http_heads.specs.declared.message.Head.{Head}
-use Rattle.http_heads.specs.declared.message.Held.{Held}
-use Rattle.http_heads.specs.declared.message.Held.TheVariants.{More, Refused, Whole}
+use Rattle.http_heads.specs.declared.message.Arrived.{Arrived}
+use Rattle.http_heads.specs.declared.message.Arrived.TheVariants.{More, Refused, Whole}
 use Rattle.http_heads.specs.declared.message.HeldMessage.{HeldMessage}
 
 -- the names and values of fields
@@ -26,7 +26,7 @@ abbrev pub told_message : HeldMessage → Message
 told_message held = record { method = held.method.now; target = held.target.now; minor = held.minor; fields = told_fields held.fields; body = held.body.now }
 
 -- what the call answered
-abbrev pub told : Held → Answer
+abbrev pub told : Arrived → Answer
 told More = unfinished
 told (Refused status) = refused status
 told (Whole held) = whole (told_message held) held.len

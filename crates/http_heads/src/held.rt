@@ -6,7 +6,7 @@ ghost use Rattle.http_heads.specs.Told.{told};
 
 use crate::head_ends::head_len;
 use crate::heads::read_head;
-use crate::message::{Held, HeldMessage};
+use crate::message::{Arrived, HeldMessage};
 use httparse::spans::HeaderSpan;
 
 /// How many bytes the head of a message may have.
@@ -14,14 +14,14 @@ const MOST_HEAD_BYTES: usize = 8192;
 
 /// What the bytes that are held so far come to. A whole message and a refusal stay so whatever bytes follow. `room` is for the
 /// places of the fields; what it held before does not matter.
-pub fn held_message<'a>(held: &'a [u8], room: &'a mut [HeaderSpan; 64]) -> Held<'a>
+pub fn held_message<'a>(held: &'a [u8], room: &'a mut [HeaderSpan; 64]) -> Arrived<'a>
     ensures exact { ComesTo held.now (told result) }
     ensures stays { Stays held.now (told result) }
 {
     match head_len(prefix(held, MOST_HEAD_BYTES)) {
         Some(end) => after_head(held, end, room),
-        None if held.len() < MOST_HEAD_BYTES => Held::More,
-        None => Held::Refused(431),
+        None if held.len() < MOST_HEAD_BYTES => Arrived::More,
+        None => Arrived::Refused(431),
     }
 }
 
@@ -37,19 +37,19 @@ fn prefix(bytes: &[u8], most: usize) -> &[u8]
 }
 
 /// What held bytes come to whose head ended after `end` of them.
-fn after_head<'a>(held: &'a [u8], end: usize, room: &'a mut [HeaderSpan; 64]) -> Held<'a>
+fn after_head<'a>(held: &'a [u8], end: usize, room: &'a mut [HeaderSpan; 64]) -> Arrived<'a>
     requires ends { head_len (take 8192 held.now) ≡ Some end }
     requires within { end ≤ length held.now }
     ensures { ComesTo held.now (told result) }
 {
     let (bytes, rest) = held.split_at(end);
     let Some(head) = read_head(bytes, room) else {
-        return Held::Refused(400);
+        return Arrived::Refused(400);
     };
     match head.fields.body_len(head.method) {
-        Err(status) => Held::Refused(status),
-        Ok(len) if rest.len() < len => Held::More,
-        Ok(len) => Held::Whole(HeldMessage {
+        Err(status) => Arrived::Refused(status),
+        Ok(len) if rest.len() < len => Arrived::More,
+        Ok(len) => Arrived::Whole(HeldMessage {
             method: head.method,
             target: head.target,
             minor: head.minor,

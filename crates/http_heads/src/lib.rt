@@ -18,5 +18,5 @@ pub mod values;
 
 pub use fields::Fields;
 pub use held::held_message;
-pub use message::{Held, HeldMessage};
+pub use message::{Arrived, HeldMessage};
 pub use methods::Method;

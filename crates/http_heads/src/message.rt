@@ -44,7 +44,7 @@ impl HeldMessage<'_> {
 
 /// What held bytes come to.
 #[derive(Drop)]
-pub enum Held<'a> {
+pub enum Arrived<'a> {
     /// Nothing yet: more bytes are wanted.
     More,
     /// They are refused with this status, and the connection closes: 400, 411, 413, 431 or 501.

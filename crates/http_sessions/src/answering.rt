@@ -13,7 +13,7 @@ use crate::counter::{Answered, Counter};
 use crate::gate::Gate;
 use http::StatusCode;
 use http_asks::{Judged, Routes, judge, token};
-use http_heads::{Held, HeldMessage, held_message};
+use http_heads::{Arrived, HeldMessage, held_message};
 use http_wire::{Fault, Outbox};
 use httparse::spans::{EMPTY_HEADER_SPAN, HeaderSpan};
 use office_base::{Ask, Failed, OutOfMemory, Text};
@@ -170,8 +170,8 @@ pub(crate) fn answer_held<C: Counter, G: Gate>(
     ensures same { C.lender counter.new ≡ C.lender counter.old }
 {
     match held_message(held, &mut tools.room) {
-        Held::More => None,
-        Held::Refused(status) => {
+        Arrived::More => None,
+        Arrived::Refused(status) => {
             tools.outbox.refuse(status, None, true);
             Some(Ready {
                 len: 0,
@@ -179,7 +179,7 @@ pub(crate) fn answer_held<C: Counter, G: Gate>(
                 body: None,
             })
         }
-        Held::Whole(message) => {
+        Arrived::Whole(message) => {
             let body = answer_message(
                 alloc,
                 counter,

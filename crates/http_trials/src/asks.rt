@@ -1,7 +1,7 @@
 // What messages ask: tables of targets, methods, bodies and tokens with their answers from outside.
 use crate::messages::{bare, joined, repeated, with_body};
 use http_asks::{Judged, Routes, judge, token};
-use http_heads::{Held, Method, held_message};
+use http_heads::{Arrived, Method, held_message};
 use httparse::spans::EMPTY_HEADER_SPAN;
 use office_base::{Ask, CandId, Choice, Code, StepKind};
 use std::alloc::Global;
@@ -14,7 +14,7 @@ fn refused(status: u16, allow: Option<Method>) -> Judged {
 /// What a message comes to. None where the bytes are no message, or there is no memory.
 fn comes_to(alloc: Global, bytes: &[u8]) -> Option<Judged> {
     let mut room = [EMPTY_HEADER_SPAN; 64];
-    let Held::Whole(message) = held_message(bytes, &mut room) else {
+    let Arrived::Whole(message) = held_message(bytes, &mut room) else {
         return None;
     };
     let routes = Routes::new(alloc).ok()?;
@@ -510,7 +510,7 @@ const TOKENS: [(&str, Option<&str>); 7] = [
 fn has_token(bytes: &[u8], expected: Option<&[u8]>) -> bool {
     let mut room = [EMPTY_HEADER_SPAN; 64];
     match held_message(bytes, &mut room) {
-        Held::Whole(message) => token(&message.fields) == expected,
+        Arrived::Whole(message) => token(&message.fields) == expected,
         _ => false,
     }
 }

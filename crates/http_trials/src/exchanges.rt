@@ -3,7 +3,7 @@
 use crate::messages::{joined, long_head, many_fields};
 use crate::replies::{answer, refuse};
 use http_asks::{Judged, Routes, judge, token};
-use http_heads::{Held, HeldMessage, held_message};
+use http_heads::{Arrived, HeldMessage, held_message};
 use http_wire::Outbox;
 use httparse::spans::EMPTY_HEADER_SPAN;
 use office_base::{Ask, CandId, Choice};
@@ -77,12 +77,12 @@ fn reply_to(
 fn reply_at(alloc: Global, routes: &Routes, held: &[u8], outbox: &mut Outbox) -> Option<Next> {
     let mut room = [EMPTY_HEADER_SPAN; 64];
     match held_message(held, &mut room) {
-        Held::More => Some(Next::More),
-        Held::Refused(status) => {
+        Arrived::More => Some(Next::More),
+        Arrived::Refused(status) => {
             refuse(outbox, status, None, true);
             Some(Next::Close)
         }
-        Held::Whole(message) => reply_to(alloc, routes, &message, outbox),
+        Arrived::Whole(message) => reply_to(alloc, routes, &message, outbox),
     }
 }
 

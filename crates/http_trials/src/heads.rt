@@ -1,6 +1,6 @@
 // What held bytes come to: tables of messages with their answers from outside, and each cut at every byte.
 use crate::messages::{joined, long_head, many_fields, repeated, with_body};
-use http_heads::{Held, HeldMessage, held_message};
+use http_heads::{Arrived, HeldMessage, held_message};
 use httparse::spans::EMPTY_HEADER_SPAN;
 use std::alloc::Global;
 
@@ -8,9 +8,9 @@ use std::alloc::Global;
 fn comes_to(held: &[u8]) -> (u16, usize) {
     let mut room = [EMPTY_HEADER_SPAN; 64];
     match held_message(held, &mut room) {
-        Held::More => (100, 0),
-        Held::Refused(status) => (status, 0),
-        Held::Whole(message) => (200, message.len),
+        Arrived::More => (100, 0),
+        Arrived::Refused(status) => (status, 0),
+        Arrived::Whole(message) => (200, message.len),
     }
 }
 
@@ -250,7 +250,7 @@ fn has_fields(message: &HeldMessage<'_>) -> bool {
 fn is_told() -> bool {
     let mut room = [EMPTY_HEADER_SPAN; 64];
     match held_message(MESSAGE, &mut room) {
-        Held::Whole(message) => has_parts(&message) && has_fields(&message),
+        Arrived::Whole(message) => has_parts(&message) && has_fields(&message),
         _ => false,
     }
 }
@@ -279,7 +279,7 @@ const CLOSINGS: [(&str, bool); 10] = [
 fn closes(bytes: &[u8]) -> Option<bool> {
     let mut room = [EMPTY_HEADER_SPAN; 64];
     match held_message(bytes, &mut room) {
-        Held::Whole(message) => Some(message.closes()),
+        Arrived::Whole(message) => Some(message.closes()),
         _ => None,
     }
 }

@@ -15,7 +15,7 @@ use Rattle.keeper_mem.specs.declared.keeper.KeepFault.TheVariants.{Failed, OutOf
 use Rattle.keeper_sqlite.specs.Columns.{IsAnswerRow, IsRaiseRow, IsAllotRow, TellsKey}
 use Rattle.keeper_sqlite.specs.Commits.{CommitsNothing}
 use Rattle.keeper_sqlite.specs.Halts.{keep_fault}
-use Rattle.keeper_sqlite.specs.Rising.{are_rising}
+use Rattle.keeper_sqlite.specs.Rising.{rise_after_key}
 use Rattle.keeper_sqlite.specs.Stored.{Stored}
 use Rattle.keeper_sqlite.specs.Kept.{DidAll, Looks, Makes, PutsText, TellsText, TellsRecords, TellsPhaseOf, ToldPhase, AreAbove, text_calls, season_calls, seat_calls, unanswered_calls, any_row_queries, opening_text, opening_values, key_query, answers_query, raises_query, allots_query}
 use Rattle.keeper_sqlite.specs.Kept.Call.{Places, Asks}
@@ -55,7 +55,7 @@ module _ {S : Type 0} (g : Ghosts S) where
   made_none old new found (Err halt) told err clean = inr (err.1, subst (λ (f : Option ℕ). TellsPhaseOf g f old new) err.0 (told clean))
 
   -- the rows do not rise above the last key
-  pub order_below : (rows : List AllotRow) (last : Option Key) (old new : Held S) → (HasCleanDisk (state g new) → (told : List Row) × TellsKey told last × DidAll g (Asks key_query told ∷ []) old new) → are_rising last rows ≡ false
+  pub order_below : (rows : List AllotRow) (last : Option Key) (old new : Held S) → (HasCleanDisk (state g new) → (told : List Row) × TellsKey told last × DidAll g (Asks key_query told ∷ []) old new) → rise_after_key last rows ≡ false
       → HasCleanDisk (state g new) → LosesOrder g rows Unfit old new
   order_below rows last old new asked falls clean = let it = asked clean in inr (refl, record { told = it.0; last = last; is = it.1; falls = falls; asked = it.2 })
 

@@ -31,7 +31,7 @@ use Rattle.stored_tables.proofs.ShowLemmas.{IsLastKey, shows_phase, shows_key, s
 use Rattle.stored_tables.proofs.TellLemmas.{answer_told, raise_told, cut_told, none_told, season_told}
 use Rattle.stored_tables.proofs.StandLemmas.{same_number}
 use Rattle.keeper_sqlite.specs.Columns.{TellsKey}
-use Rattle.keeper_sqlite.specs.Rising.{are_rising, key_of}
+use Rattle.keeper_sqlite.specs.Rising.{rise_after_key, key_of}
 use Rattle.keeper_sqlite.specs.declared.rising.Key.{Key}
 use Rattle.keeper_sqlite.specs.Kept.{Call, Ran, Did, DidAll, PutsText, MakesCut, AreAbove, ToldPhase, IsReady, answer_text, answer_values, raise_text, raise_values, allot_text, allot_calls, part_text, part_calls, text_calls, seat_calls, season_calls, opening_text, opening_values, cuts_text, cuts_values, key_query, phase_query}
 use Rattle.keeper_sqlite.specs.Kept as Kept
@@ -160,11 +160,11 @@ module _ {S : Type 0} (g : Ghosts S) where
       )
 
   -- rows that rise above this key
-  rise_key : (key : Key) (rows : List AllotRow) → are_rising (Some key) rows ≡ rise_after key.round key.cand.0 rows
+  rise_key : (key : Key) (rows : List AllotRow) → rise_after_key (Some key) rows ≡ rise_after key.round key.cand.0 rows
   rise_key key [] = refl
   rise_key key (row ∷ rows) = ap (λ b. comes_after key.round key.cand.0 row && b) (rise_key (key_of row) rows)
 
-  rise_none : (rows : List AllotRow) → are_rising None rows ≡ true → rise rows ≡ true
+  rise_none : (rows : List AllotRow) → rise_after_key None rows ≡ true → rise rows ≡ true
   rise_none [] h = refl
   rise_none (row ∷ rows) h = sym (rise_key (key_of row) rows) ∙ h
 
@@ -172,7 +172,7 @@ module _ {S : Type 0} (g : Ghosts S) where
   no_key told None is tells = refl
   no_key told (Some key) is tells = absurd (let e = sym tells.1 ∙ ap (λ l. slice_get l 0) is in cc)
 
-  one_key : (told : List Row) (row : Row) (last : Option Key) (rows : List AllotRow) (round cand : ℕ) → told ≡ row ∷ [] → column row 0 ≡ Int (pos round) → column row 1 ≡ Int (pos cand) → TellsKey told last → are_rising last rows ≡ true
+  one_key : (told : List Row) (row : Row) (last : Option Key) (rows : List AllotRow) (round cand : ℕ) → told ≡ row ∷ [] → column row 0 ≡ Int (pos round) → column row 1 ≡ Int (pos cand) → TellsKey told last → rise_after_key last rows ≡ true
       → rise_after round cand rows ≡ true
   one_key told row None rows round cand is a b tells h = absurd (let e = sym is ∙ tells in cc)
   one_key told row (Some key) rows round cand is a b tells h =
@@ -181,8 +181,8 @@ module _ {S : Type 0} (g : Ghosts S) where
       let c : key.cand.0 ≡ cand = same_number (sym tells.2.cand.1 ∙ (ap (λ (x : Row). column x 1) same ∙ b)) in
       ap₂ (λ m n. rise_after m n rows) (sym r) (sym c) ∙ (sym (rise_key key rows) ∙ h)
 
-  above_last : (all rows : List AllotRow) (told : List Row) (last : Option Key) → IsLastKey told all → TellsKey told last → are_rising last rows ≡ true → more_rise all rows
-  above_last [] rows told last is tells h = rise_none rows (ap (λ k. are_rising k rows) (sym (no_key told last is tells)) ∙ h)
+  above_last : (all rows : List AllotRow) (told : List Row) (last : Option Key) → IsLastKey told all → TellsKey told last → rise_after_key last rows ≡ true → more_rise all rows
+  above_last [] rows told last is tells h = rise_none rows (ap (λ k. rise_after_key k rows) (sym (no_key told last is tells)) ∙ h)
   above_last (a ∷ ones) rows told last is tells h = one_key told _ last rows _ _ is refl refl tells h
 
   allots_made : (o p : Option (List AllotRow)) (rows : List AllotRow) → p ≡ option_map (λ all. all ++ rows) o → ((all : List AllotRow) → o ≡ Some all → rise all ≡ true → more_rise all rows)

@@ -14,7 +14,7 @@ use Rattle.kept_rows.specs.declared.rows.Kept.{Kept}
 pub use Rattle.stored_tables.specs.Texts.{answer_text, answer_values, raise_text, raise_values, allot_text, allot_values, cuts_text, cuts_values, phase_query, opening_text, opening_values, part_text, part_values, text_query, answers_query, raises_query, allots_query, key_query, any_part, any_answer, any_raise, any_allot, season_table, phase_table, answer_table, lift_table, allot_table}
 use Rattle.stored_tables.specs.Fits.{AllotFits}
 use Rattle.keeper_sqlite.specs.Columns.{IsPhaseRow, IsPartRow, IsAnswerRow, IsRaiseRow, IsAllotRow, TellsPhase, TellsKey}
-use Rattle.keeper_sqlite.specs.Rising.{are_rising}
+use Rattle.keeper_sqlite.specs.Rising.{rise_after_key}
 use Rattle.keeper_sqlite.specs.declared.rising.Key.{Key}
 use Rattle.keeper_sqlite.specs.declared.transactions.Change.{Change}
 use Rattle.keeper_sqlite.specs.declared.transactions.Change.TheVariants.{Answer, Raise, Tables, Season, Cut}
@@ -121,7 +121,7 @@ module _ {S : Type 0} (g : Ghosts S) where
     pub told : List Row
     pub last : Option Key
     pub is : TellsKey told last
-    pub rising : are_rising last rows ≡ true
+    pub rising : rise_after_key last rows ≡ true
     pub asked : DidAll (Asks key_query told ∷ []) old new
 
   -- The phase showed this many cuts, and the rows are above the last key; then each of them was put, and one cut more.

@@ -12,9 +12,9 @@ is_above None row = true
 is_above (Some key) row = nat_lt key.round row.round || ((key.round == row.round) && nat_lt key.cand.0 row.cand.0)
 
 -- each row comes after the one before it, and the first after this key
-abbrev pub are_rising : Option Key → List AllotRow → Bool
-are_rising last [] = true
-are_rising last (row ∷ rows) = is_above last row && are_rising (Some (key_of row)) rows
+abbrev pub rise_after_key : Option Key → List AllotRow → Bool
+rise_after_key last [] = true
+rise_after_key last (row ∷ rows) = is_above last row && rise_after_key (Some (key_of row)) rows
 
 -- the key of the last of these rows, and this one if there is none
 abbrev pub key_after : Option Key → List AllotRow → Option Key

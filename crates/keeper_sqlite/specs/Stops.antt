@@ -14,7 +14,7 @@ use Rattle.kept_rows.specs.declared.rows.AllotRow.{AllotRow}
 use Rattle.kept_rows.specs.declared.rows.RaiseRow.{RaiseRow}
 use Rattle.keeper_mem.specs.declared.keeper.KeepFault.{KeepFault}
 use Rattle.keeper_sqlite.specs.Columns.{IsPartRow, IsAnswerRow, IsRaiseRow, IsAllotRow, TellsPhase, TellsKey}
-use Rattle.keeper_sqlite.specs.Rising.{are_rising}
+use Rattle.keeper_sqlite.specs.Rising.{rise_after_key}
 use Rattle.keeper_sqlite.specs.Halts.{WantsMemory, keep_fault}
 use Rattle.keeper_sqlite.specs.declared.rising.Key.{Key}
 use Rattle.keeper_sqlite.specs.declared.halt.Halt.{Halt}
@@ -99,7 +99,7 @@ module _ {S : Type 0} (g : Ghosts S) where
     pub told : List Row
     pub last : Option Key
     pub is : TellsKey told last
-    pub falls : are_rising last rows ≡ false
+    pub falls : rise_after_key last rows ≡ false
     pub asked : DidAll g (Asks key_query told ∷ []) old new
 
   abbrev pub LosesOrder : List AllotRow → Halt → Held S → Held S → Type 0

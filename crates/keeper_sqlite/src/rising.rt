@@ -1,6 +1,6 @@
 // The order of published seats: by round, and inside a round by candidate.
 ghost use Rattle.std.specs.Prelude.{◌≡◌};
-ghost use Rattle.keeper_sqlite.specs.Rising.{are_rising, is_above};
+ghost use Rattle.keeper_sqlite.specs.Rising.{rise_after_key, is_above};
 
 use kept_rows::AllotRow;
 use office_base::CandId;
@@ -14,7 +14,7 @@ pub(crate) struct Key {
 
 /// Returns whether the rows rise by round and candidate, and above the last key if there is one.
 pub(crate) fn are_rising(last: Option<Key>, rows: &[AllotRow]) -> bool
-    ensures { result ≡ are_rising last rows.now }
+    ensures { result ≡ rise_after_key last rows.now }
 {
     let mut above = last;
     for row in rows {

@@ -2,7 +2,7 @@
 use Rattle.std.proofs.Common.{◌≡◌, ◌+◌, inl, inr, ℕ, zero, suc, Bool, true, false, List, [], ◌∷◌, Option, Ok, Err, arith, refl, sym, subst, ◌==◌, nat_lt, if◌then◌else◌}
 use Rattle.std.specs.Prelude.{map}
 use Rattle.std.proofs.lemmas.Bool.{cases_lt}
-use Rattle.office_base.specs.Numbered.{last_of}
+use Rattle.office_base.specs.Numbered.{last_of_numbers}
 use Rattle.office_base.specs.declared.asks.Request.{Request}
 use Rattle.office_base.specs.declared.asks.Seat.{Seat}
 use Rattle.office_base.specs.declared.person.CandId.{CandId}
@@ -90,7 +90,7 @@ HasHistory facts state = (entries : List _) × IsHistory facts entries state
 module _ (facts : SeasonFacts) (grows : HistoryGrows facts) (sound : IsSound facts) where
   history_more : (old new : State) (request : Request) (reply : Reply) → HasHistory facts old → IsMove facts old request reply new → HasHistory facts new
   history_more old new request reply there moves =
-      let number = last_of (map (λ entry. entry.number) there.0) + 1 in
+      let number = last_of_numbers (map (λ entry. entry.number) there.0) + 1 in
       (grown there.0 number (newly old.now (decided facts old request)), grows there.0 old new request reply number there.1 (omega arith) moves)
 
   history_rows : (window place : ℕ) (rows : List Act) (old new : State) → HasHistory facts old → rows_replayed facts window place rows old ≡ Ok new → HasHistory facts new

@@ -24,7 +24,7 @@ use Rattle.programme_lists.specs.Programme.{Admissions, is_of, people_of, withou
 use Rattle.programme_lists.specs.declared.programme.Programme.{Programme}
 use Rattle.programme_lists.specs.declared.programme.StepList.{StepList}
 use Rattle.merit_choice.specs.InMerit.{RankedInMerit, RankedPart}
-use Rattle.list_audit.specs.Clauses.{Audited, AreCandidates, AreRightNumbers, BreaksFirst, IsListFault, IsRightSize, IsSound, audited, list_at, list_of, named_at, named_by, people_at, protections_at}
+use Rattle.list_audit.specs.Clauses.{Audited, AreCandidates, AreRightNumbers, BreaksFirst, IsListFault, IsRightSize, IsSound, audited, list_at, list_of_step, named_at, named_by, people_at, protections_at}
 use Rattle.list_audit.specs.Outside.{IsOutside}
 use Rattle.list_audit.specs.Stand.{left_to, stands_for}
 use Rattle.list_audit.specs.Steps.{BreaksChoice, IsCategoryFault, IsChoiceFault, IsOfCategory, IsStepFault}
@@ -153,35 +153,35 @@ module _ (part : RankedPart) (order : RankedInMerit) (version : ℕ) (seats : Pr
   pub same_order : people ≡ in_merit seats.list people
   same_order = sym (order seats.list people ranked).1
 
-  part_of : (kind : StepKind) → IsSound (audited version seats people programme kind) → IsSublist (list_of programme kind).admitted (people_of seats.list people named kind)
+  part_of : (kind : StepKind) → IsSound (audited version seats people programme kind) → IsSublist (list_of_step programme kind).admitted (people_of seats.list people named kind)
   part_of kind sound =
       let e : people_of seats.list people named kind ≡ people_at (audited version seats people programme kind) = ap (λ (those : List Person). people_of seats.list those named kind) same_order in
       sound_part part (audited version seats people programme kind) (people_of seats.list people named kind) e
       (ranked_sublist seats.list (people_of seats.list people named kind) people ranked (people_part seats.list people named kind)) sound
 
-  pub open_part : IsSound (audited version seats people programme Open) → IsSublist (list_of programme Open).admitted people
-  open_part sound = sublist_again (list_of programme Open).admitted (people_of seats.list people named Open) people (part_of Open sound) (people_part seats.list people named Open)
+  pub open_part : IsSound (audited version seats people programme Open) → IsSublist (list_of_step programme Open).admitted people
+  open_part sound = sublist_again (list_of_step programme Open).admitted (people_of seats.list people named Open) people (part_of Open sound) (people_part seats.list people named Open)
 
-  module _ (rest : List Person) (left : rest ≡ without people (list_of programme Open).admitted) where
+  module _ (rest : List Person) (left : rest ≡ without people (list_of_step programme Open).admitted) where
     pub rest_ranked : AreRanked seats.list rest
-    rest_ranked = subst (AreRanked seats.list) (sym left) (ranked_without seats.list people (list_of programme Open).admitted ranked)
+    rest_ranked = subst (AreRanked seats.list) (sym left) (ranked_without seats.list people (list_of_step programme Open).admitted ranked)
 
     pub rest_told : (applicants : List Person) → people ≡ in_merit seats.list applicants → rest ≡ without (in_merit seats.list applicants) named.open_step
     rest_told applicants e = left ∙ ap (λ (those : List Person). without those named.open_step) e
 
     module _ (each : (kind : StepKind) → IsOfCategory kind → IsSound (audited version seats people programme kind)) where
-      pub ews_part : IsSublist (list_of programme Ews).admitted (filter (is_of EwsMember) rest)
-      ews_part = subst (λ (those : List Person). IsSublist (list_of programme Ews).admitted (filter (is_of EwsMember) those)) (sym left)
+      pub ews_part : IsSublist (list_of_step programme Ews).admitted (filter (is_of EwsMember) rest)
+      ews_part = subst (λ (those : List Person). IsSublist (list_of_step programme Ews).admitted (filter (is_of EwsMember) those)) (sym left)
           (part_of Ews (each Ews (record { after = omega arith; before = omega arith })))
 
-      pub obc_part : IsSublist (list_of programme Obc).admitted (filter (is_of ObcMember) rest)
-      obc_part = subst (λ (those : List Person). IsSublist (list_of programme Obc).admitted (filter (is_of ObcMember) those)) (sym left)
+      pub obc_part : IsSublist (list_of_step programme Obc).admitted (filter (is_of ObcMember) rest)
+      obc_part = subst (λ (those : List Person). IsSublist (list_of_step programme Obc).admitted (filter (is_of ObcMember) those)) (sym left)
           (part_of Obc (each Obc (record { after = omega arith; before = omega arith })))
 
-      pub sc_part : IsSublist (list_of programme Sc).admitted (filter (is_of ScMember) rest)
-      sc_part = subst (λ (those : List Person). IsSublist (list_of programme Sc).admitted (filter (is_of ScMember) those)) (sym left)
+      pub sc_part : IsSublist (list_of_step programme Sc).admitted (filter (is_of ScMember) rest)
+      sc_part = subst (λ (those : List Person). IsSublist (list_of_step programme Sc).admitted (filter (is_of ScMember) those)) (sym left)
           (part_of Sc (each Sc (record { after = omega arith; before = omega arith })))
 
-      pub st_part : IsSublist (list_of programme St).admitted (filter (is_of StMember) rest)
-      st_part = subst (λ (those : List Person). IsSublist (list_of programme St).admitted (filter (is_of StMember) those)) (sym left)
+      pub st_part : IsSublist (list_of_step programme St).admitted (filter (is_of StMember) rest)
+      st_part = subst (λ (those : List Person). IsSublist (list_of_step programme St).admitted (filter (is_of StMember) those)) (sym left)
           (part_of St (each St (record { after = omega arith; before = omega arith })))

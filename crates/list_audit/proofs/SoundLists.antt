@@ -27,7 +27,7 @@ use Rattle.programme_lists.specs.Programme.{Admissions, is_of, left_over, people
 use Rattle.programme_lists.specs.declared.programme.Programme.{Programme}
 use Rattle.merit_choice.specs.InMerit.{InMeritRanks, RankedPart}
 use Rattle.seat_matrix.proofs.Unprotected.{none_honoured}
-use Rattle.list_audit.specs.Clauses.{IsSound, audited, list_of, named_by}
+use Rattle.list_audit.specs.Clauses.{IsSound, audited, list_of_step, named_by}
 use Rattle.list_audit.specs.Laws.{SingleExchanges, SoundListsAreTheChoice}
 
 -- ---- the people of a step
@@ -135,33 +135,33 @@ shared_by false n obc ews obc_seats ews_seats e few_obc few_ews = omega (arith, 
 module _ (single_exchanges : SingleExchanges) (ranked_part : RankedPart) (in_merit_ranks : InMeritRanks) where
   -- a step with seats of its own, in which no clause is broken, admits those whom its list names
   sound_step : (version : ℕ) (seats : ProgrammeSeats) (people : List Person) (programme : Programme) (kind : StepKind) → AreProgrammeSeats seats → AreApplicants seats.list people
-      → IsSound (audited version seats people programme kind) → (list_of programme kind).seats ≡ (seats_of seats kind).seats
-      → IsStepChoice (step_of seats (in_merit seats.list people) (named_by programme) kind) (list_of programme kind).admitted
+      → IsSound (audited version seats people programme kind) → (list_of_step programme kind).seats ≡ (seats_of seats kind).seats
+      → IsStepChoice (step_of seats (in_merit seats.list people) (named_by programme) kind) (list_of_step programme kind).admitted
   sound_step version seats people programme kind ok may sound own =
       let step : Step = step_of seats (in_merit seats.list people) (named_by programme) kind in
-      let named : List Person = (list_of programme kind).admitted in
+      let named : List Person = (list_of_step programme kind).admitted in
       let ranked : AreRanked seats.list step.people =
       ranked_sublist seats.list step.people (in_merit seats.list people) (in_merit_ranks seats.list people may).0 (people_part seats.list (in_merit seats.list people) (named_by programme) kind) in
       let is_step : IsStep step = record { list = ok.list; people = ranked; protections = (ok.steps kind).protections } in
       let order = ranked_among seats.list step.people named ranked sound.candidates.people sound.candidates.in_order in
       let sub = ranked_part seats.list named step.people order ranked sound.candidates.people in
       let size : length named ≡ min step.seats (length step.people) = sound.size ∙ ap (λ (n : ℕ). min n (length step.people)) own in
-      let honoured = honoured_named step.protections step.people named (list_of programme kind).cert.pairs sound.candidates.people sound.certified.placement sound.certified.most in
-      single_exchanges step named (length (list_of programme kind).cert.pairs) is_step sub size honoured sound.certified.most
+      let honoured = honoured_named step.protections step.people named (list_of_step programme kind).cert.pairs sound.candidates.people sound.certified.placement sound.certified.most in
+      single_exchanges step named (length (list_of_step programme kind).cert.pairs) is_step sub size honoured sound.certified.most
       (λ person worse over. sound.best person (worse, over))
 
   -- the last step admits the best
   sound_last : (version : ℕ) (seats : ProgrammeSeats) (people : List Person) (programme : Programme) → AreApplicants seats.list people
       → IsSound (audited version seats people programme Dereserved)
-      → (list_of programme Dereserved).admitted ≡ take (list_of programme Dereserved).seats (people_of seats.list (in_merit seats.list people) (named_by programme) Dereserved)
+      → (list_of_step programme Dereserved).admitted ≡ take (list_of_step programme Dereserved).seats (people_of seats.list (in_merit seats.list people) (named_by programme) Dereserved)
   sound_last version seats people programme may sound =
       let stand : List Person = people_of seats.list (in_merit seats.list people) (named_by programme) Dereserved in
-      let named : List Person = (list_of programme Dereserved).admitted in
+      let named : List Person = (list_of_step programme Dereserved).admitted in
       let ranked : AreRanked seats.list stand =
       ranked_sublist seats.list stand (in_merit seats.list people) (in_merit_ranks seats.list people may).0 (people_part seats.list (in_merit seats.list people) (named_by programme) Dereserved) in
       let order = ranked_among seats.list stand named ranked sound.candidates.people sound.candidates.in_order in
       let sub = ranked_part seats.list named stand order ranked sound.candidates.people in
-      best_named seats.list stand named (list_of programme Dereserved).seats ranked sub sound.size
+      best_named seats.list stand named (list_of_step programme Dereserved).seats ranked sub sound.size
       (λ one worse there gone here better. sound.best one (
         worse,
         record {
@@ -177,10 +177,10 @@ module _ (single_exchanges : SingleExchanges) (ranked_part : RankedPart) (in_mer
   sound_lists version seats people programme ok may sound =
       let obc = sound Obc in
       let ews = sound Ews in
-      let few_obc : length (list_of programme Obc).admitted ≤ (seats_of seats Obc).seats = (let a = obc.size in let b = obc.numbers.seats in omega (arith, a, b)) in
-      let few_ews : length (list_of programme Ews).admitted ≤ (seats_of seats Ews).seats = (let a = ews.size in let b = ews.numbers.seats in omega (arith, a, b)) in
-      let left : (list_of programme Dereserved).seats ≡ unfilled version seats (named_by programme) =
-      shared_by (version == 2) (list_of programme Dereserved).seats (length (list_of programme Obc).admitted) (length (list_of programme Ews).admitted) (seats_of seats Obc).seats (seats_of seats Ews).seats
+      let few_obc : length (list_of_step programme Obc).admitted ≤ (seats_of seats Obc).seats = (let a = obc.size in let b = obc.numbers.seats in omega (arith, a, b)) in
+      let few_ews : length (list_of_step programme Ews).admitted ≤ (seats_of seats Ews).seats = (let a = ews.size in let b = ews.numbers.seats in omega (arith, a, b)) in
+      let left : (list_of_step programme Dereserved).seats ≡ unfilled version seats (named_by programme) =
+      shared_by (version == 2) (list_of_step programme Dereserved).seats (length (list_of_step programme Obc).admitted) (length (list_of_step programme Ews).admitted) (seats_of seats Obc).seats (seats_of seats Ews).seats
       (sound Dereserved).numbers.seats few_obc few_ews in
       record {
         open_step = sound_step version seats people programme Open ok may (sound Open) (sound Open).numbers.seats;

@@ -28,18 +28,18 @@ abbrev pub no_list : StepList
 no_list = record { kind = Open; seats = 0; candidates = 0; admitted = []; cert = record { pairs = [] } }
 
 -- the list of a step
-abbrev pub list_of : Programme → StepKind → StepList
-list_of programme kind = slice_index_or programme.steps (step_number kind) no_list
+abbrev pub list_of_step : Programme → StepKind → StepList
+list_of_step programme kind = slice_index_or programme.steps (step_number kind) no_list
 
 -- whom the lists name
 abbrev pub named_by : Programme → Admissions
 named_by programme = record {
-  open_step = (list_of programme Open).admitted;
-  ews = (list_of programme Ews).admitted;
-  obc = (list_of programme Obc).admitted;
-  sc = (list_of programme Sc).admitted;
-  st = (list_of programme St).admitted;
-  dereserved = (list_of programme Dereserved).admitted;
+  open_step = (list_of_step programme Open).admitted;
+  ews = (list_of_step programme Ews).admitted;
+  obc = (list_of_step programme Obc).admitted;
+  sc = (list_of_step programme Sc).admitted;
+  st = (list_of_step programme St).admitted;
+  dereserved = (list_of_step programme Dereserved).admitted;
 }
 
 -- ---- one step
@@ -58,7 +58,7 @@ audited version seats people programme kind = record { version = version; seats 
 
 -- its list, and whom that names
 abbrev pub list_at : Audited → StepList
-list_at step = list_of step.programme step.kind
+list_at step = list_of_step step.programme step.kind
 
 abbrev pub named_at : Audited → List Person
 named_at step = (list_at step).admitted

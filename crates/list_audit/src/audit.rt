@@ -15,7 +15,7 @@ ghost use Rattle.seat_matrix.specs.Matrix.{list_in, seats_in};
 ghost use Rattle.seat_matrix.specs.Seats.{AreProgrammeSeats};
 ghost use Rattle.programme_lists.specs.Chosen.{AreApplicants};
 ghost use Rattle.programme_lists.specs.Programme.{is_of, without};
-ghost use Rattle.list_audit.specs.Clauses.{IsListFault, audited, list_of, named_by};
+ghost use Rattle.list_audit.specs.Clauses.{IsListFault, audited, list_of_step, named_by};
 ghost use Rattle.list_audit.specs.Steps.{IsCategoryFault, IsStepFault};
 
 use crate::clause::ListFault;
@@ -31,7 +31,7 @@ use std::alloc::Global;
 
 /// The persons whom the list of a step names.
 fn named(programme: &Programme, kind: StepKind) -> &[Person]
-    ensures { result.now ≡ (list_of programme.now kind).admitted }
+    ensures { result.now ≡ (list_of_step programme.now kind).admitted }
 {
     list_of(programme, kind).admitted.as_slice()
 }
@@ -60,7 +60,7 @@ fn category_fault(
 ) -> Result<Option<ListFault>, OutOfMemory>
     requires seats { AreProgrammeSeats seats.now }
     requires ranked { AreRanked seats.now.list rest.now }
-    requires once { (kind : AnyKind) → AreDistinct (list_of programme.now kind).admitted }
+    requires once { (kind : AnyKind) → AreDistinct (list_of_step programme.now kind).admitted }
     ensures { IfOk result (λ fault. (applicants : List AnyPerson)
         → rest.now ≡ without (in_merit seats.now.list applicants) (named_by programme.now).open_step
         → IsCategoryFault version seats.now applicants programme.now fault) }
@@ -84,14 +84,14 @@ fn last_fault(
 ) -> Result<Option<ListFault>, OutOfMemory>
     requires seats { AreProgrammeSeats seats.now }
     requires ranked { AreRanked seats.now.list rest.now }
-    requires once { AreDistinct (list_of programme.now DereservedStep).admitted }
-    requires ews { IsSublist (list_of programme.now EwsStep).admitted
+    requires once { AreDistinct (list_of_step programme.now DereservedStep).admitted }
+    requires ews { IsSublist (list_of_step programme.now EwsStep).admitted
         (filter (is_of EwsMember) rest.now) }
-    requires obc { IsSublist (list_of programme.now ObcStep).admitted
+    requires obc { IsSublist (list_of_step programme.now ObcStep).admitted
         (filter (is_of ObcMember) rest.now) }
-    requires sc { IsSublist (list_of programme.now ScStep).admitted
+    requires sc { IsSublist (list_of_step programme.now ScStep).admitted
         (filter (is_of ScMember) rest.now) }
-    requires st { IsSublist (list_of programme.now StStep).admitted
+    requires st { IsSublist (list_of_step programme.now StStep).admitted
         (filter (is_of StMember) rest.now) }
     ensures { IfOk result (λ fault. (applicants : List AnyPerson)
         → rest.now ≡ without (in_merit seats.now.list applicants) (named_by programme.now).open_step
@@ -125,7 +125,7 @@ fn fault_in_order(
 ) -> Result<Option<ListFault>, OutOfMemory>
     requires seats { AreProgrammeSeats seats.now }
     requires ranked { AreRanked seats.now.list ranked.now }
-    requires once { (kind : AnyKind) → AreDistinct (list_of programme.now kind).admitted }
+    requires once { (kind : AnyKind) → AreDistinct (list_of_step programme.now kind).admitted }
     ensures { IfOk result (λ fault. (applicants : List AnyPerson) → ranked.now ≡ in_merit
         seats.now.list applicants → IsListFault version seats.now applicants programme.now fault) }
 {
@@ -157,7 +157,7 @@ pub fn list_fault(
     requires programme { prog.0 < length matrix.now.programmes }
     requires version { IsVersion version }
     requires applicants { AreApplicants (list_in matrix.now prog.0) applicants.now }
-    requires once { (kind : AnyKind) → AreDistinct (list_of programme.now kind).admitted }
+    requires once { (kind : AnyKind) → AreDistinct (list_of_step programme.now kind).admitted }
     ensures { IfOk result (λ fault.
         IsListFault version (seats_in matrix.now prog.0) applicants.now programme.now fault) }
 {

@@ -2,7 +2,7 @@
 ghost use Rattle.std.specs.Prelude.{◌≡◌, ◌↔◌, ◌+◌, IsTrue, length};
 ghost use Rattle.office_base.specs.declared.step.StepKind.TheVariants.{Dereserved as DereservedStep};
 ghost use Rattle.seat_matrix.specs.Seats.{AreProgrammeSeats};
-ghost use Rattle.list_audit.specs.Clauses.{HasSeats, list_of, named_by, seats_held, seats_shared};
+ghost use Rattle.list_audit.specs.Clauses.{HasSeats, list_of_step, named_by, seats_held, seats_shared};
 
 use office_base::{StepKind, step_number};
 use programme_lists::{Programme, StepList};
@@ -10,14 +10,14 @@ use seat_matrix::ProgrammeSeats;
 
 /// The list of a step.
 pub(crate) fn list_of(programme: &Programme, kind: StepKind) -> &StepList
-    ensures { result.now ≡ list_of programme.now kind }
+    ensures { result.now ≡ list_of_step programme.now kind }
 {
     &programme.steps[usize::from(step_number(kind))]
 }
 
 /// How many persons the lists of a step name.
 fn named_in(programme: &Programme, kind: StepKind) -> usize
-    ensures { result ≡ length (list_of programme.now kind).admitted }
+    ensures { result ≡ length (list_of_step programme.now kind).admitted }
 {
     list_of(programme, kind).admitted.len()
 }
@@ -37,7 +37,7 @@ fn seats_shared(version: u8, seats: &ProgrammeSeats) -> u128
 
 /// Returns the seats that the last list shows, with the persons whom the lists of those categories name.
 fn seats_told(version: u8, programme: &Programme) -> u128
-    ensures { result ≡ (list_of programme.now DereservedStep).seats
+    ensures { result ≡ (list_of_step programme.now DereservedStep).seats
         + seats_held version (named_by programme.now) }
 {
     let told = u128::from(list_of(programme, StepKind::Dereserved).seats);
@@ -58,7 +58,7 @@ pub(crate) fn has_seats(
 ) -> bool
     requires { AreProgrammeSeats seats.now }
     ensures { IsTrue result ↔ HasSeats version seats.now
-        (named_by programme.now) kind (list_of programme.now kind).seats }
+        (named_by programme.now) kind (list_of_step programme.now kind).seats }
 {
     let own = u32::from(seats.of(kind).seats);
     let told = list_of(programme, kind).seats;

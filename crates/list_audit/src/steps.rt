@@ -9,7 +9,7 @@ ghost use Rattle.office_base.specs.StepChoice.{AreRanked};
 ghost use Rattle.office_base.specs.declared.person.Person.{Person as AnyPerson};
 ghost use Rattle.placements.specs.Ranks.{AreDistinct};
 ghost use Rattle.seat_matrix.specs.Seats.{AreProgrammeSeats};
-ghost use Rattle.list_audit.specs.Clauses.{AreRightNumbers, audited, list_of, named_by, people_at};
+ghost use Rattle.list_audit.specs.Clauses.{AreRightNumbers, audited, list_of_step, named_by, people_at};
 ghost use Rattle.list_audit.specs.Stand.{left_to};
 ghost use Rattle.list_audit.specs.Steps.{Certifies, IsBestOf, IsChoiceFault, IsStepFault};
 
@@ -124,7 +124,7 @@ fn fault_among(
 ) -> Result<Option<ListFault>, OutOfMemory>
     requires seats { AreProgrammeSeats seats.now }
     requires ranked { AreRanked seats.now.list people.now }
-    requires once { AreDistinct (list_of programme.now kind).admitted }
+    requires once { AreDistinct (list_of_step programme.now kind).admitted }
     ensures { IfOk result (λ fault. (applicants : List AnyPerson)
         → people.now ≡ people_at (audited version seats.now applicants programme.now kind)
         → IsStepFault (audited version seats.now applicants programme.now kind) fault) }
@@ -161,7 +161,7 @@ pub(crate) fn step_fault(
 ) -> Result<Option<ListFault>, OutOfMemory>
     requires seats { AreProgrammeSeats seats.now }
     requires ranked { AreRanked seats.now.list rest.now }
-    requires once { AreDistinct (list_of programme.now kind).admitted }
+    requires once { AreDistinct (list_of_step programme.now kind).admitted }
     ensures { IfOk result (λ fault. (applicants : List AnyPerson)
         → rest.now ≡ left_to (in_merit seats.now.list applicants) (named_by programme.now) kind
         → IsStepFault (audited version seats.now applicants programme.now kind) fault) }

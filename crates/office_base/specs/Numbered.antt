@@ -7,8 +7,8 @@ last_from before [] = before
 last_from before (n ∷ ns) = last_from n ns
 
 -- the last number, or 0 if there is none
-abbrev pub last_of : List ℕ → ℕ
-last_of = last_from 0
+abbrev pub last_of_numbers : List ℕ → ℕ
+last_of_numbers = last_from 0
 
 -- each number is above the one before it, and the first is above the one given
 abbrev pub rises : ℕ → List ℕ → Bool

@@ -1,6 +1,6 @@
 // A desk begins and ends.
 ghost use Rattle.std.specs.Prelude.{◌≡◌, ◌+◌, ◌<◌, ◌≤◌, ◌^◌, ◌++◌, [], IfOk, IfErr, map};
-ghost use Rattle.office_base.specs.Numbered.{last_of};
+ghost use Rattle.office_base.specs.Numbered.{last_of_numbers};
 ghost use Rattle.office_desk.specs.Words.{belongs, origin_of, shares_of, left_of, tickets_of, seen_of, own_of, found_of, count_of};
 
 use crate::handles::{Desk, Pass};
@@ -15,7 +15,7 @@ impl<V: Booked> Desk<V> {
     /// Tickets follow the value's last number.
     /// If memory runs out, it returns the value.
     pub fn begin(alloc: Global, value: V) -> Result<(Desk<V>, Pass<V>), (V, OutOfMemory)>
-        requires { last_of (map V.number (V.entries value)) < 2 ^ 40 }
+        requires { last_of_numbers (map V.number (V.entries value)) < 2 ^ 40 }
         ensures desk { IfOk result (λ made. (origin_of made.0 ≡ value) × belongs made.0 made.1) }
         ensures pass { IfOk result (λ made. (shares_of made.1 ≡ 2 ^ 30) × (left_of made.1 ≡ 2 ^ 40)
             × (tickets_of made.1 ≡ []) × (seen_of made.1 ≡ V.entries value)

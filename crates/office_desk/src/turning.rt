@@ -1,6 +1,6 @@
 // A turn at a desk.
 ghost use Rattle.std.specs.Prelude.{◌≡◌, ℕ, ◌+◌, ◌<◌, ◌≤◌, ◌^◌, [], ◌∷◌, Some, map};
-ghost use Rattle.office_base.specs.Numbered.{last_of};
+ghost use Rattle.office_base.specs.Numbered.{last_of_numbers};
 ghost use Rattle.desk_rule.specs.declared.view.Stage.TheVariants.{Idle, Waits};
 ghost use Rattle.desk_rule.specs.Own.{AppendsAtMost};
 ghost use Rattle.desk_rule.specs.Told.{IsTaken, holding, after_turn};
@@ -89,7 +89,7 @@ impl<V: Booked> Desk<V> {
     ) -> R
         requires desk { belongs self.now pass.old }
         requires left { 1 ≤ left_of pass.old }
-        requires job { (v : V) (n : ℕ) → n < 2 ^ 41 → V.basis v ≡ V.basis (origin_of self.now) → last_of (map V.number (V.entries v)) < n → Leaves J.FnOnce job v n (λ w. (V.basis w ≡ V.basis v) × AppendsAtMost V.number n (V.entries v) (V.entries w) × (V.count v ≤ V.count w)) }
+        requires job { (v : V) (n : ℕ) → n < 2 ^ 41 → V.basis v ≡ V.basis (origin_of self.now) → last_of_numbers (map V.number (V.entries v)) < n → Leaves J.FnOnce job v n (λ w. (V.basis w ≡ V.basis v) × AppendsAtMost V.number n (V.entries v) (V.entries w) × (V.count v ≤ V.count w)) }
         ensures desk { belongs self.now pass.new }
         ensures turned { IsTurn J.FnOnce job self.now pass.old pass.new result }
     {

@@ -7,7 +7,7 @@ ghost use Rattle.office_asks.specs.Asking.{AnswersAt, UnanswersAt};
 ghost use Rattle.office_desk.specs.Words.{belongs, left_of, origin_of, shares_of};
 ghost use Rattle.office_http.specs.Hands.{worker_of};
 
-use desk_counters::{Beginning, DeskCounter, Stood};
+use desk_counters::{DeskCounter, DeskOffice, TablesBefore};
 use door_crews::Crew;
 use http_sessions::{Buffers, Gate, serve_door};
 use keeper_mem::Keeper;
@@ -21,7 +21,7 @@ const TURNS: u64 = 10_000_000;
 
 /// What all workers share.
 #[derive(Drop)]
-pub struct Shop<'a, V: Booked, G> {
+pub struct Shared<'a, V: Booked, G> {
     pub alloc: Global,
     pub desk: &'a Desk<V>,
     pub gate: &'a G,
@@ -29,13 +29,13 @@ pub struct Shop<'a, V: Booked, G> {
 
 /// A worker: a pass to the desk, and whether a door failed that was served by it or by a worker that it took in.
 #[derive(Drop)]
-pub struct Hand<V: Booked> {
+pub struct DeskWorker<V: Booked> {
     pub pass: Pass<V>,
     pub failed: bool,
 }
 
-impl<K: Keeper, B: Beginning, G: Gate, D: Door> Crew<Shop<'_, Stood<K, B>, G>, D, Buffers>
-    for Hand<Stood<K, B>> {
+impl<K: Keeper, B: TablesBefore, G: Gate, D: Door> Crew<Shared<'_, DeskOffice<K, B>, G>, D, Buffers>
+    for DeskWorker<DeskOffice<K, B>> {
     ghost suits = { λ door. D.to_come door ≤ 100000 };
 
     ghost able = { λ shop n hand. belongs shop.desk.now hand.pass × (n + 1 ≤ shares_of hand.pass) × (n * 10000000 ≤ left_of hand.pass) };
@@ -51,11 +51,11 @@ impl<K: Keeper, B: Beginning, G: Gate, D: Door> Crew<Shop<'_, Stood<K, B>, G>, D
 
     ghost joined = { λ shop m w p. IsTakenIn (worker_of m) (worker_of w) (worker_of p) };
 
-    fn hire(&mut self, shop: &Shop<'_, Stood<K, B>, G>) -> Self {
+    fn hire(&mut self, shop: &Shared<'_, DeskOffice<K, B>, G>) -> Self {
         let Ok(pass) = self.pass.split(shop.desk, TURNS) else {
             unreachable!()
         };
-        Hand {
+        DeskWorker {
             pass,
             failed: false,
         }
@@ -64,7 +64,7 @@ impl<K: Keeper, B: Beginning, G: Gate, D: Door> Crew<Shop<'_, Stood<K, B>, G>, D
     fn work<R: Wait>(
         &mut self,
         rt: &R,
-        shop: &Shop<'_, Stood<K, B>, G>,
+        shop: &Shared<'_, DeskOffice<K, B>, G>,
         number: u32,
         door: &mut D,
         buffers: &mut Buffers,
@@ -77,8 +77,8 @@ impl<K: Keeper, B: Beginning, G: Gate, D: Door> Crew<Shop<'_, Stood<K, B>, G>, D
         self.failed = serve_door(shop.alloc, &mut counter, door, buffers, shop.gate, number);
     }
 
-    fn take_in(&mut self, shop: &Shop<'_, Stood<K, B>, G>, other: Self) {
-        let Hand { pass, failed } = other;
+    fn take_in(&mut self, shop: &Shared<'_, DeskOffice<K, B>, G>, other: Self) {
+        let DeskWorker { pass, failed } = other;
         self.pass.join(shop.desk, pass);
         self.failed = self.failed || failed;
     }

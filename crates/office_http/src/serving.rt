@@ -10,8 +10,8 @@ ghost use Rattle.office_http.specs.Hands.{worker_of};
 ghost use Rattle.office_http.specs.Serving.{Serves};
 ghost use Rattle.proceedings.specs.Proceeding.{last_of};
 
-use crate::hands::{Hand, Shop};
-use desk_counters::{Beginning, Stood};
+use crate::hands::{DeskWorker, Shared};
+use desk_counters::{DeskOffice, TablesBefore};
 use door_crews::work_all;
 use http_sessions::{Buffers, Gate};
 use keeper_mem::Keeper;
@@ -65,7 +65,7 @@ pub fn serve<
 /// Serves in the same way, with the keeper's visible tables at the beginning named,
 /// so that the office at the desk can remember them.
 fn serve_stood<
-    B: Beginning + Send + Sync,
+    B: TablesBefore + Send + Sync,
     R: Threads + Wait + Sync,
     K: Keeper + Send,
     D: Door<Conn: Send> + Send,
@@ -91,7 +91,7 @@ fn serve_stood<
     let Ok(mut buffers) = make_buffers(alloc, doors.len()) else {
         return Err((office, OutOfMemory));
     };
-    match Desk::begin(alloc, Stood::<K, B>::new(office)) {
+    match Desk::begin(alloc, DeskOffice::<K, B>::new(office)) {
         Ok((desk, pass)) => Ok(serve_desk(rt, alloc, desk, pass, doors, gate, &mut buffers)),
         Err((stood, want)) => Err((stood.into_office(), want)),
     }
@@ -99,7 +99,7 @@ fn serve_stood<
 
 /// Serves the doors with turns at a desk that has just begun, and ends it.
 fn serve_desk<
-    B: Beginning + Send + Sync,
+    B: TablesBefore + Send + Sync,
     R: Threads + Wait + Sync,
     K: Keeper + Send,
     D: Door<Conn: Send> + Send,
@@ -107,8 +107,8 @@ fn serve_desk<
 >(
     rt: &R,
     alloc: Global,
-    desk: Desk<Stood<K, B>>,
-    pass: Pass<Stood<K, B>>,
+    desk: Desk<DeskOffice<K, B>>,
+    pass: Pass<DeskOffice<K, B>>,
     doors: &mut [D],
     gate: &G,
     buffers: &mut [Buffers],
@@ -125,7 +125,7 @@ fn serve_desk<
 {
     let mut hand = first_hand(pass);
     serve_all(rt, alloc, &desk, gate, &mut hand, doors, buffers);
-    let Hand { pass, failed } = hand;
+    let DeskWorker { pass, failed } = hand;
     Served {
         office: end_desk(desk, pass),
         door_failed: failed,
@@ -133,20 +133,23 @@ fn serve_desk<
 }
 
 /// Returns the first worker, with the pass of a desk that has just begun.
-fn first_hand<V: Booked>(pass: Pass<V>) -> Hand<V>
+fn first_hand<V: Booked>(pass: Pass<V>) -> DeskWorker<V>
     requires { tickets_of pass ≡ [] }
     ensures pass { result.pass ≡ pass }
     ensures own { own_of result.pass ≡ [] }
     ensures failed { result.failed ≡ false }
 {
-    Hand {
+    DeskWorker {
         pass,
         failed: false,
     }
 }
 
 /// Ends the desk, and gives the office back.
-fn end_desk<K: Keeper, B: Beginning>(desk: Desk<Stood<K, B>>, pass: Pass<Stood<K, B>>) -> Office<K>
+fn end_desk<K: Keeper, B: TablesBefore>(
+    desk: Desk<DeskOffice<K, B>>,
+    pass: Pass<DeskOffice<K, B>>,
+) -> Office<K>
     requires desk { belongs desk pass }
     requires whole { shares_of pass ≡ 2 ^ 30 }
     ensures season { result.season ≡ (origin_of desk).season }
@@ -174,15 +177,15 @@ fn make_buffers(alloc: Global, count: usize) -> Result<Vec<Buffers>, OutOfMemory
 fn serve_all<
     R: Threads + Wait + Sync,
     K: Keeper + Send,
-    B: Beginning + Send + Sync,
+    B: TablesBefore + Send + Sync,
     D: Door<Conn: Send> + Send,
     G: Gate + Sync,
 >(
     rt: &R,
     alloc: Global,
-    desk: &Desk<Stood<K, B>>,
+    desk: &Desk<DeskOffice<K, B>>,
     gate: &G,
-    hand: &mut Hand<Stood<K, B>>,
+    hand: &mut DeskWorker<DeskOffice<K, B>>,
     doors: &mut [D],
     buffers: &mut [Buffers],
 )
@@ -198,6 +201,6 @@ fn serve_all<
         (telling D.Door D.Conn.Link) (worker_of hand.old) doors.old doors.new (worker_of hand.new) }
     ensures shares { shares_of hand.new.pass ≡ shares_of hand.old.pass }
 {
-    let shop = Shop { alloc, desk, gate };
+    let shop = Shared { alloc, desk, gate };
     work_all(rt, &shop, 0, hand, doors, buffers);
 }

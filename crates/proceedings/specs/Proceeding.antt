@@ -1,6 +1,6 @@
 -- What the proceedings of a season are: its facts, the history, the state to which the history leads, and room.
 use Rattle.std.specs.Prelude.{◌+◌, ℕ, List, [], ◌∷◌, map, if◌then◌else◌}
-use Rattle.office_base.specs.Numbered.{last_of as last_number_of}
+use Rattle.office_base.specs.Numbered.{last_of_numbers}
 use Rattle.office_base.specs.declared.asks.Choice.{Choice}
 use Rattle.office_base.specs.declared.person.Person.{Person}
 use Rattle.kept_rows.specs.declared.rows.AnswerRow.{AnswerRow}
@@ -24,7 +24,7 @@ pub record Proceeding : Type 0 where
 
 -- the number of the last entry, 0 where there is none
 abbrev pub last_of : List Entry → ℕ
-last_of entries = last_number_of (map (λ entry. entry.number) entries)
+last_of entries = last_of_numbers (map (λ entry. entry.number) entries)
 
 -- the row of an answer before others
 abbrev pub answer_before : Act → List AnswerRow → List AnswerRow

@@ -1,6 +1,6 @@
 -- Requests that are answered after a history have one output, and leave one state.
 use Rattle.std.proofs.Common.{◌≡◌, ◌+◌, List, [], ◌∷◌, ◌++◌, map, arith, sym, ap, subst, ◌∙◌}
-use Rattle.office_base.specs.Numbered.{last_of}
+use Rattle.office_base.specs.Numbered.{last_of_numbers}
 use Rattle.office_moves.specs.Facts.{IsSound, SeasonFacts}
 use Rattle.office_moves.specs.State.{State, opening}
 use Rattle.office_moves.specs.Decided.{decided}
@@ -25,7 +25,7 @@ one_run facts laws sound entries old new then [] output other history run again 
 one_run facts laws sound entries old new then (request ∷ requests) output other history run again =
     let rounds : NextRoundsAreOne facts = λ es state reached. laws.one_round state sound (laws.orderly es state sound reached) in
     let same = laws.one_reply rounds entries old run.1 again.1 request run.0 again.0 history run.3 again.3 in
-    let number = last_of (map (λ (entry : Entry). entry.number) entries) + 1 in
+    let number = last_of_numbers (map (λ (entry : Entry). entry.number) entries) + 1 in
     let later = laws.grows entries old run.1 request run.0 number history (omega arith) run.3 in
     let rest : Answers facts run.1 requests again.2 then = subst (λ s. Answers facts s requests again.2 then) (sym same.1) again.5 in
     let end = one_run facts laws sound (grown entries number (newly old.now (decided facts old request))) run.1 new then requests run.2 again.2 later run.5 rest in

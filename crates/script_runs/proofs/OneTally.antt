@@ -1,6 +1,6 @@
 -- Requests that are answered after a history have the same replies, and leave one state.
 use Rattle.std.proofs.Common.{◌≡◌, ◌+◌, List, [], ◌∷◌, map, arith, refl, sym, ap, subst, ◌∙◌}
-use Rattle.office_base.specs.Numbered.{last_of}
+use Rattle.office_base.specs.Numbered.{last_of_numbers}
 use Rattle.office_base.specs.declared.asks.Request.{Request}
 use Rattle.office_moves.specs.Facts.{SeasonFacts}
 use Rattle.office_moves.specs.Decided.{decided}
@@ -35,7 +35,7 @@ one_tally facts laws sound entries old new then (a ∷ handled) (b ∷ other) hi
     let (first, rest) = same_requests a b handled other asked in
     let moved : IsMove facts old a.request b.reply again.0 = subst (λ r. IsMove facts old r b.reply again.0) (sym first) again.1 in
     let same = laws.one_reply rounds entries old run.0 again.0 a.request a.reply b.reply history run.1 moved in
-    let number = last_of (map (λ (entry : Entry). entry.number) entries) + 1 in
+    let number = last_of_numbers (map (λ (entry : Entry). entry.number) entries) + 1 in
     let later = laws.grows entries old run.0 a.request a.reply number history (omega arith) run.1 in
     let on : AreHandled facts run.0 other then = subst (λ s. AreHandled facts s other then) (sym same.1) again.2 in
     let end = one_tally facts laws sound (grown entries number (newly old.now (decided facts old a.request))) run.0 new then handled other later run.2 on rest in

@@ -2,7 +2,7 @@
 use Rattle.std.proofs.Common.{◌≡◌, ◌<◌, ◌+◌, ◌⊎◌, inl, inr, ℕ, zero, suc, List, [], ◌∷◌, ◌++◌, Option, Some, None, Result, Ok, Err, length, take, get_or, map, arith, refl, sym, ap, subst, ◌∙◌, append_assoc, append-nil}
 use Rattle.std.specs.Prelude.{IfOk, OnOk, OnErr, slice_get}
 use Rattle.std.proofs.lemmas.List.{take_all, take_more}
-use Rattle.office_base.specs.Numbered.{last_of}
+use Rattle.office_base.specs.Numbered.{last_of_numbers}
 use Rattle.office_base.specs.Outside.{Appends}
 use Rattle.office_base.specs.declared.asks.Request.{Request}
 use Rattle.kept_rows.specs.Tables.{Tables}
@@ -39,7 +39,7 @@ appends_on xs ys (Some bytes) b c first second = subst (λ o. Appends ys o c) fi
 
 -- a request after a history leads to a history, whether it is answered or not
 pub history_on : (facts : SeasonFacts) (entries after : List Entry) (old new : State) (request : Request) (number : ℕ) (answer : Result Reply OfficeFault) → HistoryGrows facts
-    → IsHistory facts entries old → last_of (map (λ entry. entry.number) entries) < number → IfOk answer (λ reply. IsMove facts old request reply new)
+    → IsHistory facts entries old → last_of_numbers (map (λ entry. entry.number) entries) < number → IfOk answer (λ reply. IsMove facts old request reply new)
     → OnOk answer (after ≡ grown entries number (newly old.now (decided facts old request))) → OnErr answer ((after ≡ entries) × (new ≡ old)) → IsHistory facts after new
 history_on facts entries after old new request number (Ok reply) grows history above moves added same =
     subst (λ es. IsHistory facts es new) (sym added) (grows entries old new request reply number history above moves)

@@ -42,7 +42,7 @@ use Rattle.audit_rules.specs.Replay.{before, round_of, taken}
 use Rattle.audit_rules.specs.Verdict.{HoldsThere, IsFirstBroken}
 use Rattle.audit_rules.proofs.Ordering.{before_next, in_order_at_first, in_order_next, is_open, nothing_new, published, was_lift, with_lift}
 use Rattle.cut_checks.specs.Raises.{lifts}
-use Rattle.cut_checks.specs.Stands.{answered, notes, stand_of, stands_along}
+use Rattle.cut_checks.specs.Stands.{after_answer, notes, stand_of, stands_along}
 use Rattle.cut_checks.specs.declared.stand.Stand.{Stand}
 use Rattle.cut_checks.proofs.Along.{AreRising, set_along}
 use Rattle.cut_checks.proofs.Lifting.{is_lifted, not_lifted, opened}
@@ -50,7 +50,7 @@ use Rattle.cut_checks.proofs.Noting.{is_noted, next_turn, not_noted, unknown_not
 use Rattle.cut_checks.proofs.Stood.{stand_answered, stand_other}
 use Rattle.cut_checks.proofs.Telling.{known, stands}
 use Rattle.cut_checks.specs.declared.fault.Fault.{Fault}
-use Rattle.dossier_file.specs.Due.{cuts_of as cuts_in}
+use Rattle.dossier_file.specs.Due.{cuts_accepted}
 use Rattle.list_texts.specs.declared.lists.ListRead.{ListRead}
 use Rattle.publish.specs.declared.reads.RoundRead.{RoundRead}
 use Rattle.season_audit.specs.Audit.{AllHold, IsUpTo, Passes, StandAfter}
@@ -123,7 +123,7 @@ stand_at facts state all id at d same place less =
 -- an answer that is noted
 pub noted : (facts : SeasonFacts) (state : State) (by : By) (row : AnswerRow) (all : List Stand) (at : ℕ) (d : Stand) → AreRising facts.people → all ≡ stands_along facts state
     → row.window ≡ state.now → row.window ≤ facts.rounds → row_of row.cand.0 facts.people ≡ Some at → at < length facts.people → notes (get_or all at d) by row ≡ true
-    → StandAfter facts state row (answer_by facts state by row) (slice_set all at (answered (get_or all at d) row))
+    → StandAfter facts state row (answer_by facts state by row) (slice_set all at (after_answer (get_or all at d) row))
 noted facts state by row all at d rising same now few place less passes =
     let id = row.cand.0 in
     let mine = stand_at facts state all id at d same place less in
@@ -134,9 +134,9 @@ noted facts state by row all at d rising same now few place less passes =
     let set : slice_set (stands_along facts state) at (stand_of facts (with_row state row) who.0.id.0) ≡ stands_along facts (with_row state row) =
     set_along (λ (p : Person). stand_of facts state p.id.0) (λ (p : Person). stand_of facts (with_row state row) p.id.0) facts.people at who.0 rising who.1
     (λ p other. stand_other facts state row p.id.0 now (λ e. other (e ∙ sym who.2))) in
-    let value : answered (get_or all at d) row ≡ stand_of facts (with_row state row) who.0.id.0 =
-    ap (λ (s : Stand). answered s row) mine ∙ (sym (stand_answered facts state row now turn) ∙ ap (stand_of facts (with_row state row)) (sym who.2)) in
-    inl (decides, ap (λ (z : List Stand). slice_set z at (answered (get_or all at d) row)) same ∙ (ap (λ (s : Stand). slice_set (stands_along facts state) at s) value ∙ set))
+    let value : after_answer (get_or all at d) row ≡ stand_of facts (with_row state row) who.0.id.0 =
+    ap (λ (s : Stand). after_answer s row) mine ∙ (sym (stand_answered facts state row now turn) ∙ ap (stand_of facts (with_row state row)) (sym who.2)) in
+    inl (decides, ap (λ (z : List Stand). slice_set z at (after_answer (get_or all at d) row)) same ∙ (ap (λ (s : Stand). slice_set (stands_along facts state) at s) value ∙ set))
 
 -- and one that is not
 pub unnoted : (facts : SeasonFacts) (state : State) (by : By) (row : AnswerRow) (all : List Stand) (at : ℕ) (d : Stand) → all ≡ stands_along facts state
@@ -337,30 +337,30 @@ stood_broken facts script papers j number auditor request fault stood there same
 
 -- ---- whole dossiers
 
-counts_are : (rounds now : ℕ) (script : List Request) → cuts_of rounds now script ≡ now + cuts_in rounds now script
+counts_are : (rounds now : ℕ) (script : List Request) → cuts_of rounds now script ≡ now + cuts_accepted rounds now script
 counts_are rounds now [] = omega arith
 counts_are rounds now (request ∷ script) = by_ask (λ k. counts_are rounds k script) request.by request.ask
   where
-    both : ((k : ℕ) → cuts_of rounds k script ≡ k + cuts_in rounds k script) → (b : Bool)
-        → cuts_of rounds (if b then now + 1 else now) script ≡ now + (if b then suc (cuts_in rounds (suc now) script) else cuts_in rounds now script)
-    both rest true = (let e = rest (now + 1) in let f : cuts_in rounds (now + 1) script ≡ cuts_in rounds (suc now) script = ap (λ (n : ℕ). cuts_in rounds n script) (add-one now) in omega (arith, e, f))
+    both : ((k : ℕ) → cuts_of rounds k script ≡ k + cuts_accepted rounds k script) → (b : Bool)
+        → cuts_of rounds (if b then now + 1 else now) script ≡ now + (if b then suc (cuts_accepted rounds (suc now) script) else cuts_accepted rounds now script)
+    both rest true = (let e = rest (now + 1) in let f : cuts_accepted rounds (now + 1) script ≡ cuts_accepted rounds (suc now) script = ap (λ (n : ℕ). cuts_accepted rounds n script) (add-one now) in omega (arith, e, f))
     both rest false = rest now
 
-    by_ask : ((k : ℕ) → cuts_of rounds k script ≡ k + cuts_in rounds k script) → (by : By) (ask : Ask)
-        → cuts_of rounds now (record { by = by; ask = ask } ∷ script) ≡ now + cuts_in rounds now (record { by = by; ask = ask } ∷ script)
+    by_ask : ((k : ℕ) → cuts_of rounds k script ≡ k + cuts_accepted rounds k script) → (by : By) (ask : Ask)
+        → cuts_of rounds now (record { by = by; ask = ask } ∷ script) ≡ now + cuts_accepted rounds now (record { by = by; ask = ask } ∷ script)
     by_ask rest Clerk (Cut window) = both rest (window == now && nat_le now rounds)
     by_ask rest (Candidate id) (Cut window) = rest now
     by_ask rest Nobody (Cut window) = rest now
     by_ask rest _ _ = rest now
 
 pub is_whole : (facts : SeasonFacts) (script : List Request) (rounds : List RoundRead) (lists : List ListRead) (last : Option (List AllotRow))
-    → length rounds ≡ min facts.rounds (cuts_in facts.rounds 0 script) → length lists ≡ length rounds * length facts.matrix.programmes
+    → length rounds ≡ min facts.rounds (cuts_accepted facts.rounds 0 script) → length lists ≡ length rounds * length facts.matrix.programmes
     → AreWhole facts script (record { rounds = map (λ (read : RoundRead). read.rows) rounds; lists = map (λ (read : ListRead). read.programme) lists; finals = last })
 is_whole facts script rounds lists last some all =
     let a = length-map rounds (λ (read : RoundRead). read.rows) in
     let b = length-map lists (λ (read : ListRead). read.programme) in
     let c = counts_are facts.rounds 0 script in
     record {
-      rounds = a ∙ (some ∙ ap (min facts.rounds) (let e : cuts_in facts.rounds 0 script ≡ cuts_of facts.rounds 0 script = omega (arith, c) in e));
+      rounds = a ∙ (some ∙ ap (min facts.rounds) (let e : cuts_accepted facts.rounds 0 script ≡ cuts_of facts.rounds 0 script = omega (arith, c) in e));
       lists = b ∙ (all ∙ ap (λ (n : ℕ). n * length facts.matrix.programmes) (sym a));
     }

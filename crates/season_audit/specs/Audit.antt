@@ -2,7 +2,7 @@
 use Rattle.std.specs.Prelude.{◌≡◌, ◌⊎◌, ◌≤◌, ◌+◌, ℕ, List, Option, Some, None, map, option_map, slice_get}
 use Rattle.office_base.specs.declared.asks.Request.{Request}
 use Rattle.office_base.specs.declared.step.StepKind.{StepKind}
-use Rattle.list_audit.specs.Clauses.{list_of}
+use Rattle.list_audit.specs.Clauses.{list_of_step}
 use Rattle.placements.specs.Ranks.{AreDistinct}
 use Rattle.list_texts.specs.declared.lists.ListRead.{ListRead}
 use Rattle.office_moves.specs.Facts.{IsSound, SeasonFacts}
@@ -33,7 +33,7 @@ papers_in dossier = record {
 
 -- in no step of a list is a person named twice
 abbrev pub NameOnce : List ListRead → Type 0
-NameOnce lists = (p : ℕ) (read : ListRead) (kind : StepKind) → slice_get lists p ≡ Some read → AreDistinct (list_of read.programme kind).admitted
+NameOnce lists = (p : ℕ) (read : ListRead) (kind : StepKind) → slice_get lists p ≡ Some read → AreDistinct (list_of_step read.programme kind).admitted
 
 -- The replay has reached this state.
 pub record IsUpTo (facts : SeasonFacts) (state : State) (auditor : Auditor) : Type 0 where

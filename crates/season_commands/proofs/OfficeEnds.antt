@@ -9,7 +9,7 @@ use Rattle.shown_replies.specs.Shown.{reply_bytes}
 use Rattle.script_runs.specs.Runs.{EndsBefore, EndsCut, EndsShort, EndsWithin, Moment}
 use Rattle.season_commands.specs.Office.{EndsOffice, FollowsOneMore, FollowsSome}
 use Rattle.office_base.specs.FaultLines.{memory_line}
-use Rattle.command_answers.specs.Writes.{IsTold, keeper_line}
+use Rattle.command_answers.specs.Writes.{IsTextOut, keeper_line}
 use Rattle.command_answers.specs.declared.status.Status.{Status}
 use Rattle.command_answers.specs.declared.status.Status.TheVariants.{WriteFault, KeeperFault, OutOfMemory}
 use Rattle.script_runs.proofs.Running.{appends_on}
@@ -40,7 +40,7 @@ follows_more facts script old new after text end told =
 
 -- The keeper failed.
 pub keeper_ends : (facts : SeasonFacts) (script : List Request) (old new : Moment) (after : Option (List ℕ)) (broke : Type 0) (result : Status)
-    → EndsBefore facts script old new → IsTold KeeperFault keeper_line new.written after broke result → IsEnd facts old.state script new.tables old.written after result
+    → EndsBefore facts script old new → IsTextOut KeeperFault keeper_line new.written after broke result → IsEnd facts old.state script new.tables old.written after result
 keeper_ends facts script old new after broke result here told =
     elim told [
       | inl whole ↦ as_result facts old.state script new.tables old.written after KeeperFault result whole.0 (follows_some facts script old new after keeper_line here whole.1)
@@ -51,7 +51,7 @@ keeper_ends facts script old new after broke result here told =
 
 -- Memory ran out for a request.
 short_before : (facts : SeasonFacts) (script : List Request) (old new : Moment) (after : Option (List ℕ)) (broke : Type 0) (result : Status)
-    → EndsBefore facts script old new → IsTold OutOfMemory memory_line new.written after broke result → IsEnd facts old.state script new.tables old.written after result
+    → EndsBefore facts script old new → IsTextOut OutOfMemory memory_line new.written after broke result → IsEnd facts old.state script new.tables old.written after result
 short_before facts script old new after broke result here told =
     elim told [
       | inl whole ↦
@@ -64,7 +64,7 @@ short_before facts script old new after broke result here told =
 
 -- memory ran out for a reply
 short_within : (facts : SeasonFacts) (script : List Request) (old new : Moment) (after : Option (List ℕ)) (broke : Type 0) (result : Status)
-    → EndsWithin facts script 0 old new → IsTold OutOfMemory memory_line new.written after broke result → IsEnd facts old.state script new.tables old.written after result
+    → EndsWithin facts script 0 old new → IsTextOut OutOfMemory memory_line new.written after broke result → IsEnd facts old.state script new.tables old.written after result
 short_within facts script old new after broke result here told =
     elim told [
       | inl whole ↦
@@ -77,7 +77,7 @@ short_within facts script old new after broke result here told =
 
 -- Memory ran out.
 pub memory_ends : (facts : SeasonFacts) (script : List Request) (old new : Moment) (after : Option (List ℕ)) (broke : Type 0) (result : Status)
-    → EndsShort facts script old new → IsTold OutOfMemory memory_line new.written after broke result → IsEnd facts old.state script new.tables old.written after result
+    → EndsShort facts script old new → IsTextOut OutOfMemory memory_line new.written after broke result → IsEnd facts old.state script new.tables old.written after result
 memory_ends facts script old new after broke result end told =
     elim end [
       | inl here ↦ short_before facts script old new after broke result here told

@@ -16,7 +16,7 @@ use Rattle.season_file.specs.declared.season.Season.{Season}
 use Rattle.season_texts.specs.Texts.{fault_line}
 use Rattle.command_answers.specs.Answers.{IsFailureOf}
 use Rattle.office_base.specs.FaultLines.{memory_line}
-use Rattle.command_answers.specs.Writes.{IsTold, Writes, keeper_line, status_of, text_of}
+use Rattle.command_answers.specs.Writes.{IsTextOut, Writes, keeper_line, status_of, text_of}
 use Rattle.command_answers.specs.declared.failure.Failure.{Failure}
 use Rattle.command_answers.specs.declared.failure.Failure.TheVariants.{Read, Bad, NoMemory}
 use Rattle.command_answers.specs.declared.status.Status.{Status}
@@ -69,22 +69,22 @@ difference_told tables round cand one other season made is stopped =
 
 -- The line is written, or memory ran out for it.
 pub made_is_written : {E : Type 0} (tables : Tables) (want : Status) (made : Result (List ℕ) E) (result : Status) (before after : Option (List ℕ)) (broke : Type 0) → IfOk made (IsUnresumedText tables want)
-    → IsTold (made_status want made) (made_text made) before after broke result → (output : List ℕ) × Appends output before after × Writes (IsUnresumedText tables) result output
+    → IsTextOut (made_status want made) (made_text made) before after broke result → (output : List ℕ) × Appends output before after × Writes (IsUnresumedText tables) result output
 made_is_written tables want (Ok line) result before after broke is told = told_is_written (IsUnresumedText tables) want result line before after broke is told
 made_is_written tables want (Err none) result before after broke is told = told_is_written (IsUnresumedText tables) OutOfMemory result memory_line before after broke refl told
 
 -- Memory ran out.
-pub unlined_is_written : (result : Status) (before after : Option (List ℕ)) (broke : Type 0) (tables : Tables) → IsTold OutOfMemory memory_line before after broke result
+pub unlined_is_written : (result : Status) (before after : Option (List ℕ)) (broke : Type 0) (tables : Tables) → IsTextOut OutOfMemory memory_line before after broke result
     → (output : List ℕ) × Appends output before after × Writes (IsUnresumedText tables) result output
 unlined_is_written result before after broke tables told = told_is_written (IsUnresumedText tables) OutOfMemory result memory_line before after broke refl told
 
 -- No season was found, which has its own line.
-pub none_is_written : (result : Status) (before after : Option (List ℕ)) (broke : Type 0) (tables : Tables) → IsTold BadInput no_season_line before after broke result → IsFound false tables
+pub none_is_written : (result : Status) (before after : Option (List ℕ)) (broke : Type 0) (tables : Tables) → IsTextOut BadInput no_season_line before after broke result → IsFound false tables
     → (output : List ℕ) × Appends output before after × Writes (IsUnresumedText tables) result output
 none_is_written result before after broke tables told none = told_is_written (IsUnresumedText tables) BadInput result no_season_line before after broke (inl (none, refl)) told
 
 -- The keeper failed, which has its own line.
-pub failed_is_written : (result : Status) (before after : Option (List ℕ)) (broke : Type 0) (tables : Tables) → IsTold KeeperFailed keeper_line before after broke result
+pub failed_is_written : (result : Status) (before after : Option (List ℕ)) (broke : Type 0) (tables : Tables) → IsTextOut KeeperFailed keeper_line before after broke result
     → (output : List ℕ) × Appends output before after × Writes (IsUnresumedText tables) result output
 failed_is_written result before after broke tables told = told_is_written (IsUnresumedText tables) KeeperFailed result keeper_line before after broke refl told
 
@@ -106,7 +106,7 @@ text_of_unasked left failed NoMemory cause = refl
 
 -- The failure is written.
 pub unasked_ends : (facts : SeasonFacts) (start : State) (left : Option (List ℕ)) (failed : Type 0) (failure : Failure) (before after : Tables) (written now : Option (List ℕ)) (broke : Type 0) (result : Status)
-    → IsFailureOf script_answers left failed failure → IsTold (status_of (Err failure)) (text_of (Err failure)) written now broke result → AreTold before after
+    → IsFailureOf script_answers left failed failure → IsTextOut (status_of (Err failure)) (text_of (Err failure)) written now broke result → AreTold before after
     → (output : List ℕ) × Appends output written now × EndsAsked facts start left before after result output
 unasked_ends facts start left failed failure before after written now broke result cause is told =
     let (output, appends, writes) = told_is_written (IsUnaskedText left) (status_of (Err failure)) result (text_of (Err failure)) written now broke (text_of_unasked left failed failure cause) is in

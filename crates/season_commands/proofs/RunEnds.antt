@@ -15,7 +15,7 @@ use Rattle.command_answers.specs.Answers.{HaveOneAnswer, IsFailureOf, Tells}
 use Rattle.season_commands.specs.Check.{IsBundle, IsFaultyBundle, IsLeftBundle, check_answers}
 use Rattle.command_answers.specs.Writes.{status_of, text_of}
 use Rattle.season_commands.specs.Run.{EndsRun, EndsSeason, IsUnbegunText, IsUnreadText, begin_status, begin_text}
-use Rattle.command_answers.specs.Writes.{IsTold}
+use Rattle.command_answers.specs.Writes.{IsTextOut}
 use Rattle.command_answers.specs.declared.failure.Failure.{Failure}
 use Rattle.command_answers.specs.declared.failure.Failure.TheVariants.{Read, Bad, NoMemory as NoMemoryToRead}
 use Rattle.command_answers.specs.declared.status.Status.{Status}
@@ -30,7 +30,7 @@ text_of_begin tables NoMemory held = refl
 
 -- No office began.
 pub unbegun_ends : (season : Season) (script : List Request) (before after : Tables) (fault : BeginFault) (written now : Option (List ℕ)) (broke : Type 0) (result : Status)
-    → (fault ≡ NotEmpty → IsFound true after) → AreTold before after → IsTold (begin_status fault) (begin_text fault) written now broke result
+    → (fault ≡ NotEmpty → IsFound true after) → AreTold before after → IsTextOut (begin_status fault) (begin_text fault) written now broke result
     → (output : List ℕ) × Appends output written now × EndsSeason season script before after result output
 unbegun_ends season script before after fault written now broke result held told is =
     let (output, appends, writes) = told_is_written (IsUnbegunText (still before after)) (begin_status fault) result (begin_text fault) written now broke
@@ -59,7 +59,7 @@ text_of_failure left failed NoMemoryToRead cause = refl
 
 -- No bundle was read.
 pub unread_ends : (left : Option (List ℕ)) (failed : Type 0) (failure : Failure) (tables : Tables) (written now : Option (List ℕ)) (broke : Type 0) (result : Status)
-    → IsFailureOf check_answers left failed failure → IsTold (status_of (Err failure)) (text_of (Err failure)) written now broke result
+    → IsFailureOf check_answers left failed failure → IsTextOut (status_of (Err failure)) (text_of (Err failure)) written now broke result
     → (output : List ℕ) × Appends output written now × EndsRun left tables tables result output
 unread_ends left failed failure tables written now broke result cause is =
     let (output, appends, writes) = told_is_written (IsUnreadText left) (status_of (Err failure)) result (text_of (Err failure)) written now broke (text_of_failure left failed failure cause) is in

@@ -25,8 +25,8 @@ abbrev pub held : Outside → Outside → Tables
 held old new = still old.tables new.tables
 
 -- this is appended to what was written, and so it ends
-abbrev pub Writes : (Tables → Tables → Status → List ℕ → Type 0) → Outside → Outside → Status → Type 0
-Writes Ends old new status = (output : List ℕ) × Appends output old.written new.written × Ends old.tables new.tables status output
+abbrev pub Outputs : (Tables → Tables → Status → List ℕ → Type 0) → Outside → Outside → Status → Type 0
+Outputs Ends old new status = (output : List ℕ) × Appends output old.written new.written × Ends old.tables new.tables status output
 
 -- neither the sink failed nor the keeper
 abbrev pub Held : Outside → Outside → Type 0

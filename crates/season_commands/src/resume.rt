@@ -7,9 +7,9 @@ ghost use Rattle.office_moves.specs.History.{IsHistory};
 ghost use Rattle.office_moves.specs.Stands.{Stand};
 ghost use Rattle.round_cut.specs.Resume.{GoesOn, IsUnresumed};
 ghost use Rattle.command_answers.specs.Answers.{IsFailureOf, Tells};
-ghost use Rattle.command_answers.specs.Writes.{IsTold as IsTextTold, Writes as WritesText};
+ghost use Rattle.command_answers.specs.Writes.{IsTextOut, Writes as WritesText};
 ghost use Rattle.office_base.specs.Visible.{source_of};
-ghost use Rattle.season_commands.specs.Outside.{BlamesOffice, BlamesSource, EndsWith, Writes, outside_of};
+ghost use Rattle.season_commands.specs.Outside.{BlamesOffice, BlamesSource, EndsWith, Outputs, outside_of};
 ghost use Rattle.season_commands.specs.Resume.{AnswersAfter, AreLeftRequests, EndsAsked, EndsResume, IsFaultyScript, IsScript, IsUnresumedText, JudgesRecords, ReportsUnresumed, TellsNoOffice, made_status, made_text, script_answers, unresumed_status};
 
 use crate::bundle::bundle_failure;
@@ -37,7 +37,7 @@ pub fn resume_season<S: Source, K: Sink, P: Keeper>(
     sink: &mut K,
     keeper: P,
 ) -> (Status, P)
-    ensures written { Writes (EndsResume (S.left source.old)) (outside_of K.Sink P.Keeper
+    ensures written { Outputs (EndsResume (S.left source.old)) (outside_of K.Sink P.Keeper
         sink.old keeper) (outside_of K.Sink P.Keeper sink.new result.1) result.0 }
     ensures read_whole { result.0 ≡ Status.Ok → IsAtEnd (S.left source.new) }
     ensures read_blamed { BlamesSource result.0 (source_of S.Source source.old)
@@ -68,7 +68,7 @@ fn go_on<S: Source, K: Sink, P: Keeper>(
 ) -> (Status, P)
     requires history { IsHistory office.season office.entries office.state }
     requires stands { Stand office.season office.state (P.seen office.keeper).tables }
-    ensures written { Writes (EndsAsked office.season office.state (S.left source.old))
+    ensures written { Outputs (EndsAsked office.season office.state (S.left source.old))
         (outside_of K.Sink P.Keeper sink.old office.keeper)
         (outside_of K.Sink P.Keeper sink.new result.1) result.0 }
     ensures told_before { IsTold (P.seen result.1).tables → IsTold (P.seen office.keeper).tables }
@@ -180,7 +180,7 @@ fn tell_unresumed<K: Sink>(alloc: Global, sink: &mut K, stopped: &Unresumed) -> 
 /// Writes a line that was made, with its status, or that memory ran out for it.
 fn tell_line<K: Sink>(sink: &mut K, line: Result<Text, OutOfMemory>, status: Status) -> Status
     requires { status ≢ Status.WriteFault }
-    ensures told { IsTextTold (made_status status line) (made_text line) (K.written sink.old)
+    ensures told { IsTextOut (made_status status line) (made_text line) (K.written sink.old)
         (K.written sink.new) (Rose (K.faults sink.old) (K.faults sink.new)) result }
     ensures status { (result ≡ status)
         ⊎ ((result ≡ Status.OutOfMemory) ⊎ (result ≡ Status.WriteFault)) }

@@ -9,9 +9,9 @@ ghost use Rattle.office_moves.specs.State.{opening};
 ghost use Rattle.command_answers.specs.Answers.{IsFailureOf, Tells};
 ghost use Rattle.season_commands.specs.Check.{IsBundle, IsFaultyBundle, check_answers};
 ghost use Rattle.office_base.specs.Visible.{source_of};
-ghost use Rattle.season_commands.specs.Outside.{Writes, outside_of};
+ghost use Rattle.season_commands.specs.Outside.{Outputs, outside_of};
 ghost use Rattle.season_commands.specs.Run.{EndsRun, EndsSeason, RunsInput, RunsScript, begin_status, begin_text};
-ghost use Rattle.command_answers.specs.Writes.{IsTold};
+ghost use Rattle.command_answers.specs.Writes.{IsTextOut};
 
 use crate::bundle::read_bundle;
 use crate::laws::one_answer;
@@ -30,7 +30,7 @@ pub fn run_season<S: Source, K: Sink, P: Keeper>(
     sink: &mut K,
     keeper: P,
 ) -> (Status, P)
-    ensures written { Writes (EndsRun (S.left source.old)) (outside_of K.Sink P.Keeper
+    ensures written { Outputs (EndsRun (S.left source.old)) (outside_of K.Sink P.Keeper
         sink.old keeper) (outside_of K.Sink P.Keeper sink.new result.1) result.0 }
     ensures runs { RunsInput IsBundle IsFaultyBundle (source_of S.Source source.old)
         (source_of S.Source source.new) (outside_of K.Sink P.Keeper sink.old keeper)
@@ -52,7 +52,7 @@ pub fn run_script<K: Sink, P: Keeper>(
     keeper: P,
 ) -> (Status, P)
     requires { IsSeason season.text season }
-    ensures written { Writes (EndsSeason season script.now) (outside_of K.Sink P.Keeper
+    ensures written { Outputs (EndsSeason season script.now) (outside_of K.Sink P.Keeper
         sink.old keeper) (outside_of K.Sink P.Keeper sink.new result.1) result.0 }
     ensures runs { RunsScript (outside_of K.Sink P.Keeper sink.old keeper)
         (outside_of K.Sink P.Keeper sink.new result.1) result.0 }
@@ -65,7 +65,7 @@ pub fn run_script<K: Sink, P: Keeper>(
 
 /// Writes why no office began.
 pub fn tell_unbegun<K: Sink>(sink: &mut K, fault: BeginFault) -> Status
-    ensures told { IsTold (begin_status fault) (begin_text fault) (K.written sink.old)
+    ensures told { IsTextOut (begin_status fault) (begin_text fault) (K.written sink.old)
         (K.written sink.new) (Rose (K.faults sink.old) (K.faults sink.new)) result }
     ensures steady { result ≢ Status.WriteFault → K.faults sink.new ≡ K.faults sink.old }
 {

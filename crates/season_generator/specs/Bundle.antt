@@ -7,7 +7,7 @@ use Rattle.std.specs.Fmt.{decimal}
 use Rattle.std.specs.List.{flat_map, range_with_len}
 use Rattle.office_base.specs.declared.person.Category.{Category}
 use Rattle.office_base.specs.declared.person.Category.TheVariants.{Gen, Ews, Obc, Sc, St}
-use Rattle.season_generator.specs.Draws.{after, drawn, next}
+use Rattle.season_generator.specs.Draws.{state_after, drawn, next}
 use Rattle.season_generator.specs.declared.profile.Profile.{Profile}
 
 -- the lines of the numbers 0 to n - 1
@@ -48,16 +48,16 @@ stride_of number = if number == 0 then 1 else (if number == 1 then 3 else (if nu
 unfoldable pub profile_at : ℕ → Profile
 profile_at state = record {
   category = category_of (drawn 20 state);
-  women = drawn 2 (after 1 state) == 0;
-  disabled = drawn 20 (after 2 state) == 0;
-  relaxed = has_relaxed (category_of (drawn 20 state)) && drawn 10 (after 3 state) == 0;
-  first = drawn 100 (after 4 state);
-  stride = stride_of (drawn 4 (after 5 state));
+  women = drawn 2 (state_after 1 state) == 0;
+  disabled = drawn 20 (state_after 2 state) == 0;
+  relaxed = has_relaxed (category_of (drawn 20 state)) && drawn 10 (state_after 3 state) == 0;
+  first = drawn 100 (state_after 4 state);
+  stride = stride_of (drawn 4 (state_after 5 state));
 }
 
 -- the profile of a candidate, counted from 0, where those of all are drawn from this state on
 abbrev pub profile_of : ℕ → ℕ → Profile
-profile_of state candidate = profile_at (after (6 * candidate) state)
+profile_of state candidate = profile_at (state_after (6 * candidate) state)
 
 -- a category, as it is written
 abbrev pub category_name : Category → List ℕ
@@ -98,13 +98,13 @@ register_text n state first second =
 -- ---- programmes
 
 -- the code of a programme below 100, in two digits
-abbrev pub code_of : ℕ → List ℕ
-code_of programme = codes "P" ++ (48 + programme / 10) ∷ (48 + programme % 10) ∷ []
+abbrev pub programme_code : ℕ → List ℕ
+programme_code programme = codes "P" ++ (48 + programme / 10) ∷ (48 + programme % 10) ∷ []
 
 -- the row of a step of a programme: its seats, and those of them that are protected for women and for persons with disabilities
 unfoldable pub matrix_row : ℕ → List ℕ → ℕ → ℕ → ℕ → List ℕ
 matrix_row programme step seats women disabled =
-    code_of programme ++ codes ",I" ++ decimal (programme / 10) ++ codes "," ++ decimal (1 + programme % 2) ++ codes "," ++ step ++ codes "," ++ decimal seats
+    programme_code programme ++ codes ",I" ++ decimal (programme / 10) ++ codes "," ++ decimal (1 + programme % 2) ++ codes "," ++ step ++ codes "," ++ decimal seats
     ++ codes "," ++ decimal women ++ codes "," ++ decimal disabled ++ codes "\n"
 
 -- the rows of a programme, where the size is that of its OBC step
@@ -122,7 +122,7 @@ matrix_text n = codes "[matrix]\nprogramme,institute,list,step,seats,W,D,X,S,F,L
 
 -- the row of a candidate's choices: forty programmes, each so far after the one before
 unfoldable pub choices_row : ℕ → Profile → List ℕ
-choices_row id profile = decimal id ++ lines 40 (λ place. codes "," ++ code_of ((profile.first + place * profile.stride) % 100)) ++ codes "\n"
+choices_row id profile = decimal id ++ lines 40 (λ place. codes "," ++ programme_code ((profile.first + place * profile.stride) % 100)) ++ codes "\n"
 
 -- the choices: their header, and the row of each candidate
 unfoldable pub choices_text : ℕ → ℕ → List ℕ
@@ -146,11 +146,11 @@ answer_row window id choice =
 
 -- the rows of a window: an answer of each candidate, drawn from this state on, and the cut
 unfoldable pub window_rows : ℕ → ℕ → ℕ → List ℕ
-window_rows n state window = lines n (λ candidate. answer_row window (candidate + 1) (choice_name (drawn 20 (after candidate state)))) ++ cut_row window
+window_rows n state window = lines n (λ candidate. answer_row window (candidate + 1) (choice_name (drawn 20 (state_after candidate state)))) ++ cut_row window
 
 -- the requests: the cut of window 0, and the rows of the windows 1 to 6
 unfoldable pub requests_text : ℕ → ℕ → List ℕ
-requests_text n state = codes "[requests]\n" ++ cut_row 0 ++ lines 6 (λ before. window_rows n (after (n * before) state) (before + 1))
+requests_text n state = codes "[requests]\n" ++ cut_row 0 ++ lines 6 (λ before. window_rows n (state_after (n * before) state) (before + 1))
 
 -- ---- the bundle
 
@@ -161,7 +161,7 @@ season_head = codes "office bundle 1\n[season]\nrounds,6\nclerk,clerk0001\n"
 -- the season of n candidates that a seed gives
 unfoldable pub generated : ℕ → ℕ → List ℕ
 generated n seed =
-    let second = after (n - 1) seed in
-    let profiles = after (n - 1) second in
-    let answers = after (6 * n) profiles in
+    let second = state_after (n - 1) seed in
+    let profiles = state_after (n - 1) second in
+    let answers = state_after (6 * n) profiles in
     season_head ++ register_text n profiles (places n seed) (places n second) ++ matrix_text n ++ choices_text n profiles ++ requests_text n answers

@@ -10,6 +10,6 @@ unfoldable pub drawn : ℕ → ℕ → ℕ
 drawn n state = next state / 2 ^ 33 % n
 
 -- the state after this many draws
-unfoldable pub after : ℕ → ℕ → ℕ
-after zero state = state
-after (suc draws) state = next (after draws state)
+unfoldable pub state_after : ℕ → ℕ → ℕ
+state_after zero state = state
+state_after (suc draws) state = next (state_after draws state)

@@ -1,7 +1,7 @@
 // The rows of candidates: in the register, and of their choices.
 ghost use Rattle.std.specs.Prelude.{◌≡◌, ◌<◌, ◌≤◌, ◌+◌, ◌*◌, ◌%◌, ◌++◌, OnOk, codes, length, slice_index};
-ghost use Rattle.season_generator.specs.Bundle.{choices_row, choices_text, code_of, lines, profile_at, profile_of, register_row, register_text};
-ghost use Rattle.season_generator.specs.Draws.{after};
+ghost use Rattle.season_generator.specs.Bundle.{choices_row, choices_text, programme_code, lines, profile_at, profile_of, register_row, register_text};
+ghost use Rattle.season_generator.specs.Draws.{state_after};
 
 use crate::draws::Draws;
 use crate::profile::Profile;
@@ -65,7 +65,7 @@ fn push_candidate(
     requires { id < 100000000 }
     ensures row { OnOk result
         (out.new ≡ out.old ++ register_row id (profile_at draws.old.state) first second) }
-    ensures state { draws.new.state ≡ after 6 draws.old.state }
+    ensures state { draws.new.state ≡ state_after 6 draws.old.state }
 {
     let profile = draws.profile();
     push_registered(out, id, profile, first, second)
@@ -100,7 +100,7 @@ fn push_registered(
 pub(crate) fn push_choices(out: &mut Text, draws: &mut Draws, n: u32) -> Result<(), OutOfMemory>
     requires { n ≤ 100000 }
     ensures rows { OnOk result (out.new ≡ out.old ++ choices_text n draws.old.state) }
-    ensures state { OnOk result (draws.new.state ≡ after (6 * n) draws.old.state) }
+    ensures state { OnOk result (draws.new.state ≡ state_after (6 * n) draws.old.state) }
 {
     out.extend_from_slice(b"[choices]\ncandidate,programmes\n")?;
     push_choosers(out, draws, n)
@@ -111,7 +111,7 @@ fn push_choosers(out: &mut Text, draws: &mut Draws, n: u32) -> Result<(), OutOfM
     requires { n ≤ 100000 }
     ensures rows { OnOk result (out.new ≡ out.old ++ lines n (λ candidate.
         choices_row (candidate + 1) (profile_of draws.old.state candidate))) }
-    ensures state { OnOk result (draws.new.state ≡ after (6 * n) draws.old.state) }
+    ensures state { OnOk result (draws.new.state ≡ state_after (6 * n) draws.old.state) }
 {
     for candidate in 0..n {
         push_chooser(out, draws, candidate + 1)?;
@@ -122,7 +122,7 @@ fn push_choosers(out: &mut Text, draws: &mut Draws, n: u32) -> Result<(), OutOfM
 /// Puts the row of a candidate's choices, and draws the profile for it.
 fn push_chooser(out: &mut Text, draws: &mut Draws, id: u32) -> Result<(), OutOfMemory>
     ensures row { OnOk result (out.new ≡ out.old ++ choices_row id (profile_at draws.old.state)) }
-    ensures state { draws.new.state ≡ after 6 draws.old.state }
+    ensures state { draws.new.state ≡ state_after 6 draws.old.state }
 {
     let profile = draws.profile();
     push_chosen(out, id, profile)
@@ -146,7 +146,7 @@ fn push_programmes(out: &mut Text, profile: Profile) -> Result<(), OutOfMemory>
     requires first { profile.first < 100 }
     requires stride { profile.stride ≤ 9 }
     ensures { OnOk result (out.new ≡ out.old ++ lines 40 (λ place.
-        codes "," ++ code_of ((profile.first + place * profile.stride) % 100))) }
+        codes "," ++ programme_code ((profile.first + place * profile.stride) % 100))) }
 {
     for place in 0..CHOICES {
         push_programme(out, (profile.first + place * profile.stride) % 100)?;
@@ -157,7 +157,7 @@ fn push_programmes(out: &mut Text, profile: Profile) -> Result<(), OutOfMemory>
 /// Puts a programme after a comma.
 fn push_programme(out: &mut Text, programme: u32) -> Result<(), OutOfMemory>
     requires { programme < 100 }
-    ensures { OnOk result (out.new ≡ out.old ++ (codes "," ++ code_of programme)) }
+    ensures { OnOk result (out.new ≡ out.old ++ (codes "," ++ programme_code programme)) }
 {
     out.extend_from_slice(b",")?;
     push_code(out, programme)

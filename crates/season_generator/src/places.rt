@@ -2,7 +2,7 @@
 ghost use Rattle.std.specs.Prelude.{◌≡◌, ◌<◌, ◌≤◌, ◌+◌, ◌-◌, IfOk, OnOk, length, swap};
 ghost use Rattle.std.specs.List.{range_with_len};
 ghost use Rattle.season_generator.specs.Bundle.{exchanged, places};
-ghost use Rattle.season_generator.specs.Draws.{after, drawn, next};
+ghost use Rattle.season_generator.specs.Draws.{state_after, drawn, next};
 
 use crate::draws::Draws;
 use office_base::OutOfMemory;
@@ -14,7 +14,7 @@ impl Draws {
         requires { 1 ≤ n }
         ensures places { IfOk result (λ held. held.items ≡ places n self.old.state) }
         ensures len { IfOk result (λ held. length held.items ≡ n) }
-        ensures state { OnOk result (self.new.state ≡ after (n - 1) self.old.state) }
+        ensures state { OnOk result (self.new.state ≡ state_after (n - 1) self.old.state) }
     {
         let mut held = in_order(alloc, n)?;
         self.exchange(held.as_mut_slice());
@@ -26,7 +26,7 @@ impl Draws {
         requires some { 1 ≤ length held.old }
         requires bound { length held.old < 4294967296 }
         ensures places { held.new ≡ exchanged self.old.state (length held.old - 1) held.old }
-        ensures state { self.new.state ≡ after (length held.old - 1) self.old.state }
+        ensures state { self.new.state ≡ state_after (length held.old - 1) self.old.state }
     {
         let mut last = held.len() - 1;
         while 0 < last {

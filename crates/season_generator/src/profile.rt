@@ -1,7 +1,7 @@
 // What is drawn for a candidate.
 ghost use Rattle.std.specs.Prelude.{◌≡◌, ◌<◌, ◌≤◌};
 ghost use Rattle.season_generator.specs.Bundle.{category_of, has_relaxed, profile_at, stride_of};
-ghost use Rattle.season_generator.specs.Draws.{after};
+ghost use Rattle.season_generator.specs.Draws.{state_after};
 
 use crate::draws::Draws;
 use office_base::Category;
@@ -24,12 +24,12 @@ pub struct Profile {
 
 impl Draws {
     /// Draws the profile of a candidate, by six draws.
-    #[tactic(auto, unfolding(crate::specs::Bundle::profile_at, crate::specs::Draws::after))]
+    #[tactic(auto, unfolding(crate::specs::Bundle::profile_at, crate::specs::Draws::state_after))]
     pub(crate) fn profile(&mut self) -> Profile
         ensures profile { result ≡ profile_at self.old.state }
         ensures first { result.first < 100 }
         ensures stride { result.stride ≤ 9 }
-        ensures state { self.new.state ≡ after 6 self.old.state }
+        ensures state { self.new.state ≡ state_after 6 self.old.state }
     {
         let category = category_of(self.draw(20));
         let women = self.draw(2) == 0;

@@ -1,7 +1,7 @@
 // The requests of a generated season.
 ghost use Rattle.std.specs.Prelude.{◌≡◌, ◌≤◌, ◌+◌, ◌*◌, ◌++◌, OnOk};
 ghost use Rattle.season_generator.specs.Bundle.{answer_row, choice_name, cut_row, lines, requests_text, window_rows};
-ghost use Rattle.season_generator.specs.Draws.{after, drawn, next};
+ghost use Rattle.season_generator.specs.Draws.{state_after, drawn, next};
 
 use crate::draws::Draws;
 use crate::spelling::push_field;
@@ -25,7 +25,7 @@ pub(crate) fn push_requests(out: &mut Text, draws: Draws, n: u32) -> Result<(), 
 fn push_windows(out: &mut Text, mut draws: Draws, n: u32) -> Result<(), OutOfMemory>
     requires { n ≤ 100000 }
     ensures { OnOk result (out.new ≡ out.old
-        ++ lines 6 (λ before. window_rows n (after (n * before) draws.state) (before + 1))) }
+        ++ lines 6 (λ before. window_rows n (state_after (n * before) draws.state) (before + 1))) }
 {
     for before in 0..ROUNDS {
         push_window(out, &mut draws, n, before + 1)?;
@@ -38,7 +38,7 @@ fn push_windows(out: &mut Text, mut draws: Draws, n: u32) -> Result<(), OutOfMem
 fn push_window(out: &mut Text, draws: &mut Draws, n: u32, window: u32) -> Result<(), OutOfMemory>
     requires { n ≤ 100000 }
     ensures rows { OnOk result (out.new ≡ out.old ++ window_rows n draws.old.state window) }
-    ensures state { OnOk result (draws.new.state ≡ after n draws.old.state) }
+    ensures state { OnOk result (draws.new.state ≡ state_after n draws.old.state) }
 {
     push_answers(out, draws, n, window)?;
     push_cut(out, window)
@@ -48,8 +48,8 @@ fn push_window(out: &mut Text, draws: &mut Draws, n: u32, window: u32) -> Result
 fn push_answers(out: &mut Text, draws: &mut Draws, n: u32, window: u32) -> Result<(), OutOfMemory>
     requires { n ≤ 100000 }
     ensures rows { OnOk result (out.new ≡ out.old ++ lines n (λ candidate. answer_row window
-        (candidate + 1) (choice_name (drawn 20 (after candidate draws.old.state))))) }
-    ensures state { OnOk result (draws.new.state ≡ after n draws.old.state) }
+        (candidate + 1) (choice_name (drawn 20 (state_after candidate draws.old.state))))) }
+    ensures state { OnOk result (draws.new.state ≡ state_after n draws.old.state) }
 {
     for candidate in 0..n {
         push_drawn(out, draws, window, candidate + 1)?;

@@ -1,7 +1,7 @@
 // How the fields of generated rows are spelled.
 ghost use Rattle.std.specs.Prelude.{◌≡◌, ◌<◌, ◌∷◌, ◌++◌, OnOk};
 ghost use Rattle.std.specs.Fmt.{decimal};
-ghost use Rattle.season_generator.specs.Bundle.{category_name, code_of, eight_digits, place_field, traits_name};
+ghost use Rattle.season_generator.specs.Bundle.{category_name, programme_code, eight_digits, place_field, traits_name};
 
 use itoa::Buffer;
 use office_base::{Category, OutOfMemory, Text};
@@ -60,7 +60,7 @@ pub(crate) fn push_place(out: &mut Text, place: u32, relaxed: bool) -> Result<()
 /// Puts the code of a programme.
 pub(crate) fn push_code(out: &mut Text, programme: u32) -> Result<(), OutOfMemory>
     requires { programme < 100 }
-    ensures { OnOk result (out.new ≡ out.old ++ code_of programme) }
+    ensures { OnOk result (out.new ≡ out.old ++ programme_code programme) }
 {
     let tens = b'0' + (programme / 10) as u8;
     let ones = b'0' + (programme % 10) as u8;

@@ -1,6 +1,6 @@
 -- A season can always be finished, by cuts alone.
 use Rattle.std.proofs.Common.{◌≡◌, ◌≤◌, ◌+◌, ℕ, zero, suc, Bool, true, false, List, [], ◌∷◌, ◌++◌, Option, Some, map, arith, refl, sym, ap, ◌∙◌, subst, ◌==◌, if◌then◌else◌, append_assoc, append-nil}
-use Rattle.office_base.specs.Numbered.{last_of}
+use Rattle.office_base.specs.Numbered.{last_of_numbers}
 use Rattle.office_moves.specs.Facts.{IsSound, SeasonFacts}
 use Rattle.office_moves.specs.State.{State, opening}
 use Rattle.office_moves.specs.Decided.{decided}
@@ -68,7 +68,7 @@ module _ (facts : SeasonFacts) (sound : IsSound facts) (orderly : (entries : Lis
   }
   finish (suc left) entries state history e =
       let request = asked facts (Cut state.now) in
-      let number = last_of (map (λ (entry : Entry). entry.number) entries) + 1 in
+      let number = last_of_numbers (map (λ (entry : Entry). entry.number) entries) + 1 in
       let cut : Entry = record { number = number; act = Cut state.now } in
       let done = every state request sound (orderly entries state history.reached) in
       let is = cut_by facts state done.1 done.0 (state.now == facts.rounds) (ends facts state (omega (arith, e))) done.2 in

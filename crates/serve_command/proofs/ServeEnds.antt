@@ -14,7 +14,7 @@ use Rattle.round_cut.specs.declared.fault.BeginFault.{BeginFault}
 use Rattle.round_cut.specs.declared.fault.BeginFault.TheVariants.{NotEmpty}
 use Rattle.season_commands.specs.Run.{IsUnbegunText, begin_status, begin_text}
 use Rattle.command_answers.specs.Answers.{HaveOneAnswer, IsFailureOf, Tells}
-use Rattle.command_answers.specs.Writes.{IsTold, status_of, text_of}
+use Rattle.command_answers.specs.Writes.{IsTextOut, status_of, text_of}
 use Rattle.command_answers.specs.declared.failure.Failure.{Failure}
 use Rattle.command_answers.specs.declared.failure.Failure.TheVariants.{Read, Bad, NoMemory as NoMemoryToRead}
 use Rattle.command_answers.specs.declared.status.Status.{Status}
@@ -28,7 +28,7 @@ use Rattle.serve_command.specs.Serve.{EndsBegun, EndsServe, EndsServeKept, EndsS
 
 -- No office began.
 pub unbegun_ends : (season : Season) (before after : Tables) (doors : Doors) (fault : BeginFault) (written now : Option (List ℕ)) (broke : Type 0) (result : Status)
-    → (fault ≡ NotEmpty → IsFound true after) → AreTold before after → doors.spared → IsTold (begin_status fault) (begin_text fault) written now broke result
+    → (fault ≡ NotEmpty → IsFound true after) → AreTold before after → doors.spared → IsTextOut (begin_status fault) (begin_text fault) written now broke result
     → (output : List ℕ) × Appends output written now × EndsBegun season before after doors result output
 unbegun_ends season before after doors fault written now broke result held told spared is =
     let (output, appends, writes) = told_is_written (IsUnbegunText (still before after)) (begin_status fault) result (begin_text fault) written now broke
@@ -57,7 +57,7 @@ text_of_failure left failed NoMemoryToRead cause = refl
 
 -- No season was read.
 pub unread_ends : (left : Option (List ℕ)) (failed : Type 0) (failure : Failure) (tables : Tables) (doors : Doors) (written now : Option (List ℕ)) (broke : Type 0) (result : Status)
-    → IsFailureOf season_answers left failed failure → doors.spared → IsTold (status_of (Err failure)) (text_of (Err failure)) written now broke result
+    → IsFailureOf season_answers left failed failure → doors.spared → IsTextOut (status_of (Err failure)) (text_of (Err failure)) written now broke result
     → (output : List ℕ) × Appends output written now × EndsServe left tables tables doors result output
 unread_ends left failed failure tables doors written now broke result cause spared is =
     let (output, appends, writes) = told_is_written (IsUnreadText left) (status_of (Err failure)) result (text_of (Err failure)) written now broke (text_of_failure left failed failure cause) is in

@@ -12,12 +12,12 @@ use Rattle.office_moves.specs.State.{State, opening}
 use Rattle.office_moves.specs.declared.moves.Entry.{Entry}
 use Rattle.histories.specs.Course.{IsCourse}
 use Rattle.round_cut.specs.Office.{Opened}
-use Rattle.command_answers.specs.Writes.{IsTold, Writes}
+use Rattle.command_answers.specs.Writes.{IsTextOut, Writes}
 use Rattle.command_answers.specs.declared.status.Status.{Status}
 use Rattle.command_answers.specs.declared.status.Status.TheVariants.{Ok as Done, WriteFault, OutOfMemory, DoorFault}
 use Rattle.command_answers.proofs.Ended.{told_is_written}
 use Rattle.door_histories.specs.Ending.{AllEnded, SomeRose}
-use Rattle.door_histories.specs.Served.{Telling}
+use Rattle.door_histories.specs.Served.{DoorLooks}
 use Rattle.office_http.specs.Serving.{DoorsServed}
 use Rattle.serve_command.specs.Doors.{Doors, HaveEnded, doors_of}
 use Rattle.serve_command.specs.Ending.{served_status, told_status, told_text}
@@ -41,7 +41,7 @@ text_of_end facts history tables state failed (Err none) after made = (state, af
 
 -- It was written how far an office is.
 pub end_is_told : (facts : SeasonFacts) (history : List Entry) (tables : Tables) (state : State) (failed : Bool) {E : Type 0} (text : Result (List ℕ) E) (written now : Option (List ℕ)) (broke : Type 0) (result : Status)
-    → IsOfficeAfter facts history tables state → IfOk text (λ made. made ≡ served_text facts state (length history) failed) → IsTold (told_status failed text) (told_text text) written now broke result
+    → IsOfficeAfter facts history tables state → IfOk text (λ made. made ≡ served_text facts state (length history) failed) → IsTextOut (told_status failed text) (told_text text) written now broke result
     → (output : List ℕ) × Appends output written now × Writes (IsEndText facts history tables failed) result output
 end_is_told facts history tables state failed text written now broke result after made told =
     told_is_written (IsEndText facts history tables failed) (told_status failed text) result (told_text text) written now broke (text_of_end facts history tables state failed text after made) told
@@ -64,7 +64,7 @@ served_ends facts other held history tables doors failed written now result same
 
 -- No office was served, because memory ran out.
 pub spared_ends : (facts : SeasonFacts) (held : List Entry) (tables : Tables) (doors : Doors) (state : State) (written now : Option (List ℕ)) (broke : Type 0) (result : Status)
-    → IsHistory facts held state → Stand facts state tables → doors.spared → IsTold OutOfMemory memory_line written now broke result
+    → IsHistory facts held state → Stand facts state tables → doors.spared → IsTextOut OutOfMemory memory_line written now broke result
     → (output : List ℕ) × Appends output written now × EndsServed facts held tables doors result output
 spared_ends facts held tables doors state written now broke result leads stands spared told =
     told_is_written (IsServedText facts held tables doors) OutOfMemory result memory_line written now broke (inr ((state, leads, stands), spared, refl, refl)) told
@@ -72,13 +72,13 @@ spared_ends facts held tables doors state written now broke result leads stands 
 -- ---- the doors
 
 -- a door failed, or none did and all came to their end
-pub have_ended : {D L : Type 0} (of : Telling D L) (failed : Bool) (doors doors' : List D) → (failed ≡ true → SomeRose of.faults doors doors')
+pub have_ended : {D L : Type 0} (of : DoorLooks D L) (failed : Bool) (doors doors' : List D) → (failed ≡ true → SomeRose of.faults doors doors')
     → (failed ≡ false → AllEnded of.faults of.to_come doors doors') → HaveEnded of failed doors doors'
 have_ended of true doors doors' rose ended = rose refl
 have_ended of false doors doors' rose ended = ended refl
 
 -- the returned keeper is that of the office
-pub served_at : {D L K : Type 0} (of : Telling D L) (faults : K → ℕ) (facts : SeasonFacts) (room : Bool) (held : List Entry) (before : ℕ) (doors doors' : List D) (history : List Entry) (kept now : K) → now ≡ kept
+pub served_at : {D L K : Type 0} (of : DoorLooks D L) (faults : K → ℕ) (facts : SeasonFacts) (room : Bool) (held : List Entry) (before : ℕ) (doors doors' : List D) (history : List Entry) (kept now : K) → now ≡ kept
     → DoorsServed facts room of held before doors doors' history (faults kept) → DoorsServed facts room of held before doors doors' history (faults now)
 served_at of faults facts room held before doors doors' history kept now same served =
     subst (λ k. DoorsServed facts room of held before doors doors' history (faults k)) (sym same) served
@@ -126,7 +126,7 @@ ends_well false result wrote rose (inr (inr cut)) broke failed sink doors = absu
 
 -- What holds of doors over the keeper of the office holds over the given keeper.
 -- The given keeper has as many faults and holds room in the same way.
-pub handed_in : {D L : Type 0} (of : Telling D L) (room held_room : Bool) (before held_before after : ℕ) (doors doors' : List D) (facts : SeasonFacts) (held : List Entry) (tables : Tables) (written now : Option (List ℕ)) (result : Status)
+pub handed_in : {D L : Type 0} (of : DoorLooks D L) (room held_room : Bool) (before held_before after : ℕ) (doors doors' : List D) (facts : SeasonFacts) (held : List Entry) (tables : Tables) (written now : Option (List ℕ)) (result : Status)
     → held_room ≡ room → held_before ≡ before → (output : List ℕ) × Appends output written now × EndsServed facts held tables (doors_of of held_room held_before after doors doors') result output
     → (output : List ℕ) × Appends output written now × EndsServed facts held tables (doors_of of room before after doors doors') result output
 handed_in of room held_room before held_before after doors doors' facts held tables written now result rooms counts end =

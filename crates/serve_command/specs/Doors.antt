@@ -1,7 +1,7 @@
 -- Doors at which an office is served, in words of the command.
 use Rattle.std.specs.Prelude.{◌≡◌, ℕ, Bool, true, false, List}
 use Rattle.door_histories.specs.Ending.{AllEnded, SomeRose}
-use Rattle.door_histories.specs.Served.{Telling, telling}
+use Rattle.door_histories.specs.Served.{DoorLooks, telling}
 use Rattle.keeper_mem.specs.Keeper.{Shelf}
 use Rattle.office_links.specs.declared.outside.Door.{Ghosts as DoorGhosts}
 use Rattle.office_links.specs.declared.outside.Link.{Ghosts as LinkGhosts}
@@ -15,7 +15,7 @@ pub record Doors : Type 1 where
   pub spared : Type 0
   pub served : SeasonFacts → List Entry → List Entry → Bool → Type 0
 
-module _ {D L : Type 0} (of : Telling D L) where
+module _ {D L : Type 0} (of : DoorLooks D L) where
   -- one of the doors failed, or none did and no connection is still to come
   abbrev pub HaveEnded : Bool → List D → List D → Type 0
   HaveEnded true doors doors' = SomeRose of.faults doors doors'

@@ -2,7 +2,7 @@
 ghost use Rattle.std.specs.Prelude.{◌≡◌, ◌≢◌, ◌++◌, codes, length, IfOk, OnOk};
 ghost use Rattle.std.specs.Fmt.{decimal};
 ghost use Rattle.office_base.specs.Outside.{Rose};
-ghost use Rattle.command_answers.specs.Writes.{IsTold};
+ghost use Rattle.command_answers.specs.Writes.{IsTextOut};
 ghost use Rattle.reply_texts.specs.Replies.{state_line};
 ghost use Rattle.serve_command.specs.Ending.{served_status, told_status, told_text};
 ghost use Rattle.serve_command.specs.Serve.{door_line, served_text};
@@ -69,7 +69,7 @@ pub(crate) fn write_served<K: Sink>(
     text: Result<Text, OutOfMemory>,
     door_failed: bool,
 ) -> Status
-    ensures told { IsTold (told_status door_failed text) (told_text text) (K.written sink.old)
+    ensures told { IsTextOut (told_status door_failed text) (told_text text) (K.written sink.old)
         (K.written sink.new) (Rose (K.faults sink.old) (K.faults sink.new)) result }
     ensures steady { result ≢ Status.WriteFault → K.faults sink.new ≡ K.faults sink.old }
 {

@@ -9,7 +9,7 @@ use Rattle.round_cut.specs.Resume.{IsResumed}
 use Rattle.special_round.specs.Season.{IsSpecialFault}
 use Rattle.special_round.specs.declared.fault.SpecialFault.{SpecialFault}
 use Rattle.command_answers.specs.Answers.{HasLeft, IsFailureOf, IsInputFailure, Tells, TellsLine}
-use Rattle.command_answers.specs.Writes.{IsTold, Writes, status_of, text_of}
+use Rattle.command_answers.specs.Writes.{IsTextOut, Writes, status_of, text_of}
 use Rattle.command_answers.specs.declared.failure.Failure.{Failure}
 use Rattle.command_answers.specs.declared.failure.Failure.TheVariants.{Read, Bad, NoMemory}
 use Rattle.command_answers.specs.declared.status.Status.{Status}
@@ -38,7 +38,7 @@ long_failed facts state bytes NoMemory long told = tt
 
 -- A special round was written.
 pub round_ends : (facts : SeasonFacts) (state : State) (left : Option (List ℕ)) (text shown : List ℕ) (written now : Option (List ℕ)) (broke : Type 0) (result : Status)
-    → HasLeft (IsSpecialOutput facts state) left text → shown ≡ text → IsTold Done shown written now broke result
+    → HasLeft (IsSpecialOutput facts state) left text → shown ≡ text → IsTextOut Done shown written now broke result
     → (output : List ℕ) × Appends output written now × Writes (IsSpecialText facts state left) result output
 round_ends facts state left text shown written now broke result made same told =
     told_is_written (IsSpecialText facts state left) Done result shown written now broke (subst (HasLeft (IsSpecialOutput facts state) left) (sym same) made) told
@@ -52,7 +52,7 @@ text_of_failure facts state left failed NoMemory cause = refl
 
 -- It was written why there is none.
 pub none_ends : (facts : SeasonFacts) (state : State) (left : Option (List ℕ)) (failed : Type 0) (failure : Failure) (written now : Option (List ℕ)) (broke : Type 0) (result : Status)
-    → IsFailureOf (special_answers facts state) left failed failure → IsTold (status_of (Err failure)) (text_of (Err failure)) written now broke result
+    → IsFailureOf (special_answers facts state) left failed failure → IsTextOut (status_of (Err failure)) (text_of (Err failure)) written now broke result
     → (output : List ℕ) × Appends output written now × Writes (IsSpecialText facts state left) result output
 none_ends facts state left failed failure written now broke result cause told =
     told_is_written (IsSpecialText facts state left) (status_of (Err failure)) result (text_of (Err failure)) written now broke (text_of_failure facts state left failed failure cause) told
@@ -74,13 +74,13 @@ no_fault facts state (Some bytes) line laws has tells =
     (laws facts state bytes).apart tells (subst (AreFaultyLists facts state) has.1 ((laws facts state has.0).of_fault line has.2))
 
 -- if the sink did not fail, the status is that of the text
-status_is : (status result : Status) (text : List ℕ) (written now : Option (List ℕ)) (broke : Type 0) → IsTold status text written now broke result → (broke → ⊥) → result ≡ status
+status_is : (status result : Status) (text : List ℕ) (written now : Option (List ℕ)) (broke : Type 0) → IsTextOut status text written now broke result → (broke → ⊥) → result ≡ status
 status_is status result text written now broke told held = elim told [ inl whole ↦ whole.0 | inr cut ↦ absurd (held cut.1) ]
 
 -- Lists without a fault are answered, if neither side failed and memory did not run out.
 pub lists_are_answered : (facts : SeasonFacts) (state : State) (left : Option (List ℕ)) (failed : Type 0) (failure : Failure) (written now : Option (List ℕ)) (broke : Type 0) (result : Status)
     → ((facts : SeasonFacts) (state : State) (bytes : List ℕ) → HaveOneSpecial facts state bytes) → IsFailureOf (special_answers facts state) left failed failure
-    → IsTold (status_of (Err failure)) (text_of (Err failure)) written now broke result → Tells (AreSpecialLists facts state) left → (failed → ⊥) → (broke → ⊥)
+    → IsTextOut (status_of (Err failure)) (text_of (Err failure)) written now broke result → Tells (AreSpecialLists facts state) left → (failed → ⊥) → (broke → ⊥)
     → (result ≡ Done) ⊎ (result ≡ OutOfMemory)
 lists_are_answered facts state left failed Read written now broke result laws cause told tells read wrote = absurd (read cause)
 lists_are_answered facts state left failed (Bad line) written now broke result laws cause told tells read wrote = absurd (no_fault facts state left line laws cause tells)

@@ -12,7 +12,7 @@ ghost use Rattle.command_answers.specs.Answers.{HasLeft, IsFailureOf, IsInputFai
 ghost use Rattle.command_answers.specs.Ends.{BlamesStreams};
 ghost use Rattle.command_answers.specs.Writes.{WritesFor};
 ghost use Rattle.office_base.specs.Visible.{sink_of, source_of, streams_of};
-ghost use Rattle.season_commands.specs.Outside.{BlamesOffice, BlamesSource, EndsWith, Writes, outside_of};
+ghost use Rattle.season_commands.specs.Outside.{BlamesOffice, BlamesSource, EndsWith, Outputs, outside_of};
 ghost use Rattle.season_commands.specs.Resume.{JudgesRecords, TellsNoOffice};
 ghost use Rattle.special_round.specs.Season.{IsSpecialFault};
 ghost use Rattle.special_command.specs.Special.{AnswersLists, AreFaultyLists, AreSpecialLists, EndsSpecial, IsSpecialOutput, IsSpecialText, IsToldFault, special_answers, too_long_line};
@@ -41,7 +41,7 @@ pub fn special_season<S: Source, K: Sink, P: Keeper>(
     sink: &mut K,
     keeper: P,
 ) -> (Status, P)
-    ensures written { Writes (EndsSpecial (S.left source.old)) (outside_of K.Sink P.Keeper
+    ensures written { Outputs (EndsSpecial (S.left source.old)) (outside_of K.Sink P.Keeper
         sink.old keeper) (outside_of K.Sink P.Keeper sink.new result.1) result.0 }
     ensures read_whole { result.0 ≡ Status.Ok → IsAtEnd (S.left source.new) }
     ensures read_blamed { BlamesSource result.0 (source_of S.Source source.old)

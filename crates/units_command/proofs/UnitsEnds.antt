@@ -14,7 +14,7 @@ use Rattle.season_file.specs.declared.fault.SeasonFault.TheVariants as season
 use Rattle.season_file.specs.declared.season.Season.{Season}
 use Rattle.kept_rows.specs.Tables.{Tables}
 use Rattle.command_answers.specs.Answers.{HaveOneAnswer, IsFailureOf, Tells}
-use Rattle.command_answers.specs.Writes.{IsTold, status_of, text_of}
+use Rattle.command_answers.specs.Writes.{IsTextOut, status_of, text_of}
 use Rattle.command_answers.specs.declared.failure.Failure.{Failure}
 use Rattle.command_answers.specs.declared.failure.Failure.TheVariants.{Read, Bad, NoMemory}
 use Rattle.command_answers.specs.declared.status.Status.{Status}
@@ -91,7 +91,7 @@ text_of_failure left failed NoMemory cause = refl
 
 -- No bundle was read.
 pub unread_ends : (left : Option (List ℕ)) (failed : Type 0) (failure : Failure) (tables : Tables) (written now : Option (List ℕ)) (broke : Type 0) (result : Status)
-    → IsFailureOf units_answers left failed failure → IsTold (status_of (Err failure)) (text_of (Err failure)) written now broke result
+    → IsFailureOf units_answers left failed failure → IsTextOut (status_of (Err failure)) (text_of (Err failure)) written now broke result
     → (output : List ℕ) × Appends output written now × EndsUnits left tables tables result output
 unread_ends left failed failure tables written now broke result cause is =
     let (output, appends, writes) = told_is_written (IsUnitsText left) (status_of (Err failure)) result (text_of (Err failure)) written now broke (text_of_failure left failed failure cause) is in

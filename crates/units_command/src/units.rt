@@ -4,7 +4,7 @@ ghost use Rattle.office_base.specs.Outside.{Rose, IsAtEnd};
 ghost use Rattle.office_base.specs.Visible.{source_of};
 ghost use Rattle.season_file.specs.Season.{IsSeason};
 ghost use Rattle.command_answers.specs.Answers.{IsFailureOf};
-ghost use Rattle.season_commands.specs.Outside.{Writes, outside_of};
+ghost use Rattle.season_commands.specs.Outside.{Outputs, outside_of};
 ghost use Rattle.season_commands.specs.Run.{RunsInput};
 ghost use Rattle.units_command.specs.Units.{EndsUnits, IsFaultyUnits, IsLeftExpansion, IsUnitsInput, units_answers};
 
@@ -49,7 +49,7 @@ pub fn units_season<S: Source, K: Sink, P: Keeper>(
     sink: &mut K,
     keeper: P,
 ) -> (Status, P)
-    ensures written { Writes (EndsUnits (S.left source.old)) (outside_of K.Sink P.Keeper
+    ensures written { Outputs (EndsUnits (S.left source.old)) (outside_of K.Sink P.Keeper
         sink.old keeper) (outside_of K.Sink P.Keeper sink.new result.1) result.0 }
     ensures runs { RunsInput IsUnitsInput IsFaultyUnits (source_of S.Source source.old)
         (source_of S.Source source.new) (outside_of K.Sink P.Keeper sink.old keeper)

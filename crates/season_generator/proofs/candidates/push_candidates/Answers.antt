@@ -1,7 +1,7 @@
 use Rattle.std.proofs.Common.{◌∙◌, ◌+◌, ◌*◌, ap, sym}
 use Rattle.std.specs.Prelude.{slice_index}
 use Rattle.season_generator.specs.Bundle.{profile_at, register_row}
-use Rattle.season_generator.specs.Draws.{after}
+use Rattle.season_generator.specs.Draws.{state_after}
 use Rattle.season_generator.proofs.DrawLemmas.{after_none, after_times}
 use Rattle.season_generator.proofs.RowLemmas.{lines_draw_on, lines_none}
 use Rattle.season_generator.proofs.candidates.push_candidates.Goals as goal
@@ -14,7 +14,7 @@ loop-candidate-init c = record {
 
 pub loop-candidate-preserved : goal.loop-candidate-preserved
 loop-candidate-preserved c = record {
-  written = lines_draw_on c.loop-candidate.candidate (λ k s. register_row (k + 1) (profile_at s) (slice_index c.args.first.now k) (slice_index c.args.second.now k)) (λ k. after (6 * k) c.args.draws.state) _ _ _ _
+  written = lines_draw_on c.loop-candidate.candidate (λ k s. register_row (k + 1) (profile_at s) (slice_index c.args.first.now k) (slice_index c.args.second.now k)) (λ k. state_after (6 * k) c.args.draws.state) _ _ _ _
       c.loop-candidate.invariant.written c.loop-candidate.invariant.state c.in_ok-push_candidate.ensures.row;
-  state = c.in_ok-push_candidate.ensures.state ∙ ap (after 6) c.loop-candidate.invariant.state ∙ sym (after_times 6 c.loop-candidate.candidate c.args.draws.state);
+  state = c.in_ok-push_candidate.ensures.state ∙ ap (state_after 6) c.loop-candidate.invariant.state ∙ sym (after_times 6 c.loop-candidate.candidate c.args.draws.state);
 }

@@ -1,6 +1,6 @@
 use Rattle.std.proofs.Common.{sym, ap, ◌∙◌, map, ◌∷◌, ◌++◌, []}
 use Rattle.std.proofs.lemmas.List.{map_push}
-use Rattle.office_base.specs.Numbered.{last_of, rises}
+use Rattle.office_base.specs.Numbered.{last_of_numbers, rises}
 use Rattle.desk_rule.proofs.TicketLemmas.{last_from-snoc, rises-snoc}
 use Rattle.desk_trials.specs.declared.book.Row.{Row}
 use Rattle.desk_trials.proofs.book.Book.put.Goals as goal
@@ -12,5 +12,5 @@ invariant_of-self-2 c =
     let numbers = ap (map (λ (r : Row). r.number)) items ∙ map_push (λ (r : Row). r.number) before c.args.row in
     record {
       rising = ap (rises 0) numbers ∙ rises-snoc 0 (map (λ (r : Row). r.number) before) c.args.row.number c.requires c.args.self.now.rising;
-      last_is = sym (ap last_of numbers ∙ last_from-snoc 0 (map (λ (r : Row). r.number) before) c.args.row.number);
+      last_is = sym (ap last_of_numbers numbers ∙ last_from-snoc 0 (map (λ (r : Row). r.number) before) c.args.row.number);
     }
