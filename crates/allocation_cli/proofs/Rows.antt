@@ -2,6 +2,7 @@
 use Rattle.std.proofs.Common.{◌≡◌, ◌≤◌, ◌∙◌, ℕ, suc, zero, ◌+◌, Bool, true, false, List, [], ◌∷◌, ◌++◌, length, map, replicate, ap, arith, not, if◌then◌else◌}
 use Rattle.std.specs.List.{AllByRecursion}
 use Rattle.std.proofs.lemmas.List.{map_push, replicate_more}
+use Rattle.office_base.specs.Limits.{most_connections}
 use Rattle.loopback_links.specs.Counts.{DoorCounts}
 
 -- That many doors are made, each with this number of connections to come.
@@ -33,12 +34,12 @@ all_made {L} made workers conns doors are low high =
     let same : made ≡ workers = omega (arith, low, high) in are ∙ ap (λ (n : ℕ). replicate n conns) same
 
 -- No doors are few, and each has few connections to come.
-pub none_suit : {L : Type 0} → (doors : List (DoorCounts L)) → map (λ door. door.left) doors ≡ [] → (length doors ≤ 64) × AllByRecursion (λ door. door.left ≤ 100000) doors
+pub none_suit : {L : Type 0} → (doors : List (DoorCounts L)) → map (λ door. door.left) doors ≡ [] → (length doors ≤ 64) × AllByRecursion (λ door. door.left ≤ most_connections) doors
 none_suit {L} [] are = (omega arith, tt)
 none_suit {L} (door ∷ doors) are = absurd (cc are)
 
 -- Each has no more connections to come than that.
-pub row_suits : {L : Type 0} → (workers conns : ℕ) (doors : List (DoorCounts L)) → AreMade workers conns doors → conns ≤ 100000 → AllByRecursion (λ door. door.left ≤ 100000) doors
+pub row_suits : {L : Type 0} → (workers conns : ℕ) (doors : List (DoorCounts L)) → AreMade workers conns doors → conns ≤ most_connections → AllByRecursion (λ door. door.left ≤ most_connections) doors
 row_suits {L} workers conns [] are light = tt
 row_suits {L} zero conns (door ∷ doors) are light = absurd (cc are)
 row_suits {L} (suc n) conns (door ∷ doors) are light =

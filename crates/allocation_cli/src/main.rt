@@ -10,6 +10,7 @@
 
 ghost use Rattle.std.specs.Prelude.{◌≡◌, ◌≤◌, IfOk, IfSome, length, map};
 ghost use Rattle.std.specs.List.{AllByRecursion};
+ghost use Rattle.office_base.specs.Limits.{most_doors, most_connections};
 ghost use Rattle.allocation_cli.specs.Named.{AreDoorsFor, AreNamed, HaveTaken};
 ghost use Rattle.office_commands.specs.Named.{doors_named};
 
@@ -187,8 +188,8 @@ fn answer_at<H: Threads + Wait + Sync, K: Sink, P: Keeper + Send>(
     keeper: P,
     doors: &mut Vec<SystemDoor<'_>>,
 ) -> (Status, P)
-    requires few { length doors.old.items ≤ 64 }
-    requires suit { AllByRecursion (λ d. d.left ≤ 100000) doors.old.items }
+    requires few { length doors.old.items ≤ most_doors }
+    requires suit { AllByRecursion (λ d. d.left ≤ most_connections) doors.old.items }
     requires named { AreDoorsFor words.now (map (λ d. d.left) doors.old.items) }
     ensures taken { result.0 ≡ Status.Ok → HaveTaken words.now
         (map (λ d. d.left) doors.old.items) (map (λ d. d.left) doors.new.items) }

@@ -1,6 +1,7 @@
 -- The words that spell a command.
 use Rattle.std.specs.Prelude.{◌≡◌, ◌≢◌, ◌<◌, ◌≤◌, ◌^◌, ℕ, true, List, [], ◌∷◌, Option, Some, None, codes}
 use Rattle.std.specs.Fmt.{decimal}
+use Rattle.office_base.specs.Limits.{most_connections, most_doors, most_generated}
 use Rattle.command_words.specs.Parts.{is_plain}
 use Rattle.command_words.specs.declared.words.Command.{Command}
 use Rattle.command_words.specs.declared.words.Command.TheVariants.{Step, Check, Run, Resume, Units, Special, Serve, Audit, AuditBest, Generate}
@@ -84,17 +85,17 @@ IsInRange (Run store) = IsNamed store
 IsInRange (Resume store) = IsNamed store
 IsInRange (Units store) = IsNamed store
 IsInRange (Special store) = IsNamed store
-IsInRange (Serve conns workers start port store) = ((1 ≤ conns) × (conns ≤ 100000)) × ((1 ≤ workers) × (workers ≤ 64)) × ((1 ≤ port) × (port < 2 ^ 16)) × IsNamed store
+IsInRange (Serve conns workers start port store) = ((1 ≤ conns) × (conns ≤ most_connections)) × ((1 ≤ workers) × (workers ≤ most_doors)) × ((1 ≤ port) × (port < 2 ^ 16)) × IsNamed store
 IsInRange Audit = Unit {0}
 IsInRange AuditBest = Unit {0}
-IsInRange (Generate n seed out) = (1 ≤ n) × (n ≤ 100000) × (seed < 2 ^ 32)
+IsInRange (Generate n seed out) = (1 ≤ n) × (n ≤ most_generated) × (seed < 2 ^ 32)
 
 -- the words after `serve`, without the store, are those of this service, whose numbers are in their ranges
 pub record AreServiceWords (service : Service) (conns workers start port : List ℕ) : Type 0 where
   pub conns_are : conns ≡ decimal service.conns
-  pub conns_range : (1 ≤ service.conns) × (service.conns ≤ 100000)
+  pub conns_range : (1 ≤ service.conns) × (service.conns ≤ most_connections)
   pub workers_are : workers ≡ decimal service.workers
-  pub workers_range : (1 ≤ service.workers) × (service.workers ≤ 64)
+  pub workers_range : (1 ≤ service.workers) × (service.workers ≤ most_doors)
   pub start_is : start ≡ word_start service.start
   pub port_is : port ≡ decimal service.port
   pub port_range : (1 ≤ service.port) × (service.port < 2 ^ 16)

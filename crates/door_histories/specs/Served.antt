@@ -2,6 +2,7 @@
 use Rattle.std.specs.Prelude.{◌≡◌, ◌≢◌, ◌+◌, ◌≤◌, ◌⊎◌, ℕ, true, List, [], ◌∷◌, ◌++◌, length, Option, Ok, Err}
 use Rattle.office_base.specs.Outside.{AreLeft, Rose}
 use Rattle.office_base.specs.declared.asks.Ask.{Ask}
+use Rattle.http_sessions.specs.Limits.{most_messages}
 use Rattle.office_links.specs.Visits.{Visits}
 use Rattle.office_links.specs.declared.outside.Door.{Ghosts as DoorGhosts}
 use Rattle.office_links.specs.declared.outside.Link.{Ghosts as LinkGhosts}
@@ -78,7 +79,7 @@ module _ {I : Type 0} (Answers : List I → Option (List ℕ) → Ask → Answer
       pub rest : List ℕ
       pub are : AreLeft bytes (of.left link)
       pub cuts : Cuts bytes items rest
-      pub few : length items ≤ 100
+      pub few : length items ≤ most_messages
       pub unclosed : open_before items ≡ true
       pub serving : IsServing A items outcomes E f B
       pub told : IsTold end bytes (record { left_before = of.left link; left_after = of.left link'; written_before = of.written link; written_after = of.written link' }) items outcomes rest

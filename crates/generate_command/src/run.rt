@@ -2,6 +2,7 @@
 // generated bundle one after another.
 // It writes no reply. When all are answered, it writes a summary.
 ghost use Rattle.std.specs.Prelude.{◌≡◌, ◌≢◌, ◌≤◌, ◌⊎◌, true, IfOk, IsErrOf};
+ghost use Rattle.office_base.specs.Limits.{most_generated};
 ghost use Rattle.office_base.specs.Outside.{Fails, Rose};
 ghost use Rattle.office_base.specs.Visible.{sink_of};
 ghost use Rattle.season_file.specs.Season.{IsSeason, IsSeasonWith};
@@ -39,7 +40,7 @@ pub fn run_generated<K: Sink, P: Keeper>(
     keeper: P,
 ) -> (Status, P)
     requires low { 1 ≤ n }
-    requires high { n ≤ 100000 }
+    requires high { n ≤ most_generated }
     ensures written { Outputs (EndsGeneratedRun n seed) (outside_of K.Sink P.Keeper sink.old keeper)
         (outside_of K.Sink P.Keeper sink.new result.1) result.0 }
     ensures runs { RunsScript (outside_of K.Sink P.Keeper sink.old keeper)
@@ -54,7 +55,7 @@ pub fn run_generated<K: Sink, P: Keeper>(
 /// Returns the season of the generated bundle, and its requests. The bundle has no fault.
 fn read_generated(alloc: Global, n: u32, seed: u32) -> Result<(Season, Script), OutOfMemory>
     requires low { 1 ≤ n }
-    requires high { n ≤ 100000 }
+    requires high { n ≤ most_generated }
     ensures season { IfOk result (λ read. IsSeasonWith true (generated n seed) read.0 read.1) }
     ensures text { IfOk result (λ read. IsSeason read.0.text read.0) }
 {

@@ -1,5 +1,6 @@
 // The text of a generated season.
 ghost use Rattle.std.specs.Prelude.{◌≡◌, ◌≤◌, ◌⊎◌};
+ghost use Rattle.office_base.specs.Limits.{most_generated};
 ghost use Rattle.office_base.specs.Visible.{sink_of};
 ghost use Rattle.command_answers.specs.Ends.{BlamesSink};
 ghost use Rattle.command_answers.specs.Writes.{WritesFor};
@@ -13,7 +14,7 @@ use std::alloc::Global;
 /// Writes the bundle of the season of `n` candidates, from 1 to 100,000, that the seed gives.
 pub fn write_generated<K: Sink>(alloc: Global, n: u32, seed: u32, sink: &mut K) -> Status
     requires low { 1 ≤ n }
-    requires high { n ≤ 100000 }
+    requires high { n ≤ most_generated }
     ensures written { WritesFor (IsGeneratedText n seed)
         (sink_of K.Sink sink.old) (sink_of K.Sink sink.new) result }
     ensures own { (result ≡ Status.Ok)

@@ -1,5 +1,6 @@
 -- That a season that is made up is a season bundle, and has no fault.
 use Rattle.std.specs.Prelude.{◌≤◌, ℕ, true, List}
+use Rattle.office_base.specs.Limits.{most_generated}
 use Rattle.office_base.specs.declared.asks.Request.{Request}
 use Rattle.season_generator.specs.Bundle.{generated}
 use Rattle.season_file.specs.Laws.{HasFault}
@@ -13,8 +14,8 @@ IsSeasonBundle bytes = (content : Content) × (script : List Request) × BundleG
 
 -- For up to 100,000 candidates, whatever the seed, what is generated is a season bundle.
 abbrev pub GeneratedIsBundle : Type 0
-GeneratedIsBundle = (n seed : ℕ) → n ≤ 100000 → IsSeasonBundle (generated n seed)
+GeneratedIsBundle = (n seed : ℕ) → n ≤ most_generated → IsSeasonBundle (generated n seed)
 
 -- So it has no fault.
 abbrev pub GeneratedHasNoFault : Type 0
-GeneratedHasNoFault = (n seed : ℕ) (fault : SeasonFault) → n ≤ 100000 → HasFault true (generated n seed) fault → ⊥
+GeneratedHasNoFault = (n seed : ℕ) (fault : SeasonFault) → n ≤ most_generated → HasFault true (generated n seed) fault → ⊥

@@ -4,6 +4,7 @@ use Rattle.std.specs.Prelude.{bytes_eq}
 use Rattle.std.specs.Result.{result_ok}
 use Rattle.std.proofs.lemmas.Bool.{ltb-false}
 use Rattle.std.proofs.lemmas.List.{length-take, length-drop, length-append, take_all, take-append-le, drop-append-le}
+use Rattle.http_heads.specs.Limits.{most_head_bytes, most_body_bytes, most_message_bytes}
 use Rattle.httparse.specs.Grammar.{RequestHead}
 use Rattle.httparse.proofs.GrammarLemmas.{request_unique}
 use Rattle.http_heads.specs.Fields.{Pair, body_len, has_field, length_for, one_length, values}
@@ -27,10 +28,10 @@ end-fits : (n : ℕ) (bytes : List ℕ) (end : ℕ) → head_len (take n bytes) 
 end-fits n bytes end ends = omega (arith, head_len-fits (take n bytes) end ends, length-take n bytes)
 
 HeadEnds-append : (bytes more : List ℕ) (end : ℕ) → HeadEnds bytes end → HeadEnds (bytes ++ more) end
-HeadEnds-append bytes more end ends = ends-append 8192 bytes more end ends
+HeadEnds-append bytes more end ends = ends-append most_head_bytes bytes more end ends
 
 HeadEnds-fits : (bytes : List ℕ) (end : ℕ) → HeadEnds bytes end → end ≤ length bytes
-HeadEnds-fits bytes end ends = end-fits 8192 bytes end ends
+HeadEnds-fits bytes end ends = end-fits most_head_bytes bytes end ends
 
 -- the head of the bytes, and of more bytes
 same_head_bytes : (bytes more : List ℕ) (end : ℕ) → HeadEnds bytes end → take end (bytes ++ more) ≡ take end bytes
@@ -64,7 +65,7 @@ IsWhole-append bytes more message len it = record {
 
 pub IsRefused-append : (bytes more : List ℕ) (status : ℕ) → IsRefused bytes status → IsRefused (bytes ++ more) status
 IsRefused-append bytes more status (inl long) =
-    inl (long.0, (omega (arith, length-append bytes more, long.1.0), ap head_len (take-append-le 8192 bytes more long.1.0) ∙ long.1.1))
+    inl (long.0, (omega (arith, length-append bytes more, long.1.0), ap head_len (take-append-le most_head_bytes bytes more long.1.0) ∙ long.1.1))
 IsRefused-append bytes more status (inr (inl none)) =
     let it = none.1 in
     inr (inl (none.0, (it.0, HeadEnds-append bytes more it.0 it.1, λ head reads. it.2 head (Reads-before bytes more it.0 head it.1 reads))))
@@ -99,7 +100,7 @@ pub record Came (bytes : List ℕ) (end : ℕ) (head : RequestHead) : Type 0 whe
 
 came_one : (bytes : List ℕ) (end end' : ℕ) (head head' : RequestHead) → Came bytes end head → Came bytes end' head' → (end ≡ end') × (head ≡ head')
 came_one bytes end end' head head' x y =
-    let same = some_one end end' (head_len (take 8192 bytes)) x.ends y.ends in
+    let same = some_one end end' (head_len (take most_head_bytes bytes)) x.ends y.ends in
     let reads : Reads (take end' bytes) head = subst (λ (n : ℕ). Reads (take n bytes) head) same x.reads in
     (same, (request_unique (take end' bytes) head head' reads.rest y.reads.rest reads.reads y.reads.reads).0)
 
@@ -117,7 +118,7 @@ begins_one bytes end end' head head' body body' x y =
 -- a head that came is refused neither for its form nor with a status where its body has a length
 not_no_head : (bytes : List ℕ) (end : ℕ) (head : RequestHead) → Came bytes end head → IsNoHead bytes → ⊥
 not_no_head bytes end head it none =
-    let same = some_one end none.0 (head_len (take 8192 bytes)) it.ends none.1 in
+    let same = some_one end none.0 (head_len (take most_head_bytes bytes)) it.ends none.1 in
     none.2 head (subst (λ (n : ℕ). Reads (take n bytes) head) same it.reads)
 
 not_unframed : (bytes : List ℕ) (end : ℕ) (head : RequestHead) (body status : ℕ) → Begins bytes end head body → IsUnframed bytes status → ⊥
@@ -132,13 +133,13 @@ no_end : (found : Option ℕ) (end : ℕ) → found ≡ None → found ≡ Some 
 no_end found end x y = cc
 
 not_refused : (bytes : List ℕ) (end : ℕ) (head : RequestHead) (body status : ℕ) → Begins bytes end head body → IsRefused bytes status → ⊥
-not_refused bytes end head body status begins (inl long) = no_end (head_len (take 8192 bytes)) end long.1.1 begins.ends
+not_refused bytes end head body status begins (inl long) = no_end (head_len (take most_head_bytes bytes)) end long.1.1 begins.ends
 not_refused bytes end head body status begins (inr (inl none)) = not_no_head bytes end head (came bytes end head body begins) none.1
 not_refused bytes end head body status begins (inr (inr it)) = not_unframed bytes end head body status begins it
 
 -- where a head ended, one has
 not_yet : (bytes : List ℕ) (end : ℕ) → HeadEnds bytes end → HasNoHeadYet bytes → ⊥
-not_yet bytes end ends none = no_end (head_len (take 8192 bytes)) end (ap head_len (take_all 8192 bytes (omega (arith, none.0))) ∙ none.1) ends
+not_yet bytes end ends none = no_end (head_len (take most_head_bytes bytes)) end (ap head_len (take_all most_head_bytes bytes (omega (arith, none.0))) ∙ none.1) ends
 
 whole_finished : (bytes : List ℕ) (message : Message) (len : ℕ) → IsWhole bytes message len → IsUnfinished bytes → ⊥
 whole_finished bytes message len it (inl none) = not_yet bytes it.end it.begins.ends none
@@ -154,12 +155,12 @@ refused_finished bytes status refuses (inr lacks) = not_refused bytes lacks.0 la
 
 refused_one : (bytes : List ℕ) (a b : ℕ) → IsRefused bytes a → IsRefused bytes b → a ≡ b
 refused_one bytes a b (inl x) (inl y) = x.0 ∙ sym y.0
-refused_one bytes a b (inl x) (inr (inl y)) = absurd (no_end (head_len (take 8192 bytes)) y.1.0 x.1.1 y.1.1)
-refused_one bytes a b (inl x) (inr (inr y)) = absurd (no_end (head_len (take 8192 bytes)) y.0 x.1.1 y.2)
-refused_one bytes a b (inr (inl x)) (inl y) = absurd (no_end (head_len (take 8192 bytes)) x.1.0 y.1.1 x.1.1)
+refused_one bytes a b (inl x) (inr (inl y)) = absurd (no_end (head_len (take most_head_bytes bytes)) y.1.0 x.1.1 y.1.1)
+refused_one bytes a b (inl x) (inr (inr y)) = absurd (no_end (head_len (take most_head_bytes bytes)) y.0 x.1.1 y.2)
+refused_one bytes a b (inr (inl x)) (inl y) = absurd (no_end (head_len (take most_head_bytes bytes)) x.1.0 y.1.1 x.1.1)
 refused_one bytes a b (inr (inl x)) (inr (inl y)) = x.0 ∙ sym y.0
 refused_one bytes a b (inr (inl x)) (inr (inr y)) = absurd (not_no_head bytes y.0 y.1 (record { ends = y.2; reads = y.3 }) x.1)
-refused_one bytes a b (inr (inr x)) (inl y) = absurd (no_end (head_len (take 8192 bytes)) x.0 y.1.1 x.2)
+refused_one bytes a b (inr (inr x)) (inl y) = absurd (no_end (head_len (take most_head_bytes bytes)) x.0 y.1.1 x.2)
 refused_one bytes a b (inr (inr x)) (inr (inl y)) = absurd (not_no_head bytes x.0 x.1 (record { ends = x.2; reads = x.3 }) y.1)
 refused_one bytes a b (inr (inr x)) (inr (inr y)) =
     let same = came_one bytes x.0 y.0 x.1 y.1 (record { ends = x.2; reads = x.3 }) (record { ends = y.2; reads = y.3 }) in
@@ -195,31 +196,31 @@ settled_one bytes more unfinished b x settled y = absurd (settled refl)
 
 -- ---- how much is held
 
-length_for-fits : (method : List ℕ) (told : Result (Option ℕ) ℕ) (body : ℕ) → length_for method told ≡ Ok body → body ≤ 4096
+length_for-fits : (method : List ℕ) (told : Result (Option ℕ) ℕ) (body : ℕ) → length_for method told ≡ Ok body → body ≤ most_body_bytes
 length_for-fits method (Err status) body is = cc
 length_for-fits method (Ok None) body is = by (bytes_eq method (codes "POST")) is
   where
-    by : (posts : Bool) → cond {A = Result ℕ ℕ} posts (Err 411) (Ok 0) ≡ Ok body → body ≤ 4096
+    by : (posts : Bool) → cond {A = Result ℕ ℕ} posts (Err 411) (Ok 0) ≡ Ok body → body ≤ most_body_bytes
     by true is = cc
     by false is = omega (arith, ok_one 0 body (Ok 0) refl is)
-length_for-fits method (Ok (Some len)) body is = by (ltb 4096 len) refl is
+length_for-fits method (Ok (Some len)) body is = by (ltb most_body_bytes len) refl is
   where
-    by : (longer : Bool) → ltb 4096 len ≡ longer → cond {A = Result ℕ ℕ} longer (Err 413) (Ok len) ≡ Ok body → body ≤ 4096
+    by : (longer : Bool) → ltb most_body_bytes len ≡ longer → cond {A = Result ℕ ℕ} longer (Err 413) (Ok len) ≡ Ok body → body ≤ most_body_bytes
     by true test is = cc
-    by false test is = omega (arith, ltb-false 4096 len test, ok_one len body (Ok len) refl is)
+    by false test is = omega (arith, ltb-false most_body_bytes len test, ok_one len body (Ok len) refl is)
 
-body_len-fits : (method : List ℕ) (fields : List Pair) (body : ℕ) → body_len method fields ≡ Ok body → body ≤ 4096
+body_len-fits : (method : List ℕ) (fields : List Pair) (body : ℕ) → body_len method fields ≡ Ok body → body ≤ most_body_bytes
 body_len-fits method fields body is = by (has_field (codes "transfer-encoding") fields) (one_length (values (codes "content-length") fields)) is
   where
-    by : (coded : Bool) (told : Result (Option ℕ) ℕ) → cond {A = Result ℕ ℕ} coded (Err 501) (length_for method told) ≡ Ok body → body ≤ 4096
+    by : (coded : Bool) (told : Result (Option ℕ) ℕ) → cond {A = Result ℕ ℕ} coded (Err 501) (length_for method told) ≡ Ok body → body ≤ most_body_bytes
     by true told is = cc
     by false told is = length_for-fits method told body is
 
 -- Bytes to which more is wanted are fewer than a head and a body may have.
-pub unfinished_few : (bytes : List ℕ) → IsUnfinished bytes → length bytes < 12288
+pub unfinished_few : (bytes : List ℕ) → IsUnfinished bytes → length bytes < most_message_bytes
 unfinished_few bytes (inl none) = omega (arith, none.0)
 unfinished_few bytes (inr lacks) =
-    omega (arith, lacks.4, head_len-fits (take 8192 bytes) lacks.0 lacks.3.ends, length-take 8192 bytes, body_len-fits lacks.1.method (pairs lacks.1) lacks.2 lacks.3.framed)
+    omega (arith, lacks.4, head_len-fits (take most_head_bytes bytes) lacks.0 lacks.3.ends, length-take most_head_bytes bytes, body_len-fits lacks.1.method (pairs lacks.1) lacks.2 lacks.3.framed)
 
 -- Of no byte more is wanted, and of torn ones.
 wanted : (bytes : List ℕ) → (bytes ≡ []) ⊎ IsTorn bytes → IsUnfinished bytes
@@ -234,5 +235,5 @@ none_or_torn (byte ∷ bytes) = (λ more. inr (omega arith, more), wanted (byte 
 -- ---- what was held
 
 -- Fewer bytes than a head may have, in which none has ended.
-pub no_head_yet : (bytes first : List ℕ) → first ≡ take 8192 bytes → length bytes < 8192 → None ≡ head_len first → IsUnfinished bytes
-no_head_yet bytes first is few none = inl (few, ap head_len (sym (take_all 8192 bytes (omega arith))) ∙ (ap head_len (sym is) ∙ sym none))
+pub no_head_yet : (bytes first : List ℕ) → first ≡ take most_head_bytes bytes → length bytes < most_head_bytes → None ≡ head_len first → IsUnfinished bytes
+no_head_yet bytes first is few none = inl (few, ap head_len (sym (take_all most_head_bytes bytes (omega arith))) ∙ (ap head_len (sym is) ∙ sym none))

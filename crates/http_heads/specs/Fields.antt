@@ -2,6 +2,7 @@
 use Rattle.std.specs.Prelude.{ℕ, ◌==◌, ◌&&◌, ◌||◌, Bool, List, [], ◌∷◌, length, map, filter, Option, None, Some, is_some, Result, Ok, Err, nat_le, nat_lt, bytes_eq, codes, if◌then◌else◌}
 use Rattle.std.specs.List.{list_all, list_any}
 use Rattle.std.specs.Str.{str_eq_ignore_ascii_case}
+use Rattle.http_heads.specs.Limits.{most_body_bytes}
 use Rattle.httparse.specs.Grammar.{trim_ows}
 use Rattle.office_text.specs.Lines.{cut_at}
 use Rattle.office_text.specs.Number.{are_digits, value_of}
@@ -59,7 +60,7 @@ one_length texts = shared_length (first_of texts) texts
 abbrev pub length_for : List ℕ → Result (Option ℕ) ℕ → Result ℕ ℕ
 length_for method (Err status) = Err status
 length_for method (Ok None) = if bytes_eq method (method_name Post) then Err 411 else Ok 0
-length_for method (Ok (Some n)) = if nat_lt 4096 n then Err 413 else Ok n
+length_for method (Ok (Some n)) = if nat_lt most_body_bytes n then Err 413 else Ok n
 
 -- How long the body after a head is, or the status that refuses it: first 501 for a transfer coding, then 400, 411 and 413 for the length.
 abbrev pub body_len : List ℕ → List Pair → Result ℕ ℕ

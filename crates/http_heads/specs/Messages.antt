@@ -1,5 +1,6 @@
 -- What bytes begin with: a whole message, what is refused at once, or the beginning of a message.
 use Rattle.std.specs.Prelude.{◌≡◌, ◌<◌, ◌≤◌, ◌+◌, ◌⊎◌, ℕ, List, ◌++◌, length, take, drop, map, None, Some, Ok, Err}
+use Rattle.http_heads.specs.Limits.{most_head_bytes}
 use Rattle.httparse.specs.Grammar.{RequestHead, ReadsRequest}
 use Rattle.httparse.specs.Spans.{name_and_value}
 use Rattle.http_heads.specs.Fields.{Pair, body_len}
@@ -29,7 +30,7 @@ pub record Reads (bytes : List ℕ) (head : RequestHead) : Type 0 where
 
 -- the head of a message ends after so many bytes, of the 8,192 that it may have
 abbrev pub HeadEnds : List ℕ → ℕ → Type 0
-HeadEnds bytes end = head_len (take 8192 bytes) ≡ Some end
+HeadEnds bytes end = head_len (take most_head_bytes bytes) ≡ Some end
 
 -- the bytes begin with that head, of so many bytes, and a body of so many bytes follows it
 pub record Begins (bytes : List ℕ) (end : ℕ) (head : RequestHead) (body : ℕ) : Type 0 where
@@ -49,7 +50,7 @@ pub record IsWhole (bytes : List ℕ) (message : Message) (len : ℕ) : Type 0 w
 
 -- 8,192 bytes came, and no head ended within them
 abbrev pub IsTooLong : List ℕ → Type 0
-IsTooLong bytes = (8192 ≤ length bytes) × (head_len (take 8192 bytes) ≡ None)
+IsTooLong bytes = (most_head_bytes ≤ length bytes) × (head_len (take most_head_bytes bytes) ≡ None)
 
 -- a head ended, and it is none by the grammar, or it has more than 64 fields
 abbrev pub IsNoHead : List ℕ → Type 0
@@ -69,7 +70,7 @@ IsRefused bytes status = ((status ≡ 431) × IsTooLong bytes) ⊎ IsRefusedHead
 
 -- no head has ended yet, and one still can
 abbrev pub HasNoHeadYet : List ℕ → Type 0
-HasNoHeadYet bytes = (length bytes < 8192) × (head_len bytes ≡ None)
+HasNoHeadYet bytes = (length bytes < most_head_bytes) × (head_len bytes ≡ None)
 
 -- the head came, and its body has not come whole
 abbrev pub LacksBody : List ℕ → Type 0

@@ -8,6 +8,9 @@ use crate::methods::Method;
 use crate::values::{is_same_name, length_of, lists_close};
 use httparse::spans::HeaderSpan;
 
+/// The most bytes of a body.
+const MOST_BODY_BYTES: u64 = 4_096;
+
 /// The fields of a head, in their order. A value has no blanks around it.
 #[derive(Clone, Copy)]
 pub struct Fields<'a> {
@@ -58,7 +61,7 @@ impl<'a> Fields<'a> {
         match self.content_length()? {
             None if method == Method::Post.name() => Err(411),
             None => Ok(0),
-            Some(len) if len > 4096 => Err(413),
+            Some(len) if len > MOST_BODY_BYTES => Err(413),
             Some(len) => Ok(len as usize),
         }
     }

@@ -1,5 +1,6 @@
 // What the bytes that a connection holds come to.
 ghost use Rattle.std.specs.Prelude.{◌≡◌, ◌≤◌, Some, take, length};
+ghost use Rattle.http_heads.specs.Limits.{most_head_bytes};
 ghost use Rattle.http_heads.specs.HeadEnds.{head_len};
 ghost use Rattle.http_heads.specs.Messages.{ComesTo, Stays};
 ghost use Rattle.http_heads.specs.Told.{told};
@@ -10,7 +11,7 @@ use crate::message::{Arrived, HeldMessage};
 use httparse::spans::HeaderSpan;
 
 /// How many bytes the head of a message may have.
-const MOST_HEAD_BYTES: usize = 8192;
+const MOST_HEAD_BYTES: usize = 8_192;
 
 /// What the bytes that are held so far come to. A whole message and a refusal stay so whatever bytes follow. `room` is for the
 /// places of the fields; what it held before does not matter.
@@ -38,7 +39,7 @@ fn prefix(bytes: &[u8], most: usize) -> &[u8]
 
 /// What held bytes come to whose head ended after `end` of them.
 fn after_head<'a>(held: &'a [u8], end: usize, room: &'a mut [HeaderSpan; 64]) -> Arrived<'a>
-    requires ends { head_len (take 8192 held.now) ≡ Some end }
+    requires ends { head_len (take most_head_bytes held.now) ≡ Some end }
     requires within { end ≤ length held.now }
     ensures { ComesTo held.now (told result) }
 {

@@ -1,5 +1,6 @@
 // What holds of heads and messages, for any reader of them.
 ghost use Rattle.std.specs.Prelude.{ℕ, ◌<◌, List, length};
+ghost use Rattle.http_heads.specs.Limits.{most_message_bytes};
 ghost use Rattle.http_heads.specs.Laws.{AreHeads, HasOneAnswer, IsNoneOrTorn, IsSettled};
 ghost use Rattle.http_heads.specs.Messages.{IsUnfinished};
 
@@ -20,7 +21,7 @@ pub fn the_cut_does_not_matter()
 
 /// Bytes to which more is wanted are fewer than a head and a body may have.
 pub fn unfinished_bytes_are_few()
-    ensures { (bytes : List ℕ) → IsUnfinished bytes → length bytes < 12288 }
+    ensures { (bytes : List ℕ) → IsUnfinished bytes → length bytes < most_message_bytes }
 {}
 
 /// Where input ends and more is wanted, it ends between messages, with no byte left, or inside one, which is torn.

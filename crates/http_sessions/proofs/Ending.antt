@@ -8,6 +8,7 @@ use Rattle.std.specs.Option.{unwrap_or}
 use Rattle.office_base.specs.Outside.{Appends, AreLeft, IsAtEnd, Took}
 use Rattle.office_base.proofs.Streams.{Appends-none, Took-none}
 use Rattle.office_base.specs.declared.asks.Ask.{Ask}
+use Rattle.http_sessions.specs.Limits.{most_messages}
 use Rattle.http_heads.specs.Messages.{IsTorn, IsUnfinished}
 use Rattle.http_sessions.specs.Exchange.{Item, Outcome, IsItem, Cuts, Goes, Runs, reply_to, replies, is_last, open_before, closes_last, but_last}
 use Rattle.http_sessions.specs.Sessions.{IsSession, IsEnd, IsTold, Talk, FailsReading, FailsWriting}
@@ -95,7 +96,7 @@ module _ {C : Type 0} (R : C → Option (List ℕ) → Ask → Result Answered F
   Ends c0 c left0 left before after end = (bytes : List ℕ) × AreLeft bytes left0 × IsSession R c0 c bytes (talk_of left0 left before after) end
 
   -- this many messages are answered
-  pub full : (c0 c : C) (left0 left before after : Option (List ℕ)) (held : List ℕ) (done : ℕ) → IsTalking c0 c left0 left before after held done → done ≡ 100 → Ends c0 c left0 left before after LimitReached
+  pub full : (c0 c : C) (left0 left before after : Option (List ℕ)) (held : List ℕ) (done : ℕ) → IsTalking c0 c left0 left before after held done → done ≡ most_messages → Ends c0 c left0 left before after LimitReached
   full c0 c left0 left before after held done talk all = (
     talk.got ++ unwrap_or left [],
     are_left talk.got left0 left talk.took,
@@ -123,11 +124,11 @@ module _ {C : Type 0} (R : C → Option (List ℕ) → Ask → Result Answered F
 
   -- the input ended between messages, or inside one
   ended : (c0 c c' : C) (left0 left left' before mid after : Option (List ℕ)) (held more : List ℕ) (done : ℕ) (end : SessionEnd) → IsTalking c0 c left0 left before mid held done → Took more left left'
-      → done < 100 → IsAtEnd left' → ((items : List Item) → length items < 100 → list_any is_last items ≡ false → IsEnd end items (held ++ more))
+      → done < most_messages → IsAtEnd left' → ((items : List Item) → length items < most_messages → list_any is_last items ≡ false → IsEnd end items (held ++ more))
       → ((bytes rest : List ℕ) (items : List Item) (outcomes : List Outcome) → IsEnd end items rest → Appends (replies 1 items outcomes) before after → IsTold end bytes (talk_of left0 left' before after) items outcomes rest)
       → IsStill R c c' mid after → Ends c0 c' left0 left' before after end
   ended c0 c c' left0 left left' before mid after held more done end talk took few at over tell still =
-      let short : length talk.items < 100 = (let e = talk.count in omega (arith, e, few)) in (
+      let short : length talk.items < most_messages = (let e = talk.count in omega (arith, e, few)) in (
         talk.got ++ more,
         all_left (talk.got ++ more) left0 left' (took_on talk.got more left0 left left' talk.took took) at,
         record {
@@ -176,7 +177,7 @@ module _ {C : Type 0} (R : C → Option (List ℕ) → Ask → Result Answered F
         text_before = ap (λ (is : List Item). replies 1 is (talk.outcomes ++ outcome ∷ [])) (but_last_on talk.items item) ∙ replies_before 1 talk.items talk.outcomes (outcome ∷ []) long;
       }
 
-  at_limit : (done : ℕ) (items : List Item) (rest : List ℕ) (b : Bool) → (done == 99) ≡ b → length items ≡ done + 1 → done < 100 → closes_last items ≡ true
+  at_limit : (done : ℕ) (items : List Item) (rest : List ℕ) (b : Bool) → (done == 99) ≡ b → length items ≡ done + 1 → done < most_messages → closes_last items ≡ true
       → IsEnd (if b then LimitReached else EndsOpen) items rest
   at_limit done items rest true e long few closes = grind (arith, nat_tests)
   at_limit done items rest false e long few closes = (grind (arith, nat_tests), inl closes)
@@ -187,7 +188,7 @@ module _ {C : Type 0} (R : C → Option (List ℕ) → Ask → Result Answered F
   told_last done bytes talk items outcomes rest false is written = (is, written)
 
   last : (c0 c c' : C) (left0 left left' before mid after : Option (List ℕ)) (held more kept : List ℕ) (done number : ℕ) → IsTalking c0 c left0 left before mid held done → Took more left left'
-      → number ≡ done + 1 → done < 100 → IsReplied R c c' number (held ++ more) kept true mid after → Ends c0 c' left0 left' before after (end_of Last done)
+      → number ≡ done + 1 → done < most_messages → IsReplied R c c' number (held ++ more) kept true mid after → Ends c0 c' left0 left' before after (end_of Last done)
   last c0 c c' left0 left left' before mid after held more kept done number talk took at few one =
       let s = said c0 c c' left0 left left' before mid held more done number one.item one.outcome talk took at one.answered in
       let long : length (s.items ++ one.item ∷ []) ≡ done + 1 = s.count ∙ at in (
@@ -208,7 +209,7 @@ module _ {C : Type 0} (R : C → Option (List ℕ) → Ask → Result Answered F
       )
 
   unread : (c0 c c' : C) (left0 left left' before mid after : Option (List ℕ)) (held more : List ℕ) (done : ℕ) → IsTalking c0 c left0 left before mid held done → Took more left left'
-      → done < 100 → IsUnfinished (held ++ more) → IsStill R c c' mid after → Ends c0 c' left0 left' before after LinkFault
+      → done < most_messages → IsUnfinished (held ++ more) → IsStill R c c' mid after → Ends c0 c' left0 left' before after LinkFault
   unread c0 c c' left0 left left' before mid after held more done talk took few part still = (
     (talk.got ++ more) ++ unwrap_or left' [],
     are_left (talk.got ++ more) left0 left' (took_on talk.got more left0 left left' talk.took took),
@@ -234,7 +235,7 @@ module _ {C : Type 0} (R : C → Option (List ℕ) → Ask → Result Answered F
   )
 
   unwritten : (c0 c c' : C) (left0 left left' before mid after : Option (List ℕ)) (held more : List ℕ) (done number : ℕ) → IsTalking c0 c left0 left before mid held done → Took more left left'
-      → number ≡ done + 1 → done < 100 → IsCutOff R c c' number (held ++ more) mid after → Ends c0 c' left0 left' before after LinkFault
+      → number ≡ done + 1 → done < most_messages → IsCutOff R c c' number (held ++ more) mid after → Ends c0 c' left0 left' before after LinkFault
   unwritten c0 c c' left0 left left' before mid after held more done number talk took at few one =
       let s = said c0 c c' left0 left left' before mid held more done number one.item one.outcome talk took at one.answered in
       let long : length (s.items ++ one.item ∷ []) ≡ done + 1 = s.count ∙ at in
@@ -262,7 +263,7 @@ module _ {C : Type 0} (R : C → Option (List ℕ) → Ask → Result Answered F
       )
 
   pub stops : (c0 c c' : C) (left0 left left' before mid after : Option (List ℕ)) (held more kept : List ℕ) (done number : ℕ) (step : Step) → IsTalking c0 c left0 left before mid held done → Took more left left'
-      → number ≡ done + 1 → done < 100 → step ≢ Next → IsStep R c c' number (held ++ more) kept (IsAtEnd left') mid after step → Ends c0 c' left0 left' before after (end_of step done)
+      → number ≡ done + 1 → done < most_messages → step ≢ Next → IsStep R c c' number (held ++ more) kept (IsAtEnd left') mid after step → Ends c0 c' left0 left' before after (end_of step done)
   stops c0 c c' left0 left left' before mid after held more kept done number Next talk took at few not is = absurd (not refl)
   stops c0 c c' left0 left left' before mid after held more kept done number Last talk took at few not is = last c0 c c' left0 left left' before mid after held more kept done number talk took at few is
   stops c0 c c' left0 left left' before mid after held more kept done number Ended talk took at few not is =

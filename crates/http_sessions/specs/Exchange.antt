@@ -3,6 +3,7 @@ use Rattle.std.specs.Prelude.{◌≡◌, ◌≤◌, ◌<◌, ◌+◌, ◌==◌, 
 use Rattle.std.specs.List.{list_any}
 use Rattle.office_base.specs.declared.asks.Ask.{Ask}
 use Rattle.office_base.specs.declared.errors.OutOfMemory.{OutOfMemory as Want}
+use Rattle.http_sessions.specs.Limits.{most_messages}
 use Rattle.http_heads.specs.Fields.{closes}
 use Rattle.http_heads.specs.Messages.{Message, IsWhole, IsRefused}
 use Rattle.http_asks.specs.Verdicts.{Verdict, refuses, asks, verdict_of, reads_body}
@@ -89,7 +90,7 @@ outcome_text close verdict (heard answer) = answered_text close answer
 
 -- the reply to the message of this number
 unfoldable pub reply_to : ℕ → Item → Outcome → List ℕ
-reply_to number item outcome = outcome_text (item.closes || number == 100) item.verdict outcome
+reply_to number item outcome = outcome_text (item.closes || number == most_messages) item.verdict outcome
 
 -- the replies to messages, of which the first has this number
 abbrev pub replies : ℕ → List Item → List Outcome → List ℕ

@@ -1,5 +1,6 @@
 pub mod Doors
 pub mod Exchange
 pub mod Held
+pub mod Limits
 pub mod Sessions
 pub mod Steps

@@ -3,6 +3,7 @@ use Rattle.std.specs.Prelude.{◌≡◌, ◌≤◌, ◌<◌, ◌+◌, ◌⊎◌,
 use Rattle.std.specs.List.{list_any}
 use Rattle.office_base.specs.Outside.{Appends, Took}
 use Rattle.office_base.specs.declared.asks.Ask.{Ask}
+use Rattle.http_sessions.specs.Limits.{most_messages}
 use Rattle.office_links.specs.declared.outside.Link.{Ghosts as LinkGhosts}
 use Rattle.http_heads.specs.Messages.{IsTorn, IsUnfinished}
 use Rattle.http_sessions.specs.Exchange.{Item, Outcome, Cuts, Runs, replies, open_before, closes_last, but_last, is_last}
@@ -13,9 +14,9 @@ use Rattle.http_sessions.specs.declared.conversation.SessionEnd.TheVariants.{End
 
 -- no more messages are answered: the limit is reached, or the last one closes, or no whole one follows
 abbrev pub IsEnd : SessionEnd → List Item → List ℕ → Type 0
-IsEnd Ended items rest = (length items < 100) × ((closes_last items ≡ true) ⊎ ((list_any is_last items ≡ false) × (rest ≡ [])))
-IsEnd Torn items rest = (length items < 100) × (list_any is_last items ≡ false) × IsTorn rest
-IsEnd LimitReached items rest = length items ≡ 100
+IsEnd Ended items rest = (length items < most_messages) × ((closes_last items ≡ true) ⊎ ((list_any is_last items ≡ false) × (rest ≡ [])))
+IsEnd Torn items rest = (length items < most_messages) × (list_any is_last items ≡ false) × IsTorn rest
+IsEnd LimitReached items rest = length items ≡ most_messages
 IsEnd LinkFault items rest = ⊥
 
 -- what a link had to read and what was written to it, before and after
@@ -41,7 +42,7 @@ pub record FailsReading (bytes : List ℕ) (talk : Talk) (items : List Item) (ou
   pub took : Took taken talk.left_before talk.left_after
   pub cuts : Cuts taken items rest
   pub unfinished : IsUnfinished rest
-  pub fewer : length items < 100
+  pub fewer : length items < most_messages
   pub unclosed : list_any is_last items ≡ false
   pub written : AreWritten talk items outcomes
 
@@ -62,7 +63,7 @@ pub record IsSession {C : Type 0} (R : C → Option (List ℕ) → Ask → Resul
   pub outcomes : List Outcome
   pub rest : List ℕ
   pub cuts : Cuts bytes items rest
-  pub few : length items ≤ 100
+  pub few : length items ≤ most_messages
   pub unclosed : open_before items ≡ true
   pub runs : Runs R before items outcomes after
   pub told : IsTold end bytes talk items outcomes rest

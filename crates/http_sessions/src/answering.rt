@@ -2,6 +2,7 @@
 ghost use Rattle.std.specs.Prelude.{◌≡◌, ◌+◌, ◌≤◌, ◌<◌, ◌||◌, ◌==◌, ℕ, Option, Result, None, Some, [], ◌++◌, length, IfSome, IfNone, IsErr, OnOk, OnErr, option_copied, take};
 ghost use Rattle.std.specs.Option.{unwrap_or};
 ghost use Rattle.office_base.specs.Outside.{Appends, Fails};
+ghost use Rattle.http_sessions.specs.Limits.{most_messages};
 ghost use Rattle.http_heads.specs.Fields.{closes};
 ghost use Rattle.http_heads.specs.Messages.{IsUnfinished, IsWhole};
 ghost use Rattle.http_heads.specs.Told.{told_message, told_fields};
@@ -19,6 +20,9 @@ use httparse::spans::{EMPTY_HEADER_SPAN, HeaderSpan};
 use office_base::{Ask, Failed, OutOfMemory, Text};
 use office_links::{Link, write_link};
 use std::alloc::Global;
+
+/// The most messages of a connection: it closes after this one.
+const MOST_MESSAGES: u32 = 100;
 
 /// What a message is read and answered with:
 /// the places of its fields, the routes of the pages, and the room for a reply.
@@ -113,9 +117,10 @@ fn put_body(
 
 /// Returns whether the connection closes after the reply to the message of this number.
 fn closes_after(message: &HeldMessage<'_>, number: u32) -> bool
-    ensures { result ≡ closes message.now.minor (told_fields message.now.fields) || number == 100 }
+    ensures { result ≡ closes message.now.minor (told_fields message.now.fields)
+        || number == most_messages }
 {
-    message.closes() || number == 100
+    message.closes() || number == MOST_MESSAGES
 }
 
 /// Answers a message.

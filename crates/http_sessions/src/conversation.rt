@@ -1,6 +1,7 @@
 // A session: the messages of a link, answered one after another.
 ghost use Rattle.std.specs.Prelude.{◌≡◌, ◌+◌, ◌≤◌, ℕ, List, Option};
 ghost use Rattle.office_base.specs.Outside.{AreLeft, Fails};
+ghost use Rattle.http_sessions.specs.Limits.{most_messages};
 ghost use Rattle.http_sessions.specs.Sessions.{IsSession, talk_over};
 ghost use Rattle.http_sessions.specs.Steps.{end_of};
 
@@ -66,10 +67,10 @@ pub fn session<C: Counter, L: Link, G: Gate>(
     gate: &G,
     worker: u32,
 ) -> SessionEnd
-    requires { 100 ≤ C.asks_left counter.old }
+    requires { most_messages ≤ C.asks_left counter.old }
     ensures met { (bytes : List ℕ) × AreLeft bytes (L.left link.old) × IsSession C.answers
         counter.old counter.new bytes (talk_over L.Link link.old link.new) result }
-    ensures left { C.asks_left counter.old ≤ C.asks_left counter.new + 100 }
+    ensures left { C.asks_left counter.old ≤ C.asks_left counter.new + most_messages }
     ensures same { C.lender counter.new ≡ C.lender counter.old }
     ensures blamed { Fails (result ≡ SessionEnd.LinkFault) (L.faults link.old) (L.faults link.new) }
 {

@@ -1,6 +1,7 @@
 // The connections of a door, one after another.
 ghost use Rattle.std.specs.Prelude.{◌≡◌, ◌+◌, ◌*◌, ◌≤◌, ℕ, true, false};
 ghost use Rattle.office_base.specs.Outside.{Rose};
+ghost use Rattle.http_sessions.specs.Limits.{most_messages};
 ghost use Rattle.office_links.specs.Visits.{TakesBack};
 ghost use Rattle.http_sessions.specs.Doors.{HasVisited, IsHeld};
 
@@ -19,10 +20,10 @@ fn hold<C: Counter, L: Link, G: Gate>(
     gate: &G,
     worker: u32,
 )
-    requires { 100 ≤ C.asks_left counter.old }
+    requires { most_messages ≤ C.asks_left counter.old }
     ensures held { IsHeld C.answers L.left L.written L.faults
         counter.old counter.new link.old link.new }
-    ensures left { C.asks_left counter.old ≤ C.asks_left counter.new + 100 }
+    ensures left { C.asks_left counter.old ≤ C.asks_left counter.new + most_messages }
     ensures same { C.lender counter.new ≡ C.lender counter.old }
 {
     session(alloc, counter, link, buffers, gate, worker);
@@ -38,14 +39,14 @@ fn serve_one<C: Counter, D: Door, G: Gate>(
     gate: &G,
     worker: u32,
 )
-    requires asks { 100 ≤ C.asks_left counter.old }
+    requires asks { most_messages ≤ C.asks_left counter.old }
     requires given { 1 ≤ D.out door.old }
     ensures held { (back : _) × IsHeld C.answers D.Conn.left D.Conn.written D.Conn.faults
         counter.old counter.new conn back × TakesBack (D.told door.old) back (D.told door.new) }
     ensures numbers { (D.out door.old ≡ D.out door.new + 1)
         × (D.to_come door.new ≡ D.to_come door.old) }
     ensures count { D.faults door.new ≡ D.faults door.old }
-    ensures left { C.asks_left counter.old ≤ C.asks_left counter.new + 100 }
+    ensures left { C.asks_left counter.old ≤ C.asks_left counter.new + most_messages }
     ensures same { C.lender counter.new ≡ C.lender counter.old }
 {
     let mut conn = conn;
@@ -64,7 +65,7 @@ pub fn serve_door<C: Counter, D: Door, G: Gate>(
     gate: &G,
     worker: u32,
 ) -> bool
-    requires { 100 * D.to_come door.old ≤ C.asks_left counter.old }
+    requires { most_messages * D.to_come door.old ≤ C.asks_left counter.old }
     ensures visited { HasVisited C.answers D.Conn.left D.Conn.written D.Conn.faults
         counter.old counter.new (D.told door.old) (D.told door.new) }
     ensures done { result ≡ false → (D.to_come door.new ≡ 0)

@@ -1,11 +1,15 @@
 // Bytes that came over a link and are not used up yet.
 ghost use Rattle.std.specs.Prelude.{◌≡◌, ℕ, ◌+◌, ◌-◌, ◌<◌, ◌≤◌, List, Option, [], ◌++◌, length, take, drop, IfOk, IsErr, OnErr};
 ghost use Rattle.office_base.specs.Outside.{Fails, IsAtEnd, TakesPrefix, Took};
+ghost use Rattle.http_heads.specs.Limits.{most_message_bytes};
 
 use office_base::{Failed, OutOfMemory};
 use office_links::Link;
 use std::alloc::Global;
 use std::marker::Model;
+
+/// The most bytes of a message.
+const MOST_MESSAGE_BYTES: usize = 12_288;
 
 /// Room for 12,288 bytes, of which those from `start` to `end` are held. Contracts see it as these.
 #[derive(Drop)]
@@ -48,7 +52,7 @@ impl Inbox {
         ensures { IfOk result (λ inbox. inbox ≡ []) }
     {
         Ok(Inbox {
-            bytes: vec![in alloc; 0; 12288]?,
+            bytes: vec![in alloc; 0; MOST_MESSAGE_BYTES]?,
             start: 0,
             end: 0,
         })
@@ -79,7 +83,7 @@ impl Inbox {
 
     /// Reads once behind what is held. Where there is no room, what is held moves to the front first.
     pub fn fill<L: Link>(&mut self, link: &mut L) -> Result<usize, Failed>
-        requires { length self.old < 12288 }
+        requires { length self.old < most_message_bytes }
         ensures got { IfOk result (λ n. (got : List ℕ) × (length got ≡ n)
             × (self.new ≡ self.old ++ got) × Took got (L.left link.old) (L.left link.new)) }
         ensures ended { IfOk result (λ n. n ≡ 0 → IsAtEnd (L.left link.new)) }

@@ -34,6 +34,18 @@ most_rounds = 10
 abbrev pub most_turns : ℕ
 most_turns = 16
 
+-- candidates of a season that is made up
+abbrev pub most_generated : ℕ
+most_generated = 100000
+
+-- connections of one door
+abbrev pub most_connections : ℕ
+most_connections = 100000
+
+-- doors of an office, each with a worker
+abbrev pub most_doors : ℕ
+most_doors = 64
+
 -- bytes of a step sheet
 abbrev pub most_sheet_bytes : ℕ
 most_sheet_bytes = 16777216

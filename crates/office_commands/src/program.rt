@@ -1,6 +1,7 @@
 // The top call of the office.
 ghost use Rattle.std.specs.Prelude.{◌≤◌, length};
 ghost use Rattle.std.specs.List.{AllByRecursion};
+ghost use Rattle.office_base.specs.Limits.{most_doors, most_connections};
 ghost use Rattle.office_commands.specs.Call.{call_of};
 ghost use Rattle.office_commands.specs.Keeping.{Runs, RunsWords};
 ghost use Rattle.command_words.specs.Words.{IsInRange};
@@ -60,8 +61,8 @@ pub fn allocate<
     keeper: P,
     doors: &mut [D],
 ) -> (Status, P)
-    requires few { length doors.old ≤ 64 }
-    requires suit { AllByRecursion (λ d. D.to_come d ≤ 100000) doors.old }
+    requires few { length doors.old ≤ most_doors }
+    requires suit { AllByRecursion (λ d. D.to_come d ≤ most_connections) doors.old }
 
     ensures { RunsWords words.now (call_of S.Source K.Sink P.Keeper D.Door D.Conn.Link
         source.old source.new sink.old sink.new keeper result.1 doors.old doors.new) result.0 }
@@ -85,8 +86,8 @@ fn run<R: Threads + Wait + Sync, S: Source, K: Sink, P: Keeper + Send, D: Door<C
     doors: &mut [D],
 ) -> (Status, P)
     requires range { IsInRange command }
-    requires few { length doors.old ≤ 64 }
-    requires suit { AllByRecursion (λ d. D.to_come d ≤ 100000) doors.old }
+    requires few { length doors.old ≤ most_doors }
+    requires suit { AllByRecursion (λ d. D.to_come d ≤ most_connections) doors.old }
     ensures { Runs command (call_of S.Source K.Sink P.Keeper D.Door D.Conn.Link
         source.old source.new sink.old sink.new keeper result.1 doors.old doors.new) result.0 }
 {

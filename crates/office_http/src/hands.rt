@@ -1,11 +1,12 @@
 // The workers behind the doors.
 ghost use Rattle.std.specs.Prelude.{◌≡◌, ◌≤◌, ◌+◌, ◌*◌, ◌<◌, ◌^◌, ℕ, length};
+ghost use Rattle.office_base.specs.Limits.{most_connections};
 ghost use Rattle.desk_counters.specs.Knowing.{known_of};
 ghost use Rattle.door_histories.specs.Served.{telling};
 ghost use Rattle.door_histories.specs.Workers.{IsHired, IsTakenIn, HasWorked};
 ghost use Rattle.office_asks.specs.Asking.{AnswersAt, UnanswersAt};
 ghost use Rattle.office_desk.specs.Words.{belongs, left_of, origin_of, shares_of};
-ghost use Rattle.office_http.specs.Hands.{worker_of};
+ghost use Rattle.office_http.specs.Hands.{worker_of, most_turns};
 
 use desk_counters::{DeskCounter, DeskOffice, TablesBefore};
 use door_crews::Crew;
@@ -36,11 +37,11 @@ pub struct DeskWorker<V: Booked> {
 
 impl<K: Keeper, B: TablesBefore, G: Gate, D: Door> Crew<Shared<'_, DeskOffice<K, B>, G>, D, Buffers>
     for DeskWorker<DeskOffice<K, B>> {
-    ghost suits = { λ door. D.to_come door ≤ 100000 };
+    ghost suits = { λ door. D.to_come door ≤ most_connections };
 
-    ghost able = { λ shop n hand. belongs shop.desk.now hand.pass × (n + 1 ≤ shares_of hand.pass) × (n * 10000000 ≤ left_of hand.pass) };
+    ghost able = { λ shop n hand. belongs shop.desk.now hand.pass × (n + 1 ≤ shares_of hand.pass) × (n * most_turns ≤ left_of hand.pass) };
 
-    ghost ready = { λ shop hand. belongs shop.desk.now hand.pass × (1 ≤ shares_of hand.pass) × (10000000 ≤ left_of hand.pass) };
+    ghost ready = { λ shop hand. belongs shop.desk.now hand.pass × (1 ≤ shares_of hand.pass) × (most_turns ≤ left_of hand.pass) };
 
     ghost hired = { λ shop p q w. IsHired (worker_of p) (worker_of q) (worker_of w) };
 

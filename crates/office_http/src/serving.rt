@@ -1,6 +1,7 @@
 // The doors of an office, served at once.
 ghost use Rattle.std.specs.Prelude.{◌≡◌, ◌≤◌, ◌<◌, ◌^◌, ◌++◌, [], true, false, length, IfOk, IfErr, OnErr};
 ghost use Rattle.std.specs.List.{AllByRecursion};
+ghost use Rattle.office_base.specs.Limits.{most_doors, most_connections};
 ghost use Rattle.door_histories.specs.Served.{telling};
 ghost use Rattle.door_histories.specs.Workers.{IsRow};
 ghost use Rattle.kept_rows.specs.Tables.{IsTold};
@@ -49,8 +50,8 @@ pub fn serve<
     doors: &mut [D],
     gate: &G,
 ) -> Result<Served<K>, (Office<K>, OutOfMemory)>
-    requires few { length doors.old ≤ 64 }
-    requires suit { AllByRecursion (λ door. D.to_come door ≤ 100000) doors.old }
+    requires few { length doors.old ≤ most_doors }
+    requires suit { AllByRecursion (λ door. D.to_come door ≤ most_connections) doors.old }
     requires last { last_of office.entries < 2 ^ 40 }
     ensures served { IfOk result (λ served. Serves K.seen (telling D.Door D.Conn.Link)
         office served.office served.door_failed doors.old doors.new) }
@@ -78,8 +79,8 @@ fn serve_stood<
     gate: &G,
 ) -> Result<Served<K>, (Office<K>, OutOfMemory)>
     requires tells { (K.seen office.keeper).tables ≡ B.tables }
-    requires few { length doors.old ≤ 64 }
-    requires suit { AllByRecursion (λ door. D.to_come door ≤ 100000) doors.old }
+    requires few { length doors.old ≤ most_doors }
+    requires suit { AllByRecursion (λ door. D.to_come door ≤ most_connections) doors.old }
     requires last { last_of office.entries < 2 ^ 40 }
     ensures served { IfOk result (λ served. Serves K.seen (telling D.Door D.Conn.Link)
         office served.office served.door_failed doors.old doors.new) }
@@ -113,9 +114,9 @@ fn serve_desk<
     gate: &G,
     buffers: &mut [Buffers],
 ) -> Served<K>
-    requires few { length doors.old ≤ 64 }
+    requires few { length doors.old ≤ most_doors }
     requires as_many { length buffers.old ≡ length doors.old }
-    requires suit { AllByRecursion (λ door. D.to_come door ≤ 100000) doors.old }
+    requires suit { AllByRecursion (λ door. D.to_come door ≤ most_connections) doors.old }
     requires whole { belongs desk pass × (shares_of pass ≡ 2 ^ 30) × (left_of pass ≡ 2 ^ 40) }
     requires first { (tickets_of pass ≡ []) × (seen_of pass ≡ (origin_of desk).entries)
         × (count_of pass ≡ (K.seen (origin_of desk).keeper).faults) }
@@ -189,9 +190,9 @@ fn serve_all<
     doors: &mut [D],
     buffers: &mut [Buffers],
 )
-    requires few { length doors.old ≤ 64 }
+    requires few { length doors.old ≤ most_doors }
     requires as_many { length buffers.old ≡ length doors.old }
-    requires suit { AllByRecursion (λ door. D.to_come door ≤ 100000) doors.old }
+    requires suit { AllByRecursion (λ door. D.to_come door ≤ most_connections) doors.old }
     requires whole { belongs desk.now hand.old.pass × (shares_of hand.old.pass ≡ 2 ^ 30)
         × (left_of hand.old.pass ≡ 2 ^ 40) }
     requires fresh { (own_of hand.old.pass ≡ []) × (hand.old.failed ≡ false) }

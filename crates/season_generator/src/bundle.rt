@@ -1,5 +1,6 @@
 // The generated bundle.
 ghost use Rattle.std.specs.Prelude.{◌≡◌, ◌≤◌, ◌-◌, ◌++◌, IfOk, OnOk, length};
+ghost use Rattle.office_base.specs.Limits.{most_generated};
 ghost use Rattle.season_generator.specs.Bundle.{generated};
 
 use crate::candidates::{push_choices, push_register};
@@ -24,7 +25,7 @@ const LONGEST_HEADS: usize = 16_384;
 #[tactic(auto, unfolding(crate::specs::Bundle::generated))]
 pub fn generate(alloc: Global, n: u32, seed: u32) -> Result<Text, OutOfMemory>
     requires low { 1 ≤ n }
-    requires high { n ≤ 100000 }
+    requires high { n ≤ most_generated }
     ensures { IfOk result (λ text. text ≡ generated n seed) }
 {
     let mut draws = Draws::new(seed);

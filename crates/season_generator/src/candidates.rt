@@ -1,5 +1,6 @@
 // The rows of candidates: in the register, and of their choices.
 ghost use Rattle.std.specs.Prelude.{◌≡◌, ◌<◌, ◌≤◌, ◌+◌, ◌*◌, ◌%◌, ◌++◌, OnOk, codes, length, slice_index};
+ghost use Rattle.office_base.specs.Limits.{most_generated};
 ghost use Rattle.season_generator.specs.Bundle.{choices_row, choices_text, programme_code, lines, profile_at, profile_of, register_row, register_text};
 ghost use Rattle.season_generator.specs.Draws.{state_after};
 
@@ -21,7 +22,7 @@ pub(crate) fn push_register(
     second: &[u32],
 ) -> Result<(), OutOfMemory>
     requires places { length first.now ≡ length second.now }
-    requires bound { length first.now ≤ 100000 }
+    requires bound { length first.now ≤ most_generated }
     ensures { OnOk result
         (out.new ≡ out.old ++ register_text (length first.now) draws.state first.now second.now) }
 {
@@ -37,7 +38,7 @@ fn push_candidates(
     second: &[u32],
 ) -> Result<(), OutOfMemory>
     requires places { length first.now ≡ length second.now }
-    requires bound { length first.now ≤ 100000 }
+    requires bound { length first.now ≤ most_generated }
     ensures { OnOk result (out.new ≡ out.old ++ lines (length first.now) (λ candidate.
         register_row (candidate + 1) (profile_of draws.state candidate)
         (slice_index first.now candidate) (slice_index second.now candidate))) }
@@ -98,7 +99,7 @@ fn push_registered(
 /// Puts the choices of `n` candidates, whose profiles are drawn from here on.
 #[tactic(auto, unfolding(crate::specs::Bundle::choices_text))]
 pub(crate) fn push_choices(out: &mut Text, draws: &mut Draws, n: u32) -> Result<(), OutOfMemory>
-    requires { n ≤ 100000 }
+    requires { n ≤ most_generated }
     ensures rows { OnOk result (out.new ≡ out.old ++ choices_text n draws.old.state) }
     ensures state { OnOk result (draws.new.state ≡ state_after (6 * n) draws.old.state) }
 {
@@ -108,7 +109,7 @@ pub(crate) fn push_choices(out: &mut Text, draws: &mut Draws, n: u32) -> Result<
 
 /// Puts the rows of the choices.
 fn push_choosers(out: &mut Text, draws: &mut Draws, n: u32) -> Result<(), OutOfMemory>
-    requires { n ≤ 100000 }
+    requires { n ≤ most_generated }
     ensures rows { OnOk result (out.new ≡ out.old ++ lines n (λ candidate.
         choices_row (candidate + 1) (profile_of draws.old.state candidate))) }
     ensures state { OnOk result (draws.new.state ≡ state_after (6 * n) draws.old.state) }

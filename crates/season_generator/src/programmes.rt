@@ -1,5 +1,6 @@
 // The rows of programmes.
 ghost use Rattle.std.specs.Prelude.{◌≡◌, ◌<◌, ◌≤◌, ◌+◌, ◌/◌, ◌++◌, OnOk};
+ghost use Rattle.office_base.specs.Limits.{most_generated};
 ghost use Rattle.step_lines.specs.Lines.{step_name};
 ghost use Rattle.season_generator.specs.Bundle.{lines, matrix_row, matrix_text, programme_rows};
 
@@ -11,7 +12,7 @@ use step_lines::step_name;
 /// Puts the matrix of a season of `n` candidates.
 #[tactic(auto, unfolding(crate::specs::Bundle::matrix_text))]
 pub(crate) fn push_matrix(out: &mut Text, n: u32) -> Result<(), OutOfMemory>
-    requires { n ≤ 100000 }
+    requires { n ≤ most_generated }
     ensures { OnOk result (out.new ≡ out.old ++ matrix_text n) }
 {
     out.extend_from_slice(b"[matrix]\nprogramme,institute,list,step,seats,W,D,X,S,F,L\n")?;

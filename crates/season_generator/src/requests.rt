@@ -1,5 +1,6 @@
 // The requests of a generated season.
 ghost use Rattle.std.specs.Prelude.{◌≡◌, ◌≤◌, ◌+◌, ◌*◌, ◌++◌, OnOk};
+ghost use Rattle.office_base.specs.Limits.{most_generated};
 ghost use Rattle.season_generator.specs.Bundle.{answer_row, choice_name, cut_row, lines, requests_text, window_rows};
 ghost use Rattle.season_generator.specs.Draws.{state_after, drawn, next};
 
@@ -13,7 +14,7 @@ const ROUNDS: u32 = 6;
 
 /// Puts the requests of `n` candidates and of the clerk. The answers are drawn from here on.
 pub(crate) fn push_requests(out: &mut Text, draws: Draws, n: u32) -> Result<(), OutOfMemory>
-    requires { n ≤ 100000 }
+    requires { n ≤ most_generated }
     ensures { OnOk result (out.new ≡ out.old ++ requests_text n draws.state) }
 {
     out.extend_from_slice(b"[requests]\n")?;
@@ -23,7 +24,7 @@ pub(crate) fn push_requests(out: &mut Text, draws: Draws, n: u32) -> Result<(), 
 
 /// Puts the rows of the windows after window 0.
 fn push_windows(out: &mut Text, mut draws: Draws, n: u32) -> Result<(), OutOfMemory>
-    requires { n ≤ 100000 }
+    requires { n ≤ most_generated }
     ensures { OnOk result (out.new ≡ out.old
         ++ lines 6 (λ before. window_rows n (state_after (n * before) draws.state) (before + 1))) }
 {
@@ -36,7 +37,7 @@ fn push_windows(out: &mut Text, mut draws: Draws, n: u32) -> Result<(), OutOfMem
 /// Puts the rows of a window.
 #[tactic(auto, unfolding(crate::specs::Bundle::window_rows))]
 fn push_window(out: &mut Text, draws: &mut Draws, n: u32, window: u32) -> Result<(), OutOfMemory>
-    requires { n ≤ 100000 }
+    requires { n ≤ most_generated }
     ensures rows { OnOk result (out.new ≡ out.old ++ window_rows n draws.old.state window) }
     ensures state { OnOk result (draws.new.state ≡ state_after n draws.old.state) }
 {
@@ -46,7 +47,7 @@ fn push_window(out: &mut Text, draws: &mut Draws, n: u32, window: u32) -> Result
 
 /// Puts an answer of each candidate.
 fn push_answers(out: &mut Text, draws: &mut Draws, n: u32, window: u32) -> Result<(), OutOfMemory>
-    requires { n ≤ 100000 }
+    requires { n ≤ most_generated }
     ensures rows { OnOk result (out.new ≡ out.old ++ lines n (λ candidate. answer_row window
         (candidate + 1) (choice_name (drawn 20 (state_after candidate draws.old.state))))) }
     ensures state { OnOk result (draws.new.state ≡ state_after n draws.old.state) }

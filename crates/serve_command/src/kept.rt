@@ -1,6 +1,7 @@
 // An office resumes from what a keeper holds, and is served.
 ghost use Rattle.std.specs.Prelude.{◌≡◌, ◌≢◌, ◌≤◌, ◌⊎◌, ℕ, List, length};
 ghost use Rattle.std.specs.List.{AllByRecursion};
+ghost use Rattle.office_base.specs.Limits.{most_doors, most_connections};
 ghost use Rattle.office_base.specs.Outside.{Rose, Appends};
 ghost use Rattle.kept_rows.specs.Tables.{still};
 ghost use Rattle.door_histories.specs.Ending.{SomeRose};
@@ -32,8 +33,8 @@ pub fn serve_kept<R: Threads + Wait + Sync, K: Sink, P: Keeper + Send, D: Door<C
     keeper: P,
     doors: &mut [D],
 ) -> (Status, P)
-    requires few { length doors.old ≤ 64 }
-    requires suit { AllByRecursion (λ d. D.to_come d ≤ 100000) doors.old }
+    requires few { length doors.old ≤ most_doors }
+    requires suit { AllByRecursion (λ d. D.to_come d ≤ most_connections) doors.old }
     ensures written { (output : List ℕ) × Appends output (K.written sink.old) (K.written sink.new)
         × EndsServeKept (P.seen keeper).tables (P.seen result.1).tables (doors_seen D.Door
         D.Conn.Link (P.seen keeper) (P.seen result.1) doors.old doors.new) result.0 output }

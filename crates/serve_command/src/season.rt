@@ -1,6 +1,7 @@
 // An office begins with the season of the bundle that a source gives, over a keeper that holds none, and is served.
 ghost use Rattle.std.specs.Prelude.{◌≡◌, ◌≢◌, ◌≤◌, ◌⊎◌, ℕ, List, length, IfOk, IfErr, OnOk, IsErrOf};
 ghost use Rattle.std.specs.List.{AllByRecursion};
+ghost use Rattle.office_base.specs.Limits.{most_doors, most_connections};
 ghost use Rattle.office_base.specs.Outside.{Rose, IsAtEnd, Appends};
 ghost use Rattle.season_file.specs.Season.{IsSeason};
 ghost use Rattle.kept_rows.specs.Tables.{still};
@@ -38,8 +39,8 @@ pub fn serve_season<
     P: Keeper + Send,
     D: Door<Conn: Send> + Send,
 >(rt: &R, alloc: Global, source: &mut S, sink: &mut K, keeper: P, doors: &mut [D]) -> (Status, P)
-    requires few { length doors.old ≤ 64 }
-    requires suit { AllByRecursion (λ d. D.to_come d ≤ 100000) doors.old }
+    requires few { length doors.old ≤ most_doors }
+    requires suit { AllByRecursion (λ d. D.to_come d ≤ most_connections) doors.old }
     ensures written { (output : List ℕ) × Appends output (K.written sink.old) (K.written sink.new)
         × EndsServe (S.left source.old) (P.seen keeper).tables (P.seen result.1).tables (doors_seen
         D.Door D.Conn.Link (P.seen keeper) (P.seen result.1) doors.old doors.new) result.0 output }
@@ -89,8 +90,8 @@ fn begin_and_serve<R: Threads + Wait + Sync, K: Sink, P: Keeper + Send, D: Door<
     doors: &mut [D],
 ) -> (Status, P)
     requires season { IsSeason season.text season }
-    requires few { length doors.old ≤ 64 }
-    requires suit { AllByRecursion (λ d. D.to_come d ≤ 100000) doors.old }
+    requires few { length doors.old ≤ most_doors }
+    requires suit { AllByRecursion (λ d. D.to_come d ≤ most_connections) doors.old }
     ensures written { (output : List ℕ) × Appends output (K.written sink.old) (K.written sink.new)
         × EndsBegun season (P.seen keeper).tables (P.seen result.1).tables (doors_seen D.Door
         D.Conn.Link (P.seen keeper) (P.seen result.1) doors.old doors.new) result.0 output }

@@ -1,6 +1,7 @@
 // An office is served, and writes how far it is.
 ghost use Rattle.std.specs.Prelude.{◌≡◌, ◌≢◌, ◌≤◌, ◌⊎◌, ℕ, List, length, map};
 ghost use Rattle.std.specs.List.{AllByRecursion};
+ghost use Rattle.office_base.specs.Limits.{most_doors, most_connections};
 ghost use Rattle.office_base.specs.Outside.{Rose, Appends};
 ghost use Rattle.kept_rows.specs.Tables.{IsTold};
 ghost use Rattle.office_moves.specs.History.{IsHistory};
@@ -41,8 +42,8 @@ pub(crate) fn serve_office<
     P: Keeper + Send,
     D: Door<Conn: Send> + Send,
 >(rt: &R, alloc: Global, office: Office<P>, sink: &mut K, doors: &mut [D]) -> (Status, P)
-    requires few { length doors.old ≤ 64 }
-    requires suit { AllByRecursion (λ d. D.to_come d ≤ 100000) doors.old }
+    requires few { length doors.old ≤ most_doors }
+    requires suit { AllByRecursion (λ d. D.to_come d ≤ most_connections) doors.old }
     ensures written { (output : List ℕ) × Appends output (K.written sink.old) (K.written sink.new)
         × EndsServed office.season office.entries (P.seen result.1).tables (doors_seen D.Door
         D.Conn.Link (P.seen office.keeper) (P.seen result.1) doors.old doors.new) result.0 output }

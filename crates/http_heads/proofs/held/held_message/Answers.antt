@@ -1,12 +1,13 @@
 use Rattle.std.proofs.Common.{length, refl, sym, ap, ◌∙◌, inl, arith}
 use Rattle.std.proofs.lemmas.List.{length-take}
+use Rattle.http_heads.specs.Limits.{most_head_bytes}
 use Rattle.http_heads.specs.HeadEnds.{head_len}
 use Rattle.http_heads.proofs.MessagesLemmas.{IsRefused-append, no_head_yet, stays}
 use Rattle.http_heads.proofs.held.held_message.Goals as goal
 
 pub after_head-requires-clause-within : goal.after_head-requires-clause-within
 after_head-requires-clause-within c =
-    omega (arith, c.in-Some.ensures.within, ap length c.prefix.ensures, length-take 8192 c.args.held.now)
+    omega (arith, c.in-Some.ensures.within, ap length c.prefix.ensures, length-take most_head_bytes c.args.held.now)
 
 pub returns-in-Some-clause-stays : goal.returns-in-Some-clause-stays
 returns-in-Some-clause-stays c = stays c.args.held.now _ c.after_head.ensures

@@ -1,6 +1,7 @@
 use Rattle.std.proofs.Common.{◌≡◌, ◌∙◌, ◌||◌, ◌==◌, ap, refl, subst, sym, None}
 use Rattle.std.specs.Prelude.{option_map}
 use Rattle.std.proofs.lemmas.List.{append-nil}
+use Rattle.http_sessions.specs.Limits.{most_messages}
 use Rattle.http_heads.specs.Fields.{closes}
 use Rattle.http_heads.specs.Methods.{method_name}
 use Rattle.http_heads.specs.Told.{told_fields, told_message}
@@ -26,7 +27,7 @@ pub returns-in-Ok-Refused-clause-goes : goal.returns-in-Ok-Refused-clause-goes
 unfolding reply_to
 returns-in-Ok-Refused-clause-goes g c =
     let e : told (told_message c.args.message.now) (Refused c.in-Ok-Refused.status c.in-Ok-Refused.allow) ≡ verdict_of (told_message c.args.message.now) = ap (λ j. told (told_message c.args.message.now) j) (sym c.in-Ok-Refused.field-0-is) ∙ c.in-Ok-Refused.ensures.exact in
-    let close = closes c.args.message.now.minor (told_fields c.args.message.now.fields) || c.args.at.message == 100 in
+    let close = closes c.args.message.now.minor (told_fields c.args.message.now.fields) || c.args.at.message == most_messages in
     (wired, (subst IsRefusal e tt, refl), append-nil _ ∙ (c.refuse.ensures ∙ (ap (λ b. reply_text c.in-Ok-Refused.status None (option_map method_name c.in-Ok-Refused.allow) b) c.closes_after-close.ensures ∙ ap (λ v. refusal_text close v) e)))
 
 pub returns-in-Ok-Asked-clause-goes : goal.returns-in-Ok-Asked-clause-goes

@@ -1,5 +1,6 @@
 use Rattle.std.proofs.Common.{◌≡◌, ℕ, ◌-◌, length, List, ◌++◌}
 use Rattle.office_base.specs.Outside.{Took}
+use Rattle.http_heads.specs.Limits.{most_message_bytes}
 use Rattle.http_sessions.proofs.messages.exchange_one.Given as goal
 
 -- bytes came behind what was held, and nothing else happened
@@ -12,4 +13,4 @@ invariant-reads g l =
     × (written l.link ≡ written l.fn.link) × (faults l.link ≡ faults l.fn.link)
 
 abbrev pub decreases-reads : goal.decreases-reads
-decreases-reads g l = 12288 - length l.inbox
+decreases-reads g l = most_message_bytes - length l.inbox
