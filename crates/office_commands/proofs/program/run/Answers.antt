@@ -62,10 +62,10 @@ returns-in-Check g c =
       blamed = answer_blames _ check_answers _ _ _ _ _ _ _ c.check_answer.result _ _ _ e.failure e.steady told c.finish-in-Check.ensures.steady;
     })
 
-pub returns-in-Serve-New : goal.returns-in-Serve-New
-returns-in-Serve-New g c =
+pub returns-in-New : goal.returns-in-New
+returns-in-New g c =
     let e = c.serve_season.ensures in
-    rw (c.in-Serve.is, c.in-Serve-New.is) (record {
+    rw (c.in-Serve.is, c.in-New.is) (record {
       written = e.written;
       spares = record {
         read_whole = λ reads well. e.read_whole (inl well);
@@ -91,10 +91,10 @@ returns-in-Serve-New g c =
           e.read_blamed.source_steady e.sink.sink_steady (no_difference _ _ e.no_difference e.keeper.keeper_early) e.doors.doors_steady e.keeper.keeper_count;
     })
 
-pub returns-in-Serve-Kept : goal.returns-in-Serve-Kept
-returns-in-Serve-Kept g c =
+pub returns-in-Serve : goal.returns-in-Serve
+returns-in-Serve g c =
     let e = c.serve_kept.ensures in
-    rw (c.in-Serve.is, c.in-Serve-Kept.is) (record {
+    rw (c.in-Serve.is, c.in-Kept.is) (record {
       written = e.written;
       spares = record {
         read_whole = λ reads. absurd reads;
