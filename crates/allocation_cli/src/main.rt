@@ -8,7 +8,7 @@
 // No crate depends on this one, and it decides nothing of seats itself.
 #![tactic(auto)]
 
-ghost use Rattle.std.specs.Prelude.{◌≡◌, ◌≤◌, IfOk, IfSome, length, map};
+ghost use Rattle.std.specs.Prelude.{◌≡◌, ◌≤◌, IfOk, IfSome, length, map, replicate};
 ghost use Rattle.std.specs.List.{AllByRecursion};
 ghost use Rattle.office_base.specs.Limits.{most_doors, most_connections};
 ghost use Rattle.allocation_cli.specs.Named.{AreDoorsFor, AreNamed, HaveTaken};
@@ -168,7 +168,7 @@ fn answer<
 {
     one_spelling();
     let edge = Edge::new(*rt, STORE_FAULTS);
-    let Some(mut doors) = doors_of(host, alloc, &call.service, &edge) else {
+    let Some(mut doors) = doors_for(host, alloc, &call.service, &edge) else {
         return (Err(Unopened::Port), keeper);
     };
     if let Some(service) = &call.service {
@@ -206,9 +206,8 @@ fn answer_at<H: Threads + Wait + Sync, K: Sink, P: Keeper + Send>(
     )
 }
 
-// Returns the doors of a service over one listener at its port of this machine: one for each worker, with as many
-// connections to come as a worker takes. It returns no doors for no service, and None if the port cannot be bound.
-fn doors_of<'e, H: Net<Listener = TcpListener, Stream = TcpStream>>(
+// Returns the doors that a command asks for: those of its service, or none. It returns None if the port cannot be bound.
+fn doors_for<'e, H: Net<Listener = TcpListener, Stream = TcpStream>>(
     host: &H,
     alloc: Global,
     service: &Option<Service>,
@@ -216,11 +215,25 @@ fn doors_of<'e, H: Net<Listener = TcpListener, Stream = TcpStream>>(
 ) -> Option<Vec<SystemDoor<'e>>>
     ensures { IfSome result (λ doors. map (λ d. d.left) doors.items ≡ doors_named service.now) }
 {
-    let mut doors = Vec::new(alloc);
-    let Some(service) = service else {
-        return Some(doors);
-    };
+    match service {
+        Some(service) => doors_of(host, alloc, service, edge),
+        None => Some(Vec::new(alloc)),
+    }
+}
+
+// Returns doors over one listener at the port of this machine: one for each worker, with as many connections to come
+// as a worker takes. It returns None if the port cannot be bound.
+fn doors_of<'e, H: Net<Listener = TcpListener, Stream = TcpStream>>(
+    host: &H,
+    alloc: Global,
+    service: &Service,
+    edge: &'e Edge<HostRuntime>,
+) -> Option<Vec<SystemDoor<'e>>>
+    ensures { IfSome result (λ doors. map (λ d. d.left) doors.items
+        ≡ replicate service.now.workers service.now.conns) }
+{
     let listener = TcpListener::bind(host, (Ipv4Addr::LOCALHOST, service.port)).ok()?;
+    let mut doors = Vec::new(alloc);
     for made in 0..service.workers {
         let _ = made;
         let Ok(other) = listener.try_clone() else {
