@@ -2,7 +2,7 @@ use Rattle.std.proofs.Common.{◌<◌, refl, subst, sym}
 use Rattle.desk_counters.specs.Knowing.{known_of}
 use Rattle.proceedings.specs.Proceeding.{last_of}
 use Rattle.desk_counters.proofs.Turns.{asked_at_desk, asked_puts_back}
-use Rattle.desk_counters.proofs.counter.DeskCounterStoodCounter.ask.Goals as goal
+use Rattle.desk_counters.proofs.counter.DeskCounterDeskOfficeCounter.ask.Goals as goal
 
 pub turn-requires-clause-job : goal.turn-requires-clause-job
 turn-requires-clause-job g c v n small basis last p shown = (

@@ -1,6 +1,6 @@
 use Rattle.std.proofs.Common.{◌≡◌, rules}
 use Rattle.office_http.proofs.Handing.{first_no_more, other_no_more}
-use Rattle.office_http.proofs.hands.HandStoodCrewShopStoodBuffers.take_in.Goals as goal
+use Rattle.office_http.proofs.hands.DeskWorkerDeskOfficeCrewSharedDeskOfficeBuffers.take_in.Goals as goal
 
 pub returns-clause-joined : goal.returns-clause-joined
 returns-clause-joined g c =

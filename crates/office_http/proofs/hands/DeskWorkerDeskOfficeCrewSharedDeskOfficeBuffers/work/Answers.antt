@@ -5,7 +5,7 @@ use Rattle.office_desk.specs.Words.{belongs, origin_of, shares_of}
 use Rattle.door_histories.proofs.Linked.{visited_is_served}
 use Rattle.door_histories.specs.Served.{telling}
 use Rattle.office_http.proofs.Handing.{asked_there, ended_so}
-use Rattle.office_http.proofs.hands.HandStoodCrewShopStoodBuffers.work.Goals as goal
+use Rattle.office_http.proofs.hands.DeskWorkerDeskOfficeCrewSharedDeskOfficeBuffers.work.Goals as goal
 
 pub returns : goal.returns
 returns g c =
