@@ -1,8 +1,7 @@
 -- What each change makes of the proceedings.
-use Rattle.std.proofs.Common.{◌≡◌, ◌<◌, ◌≤◌, ◌+◌, ◌-◌, ◌⊎◌, inl, inr, ℕ, zero, suc, Bool, true, false, List, [], ◌∷◌, ◌++◌, Option, Some, None, length, map, arith, refl, sym, ap, ◌∙◌, subst, nat_lt, ◌||◌, if◌then◌else◌, replicate}
+use Rattle.std.proofs.Common.{◌≡◌, ◌<◌, ◌≤◌, ◌+◌, ◌-◌, ◌⊎◌, inl, inr, ℕ, zero, suc, false, List, [], ◌∷◌, ◌++◌, Option, Some, None, length, map, arith, refl, sym, ap, ◌∙◌, subst, replicate}
 use Rattle.std.specs.Prelude.{slice_get}
 use Rattle.std.specs.List.{list_any}
-use Rattle.std.proofs.lemmas.Bool.Decides.{nat_tests}
 use Rattle.std.proofs.lemmas.List.{length-map}
 use Rattle.office_base.specs.declared.asks.By.TheVariants.{Candidate, Clerk}
 use Rattle.office_base.specs.declared.asks.Choice.{Choice}
@@ -12,7 +11,6 @@ use Rattle.office_base.specs.declared.person.Person.{Person}
 use Rattle.kept_rows.specs.declared.rows.AllotRow.{AllotRow}
 use Rattle.kept_rows.specs.declared.rows.AnswerRow.{AnswerRow}
 use Rattle.kept_rows.specs.declared.rows.RaiseRow.{RaiseRow}
-use Rattle.rank_lists.specs.Register.{row_of}
 use Rattle.rounds.specs.declared.round.Round.{Round}
 use Rattle.round_options.specs.declared.standing.Standing.{Standing}
 use Rattle.round_options.specs.declared.standing.Standing.TheVariants.{Waiting}
@@ -21,24 +19,24 @@ use Rattle.office_turns.specs.Turns.{no_turns}
 use Rattle.office_moves.specs.Facts.{SeasonFacts}
 use Rattle.office_moves.specs.State.{State, in_window, opening, rows_of, view_of, with_finals, with_raise, with_round, with_row}
 use Rattle.office_moves.specs.Raised.{matrix_at, raised_to}
-use Rattle.office_moves.specs.Judge.{is_gone, not_open}
+use Rattle.office_moves.specs.Judge.{is_gone}
 use Rattle.office_moves.specs.Decided.{answer_looks, decided, same_raise}
 use Rattle.office_moves.specs.Moves.{Does, raised_reply}
 use Rattle.office_moves.specs.History.{IsHistory, asked, newly}
 use Rattle.office_moves.specs.Promise.{standing_then}
 use Rattle.office_moves.specs.declared.decide.Decision.{Decision}
-use Rattle.office_moves.specs.declared.decide.Decision.TheVariants.{Finish, Lift, Note, Publish}
+use Rattle.office_moves.specs.declared.decide.Decision.TheVariants.{Finish, Lift, Publish}
 use Rattle.office_moves.specs.declared.moves.Act.TheVariants.{Answer, Cut, Raise}
 use Rattle.office_moves.specs.declared.moves.Entry.{Entry}
-use Rattle.office_moves.specs.declared.refusal.Refusal.TheVariants.{Ahead, Late}
 use Rattle.office_moves.proofs.Chains.{answer_new, cut_new}
 use Rattle.office_moves.proofs.Rising.{raised_append}
 use Rattle.histories.specs.Orderly.{AreAnswers}
+use Rattle.histories.proofs.Accepted.{is_open}
 use Rattle.histories.proofs.Changes.{Answered, Change, Finishes, Publishes, Raised, changes}
 use Rattle.histories.proofs.Turns.{was_next}
 use Rattle.window_ends.specs.WindowEnd.{after_cuts, seats_given, standings, still_in}
 use Rattle.window_ends.proofs.OfficeLinks.{AreRising, all_left, all_left_last, all_stand}
-use Rattle.proceedings.specs.Changes.{StillAfter}
+use Rattle.proceedings.specs.Changes.{IsAnswerAt, StillAfter}
 use Rattle.proceedings.specs.Proceeding.{answers_of, choices_in, in_after, left_along, still_among, still_of, table_along}
 use Rattle.proceedings.proofs.CutLemmas.{AreTables, HasNone, cut_takes, no_table, still_left, still_now}
 use Rattle.proceedings.proofs.HistoryLemmas.{answers_more, answers_same}
@@ -46,15 +44,6 @@ use Rattle.proceedings.proofs.NoteLemmas.{other_window, some_still, still_noted}
 use Rattle.proceedings.proofs.Positions.{stands}
 
 -- ---- an accepted answer
-
-in_season : (now rounds window : ℕ) → not_open now rounds window ≡ None → window ≤ rounds
-in_season now rounds window e = by (nat_lt window now) (nat_lt now window) (nat_lt rounds window) refl e
-  where
-    by : (a b c : Bool) → nat_lt rounds window ≡ c → (if a then Some (Late now) else if b || c then Some (Ahead now) else None) ≡ None → window ≤ rounds
-    by true b c k e = absurd (cc)
-    by false true c k e = absurd (cc)
-    by false false true k e = absurd (cc)
-    by false false false k e = grind (arith, nat_tests)
 
 -- an accepted answer is of the open window, of a candidate of the register who is at this position and is not out
 pub record IsNoted (facts : SeasonFacts) (state : State) (row : AnswerRow) (at : ℕ) : Type 0 where
@@ -65,14 +54,12 @@ pub record IsNoted (facts : SeasonFacts) (state : State) (row : AnswerRow) (at :
   pub here : slice_get facts.people at ≡ Some person
   pub mine : person.id.0 ≡ row.cand.0
 
-pub is_noted : (facts : SeasonFacts) (state : State) (row : AnswerRow) (at : ℕ) → decided facts state (asked facts (Answer row)) ≡ Note row → row_of row.cand.0 facts.people ≡ Some at → IsNoted facts state row at
-is_noted facts state row at is found =
-    let new = answer_new state.now (answer_looks facts (view_of state row.cand.0) row) (Candidate row.cand) row (Answer row) (ap (newly state.now) is) in
+pub is_noted : (facts : SeasonFacts) (state : State) (row : AnswerRow) (at : ℕ) → IsAnswerAt facts state row at → IsNoted facts state row at
+is_noted facts state row at is =
+    let new = answer_new state.now (answer_looks facts (view_of state row.cand.0) row) (Candidate row.cand) row (Answer row) (ap (newly state.now) is.0) in
     let next = was_next facts state row new.opened new.turn new.next in
-    let person = stands row.cand.0 facts.people at found in
-    let within = in_season state.now facts.rounds row.window new.opened in
-    let window = next.window in
-    record { window = window; few = omega (arith, within, window); there = next.there; person = person.person; here = person.there; mine = person.mine }
+    let person = stands row.cand.0 facts.people at is.1 in
+    record { window = next.window; few = (is_open state.now facts.rounds row.window new.opened).1; there = next.there; person = person.person; here = person.there; mine = person.mine }
 
 pub noted_some : (facts : SeasonFacts) (state : State) (row : AnswerRow) (at : ℕ) → IsNoted facts state row at → 1 ≤ still_of facts state
 noted_some facts state row at n =
@@ -189,26 +176,18 @@ none_moved old new window id same none = ap (λ (answers : List AnswerRow). in_w
 
 -- ---- an accepted raise
 
-pub lifted_below : (facts : SeasonFacts) (state : State) (row : RaiseRow) → decided facts state (asked facts (Raise row)) ≡ Lift row → row.prog.0 < length facts.matrix.programmes
-lifted_below facts state row is =
+-- an accepted raise is of a programme of the matrix, and none of those before it
+pub lifted : (facts : SeasonFacts) (state : State) (row : RaiseRow) → decided facts state (asked facts (Raise row)) ≡ Lift row
+    → (row.prog.0 < length facts.matrix.programmes) × (list_any (same_raise row) state.raises ≡ false)
+lifted facts state row is =
     from (changes facts state (asked facts (Raise row)).by (asked facts (Raise row)).ask (Raise row) (raised_reply row) (with_raise state row) (ap (newly state.now) is)
     (subst (λ (d : Decision). Does facts state d (raised_reply row) (with_raise state row)) (sym is) (refl, refl)))
   where
-    from : Change facts state (asked facts (Raise row)).by (asked facts (Raise row)).ask (Raise row) (with_raise state row) → row.prog.0 < length facts.matrix.programmes
+    from : Change facts state (asked facts (Raise row)).by (asked facts (Raise row)).ask (Raise row) (with_raise state row)
+        → (row.prog.0 < length facts.matrix.programmes) × (list_any (same_raise row) state.raises ≡ false)
     from (Answered other asks same accepts made) = absurd (cc)
-    from (Raised other code asks found known same accepts made) = subst (λ (r : RaiseRow). r.prog.0 < length facts.matrix.programmes) (let e : other ≡ row = cc in e) found.below
-    from (Publishes window round asks same cuts less next made) = absurd (cc)
-    from (Finishes window asks same cuts last made) = absurd (cc)
-
--- an accepted raise is none of those before it
-pub lifted_fresh : (facts : SeasonFacts) (state : State) (row : RaiseRow) → decided facts state (asked facts (Raise row)) ≡ Lift row → list_any (same_raise row) state.raises ≡ false
-lifted_fresh facts state row is =
-    from (changes facts state (asked facts (Raise row)).by (asked facts (Raise row)).ask (Raise row) (raised_reply row) (with_raise state row) (ap (newly state.now) is)
-    (subst (λ (d : Decision). Does facts state d (raised_reply row) (with_raise state row)) (sym is) (refl, refl)))
-  where
-    from : Change facts state (asked facts (Raise row)).by (asked facts (Raise row)).ask (Raise row) (with_raise state row) → list_any (same_raise row) state.raises ≡ false
-    from (Answered other asks same accepts made) = absurd (cc)
-    from (Raised other code asks found known same accepts made) = subst (λ (r : RaiseRow). list_any (same_raise r) state.raises ≡ false) (let e : other ≡ row = cc in e) accepts.fresh
+    from (Raised other code asks found known same accepts made) =
+        subst (λ (r : RaiseRow). (r.prog.0 < length facts.matrix.programmes) × (list_any (same_raise r) state.raises ≡ false)) (let e : other ≡ row = cc in e) (found.below, accepts.fresh)
     from (Publishes window round asks same cuts less next made) = absurd (cc)
     from (Finishes window asks same cuts last made) = absurd (cc)
 

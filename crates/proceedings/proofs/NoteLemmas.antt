@@ -1,12 +1,12 @@
 -- What an accepted answer makes of the arrays.
 use Rattle.std.proofs.Common.{◌≡◌, ◌≢◌, ◌<◌, ◌≤◌, ◌+◌, inl, inr, ℕ, zero, suc, Bool, true, false, List, [], ◌∷◌, ◌++◌, Some, map, slice_set, arith, refl, sym, ap, ◌∙◌, subst, append-nil, ◌==◌, if◌then◌else◌}
-use Rattle.std.specs.Prelude.{slice_get}
+use Rattle.std.specs.Prelude.{option_map, slice_get}
 use Rattle.std.specs.List.{AllByRecursion}
+use Rattle.std.proofs.lemmas.Bool.{cond-false, cond-true, eq-eqb}
 use Rattle.std.proofs.lemmas.Bool.Decides.{eqb_tells}
 use Rattle.std.proofs.lemmas.List.{map-append}
-use Rattle.std.proofs.lemmas.Option.{same_Some}
+use Rattle.std.proofs.lemmas.Option.{same_Some, slice_get-map}
 use Rattle.office_base.proofs.Lists.{all-get, get_set_other}
-use Rattle.office_base.specs.Lists.{Pairwise}
 use Rattle.office_base.specs.declared.asks.Choice.{Choice}
 use Rattle.office_base.specs.declared.asks.Choice.TheVariants.{Freeze as ToFreeze, Float as ToFloat, Slide as ToSlide, Withdraw as ToWithdraw}
 use Rattle.office_base.specs.declared.person.Person.{Person}
@@ -42,14 +42,7 @@ none_of_window row window id (OfWindow apart none) other = none
 
 own_of : (row : AnswerRow) (window id : ℕ) → Owns window id row → id ≡ row.cand.0 → window ≡ row.window → own_row window id row ≡ row ∷ []
 own_of row window id (Own same time mine) is at = mine
-own_of row window id (OfOther others none) is at = absurd (let one : rows_of id (row ∷ []) ≡ row ∷ [] = own_rows (row.cand.0 == id) row (eq_here row.cand.0 id (sym is)) in cc)
-  where
-    eq_here : (m n : ℕ) → m ≡ n → (m == n) ≡ true
-    eq_here m n e = elim (eqb_tells m n) [ inl h ↦ h.0 | inr h ↦ absurd (h.1 e) ]
-
-    own_rows : (b : Bool) (row : AnswerRow) → b ≡ true → (if b then row ∷ [] else []) ≡ row ∷ []
-    own_rows true row e = refl
-    own_rows false row e = absurd (cc)
+own_of row window id (OfOther others none) is at = absurd (let one : rows_of id (row ∷ []) ≡ row ∷ [] = cond-true (row.cand.0 == id) (row ∷ []) [] (eq-eqb row.cand.0 id (sym is)) in cc)
 own_of row window id (OfWindow apart none) is at = absurd (apart (sym at))
 
 -- the rows of another window, or of another candidate, are as before
@@ -102,16 +95,11 @@ still_others facts state row (p ∷ people) opens all =
     ap (λ (s : Standing). in_after (still_among facts (with_row state row) people) s) (standing_other facts state row p.id.0 opens (omega (arith, less)))
     ∙ ap (λ (n : ℕ). in_after n (standing_then facts state state.now p.id.0)) (still_others facts state row people opens all.1)
 
--- of one who was still in
-counted : (gone : Bool) (n : ℕ) → gone ≡ false → (if gone then n else n + 1) ≡ n + 1
-counted true n e = absurd (cc)
-counted false n e = refl
-
 from_gone : (choice : Choice) (n : ℕ) (before : Standing) → is_gone before ≡ false → StillAfter choice (in_after n before) (in_after n (standing_of choice))
-from_gone ToFreeze n before there = sym (counted (is_gone before) n there)
-from_gone ToFloat n before there = sym (counted (is_gone before) n there)
-from_gone ToSlide n before there = sym (counted (is_gone before) n there)
-from_gone ToWithdraw n before there = sym (counted (is_gone before) n there)
+from_gone ToFreeze n before there = sym (cond-false (is_gone before) n (n + 1) there)
+from_gone ToFloat n before there = sym (cond-false (is_gone before) n (n + 1) there)
+from_gone ToSlide n before there = sym (cond-false (is_gone before) n (n + 1) there)
+from_gone ToWithdraw n before there = sym (cond-false (is_gone before) n (n + 1) there)
 
 after_more : (choice : Choice) (m n : ℕ) (standing : Standing) → StillAfter choice m n → StillAfter choice (in_after m standing) (in_after n standing)
 after_more ToFreeze m n standing e = ap (λ (k : ℕ). in_after k standing) e
@@ -192,16 +180,11 @@ get_set_same [] i x y e = absurd (cc)
 get_set_same (z ∷ xs) zero x y e = sym (same_Some x y e)
 get_set_same (z ∷ xs) (suc i) x y e = get_set_same xs i x y e
 
-get_along : {X : Type 0} (f : ℕ → X) (people : List Person) (at : ℕ) (person : Person) → slice_get people at ≡ Some person → slice_get (map (λ (p : Person). f p.id.0) people) at ≡ Some (f person.id.0)
-get_along f [] at person here = absurd (cc)
-get_along f (p ∷ people) zero person here = ap (λ (z : Person). Some (f z.id.0)) (same_Some p person here)
-get_along f (p ∷ people) (suc at) person here = get_along f people at person here
-
 -- the choices at the place of the candidate
 pub put_here : (facts : SeasonFacts) (state : State) (row : AnswerRow) (window at : ℕ) (person : Person) (table : List (List Choice)) → slice_get facts.people at ≡ Some person → person.id.0 ≡ row.cand.0
     → table ≡ table_along facts state window → slice_get table at ≡ Some (choices_in state window row.cand.0)
 put_here facts state row window at person table here is so =
-    ap (λ (z : List (List Choice)). slice_get z at) so ∙ (get_along (λ n. choices_in state window n) facts.people at person here ∙ ap (λ (n : ℕ). Some (choices_in state window n)) is)
+    ap (λ (z : List (List Choice)). slice_get z at) so ∙ (slice_get-map (λ (p : Person). choices_in state window p.id.0) facts.people at ∙ ap (option_map (λ (p : Person). choices_in state window p.id.0)) here ∙ ap (λ (n : ℕ). Some (choices_in state window n)) is)
 
 -- all tables, where the choice is put into that of the opens window
 pub tables_noted : (facts : SeasonFacts) (state : State) (row : AnswerRow) (tables : List (List (List Choice))) (at window : ℕ) (person : Person) (table new : List (List Choice)) → AreRising facts.people

@@ -1,7 +1,7 @@
 -- What is at the position of a person.
 use Rattle.std.proofs.Common.{◌≡◌, ◌<◌, inl, inr, ℕ, zero, suc, Bool, true, false, List, [], ◌∷◌, Option, Some, None, length, map, arith, refl, sym, ap, ◌∙◌, ◌==◌, if◌then◌else◌}
 use Rattle.std.specs.Prelude.{slice_get, option_map}
-use Rattle.std.proofs.lemmas.Bool.{cases_Bool, eq-eqb, eqb-true}
+use Rattle.std.proofs.lemmas.Bool.{eq-eqb, eqb-false, eqb-true, ne_eqb}
 use Rattle.std.proofs.lemmas.Option.{slice_get-map}
 use Rattle.office_base.specs.Person.{at_person}
 use Rattle.office_base.specs.declared.person.Person.{Person}
@@ -21,20 +21,17 @@ stands id (p ∷ people) at e = elim (row_cases (id == p.id.0) (row_of id people
   | inr h ↦ let rest = stands id people h.0 h.2 in record { person = rest.person; there = rw h.3 rest.there; mine = rest.mine }
 ]
 
-place_when : {X : Type 0} (b : Bool) (x : X) (rest : Option X) (xs : List X) (at : ℕ) → b ≡ true → at ≡ 0 → (if b then Some x else rest) ≡ slice_get (x ∷ xs) at
+pub place_when : {X : Type 0} (b : Bool) (x : X) (rest : Option X) (xs : List X) (at : ℕ) → b ≡ true → at ≡ 0 → (if b then Some x else rest) ≡ slice_get (x ∷ xs) at
 place_when true x rest xs at e same = rw same refl
 place_when false x rest xs at e same = absurd (cc)
 
-place_later : {X : Type 0} (b : Bool) (x : X) (rest : Option X) (xs : List X) (at n : ℕ) → b ≡ false → at ≡ suc n → rest ≡ slice_get xs n → (if b then Some x else rest) ≡ slice_get (x ∷ xs) at
+pub place_later : {X : Type 0} (b : Bool) (x : X) (rest : Option X) (xs : List X) (at n : ℕ) → b ≡ false → at ≡ suc n → rest ≡ slice_get xs n → (if b then Some x else rest) ≡ slice_get (x ∷ xs) at
 place_later true x rest xs at n e same later = absurd (cc)
 place_later false x rest xs at n e same later = rw same later
 
 -- two numbers that are not equal are not so the other way round
 pub other_way : (m n : ℕ) → (m == n) ≡ false → (n == m) ≡ false
-other_way m n e = elim (cases_Bool (n == m)) [
-  | inl same ↦ absurd (let own : m == n ≡ true = eq-eqb m n (sym (eqb-true n m same)) in cc)
-  | inr other ↦ other
-]
+other_way m n e = ne_eqb n m (λ same. eqb-false m n e (sym same))
 
 -- what goes along with the people has at the position what it has for the person
 pub at_position : {X : Type 0} (id : ℕ) (people : List Person) (xs : List X) (at : ℕ) → row_of id people ≡ Some at → length xs ≡ length people → at_person id people xs ≡ slice_get xs at

@@ -1,5 +1,5 @@
 -- Replies, from what was looked up.
-use Rattle.std.proofs.Common.{◌≡◌, ◌<◌, ◌≤◌, inl, inr, ℕ, zero, suc, Bool, true, false, List, [], ◌∷◌, Option, Some, None, Fits, w32, get_or, length, arith, refl, sym, ap, ◌∙◌, ◌==◌, if◌then◌else◌}
+use Rattle.std.proofs.Common.{◌≡◌, ◌<◌, ◌≤◌, inl, inr, ℕ, zero, suc, List, [], ◌∷◌, Option, Some, None, Fits, w32, get_or, length, arith, refl, sym, ap, ◌∙◌, ◌==◌}
 use Rattle.std.specs.Prelude.{slice_get}
 use Rattle.std.proofs.lemmas.Option.{slice_get-get_or, slice_get_read}
 use Rattle.office_base.specs.declared.asks.Seat.{Seat}
@@ -22,6 +22,7 @@ use Rattle.office_moves.specs.State.{State, last_seat, round_at, seat_of, standi
 use Rattle.office_moves.specs.Moves.{seat_reply, told_seat}
 use Rattle.office_moves.specs.Why.{reason_in, why_answer, why_beside}
 use Rattle.office_moves.specs.declared.moves.Reply.TheVariants.{SeatIs}
+use Rattle.proceedings.proofs.Positions.{place_later, place_when}
 
 pub few_fit : (n m k : ℕ) → n ≡ m → m ≤ k → k ≤ 250000 → Fits w32 n
 few_fit n m k e less few = omega arith
@@ -44,19 +45,11 @@ pub no_round : (rounds : List Round) (n : ℕ) → 0 < n → n ≤ length rounds
 no_round rounds zero some less none = omega (arith, some)
 no_round rounds (suc before) some less none = let there = there_is rounds before (omega (arith, less)) in (let both : Some there.0 ≡ None = sym there.1 ∙ none in cc)
 
-found_when : (b : Bool) (p : Person) (rest : Option Person) (people : List Person) (at : ℕ) → b ≡ true → at ≡ 0 → (if b then Some p else rest) ≡ slice_get (p ∷ people) at
-found_when true p rest people at e same = rw same refl
-found_when false p rest people at e same = absurd (cc)
-
-found_later : (b : Bool) (p : Person) (rest : Option Person) (people : List Person) (at n : ℕ) → b ≡ false → at ≡ suc n → rest ≡ slice_get people n → (if b then Some p else rest) ≡ slice_get (p ∷ people) at
-found_later true p rest people at n e same later = absurd (cc)
-found_later false p rest people at n e same later = rw same later
-
 pub found_at : (id : ℕ) (people : List Person) (at : ℕ) → row_of id people ≡ Some at → find_person id people ≡ slice_get people at
 found_at id [] at e = absurd (cc)
 found_at id (p ∷ people) at e = elim (row_cases (id == p.id.0) (row_of id people) at e) [
-  | inl h ↦ found_when (id == p.id.0) p (find_person id people) people at h.0 h.1
-  | inr h ↦ found_later (id == p.id.0) p (find_person id people) people at h.0 h.1 h.3 (found_at id people h.0 h.2)
+  | inl h ↦ place_when (id == p.id.0) p (find_person id people) people at h.0 h.1
+  | inr h ↦ place_later (id == p.id.0) p (find_person id people) people at h.0 h.1 h.3 (found_at id people h.0 h.2)
 ]
 
 pub index_within : (i p n m : ℕ) → i ≡ p → p < n → m ≡ n → i < m

@@ -1,17 +1,17 @@
 -- The turns of a candidate in a window, as rows and as choices.
-use Rattle.std.proofs.Common.{◌≡◌, ◌≤◌, ◌+◌, ◌-◌, inl, inr, ℕ, zero, suc, Bool, true, false, List, [], ◌∷◌, Option, Some, None, length, map, arith, refl, sym, ap, ◌∙◌, ◌==◌, nat_lt, if◌then◌else◌, subst}
+use Rattle.std.proofs.Common.{◌≡◌, ◌≤◌, ◌+◌, ◌-◌, ℕ, zero, suc, Bool, true, false, List, [], ◌∷◌, Option, Some, None, length, map, arith, refl, sym, ap, ◌∙◌, ◌==◌, if◌then◌else◌, subst}
 use Rattle.std.specs.Prelude.{slice_get, ◌&&◌}
-use Rattle.std.proofs.lemmas.Bool.{cases_Bool, eq-eqb, lt-ltb, ne_eqb}
+use Rattle.std.proofs.lemmas.Bool.{eq-eqb, ne_eqb}
 use Rattle.std.proofs.lemmas.List.{length-map}
 use Rattle.std.proofs.lemmas.Option.{slice_get-get_or}
 use Rattle.office_base.specs.declared.asks.Choice.{Choice}
 use Rattle.kept_rows.specs.declared.rows.AnswerRow.{AnswerRow}
 use Rattle.round_options.specs.Options.{standing_of}
 use Rattle.round_options.specs.declared.standing.Standing.{Standing}
-use Rattle.office_moves.specs.State.{accepted, answered, greater, in_window, last_turn}
+use Rattle.office_moves.specs.State.{accepted, answered, in_window, last_turn}
 use Rattle.office_turns.specs.Turns.{choice_at, last_choice}
 use Rattle.histories.specs.Orderly.{AreTurnsAfter}
-use Rattle.histories.proofs.Turns.{turns_count}
+use Rattle.histories.proofs.Turns.{greater_next, turns_count}
 use Rattle.proceedings.proofs.Lasts.{last_of_rest}
 
 -- the choices of rows
@@ -49,14 +49,8 @@ accepted_is window (suc n) rows turns = accepted_after window n 0 (suc n) rows t
 
 -- ---- the last turn
 
-greater_up : (m n : ℕ) → m ≤ n → greater m n ≡ n
-greater_up m n e = elim (cases_Bool (nat_lt m n)) [ inl less ↦ rw less refl | inr not_less ↦ rw not_less (omega (arith, not_below m n not_less)) ]
-  where
-    not_below : (m n : ℕ) → nat_lt m n ≡ false → n ≤ m
-    not_below m n e = grind (arith, lt-ltb)
-
 pub last_turn_is : (rows : List AnswerRow) → AreTurnsAfter 0 rows → last_turn rows ≡ length (choices rows)
-last_turn_is rows turns = sym (greater_up 0 (last_turn rows) (omega arith)) ∙ (turns_count 0 rows turns ∙ omega (arith, length-map rows (λ (row : AnswerRow). row.choice)))
+last_turn_is rows turns = sym (greater_next 0 (last_turn rows) (omega arith)) ∙ (turns_count 0 rows turns ∙ omega (arith, length-map rows (λ (row : AnswerRow). row.choice)))
 
 -- ---- the standing after them
 

@@ -8,7 +8,7 @@ ghost use Rattle.office_moves.specs.Season.{facts_of};
 ghost use Rattle.office_moves.specs.State.{opening, with_finals, with_raise, with_round, with_row};
 ghost use Rattle.office_turns.specs.Turns.{no_turns};
 ghost use Rattle.round_options.specs.declared.standing.Standing.TheVariants.{Waiting};
-ghost use Rattle.proceedings.specs.Changes.{StillAfter};
+ghost use Rattle.proceedings.specs.Changes.{IsAnswerAt, StillAfter};
 
 use crate::book::Proceedings;
 use crate::room::put_last;
@@ -123,10 +123,9 @@ impl Proceedings {
         Ok(())
     }
 
-    /// Takes an answer, as entry of this number. It takes no memory.
-    pub fn note(&mut self, number: u64, row: AnswerRow)
-        requires decided { decided self.old.season self.old.state
-            (asked self.old.season (Act.Answer row)) ≡ Decision.Note row }
+    /// Takes an answer of the candidate at this position of the register, as entry of this number. It takes no memory.
+    pub fn note(&mut self, number: u64, at: u32, row: AnswerRow)
+        requires decided { IsAnswerAt self.old.season self.old.state row at }
         requires number { last_of self.old.entries < number }
         requires space { (self.old.still < self.old.room) ⊎ (row.choice ≡ Choice.Withdraw) }
         ensures state { self.new.state ≡ with_row self.old.state row }
@@ -138,9 +137,6 @@ impl Proceedings {
     {
         histories::laws::history_grows();
         histories::laws::orderly();
-        let Some(at) = self.season.register.position(row.cand) else {
-            unreachable!("an accepted answer is of a candidate of the register")
-        };
         let still = still_after(self.still_in, row.choice);
         self.turns[usize::from(row.window)].put(at as usize, row.choice);
         self.still_in = still;

@@ -4,37 +4,40 @@ ghost use Rattle.rank_lists.specs.Register.{row_of};
 ghost use Rattle.seeks.specs.Seek.{is_listed};
 ghost use Rattle.office_moves.specs.Facts.{find_programme};
 ghost use Rattle.office_moves.specs.State.{view_of};
-ghost use Rattle.office_moves.specs.Decided.{answer_looks, decide_answer, decide_list, decide_own, decide_raise, decide_raise_of, decide_why, decided, is_chosen_by, is_known, raise_looks};
+ghost use Rattle.office_moves.specs.Decided.{answer_looks, decide_answer, decide_list, decide_own, decide_raise, decide_why, decided, is_chosen_by, is_known, raise_looks};
+ghost use Rattle.proceedings.specs.Changes.{IsDecided};
 
 use crate::book::Proceedings;
 use kept_rows::{AnswerRow, RaiseRow};
-use office_base::{Ask, By, CandId, Code, ProgId, Request};
+use office_base::{Ask, By, CandId, Code, ProgId, Request, StepKind};
 use office_moves::{
     AnswerLooks, Decision, Question, RaiseLooks, Refusal, judge_answer, judge_cut, judge_list,
     judge_own, judge_raise, judge_round, judge_why,
 };
 
 impl Proceedings {
-    /// Decides about a request. It takes no memory, and nothing changes.
-    pub fn decide(&self, request: &Request) -> Decision
-        ensures { result ≡ decided self.now.season self.now.state request.now }
+    /// Decides about a request. Returns also the position in the register of the candidate whose answer is accepted, else 0.
+    /// It takes no memory, and nothing changes.
+    pub fn decide(&self, request: &Request) -> (Decision, u32)
+        ensures { IsDecided self.now.season
+            (decided self.now.season self.now.state request.now) result }
     {
         let by = request.by;
-        match request.ask {
+        let decision = match request.ask {
             Ask::Answer {
                 cand,
                 window,
                 turn,
                 choice,
-            } => self.decide_answer(
-                by,
-                AnswerRow {
+            } => {
+                let row = AnswerRow {
                     window,
                     cand,
                     turn,
                     choice,
-                },
-            ),
+                };
+                return self.decide_answer(by, row);
+            }
             Ask::Cut { window } => judge_cut(by, self.window, self.season.rounds, window),
             Ask::Seat { cand } => self.decide_own(by, cand, Question::Seat { cand }),
             Ask::Why { cand, prog } => self.decide_why(by, cand, prog),
@@ -47,19 +50,9 @@ impl Proceedings {
                 prog,
                 step,
                 seats,
-            } => match self.find(prog) {
-                Some(prog) => self.decide_raise_of(
-                    by,
-                    RaiseRow {
-                        window,
-                        prog,
-                        step,
-                        seats,
-                    },
-                ),
-                None => Decision::Refuse(Refusal::UnknownProgramme),
-            },
-        }
+            } => self.decide_raise(by, window, prog, step, seats),
+        };
+        (decision, 0)
     }
 
     /// Decides about a question that only the candidate and the clerk may ask.
@@ -84,14 +77,17 @@ impl Proceedings {
         self.season.matrix.find(code)
     }
 
-    /// Decides about an answer.
-    fn decide_answer(&self, by: By, row: AnswerRow) -> Decision
-        ensures { result
-            ≡ decide_answer self.now.season (view_of self.now.state row.cand.0) by row }
+    /// Decides about an answer. Returns also the position in the register of its candidate, else 0.
+    fn decide_answer(&self, by: By, row: AnswerRow) -> (Decision, u32)
+        ensures { IsDecided self.now.season
+            (decide_answer self.now.season (view_of self.now.state row.cand.0) by row) result }
     {
         match self.season.register.position(row.cand) {
-            Some(at) => judge_answer(&self.answer_looks(at as usize, row), by, row),
-            None => Decision::Refuse(Refusal::UnknownCandidate),
+            Some(at) => {
+                let looks = self.answer_looks(at as usize, row);
+                (judge_answer(&looks, by, row), at)
+            }
+            None => (Decision::Refuse(Refusal::UnknownCandidate), 0),
         }
     }
 
@@ -139,12 +135,22 @@ impl Proceedings {
         }
     }
 
-    /// Decides about a raise of a programme of the matrix.
-    fn decide_raise_of(&self, by: By, row: RaiseRow) -> Decision
-        requires { row.prog.0 < length self.now.season.matrix.programmes }
-        ensures { result ≡ decide_raise_of self.now.season self.now.state by row }
+    /// Decides about a raise.
+    fn decide_raise(&self, by: By, window: u16, code: Code, step: StepKind, seats: u16) -> Decision
+        ensures { result ≡ decide_raise self.now.season self.now.state by window code step seats }
     {
-        judge_raise(&self.raise_looks(row), by, row)
+        match self.find(code) {
+            Some(prog) => {
+                let row = RaiseRow {
+                    window,
+                    prog,
+                    step,
+                    seats,
+                };
+                judge_raise(&self.raise_looks(row), by, row)
+            }
+            None => Decision::Refuse(Refusal::UnknownProgramme),
+        }
     }
 
     /// Returns what a raise of a programme of the matrix is judged by.

@@ -1,11 +1,10 @@
 -- Kept records lead to one state or have one first fault.
-use Rattle.std.proofs.Common.{◌≡◌, ◌≢◌, ◌<◌, ◌≤◌, ◌+◌, ◌⊎◌, inl, inr, ℕ, zero, suc, add-one, Bool, true, false, List, [], ◌∷◌, ◌++◌, Option, Some, None, Result, Ok, Err, arith, refl, sym, ap, ◌∙◌, subst, ◌==◌, nat_lt, if◌then◌else◌}
+use Rattle.std.proofs.Common.{◌≡◌, ◌≢◌, ◌<◌, ◌≤◌, ◌+◌, ◌⊎◌, inl, inr, ℕ, zero, suc, Bool, true, false, List, [], ◌∷◌, ◌++◌, Option, Some, Result, Ok, Err, arith, refl, sym, ap, ◌∙◌, subst, ◌==◌, if◌then◌else◌}
 use Rattle.std.specs.Prelude.{map}
 use Rattle.std.proofs.lemmas.Bool.{cases_lt}
 use Rattle.office_base.specs.declared.asks.Seat.{Seat}
 use Rattle.office_base.specs.declared.person.CandId.{CandId}
 use Rattle.kept_rows.specs.declared.rows.Kept.{Kept}
-use Rattle.rounds.specs.declared.round.Round.{Round}
 use Rattle.office_moves.specs.Decided.{decided}
 use Rattle.office_moves.specs.Facts.{IsSound, SeasonFacts}
 use Rattle.office_moves.specs.History.{Reaches, asked, newly}
@@ -23,7 +22,7 @@ use Rattle.replays.specs.Laws.{HaveOneEnd}
 use Rattle.replays.specs.Replay.{AllPass, AreAllotsOf, CutPasses, IsReplayed, Pass, RowsPass, WindowPasses, answers_replayed, raises_replayed, rows_replayed, takes, window_of, with_act}
 use Rattle.replays.specs.declared.fault.ReplayFault.{ReplayFault}
 use Rattle.replays.specs.declared.fault.ReplayFault.TheVariants.{Stray, StrayRaise, Differs, OutOfMemory}
-use Rattle.replays.proofs.Passed.{closes_by, cut_leads, has_cut, has_passed, rows_lead, stays_by}
+use Rattle.replays.proofs.Passed.{closes_by, cut_leads, has_passed, rows_lead, stays_by}
 use Rattle.replays.proofs.RowLemmas.{row_moves}
 
 -- ---- a state to which records lead is reached by a history

@@ -1,9 +1,9 @@
 -- Kept rows, each accepted when the replay reaches it, or not.
 use Rattle.std.proofs.Common.{◌≡◌, ◌≢◌, ◌<◌, ◌≤◌, ◌+◌, inl, inr, ℕ, zero, suc, Bool, true, false, List, [], ◌∷◌, ◌++◌, Option, Some, None, Result, Ok, Err, length, arith, refl, sym, ap, ◌∙◌, subst, append-nil, append_assoc, ◌==◌, nat_lt, if◌then◌else◌, cond, drop, get_or}
-use Rattle.std.specs.Prelude.{map, not, is_some, option_map, slice_get, bytes_eq, ◌&&◌, ◌||◌}
+use Rattle.std.specs.Prelude.{map, not, is_some, option_map, slice_get, bytes_eq, ◌&&◌}
 use Rattle.std.specs.List.{AllByRecursion, position_or_len}
 use Rattle.std.specs.Option.{unwrap_or}
-use Rattle.std.proofs.lemmas.Bool.{cases_Bool, eq-eqb, eqb-true, lt-ltb, ltb-false, ltb-true}
+use Rattle.std.proofs.lemmas.Bool.{and_from, and_parts, eqb-true, lt-ltb, ltb-true}
 use Rattle.std.proofs.lemmas.List.{at_drop_all, at_drop_more}
 use Rattle.std.proofs.lemmas.Slice.Eq.{bytes_eq-Decides}
 use Rattle.office_base.specs.Lists.{Pairwise}
@@ -27,9 +27,8 @@ use Rattle.office_moves.specs.declared.decide.Decision.TheVariants.{Lift, Note}
 use Rattle.office_moves.specs.declared.moves.Act.{Act}
 use Rattle.office_moves.specs.declared.moves.Act.TheVariants.{Answer, Raise, Cut}
 use Rattle.office_moves.specs.declared.moves.Reply.{Reply}
-use Rattle.office_moves.specs.declared.refusal.Refusal.{Refusal}
-use Rattle.office_moves.specs.declared.refusal.Refusal.TheVariants.{Late, Ahead}
 use Rattle.office_moves.proofs.Chains.{IsNewAnswer, IsNewRaise, answer_new, raise_new}
+use Rattle.histories.proofs.Accepted.{is_open}
 use Rattle.replays.specs.Acts.{acts_in}
 use Rattle.replays.specs.Faults.{IsStrayRow, StopsAt}
 use Rattle.replays.specs.declared.fault.ReplayFault.{ReplayFault}
@@ -60,19 +59,11 @@ some_act : (o : Option Act) → is_some o ≡ true → (act : Act) × (o ≡ Som
 some_act None e = absurd (cc)
 some_act (Some act) e = (act, refl)
 
-open_here : (a b c : Bool) (late ahead : Refusal) → (if a then Some late else if b || c then Some ahead else None) ≡ None → (a ≡ false) × (b ≡ false)
-open_here true b c late ahead e = absurd (cc)
-open_here false true c late ahead e = absurd (cc)
-open_here false false c late ahead e = (refl, refl)
-
 -- the window of what is accepted is the open one
 pub answer_window : (facts : SeasonFacts) (state : State) (row : AnswerRow) → takes_answer facts state row ≡ true → row.window ≡ state.now
 answer_window facts state row e =
     let act = some_act (newly state.now (decided facts state (asked facts (Answer row)))) e in
-    let opened = open_here (nat_lt row.window state.now) (nat_lt state.now row.window) (nat_lt facts.rounds row.window) (Late state.now) (Ahead state.now) (new_answer facts state row act.0 act.1).opened in
-    let low = ltb-false row.window state.now opened.0 in
-    let high = ltb-false state.now row.window opened.1 in
-    omega (arith, low, high)
+    (is_open state.now facts.rounds row.window (new_answer facts state row act.0 act.1).opened).0
 
 -- ---- a raise
 
@@ -136,14 +127,10 @@ pub lift_own : (facts : SeasonFacts) (state : State) (row other : RaiseRow) → 
 lift_own facts state row other seats less e =
     asks_own facts state row seats less ∙ (new_raise facts state row (Raise other) seats less (ap (newly state.now) e)).lifted
 
-both : (a b : Bool) → a ≡ true → b ≡ true → a && b ≡ true
-both true b e f = f
-both false b e f = absurd (cc)
-
 pub raise_taken : (facts : SeasonFacts) (state : State) (row other : RaiseRow) → row.prog.0 < length facts.matrix.programmes → decided facts state (asked facts (Raise row)) ≡ Lift other
     → takes_raise facts state row ≡ true
 raise_taken facts state row other less e =
-    both (nat_lt row.prog.0 (length facts.matrix.programmes)) (is_some (newly state.now (decided facts state (asked facts (Raise row))))) (lt-ltb _ _ less) (ap (λ (d : Decision). is_some (newly state.now d)) e)
+    and_from (nat_lt row.prog.0 (length facts.matrix.programmes)) (is_some (newly state.now (decided facts state (asked facts (Raise row))))) (lt-ltb _ _ less) (ap (λ (d : Decision). is_some (newly state.now d)) e)
 
 not_second : (a b : Bool) → (a ≡ true → b ≡ false) → a && b ≡ false
 not_second true b never = never refl
@@ -159,19 +146,11 @@ raise_refused facts state row seats never =
     step less None e = refl
     step less (Some act) e = absurd (never row (asks_own facts state row seats less ∙ (new_raise facts state row act seats less e).lifted))
 
-both_mean : (a b : Bool) → a && b ≡ true → (a ≡ true) × (b ≡ true)
-both_mean true b e = (refl, e)
-both_mean false b e = absurd (cc)
-
 pub raise_window : (facts : SeasonFacts) (state : State) (row : RaiseRow) → AreSeats facts.matrix → takes_raise facts state row ≡ true → row.window ≡ state.now
 raise_window facts state row seats e =
-    let parts = both_mean (nat_lt row.prog.0 (length facts.matrix.programmes)) (is_some (newly state.now (decided facts state (asked facts (Raise row))))) e in
+    let parts = and_parts (nat_lt row.prog.0 (length facts.matrix.programmes)) (is_some (newly state.now (decided facts state (asked facts (Raise row))))) e in
     let act = some_act (newly state.now (decided facts state (asked facts (Raise row)))) parts.1 in
-    let new = new_raise facts state row act.0 seats (ltb-true _ _ parts.0) act.1 in
-    let opened = open_here (nat_lt row.window state.now) (nat_lt state.now row.window) (nat_lt facts.rounds row.window) (Late state.now) (Ahead state.now) new.opened in
-    let low = ltb-false row.window state.now opened.0 in
-    let high = ltb-false state.now row.window opened.1 in
-    omega (arith, low, high)
+    (is_open state.now facts.rounds row.window (new_raise facts state row act.0 seats (ltb-true _ _ parts.0) act.1).opened).0
 
 -- ---- either
 
@@ -189,7 +168,7 @@ row_moves facts state (Answer row) seats e =
     let note = (new_answer facts state row act.0 act.1).noted in
     (noted row, ap (newly state.now) note, subst (λ (d : Decision). Does facts state d (noted row) (with_row state row)) (sym note) (refl, refl))
 row_moves facts state (Raise row) seats e =
-    let parts = both_mean (nat_lt row.prog.0 (length facts.matrix.programmes)) (is_some (newly state.now (decided facts state (asked facts (Raise row))))) e in
+    let parts = and_parts (nat_lt row.prog.0 (length facts.matrix.programmes)) (is_some (newly state.now (decided facts state (asked facts (Raise row))))) e in
     let less = ltb-true _ _ parts.0 in
     let act = some_act (newly state.now (decided facts state (asked facts (Raise row)))) parts.1 in
     let lift = asks_own facts state row seats less ∙ (new_raise facts state row act.0 seats less act.1).lifted in

@@ -79,9 +79,10 @@ impl KeptRow for AnswerRow {
                 choice: self.choice,
             },
         };
-        match book.decide(&request) {
+        let (decision, at) = book.decide(&request);
+        match decision {
             Decision::Note(_) => {
-                book.note(number, self);
+                book.note(number, at, self);
                 Ok(())
             }
             _ => Err(ReplayFault::Stray { row: place }),
@@ -113,7 +114,7 @@ impl KeptRow for RaiseRow {
                 seats: self.seats,
             },
         };
-        match book.decide(&request) {
+        match book.decide(&request).0 {
             Decision::Lift(_) => {
                 book.lift(number, self);
                 Ok(())

@@ -1,5 +1,5 @@
 -- An act that is newly accepted is decided in the same way if its candidate or the clerk asks it by its row.
-use Rattle.std.proofs.Common.{◌≡◌, inl, inr, ℕ, true, List, [], Some, refl, sym, ap, ◌∙◌}
+use Rattle.std.proofs.Common.{◌≡◌, inl, inr, ℕ, true, List, [], Some, refl, sym, ap, ◌∙◌, subst}
 use Rattle.std.specs.Prelude.{map, position, bytes_eq}
 use Rattle.std.proofs.lemmas.Bool.{eqb-true}
 use Rattle.std.proofs.lemmas.List.Quantifiers.{position-Some}
@@ -25,6 +25,7 @@ use Rattle.office_moves.specs.declared.moves.Act.TheVariants.{Answer, Raise, Cut
 use Rattle.office_moves.proofs.Chains.{answer_new, cut_new, raise_new, with_new}
 use Rattle.office_moves.proofs.Decisions.{by_kind, question_old}
 use Rattle.histories.proofs.Changes.{code_at, found_number, same_act}
+use Rattle.proceedings.specs.Changes.{IsAnswerAt, IsAt}
 
 own_by : (by : By) (cand : CandId) → is_candidate by cand ≡ true → by ≡ Candidate cand
 own_by Clerk cand e = absurd (cc)
@@ -88,8 +89,8 @@ asked_by facts state by ask act =
 
 -- ---- each decision that accepts
 
-pub asked_note : (facts : SeasonFacts) (state : State) (request : Request) (row : AnswerRow) → decided facts state request ≡ Note row → decided facts state (asked facts (Answer row)) ≡ Note row
-asked_note facts state request row e = asked_by facts state request.by request.ask (Answer row) (ap (newly state.now) e) ∙ e
+pub asked_note : (facts : SeasonFacts) (state : State) (request : Request) (row : AnswerRow) (at : ℕ) → decided facts state request ≡ Note row → IsAt facts at (decided facts state request) → IsAnswerAt facts state row at
+asked_note facts state request row at e here = (asked_by facts state request.by request.ask (Answer row) (ap (newly state.now) e) ∙ e, subst (IsAt facts at) e here)
 
 pub asked_lift : (facts : SeasonFacts) (state : State) (request : Request) (row : RaiseRow) → decided facts state request ≡ Lift row → decided facts state (asked facts (Raise row)) ≡ Lift row
 asked_lift facts state request row e = asked_by facts state request.by request.ask (Raise row) (ap (newly state.now) e) ∙ e

@@ -4,4 +4,3 @@ mod Counts
 mod Publishing
 mod Resumed
 pub mod Standing
-mod StillIn

@@ -1,7 +1,8 @@
 -- Tables that represent a state represent the next one when a cut is kept.
 use Rattle.std.proofs.Common.{◌≡◌, ◌<◌, ◌+◌, inl, inr, ℕ, zero, suc, Bool, true, false, List, [], ◌∷◌, ◌++◌, Option, Some, None, length, arith, refl, sym, ap, ◌∙◌, subst, ◌==◌, if◌then◌else◌, add-one}
 use Rattle.std.specs.Prelude.{slice_get}
-use Rattle.std.proofs.lemmas.Bool.{eq-eqb, eqb-true}
+use Rattle.std.proofs.lemmas.Bool.{cases_Bool, eqb-false, eqb-true, ne_eqb}
+use Rattle.std.proofs.lemmas.Option.{slice_get_past}
 use Rattle.office_base.specs.declared.asks.Seat.{Seat}
 use Rattle.office_base.proofs.Lists.{get-after}
 use Rattle.kept_rows.specs.Tables.{Tables, Untold, NoSeason, Records, with_cut}
@@ -11,19 +12,9 @@ use Rattle.office_moves.specs.Facts.{SeasonFacts}
 use Rattle.office_moves.specs.Moves.{allot_rows, final_rows, final_seat}
 use Rattle.office_moves.specs.Stands.{Stand, first_allot, published_seat, seat_in_finals}
 use Rattle.office_moves.specs.State.{State, round_at, seat_in, seat_of, with_finals, with_round}
-use Rattle.round_cut.proofs.Standing.{first_append, or_else, or_none, other_rows, rows_seat, two_ways}
-
-apart_false : (m n : ℕ) → (m ≡ n → ⊥) → m == n ≡ false
-apart_false m n apart = elim (two_ways (m == n)) [ inl e ↦ absurd (apart (eqb-true m n e)) | inr e ↦ e ]
-
-false_apart : (m n : ℕ) → m == n ≡ false → m ≡ n → ⊥
-false_apart m n e same = let f = eq-eqb m n same in absurd (cc)
+use Rattle.round_cut.proofs.Standing.{first_append, or_else, or_none, other_rows, rows_seat}
 
 -- ---- the round of a number, with one more
-
-past_end : {X : Type 0} (xs : List X) → slice_get xs (length xs) ≡ None
-past_end [] = refl
-past_end (y ∷ xs) = past_end xs
 
 beside_end : {X : Type 0} (xs : List X) (x : X) (k : ℕ) → (k ≡ length xs → ⊥) → slice_get (xs ++ x ∷ []) k ≡ slice_get xs k
 beside_end [] x zero apart = absurd (apart refl)
@@ -36,7 +27,7 @@ last_round rounds round number e =
     subst (λ n. round_at (rounds ++ round ∷ []) n ≡ Some round) (sym (e ∙ add-one (length rounds))) (get-after rounds round [])
 
 no_round : (rounds : List Round) (number : ℕ) → number ≡ length rounds + 1 → round_at rounds number ≡ None
-no_round rounds number e = subst (λ n. round_at rounds n ≡ None) (sym (e ∙ add-one (length rounds))) (past_end rounds)
+no_round rounds number e = subst (λ n. round_at rounds n ≡ None) (sym (e ∙ add-one (length rounds))) (slice_get_past rounds (length rounds) (omega arith))
 
 other_round : (rounds : List Round) (round : Round) (number : ℕ) → (number ≡ length rounds + 1 → ⊥) → round_at (rounds ++ round ∷ []) number ≡ round_at rounds number
 other_round rounds round zero apart = refl
@@ -51,7 +42,7 @@ with_rows false finals before after rows first second = second refl
 
 round_seats : (facts : SeasonFacts) (state : State) (round : Round) (number id : ℕ) → length state.rounds ≡ state.now → round.number ≡ state.now + 1
     → or_else (seat_in facts state.rounds number id) (first_allot number id (allot_rows facts round)) ≡ seat_in facts (state.rounds ++ round ∷ []) number id
-round_seats facts state round number id order e = elim (two_ways (round.number == number)) [
+round_seats facts state round number id order e = elim (cases_Bool (round.number == number)) [
   | inl same ↦
       let here = eqb-true round.number number same in
       let at : number ≡ length state.rounds + 1 = omega (arith, here, e, order) in
@@ -62,7 +53,7 @@ round_seats facts state round number id order e = elim (two_ways (round.number =
       ap (λ s. or_else s (first_allot number id (allot_rows facts round))) before ∙ (rows ∙ sym after)
   | inr apart ↦
       let none : first_allot number id (allot_rows facts round) ≡ None = other_rows round.number number id (seat_of facts (Some round)) facts.people apart in
-      let not_last : number ≡ length state.rounds + 1 → ⊥ = λ at. false_apart round.number number apart (omega (arith, at, e, order)) in
+      let not_last : number ≡ length state.rounds + 1 → ⊥ = λ at. eqb-false round.number number apart (omega (arith, at, e, order)) in
       let same : seat_in facts (state.rounds ++ round ∷ []) number id ≡ seat_in facts state.rounds number id = ap (λ r. seat_of facts r id) (other_round state.rounds round number not_last) in
       ap (λ r. or_else (seat_in facts state.rounds number id) r) none ∙ (or_none (seat_in facts state.rounds number id) ∙ sym same)
 ]
@@ -73,7 +64,7 @@ published_next facts state round number id order less e =
     with_rows (number == facts.rounds + 1) (seat_in_finals state.finals number id) (seat_in facts state.rounds number id) (seat_in facts (state.rounds ++ round ∷ []) number id)
     (first_allot number id (allot_rows facts round))
     (λ last. other_rows round.number number id (seat_of facts (Some round)) facts.people
-    (apart_false round.number number (λ same. let f = eqb-true number (facts.rounds + 1) last in absurd (omega (arith, f, same, e, less)))))
+    (ne_eqb round.number number (λ same. let f = eqb-true number (facts.rounds + 1) last in absurd (omega (arith, f, same, e, less)))))
     (λ not_last. round_seats facts state round number id order e)
 
 pub stand_round : (facts : SeasonFacts) (state : State) (round : Round) (tables : Tables) → length state.rounds ≡ state.now → state.now < facts.rounds → round.number ≡ state.now + 1
@@ -104,7 +95,7 @@ published_last facts state number id none =
     (first_allot number id (final_rows facts state))
     (λ last. ap (λ (f : Option (List AllotRow)). or_else (seat_in_finals f number id) (first_allot number id (final_rows facts state))) none)
     (λ not_last. other_rows (facts.rounds + 1) number id (final_seat facts state) facts.people
-    (apart_false (facts.rounds + 1) number (λ same. false_apart number (facts.rounds + 1) not_last (sym same))))
+    (ne_eqb (facts.rounds + 1) number (λ same. eqb-false number (facts.rounds + 1) not_last (sym same))))
 
 pub stand_finals : (facts : SeasonFacts) (state : State) (tables : Tables) → state.finals ≡ None → Stand facts state tables
     → Stand facts (with_finals state (final_rows facts state)) (with_cut (final_rows facts state) tables)

@@ -1,7 +1,7 @@
 -- Tables that represent a state still represent it with what is accepted.
 use Rattle.std.proofs.Common.{◌≡◌, ◌+◌, ◌⊎◌, inl, inr, ℕ, zero, suc, Bool, true, false, List, [], ◌∷◌, ◌++◌, Option, Some, None, refl, sym, ap, ◌∙◌, subst, ◌==◌, if◌then◌else◌}
 use Rattle.std.specs.Prelude.{◌&&◌}
-use Rattle.std.proofs.lemmas.Bool.{eq-eqb, eqb-true}
+use Rattle.std.proofs.lemmas.Bool.{cases_Bool, eq-eqb, eqb-true}
 use Rattle.std.specs.Option.{option_and_then}
 use Rattle.office_base.specs.Person.{at_person}
 use Rattle.office_base.specs.declared.asks.Seat.{Seat}
@@ -197,10 +197,6 @@ other_person number id cand (Some seat) rows apart = step (number == number) (ca
     step true false apart = refl
     step false b apart = refl
 
-pub two_ways : (b : Bool) → (b ≡ true) ⊎ (b ≡ false)
-two_ways true = inl refl
-two_ways false = inr refl
-
 -- one of the people has the id
 abbrev is_among : ℕ → List Person → Bool
 is_among id [] = false
@@ -209,7 +205,7 @@ is_among id (person ∷ people) = if person.id.0 == id then true else is_among i
 rows_tell : (number id : ℕ) (seat : ℕ → Option Seat) (people : List Person)
     → ((is_among id people ≡ true) × (first_allot number id (rows_along number seat people) ≡ seat id)) ⊎ ((is_among id people ≡ false) × (first_allot number id (rows_along number seat people) ≡ None))
 rows_tell number id seat [] = inr (refl, refl)
-rows_tell number id seat (person ∷ people) = elim (two_ways (person.id.0 == id)) [
+rows_tell number id seat (person ∷ people) = elim (cases_Bool (person.id.0 == id)) [
   | inl same ↦ inl (
     among_if (person.id.0 == id) (is_among id people) same,
     own_row number id person.id (seat person.id.0) (rows_along number seat people) (seat id) same (ap seat (eqb-true person.id.0 id same)) (rest (rows_tell number id seat people)),

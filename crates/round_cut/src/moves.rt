@@ -8,6 +8,7 @@ ghost use Rattle.office_moves.specs.Promise.{KeepsItsWord};
 ghost use Rattle.office_moves.specs.Stands.{Stand};
 ghost use Rattle.office_moves.specs.declared.decide.Decision.TheVariants.{Finish, Lift, Note, Publish, Tell};
 ghost use Rattle.office_moves.specs.declared.moves.Act.TheVariants.{Answer, Cut, Raise};
+ghost use Rattle.proceedings.specs.Changes.{IsAnswerAt};
 ghost use Rattle.proceedings.specs.Proceeding.{last_of};
 ghost use Rattle.proceedings.specs.Told.{copies_nothing, takes_nothing};
 ghost use Rattle.round_cut.specs.Answering.{Accepts, KeepsOn};
@@ -49,8 +50,9 @@ impl<K: Keeper> Office<K> {
         ensures word { KeepsItsWord self.new.season self.new.state }
     {
         let _still = self.book.still_in();
-        let answer = match self.book.decide(request) {
-            Decision::Note(row) => self.accept_answer(number, row),
+        let (decision, at) = self.book.decide(request);
+        let answer = match decision {
+            Decision::Note(row) => self.accept_answer(number, at, row),
             Decision::Lift(row) => self.accept_raise(number, row),
             Decision::Publish => self.publish_round(alloc, number),
             Decision::Finish => self.finish_season(alloc, number),
@@ -77,11 +79,10 @@ impl<K: Keeper> Office<K> {
         Ok(self.book.answer(alloc, request, question)?)
     }
 
-    /// Keeps an answer, and accepts it.
+    /// Keeps an answer of the candidate at this position of the register, and accepts it.
     #[tactic(auto, using(crate::proofs::Standing::was_told, crate::proofs::Standing::answer_was))]
-    fn accept_answer(&mut self, number: u64, row: AnswerRow) -> Result<Reply, OfficeFault>
-        requires decided { decided self.old.season self.old.state
-            (asked self.old.season (Answer row)) ≡ Note row }
+    fn accept_answer(&mut self, number: u64, at: u32, row: AnswerRow) -> Result<Reply, OfficeFault>
+        requires decided { IsAnswerAt self.old.season self.old.state row at }
         requires some { 1 ≤ self.old.still }
         requires number { last_of self.old.entries < number }
         ensures accepts { Accepts number (Note row) (Answer row) self.old self.new result }
@@ -92,14 +93,14 @@ impl<K: Keeper> Office<K> {
     {
         if row.choice == Choice::Withdraw {
             self.keeper.put_answer(row)?;
-            self.book.note(number, row);
+            self.book.note(number, at, row);
             return Ok(Reply::of_answer(row));
         }
         let wanted = room_wanted(&self.book);
         self.book.reserve(wanted)?;
         self.keeper.reserve_answers(wanted)?;
         self.keeper.put_answer(row)?;
-        self.book.note(number, row);
+        self.book.note(number, at, row);
         Ok(Reply::of_answer(row))
     }
 

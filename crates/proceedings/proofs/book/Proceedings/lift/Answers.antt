@@ -13,7 +13,7 @@ use Rattle.office_moves.specs.declared.moves.Act.TheVariants.{Raise}
 use Rattle.office_moves.specs.declared.moves.Entry.{Entry}
 use Rattle.proceedings.specs.Kept.{state_of}
 use Rattle.proceedings.specs.Proceeding.{Proceeding, answers_of, last_of, left_along, still_of}
-use Rattle.proceedings.proofs.ChangeLemmas.{left_raised, lifted_below, lifted_fresh, lifted_matrix, none_moved, raise_answers, raised_state, still_raised}
+use Rattle.proceedings.proofs.ChangeLemmas.{left_raised, lifted, lifted_matrix, none_moved, raise_answers, raised_state, still_raised}
 use Rattle.proceedings.proofs.HistoryLemmas.{raised_on}
 use Rattle.proceedings.proofs.book.Proceedings.lift.Goals as goal
 
@@ -23,7 +23,7 @@ raise-requires-clause-programme c =
     let facts = facts_of a.season in
     let inv = c.self.invariant in
     let P : Proceeding → Type 0 = λ p. decided p.season p.state (asked p.season (Raise c.args.row)) ≡ Lift c.args.row in
-    let below = lifted_below facts (state_of a) c.args.row (subst P (sym c.self.view_is) c.requires.decided) in
+    let below = (lifted facts (state_of a) c.args.row (subst P (sym c.self.view_is) c.requires.decided)).0 in
     let same : length a.raised.matrix.programmes ≡ length facts.matrix.programmes = ap (λ (m : SeatTable). length m.programmes) inv.raised ∙ ap (λ xs. length xs) inv.orderly.programmes in
     omega (arith, below, same)
 
@@ -31,7 +31,7 @@ pub raise-requires-clause-fresh : goal.raise-requires-clause-fresh
 raise-requires-clause-fresh c =
     let a = c.self.inside in
     let P : Proceeding → Type 0 = λ p. decided p.season p.state (asked p.season (Raise c.args.row)) ≡ Lift c.args.row in
-    lifted_fresh (facts_of a.season) (state_of a) c.args.row (subst P (sym c.self.view_is) c.requires.decided)
+    (lifted (facts_of a.season) (state_of a) c.args.row (subst P (sym c.self.view_is) c.requires.decided)).1
 
 pub invariant_of-self : goal.invariant_of-self
 invariant_of-self c =

@@ -15,7 +15,7 @@ lift-requires-clause-decided c =
     let many = c.count.ensures.count in
     let less : c.args.self.prog.0 < length facts.matrix.programmes = omega (arith, long, many) in
     let code = own_code _ facts c.args.self.prog.0 _ table c.code.ensures in
-    lift_own facts c.next_entry.new.book.state c.args.self _ seats less (asks_as facts c.next_entry.new.book.state c.args.self _ _ code c.in-Lift.ensures)
+    lift_own facts c.next_entry.new.book.state c.args.self _ seats less (asks_as facts c.next_entry.new.book.state c.args.self _ _ code (sym c.in-Lift.is ∙ c.decide.ensures.0))
 
 pub returns-in-Lift-clause-takes : goal.returns-in-Lift-clause-takes
 returns-in-Lift-clause-takes c =
@@ -26,7 +26,7 @@ returns-in-Lift-clause-takes c =
     let less : c.args.self.prog.0 < length facts.matrix.programmes = omega (arith, long, many) in
     let code = own_code _ facts c.args.self.prog.0 _ table c.code.ensures in
     moved_row c.args.book.now.season facts c.args.book.now.state c.next_entry.new.book.state (Raise c.args.self) true c.next_entry.ensures.season c.next_entry.ensures.state
-    (raise_taken facts c.next_entry.new.book.state c.args.self _ less (asks_as facts c.next_entry.new.book.state c.args.self _ _ code c.in-Lift.ensures))
+    (raise_taken facts c.next_entry.new.book.state c.args.self _ less (asks_as facts c.next_entry.new.book.state c.args.self _ _ code (sym c.in-Lift.is ∙ c.decide.ensures.0)))
 
 pub returns-in-Lift-clause-entries : goal.returns-in-Lift-clause-entries
 returns-in-Lift-clause-entries c = follow_from c.args.book.now.entries _ _ _ _ c.next_entry.ensures.entries c.in_ok-number.ensures.number c.lift.ensures.entries
@@ -37,7 +37,7 @@ returns-in_default c =
     let table = ap (λ (f : SeasonFacts). f.matrix) c.season.ensures in
     let seats = subst (λ (t : SeatTable). AreSeats t) table c.count.ensures.seats in
     let code = own_code _ facts c.args.self.prog.0 _ table c.code.ensures in
-    let asks = asks_as facts c.next_entry.new.book.state c.args.self _ _ code c.decide.ensures in
+    let asks = asks_as facts c.next_entry.new.book.state c.args.self _ _ code c.decide.ensures.0 in
     record {
       takes = tt;
       state = tt;
