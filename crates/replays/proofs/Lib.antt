@@ -1,7 +1,6 @@
 pub mod Appended
 pub mod Cuts
 pub mod Follows
-pub mod HandedBack
 pub mod Least
 pub mod Numbers
 pub mod OneEnd

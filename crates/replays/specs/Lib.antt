@@ -6,4 +6,3 @@ pub mod Later
 pub mod Laws
 pub mod Replay
 pub mod Steps
-pub mod Unreplayed

@@ -1,6 +1,5 @@
 // Kept records are replayed, window after window.
 ghost use Rattle.std.specs.Prelude.{◌≡◌, ◌<◌, ◌+◌, ℕ, [], None, IfOk, IfErr, OnOk, length};
-ghost use Rattle.office_moves.specs.Season.{facts_of};
 ghost use Rattle.office_moves.specs.Stands.{AreRecordsOf, published_seat, seat_in_finals};
 ghost use Rattle.office_moves.specs.State.{opening, seat_in};
 ghost use Rattle.replays.specs.Acts.{kept_acts, window_acts};
@@ -9,18 +8,16 @@ ghost use Rattle.replays.specs.Differences.{seat_along};
 ghost use Rattle.replays.specs.Faults.{IsFaultOfWindow, IsReplayFault, StopsInWindow};
 ghost use Rattle.replays.specs.Replay.{AreAllotsOf, IsReplayed, Pass, WindowPasses};
 ghost use Rattle.replays.specs.Steps.{IsDifference};
-ghost use Rattle.replays.specs.Unreplayed.{IsUnreplayed};
 
 use crate::compare::{compare, seats_in};
 use crate::cut::replay_cut;
-use crate::fault::{ReplayFault, Unreplayed};
+use crate::fault::ReplayFault;
 use crate::later::{later_round, later_window};
 use crate::rows::replay_rows;
 use kept_rows::Kept;
 use office_base::{OutOfMemory, Seat};
 use office_moves::says_what_is_sound;
 use proceedings::Proceedings;
-use season_file::Season;
 use std::alloc::Global;
 
 /// Nobody has a seat.
@@ -178,36 +175,23 @@ fn check_later(alloc: Global, book: &mut Proceedings, kept: &Kept) -> Result<(),
     Ok(())
 }
 
-/// All of the records is replayed, from the beginning.
-fn replay_all(alloc: Global, book: &mut Proceedings, kept: &Kept) -> Result<(), ReplayFault>
+/// Replays kept records in the proceedings of their season, in which nothing is accepted yet.
+/// Reports the first fault of the records.
+/// The entries are what is kept, window after window its raises, its answers and its cut.
+/// They are numbered 1, 2, 3 and so on.
+pub fn replay(alloc: Global, book: &mut Proceedings, kept: &Kept) -> Result<(), ReplayFault>
     requires state { book.old.state ≡ opening }
     requires entries { book.old.entries ≡ [] }
     ensures season { book.new.season ≡ book.old.season }
     ensures replayed { OnOk result (IsReplayed book.old.season kept.now book.new.state) }
     ensures entries { OnOk result (book.new.entries ≡ counted (kept_acts kept.now)) }
+    ensures counted { OnOk result (AreCounted book.new.entries) }
+    ensures stands { OnOk result (kept.now.season ≡ book.old.season.text
+        → AreRecordsOf book.old.season book.new.state kept.now) }
     ensures fault { IfErr result (λ fault. IsReplayFault book.old.season kept.now fault) }
 {
+    says_what_is_sound(book.season());
     replay_windows(alloc, book, kept)?;
     check_later(alloc, book, kept)?;
     Ok(())
-}
-
-/// The proceedings to which kept records of a season lead, or the first fault of the records. The entries are what is kept, window after window its
-/// raises, its answers and its cut, and are numbered 1, 2, 3 and so on.
-#[tactic(auto, using(crate::proofs::HandedBack::is_unreplayed))]
-pub fn replay(alloc: Global, season: Season, kept: &Kept) -> Result<Proceedings, Unreplayed>
-    ensures season { IfOk result (λ book. book.season ≡ facts_of season) }
-    ensures replayed { IfOk result (λ book. IsReplayed (facts_of season) kept.now book.state) }
-    ensures entries { IfOk result (λ book. book.entries ≡ counted (kept_acts kept.now)) }
-    ensures counted { IfOk result (λ book. AreCounted book.entries) }
-    ensures stands { IfOk result (λ book. kept.now.season ≡ (facts_of season).text
-        → AreRecordsOf (facts_of season) book.state kept.now) }
-    ensures fault { IfErr result (λ fault. IsUnreplayed (facts_of season) kept.now fault) }
-{
-    says_what_is_sound(&season);
-    let mut book = Proceedings::begin(alloc, season)?;
-    match replay_all(alloc, &mut book, kept) {
-        Ok(()) => Ok(book),
-        Err(fault) => Err(Unreplayed::of(fault, book.into_season())),
-    }
 }

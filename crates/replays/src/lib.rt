@@ -14,4 +14,4 @@ pub mod laws;
 mod rows;
 
 pub use course::replay;
-pub use fault::{ReplayFault, Unreplayed};
+pub use fault::ReplayFault;

@@ -1,6 +1,6 @@
 -- Why an office does not resume, by its records and its tables.
 use Rattle.std.proofs.Common.{◌≡◌, false, refl, sym, subst}
-use Rattle.kept_rows.specs.Tables.{AreTold, IsFound, IsLoaded, IsTold, Tables, Untold, NoSeason as NoneTold, Records, still}
+use Rattle.kept_rows.specs.Tables.{AreTold, IsLoaded, Tables, Untold, NoSeason as NoneTold, Records}
 use Rattle.keeper_mem.specs.declared.keeper.KeepFault.{KeepFault}
 use Rattle.keeper_mem.specs.declared.keeper.KeepFault.TheVariants.{Failed, OutOfMemory as NoRoom}
 use Rattle.kept_rows.specs.declared.rows.Kept.{Kept}
@@ -12,9 +12,9 @@ use Rattle.office_moves.specs.Facts.{SeasonFacts}
 use Rattle.office_moves.specs.Season.{facts_of}
 use Rattle.office_moves.specs.Stands.{AreRecordsOf, Stand}
 use Rattle.office_moves.specs.State.{State}
-use Rattle.replays.specs.Unreplayed.{IsUnreplayed}
-use Rattle.replays.specs.declared.fault.Unreplayed.{Unreplayed}
-use Rattle.replays.specs.declared.fault.Unreplayed.TheVariants as replay
+use Rattle.replays.specs.Faults.{IsReplayFault}
+use Rattle.replays.specs.declared.fault.ReplayFault.{ReplayFault}
+use Rattle.replays.specs.declared.fault.ReplayFault.TheVariants as replay
 use Rattle.round_cut.specs.Resume.{HaveStopped, IsResumeFault, IsUnresumed}
 use Rattle.round_cut.specs.Unresumed.{fault_of, load_fault, replay_fault, season_fault}
 use Rattle.round_cut.specs.declared.fault.ResumeFault.TheVariants as fault
@@ -34,11 +34,12 @@ text_fault records reading.NotUtf8 is = is
 text_fault records (reading.BadRequest row) is = is
 text_fault records reading.OutOfMemory is = tt
 
-pub rows_fault : (records : Kept) (season : Season) (why : Unreplayed) → IsSeason records.season season → IsUnreplayed (facts_of season) records why → HaveStopped records (replay_fault why)
-rows_fault records season (replay.Stray row) read is = (season, read, is)
-rows_fault records season (replay.StrayRaise row) read is = (season, read, is)
-rows_fault records season (replay.Differs round cand one other handed) read is = let (differs, same) = is in (season, read, differs, same)
-rows_fault records season replay.OutOfMemory read is = tt
+pub rows_fault : (records : Kept) (season handed : Season) (why : ReplayFault) → IsSeason records.season season → facts_of handed ≡ facts_of season → IsReplayFault (facts_of season) records why
+    → HaveStopped records (replay_fault why handed)
+rows_fault records season handed (replay.Stray row) read same is = (season, read, is)
+rows_fault records season handed (replay.StrayRaise row) read same is = (season, read, is)
+rows_fault records season handed (replay.Differs round cand one other) read same is = (season, read, is, same)
+rows_fault records season handed replay.OutOfMemory read same is = tt
 
 -- what stops loaded records is why an office does not resume, and so is a fault of the keeper
 pub stopped : (tables : Tables) (records : Kept) (why : Unresumed) → IsLoaded tables records → HaveStopped records why → IsUnresumed tables why

@@ -18,7 +18,7 @@ use keeper_mem::{KeepFault, Keeper};
 use kept_rows::Kept;
 use office_base::{CandId, Seat};
 use proceedings::Proceedings;
-use replays::{Unreplayed, replay};
+use replays::{ReplayFault, replay};
 use season_file::{Season, SeasonFault};
 use std::alloc::Global;
 
@@ -46,6 +46,29 @@ pub enum Unresumed {
 }
 
 impl Unresumed {
+    /// Returns that the records of this season are not replayed, with their fault.
+    fn of(fault: ReplayFault, season: Season) -> Unresumed
+        ensures { result ≡ replay_fault fault season }
+    {
+        match fault {
+            ReplayFault::Stray { row } => Unresumed::Stray { row },
+            ReplayFault::StrayRaise { row } => Unresumed::StrayRaise { row },
+            ReplayFault::Differs {
+                round,
+                cand,
+                kept,
+                computed,
+            } => Unresumed::Differs {
+                round,
+                cand,
+                kept,
+                computed,
+                season,
+            },
+            ReplayFault::OutOfMemory => Unresumed::OutOfMemory,
+        }
+    }
+
     /// Returns the fault alone.
     pub fn fault(&self) -> ResumeFault
         ensures { result ≡ fault_of self.now }
@@ -95,31 +118,6 @@ impl From<SeasonFault> for Unresumed {
     }
 }
 
-impl From<Unreplayed> for Unresumed {
-    ghost from_gives = { λ fault made. made ≡ replay_fault fault };
-
-    fn from(fault: Unreplayed) -> Self {
-        match fault {
-            Unreplayed::Stray { row } => Unresumed::Stray { row },
-            Unreplayed::StrayRaise { row } => Unresumed::StrayRaise { row },
-            Unreplayed::Differs {
-                round,
-                cand,
-                kept,
-                computed,
-                season,
-            } => Unresumed::Differs {
-                round,
-                cand,
-                kept,
-                computed,
-                season,
-            },
-            Unreplayed::OutOfMemory => Unresumed::OutOfMemory,
-        }
-    }
-}
-
 /// Returns the records of the keeper, and a fault if it holds no season.
 #[tactic(auto, using(crate::proofs::Resumed::unloaded))]
 fn load_records<K: Keeper>(alloc: Global, keeper: &mut K) -> Result<Kept, Unresumed>
@@ -145,7 +143,13 @@ fn replay_records(alloc: Global, records: &Kept) -> Result<Proceedings, Unresume
     ensures no_keeper { IsErrOf result Unresumed.KeeperFault → ⊥ }
 {
     let season = Season::from_text(alloc, records.season.as_slice())?;
-    Ok(replay(alloc, season, records)?)
+    let Ok(mut book) = Proceedings::begin(alloc, season) else {
+        return Err(Unresumed::OutOfMemory);
+    };
+    match replay(alloc, &mut book, records) {
+        Ok(()) => Ok(book),
+        Err(fault) => Err(Unresumed::of(fault, book.into_season())),
+    }
 }
 
 /// Takes room for the answers of all who are still in.
