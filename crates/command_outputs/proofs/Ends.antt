@@ -8,33 +8,21 @@ use Rattle.season_generator.specs.Bundle.{generated}
 use Rattle.season_generator.specs.Summary.{summary_text}
 use Rattle.office_moves.specs.Season.{facts_of}
 use Rattle.script_runs.specs.Tally.{tally_of}
-use Rattle.command_answers.specs.Answers.{Answers, HaveOneAnswer}
+use Rattle.command_answers.specs.Answers.{HaveOneAnswer}
 use Rattle.command_answers.specs.Status.{IsAnswered}
-use Rattle.command_answers.specs.Writes.{IsTextOf, IsWantText, Writes}
+use Rattle.command_answers.specs.Writes.{IsWantText, Writes}
 use Rattle.command_answers.specs.declared.status.Status.{Status}
 use Rattle.command_answers.specs.declared.status.Status.TheVariants.{Ok as Done, Usage, BadInput, Differs, Broken}
 use Rattle.command_answers.proofs.Answered.{by_answer}
-use Rattle.season_commands.specs.Check.{IsBundleFaultLine, IsLeftBundle, check_answers}
+use Rattle.season_commands.specs.Check.{IsBundle, IsLeftBundle, bundle_answers, check_answers}
 use Rattle.generate_command.specs.Generated.{EndsMade, IsCountedText, summary_of}
-use Rattle.season_commands.specs.Run.{EndsSeason, IsUnreadText}
+use Rattle.season_commands.specs.Run.{EndsSeason}
 use Rattle.one_output.specs.Laws.{OneOutput, OneTally}
 use Rattle.command_outputs.specs.Laws.{ChecksAreOne, GeneratedRunsAreOne, RunsAreOne}
-use Rattle.command_outputs.proofs.Written.{left_has, whole}
-
--- ---- one text
-
-one_text : (answers : Answers) (bytes : List ℕ) → HaveOneAnswer answers bytes → (status : Status) (output again : List ℕ) → IsAnswered status → IsTextOf answers (Some bytes) status output
-    → IsTextOf answers (Some bytes) status again → output ≡ again
-one_text answers bytes one status output again answered =
-    by_answer (λ s. IsTextOf answers (Some bytes) s output → IsTextOf answers (Some bytes) s again → output ≡ again)
-    (λ first second. one.one_output output again (left_has answers.IsOutput bytes output first) (left_has answers.IsOutput bytes again second)) (λ first second. absurd first)
-    (λ first second. one.one_line output again (left_has answers.IsFaultLine bytes output first) (left_has answers.IsFaultLine bytes again second)) (λ first second. absurd first)
-    (λ first second. absurd first) status answered
+use Rattle.command_outputs.proofs.Written.{not_refused, one_text, whole}
 
 pub checks_are_one : ((bytes : List ℕ) → HaveOneAnswer check_answers bytes) → ChecksAreOne
-checks_are_one one bytes output again status answered first second =
-    one_text check_answers bytes (one bytes) status output again answered (whole (IsTextOf check_answers (Some bytes)) status output answered first)
-    (whole (IsTextOf check_answers (Some bytes)) status again answered second)
+checks_are_one one bytes output again status answered first second = one_text check_answers bytes (one bytes) status output again answered first second
 
 -- ---- a season
 
@@ -68,36 +56,22 @@ seasons_are_one one bytes season other script more before after others later sta
     broken (inl first) second = absurd (whole _ Broken output tt first.0)
     broken (inr first) second = absurd first.1
 
--- ---- where nothing is read
-
-unread_one : ((bytes : List ℕ) → HaveOneAnswer check_answers bytes) → (bytes : List ℕ) (status : Status) (output again : List ℕ) → IsAnswered status → IsUnreadText (Some bytes) status output
-    → IsUnreadText (Some bytes) status again → output ≡ again
-unread_one one bytes status output again answered =
-    by_answer (λ s. IsUnreadText (Some bytes) s output → IsUnreadText (Some bytes) s again → output ≡ again) (λ first second. absurd first) (λ first second. absurd first)
-    (λ first second. (one bytes).one_line output again (left_has IsBundleFaultLine bytes output first) (left_has IsBundleFaultLine bytes again second)) (λ first second. absurd first)
-    (λ first second. absurd first) status answered
-
--- the season that bytes left give, the bytes give
-left_gives : (bytes : List ℕ) (season : Season) (script : List Request) → IsLeftBundle (Some bytes) season script → IsSeasonWith true bytes season script
-left_gives bytes season script left = subst (λ (b : List ℕ). IsSeasonWith true b season script) left.1 left.2
-
--- bytes that give a season are not refused
-unread_faulty : ((bytes : List ℕ) → HaveOneAnswer check_answers bytes) → (bytes : List ℕ) (status : Status) (output : List ℕ) → IsAnswered status → IsUnreadText (Some bytes) status output
-    → (season : Season) (script : List Request) → IsSeasonWith true bytes season script → ⊥
-unread_faulty one bytes status output answered text season script give =
-    by_answer (λ s. IsUnreadText (Some bytes) s output → ⊥) (λ read. read) (λ read. read)
-    (λ read. (one bytes).apart (content_of season give.row, script, give.given) ((one bytes).of_fault output (left_has IsBundleFaultLine bytes output read))) (λ read. read) (λ read. read)
-    status answered text
-
 -- ---- the commands
 
-pub runs_are_one : ((bytes : List ℕ) → HaveOneAnswer check_answers bytes) → OneOutput → RunsAreOne
+-- the season that bytes left give, the bytes give
+left_gives : (bytes : List ℕ) (season : Season) (script : List Request) → IsLeftBundle true (Some bytes) season script → IsSeasonWith true bytes season script
+left_gives bytes season script left = subst (λ (b : List ℕ). IsSeasonWith true b season script) left.1 left.2
+
+input_of : (bytes : List ℕ) (season : Season) (script : List Request) → IsLeftBundle true (Some bytes) season script → IsBundle true bytes
+input_of bytes season script left = let give = left_gives bytes season script left in (content_of season give.row, script, give.given)
+
+pub runs_are_one : ((bytes : List ℕ) → HaveOneAnswer (bundle_answers true) bytes) → OneOutput → RunsAreOne
 runs_are_one one outputs bytes output again before after others later status answered (inl first) (inl second) =
-    unread_one one bytes status output again answered (whole (IsUnreadText (Some bytes)) status output answered first.0) (whole (IsUnreadText (Some bytes)) status again answered second.0)
+    one_text (bundle_answers true) bytes (one bytes) status output again answered first.0 second.0
 runs_are_one one outputs bytes output again before after others later status answered (inl first) (inr second) =
-    absurd (unread_faulty one bytes status output answered (whole (IsUnreadText (Some bytes)) status output answered first.0) second.0 second.1 (left_gives bytes second.0 second.1 second.2))
+    absurd (not_refused (bundle_answers true) bytes (one bytes) (λ text none. none) status output answered first.0 (input_of bytes second.0 second.1 second.2))
 runs_are_one one outputs bytes output again before after others later status answered (inr first) (inl second) =
-    absurd (unread_faulty one bytes status again answered (whole (IsUnreadText (Some bytes)) status again answered second.0) first.0 first.1 (left_gives bytes first.0 first.1 first.2))
+    absurd (not_refused (bundle_answers true) bytes (one bytes) (λ text none. none) status again answered second.0 (input_of bytes first.0 first.1 first.2))
 runs_are_one one outputs bytes output again before after others later status answered (inr first) (inr second) =
     seasons_are_one outputs bytes first.0 second.0 first.1 second.1 before after others later status output again answered (left_gives bytes first.0 first.1 first.2)
     (left_gives bytes second.0 second.1 second.2) first.3 second.3

@@ -12,7 +12,7 @@ pub fn checks_are_one()
 pub fn runs_are_one()
     ensures { RunsAreOne }
 {
-    season_commands::laws::one_answer();
+    season_commands::laws::one_bundle_answer();
     one_output::laws::one_output();
 }
 

@@ -19,7 +19,7 @@ use Rattle.round_cut.specs.declared.fault.BeginFault.{BeginFault}
 use Rattle.round_cut.specs.declared.fault.BeginFault.TheVariants.{NotEmpty}
 use Rattle.round_cut.specs.declared.fault.OfficeFault.{OfficeFault}
 use Rattle.round_cut.specs.declared.fault.OfficeFault.TheVariants.{KeeperFault as NoKeeper, OutOfMemory as NoMemory}
-use Rattle.script_runs.specs.Tally.{CountsAll, StopsWithin}
+use Rattle.script_runs.specs.Tally.{CountsAll, StopsBefore}
 use Rattle.script_runs.specs.declared.tally.Tally.{Tally}
 use Rattle.season_generator.specs.Bundle.{generated}
 use Rattle.season_generator.specs.Summary.{summary_text}
@@ -77,9 +77,9 @@ pub stands_for_all : (facts : SeasonFacts) (start : State) (script : List Reques
     → CountsAll facts start script state tables tally → StandsForAll facts script tables
 stands_for_all facts start script state tables tally from all = (state, tally, subst (λ s. CountsAll facts s script state tables tally) from all)
 
-pub stands_for_first : (facts : SeasonFacts) (start : State) (script : List Request) (state : State) (tables : Tables) → start ≡ opening → StopsWithin facts start script state tables
+pub stands_for_first : (facts : SeasonFacts) (start : State) (script : List Request) (state : State) (tables : Tables) → start ≡ opening → StopsBefore facts start script state tables
     → StandsForFirst facts script tables
-stands_for_first facts start script state tables from some = (state, subst (λ s. StopsWithin facts s script state tables) from some)
+stands_for_first facts start script state tables from some = (state, subst (λ s. StopsBefore facts s script state tables) from some)
 
 -- the text of the summary, or of why there is none, goes with its status
 text_of_counted : (n seed : ℕ) (facts : SeasonFacts) (script : List Request) (tables : Tables) (summary : Result (List ℕ) OfficeFault) → IfOk summary (IsSummed n seed facts script tables)

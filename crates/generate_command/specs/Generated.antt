@@ -11,7 +11,7 @@ use Rattle.office_moves.specs.Facts.{SeasonFacts}
 use Rattle.office_moves.specs.Season.{facts_of}
 use Rattle.office_moves.specs.State.{State, opening}
 use Rattle.shown_replies.specs.Shown.{rows_shown}
-use Rattle.script_runs.specs.Tally.{CountsAll, StopsWithin}
+use Rattle.script_runs.specs.Tally.{CountsAll, StopsBefore}
 use Rattle.script_runs.specs.declared.tally.Tally.{Tally}
 use Rattle.round_cut.specs.declared.fault.OfficeFault.{OfficeFault}
 use Rattle.round_cut.specs.declared.fault.OfficeFault.TheVariants.{KeeperFault as NoKeeper, OutOfMemory as NoMemory}
@@ -53,7 +53,7 @@ IsSummed n seed facts script tables text =
 
 -- the first requests are answered, and no more; the tables represent the state after them
 abbrev pub StandsForFirst : SeasonFacts → List Request → Tables → Type 0
-StandsForFirst facts script tables = (state : State) × StopsWithin facts opening script state tables
+StandsForFirst facts script tables = (state : State) × StopsBefore facts opening script state tables
 
 -- all are answered; the tables represent the state after them
 abbrev pub StandsForAll : SeasonFacts → List Request → Tables → Type 0

@@ -17,8 +17,8 @@ use Rattle.command_answers.specs.Writes.{Writes}
 use Rattle.command_answers.specs.declared.status.Status.{Status}
 use Rattle.command_answers.specs.declared.status.Status.TheVariants.{Ok as Done, Usage, BadInput, Differs, Broken}
 use Rattle.command_answers.proofs.Answered.{by_answer}
-use Rattle.season_commands.specs.Resume.{AreLeftRequests, AreRequests, EndsAsked, IsRequestFaultLine, IsUnaskedText, IsUnresumedText, script_answers}
-use Rattle.command_outputs.proofs.Written.{left_has, whole}
+use Rattle.season_commands.specs.Resume.{AreLeftRequests, AreRequests, EndsAsked, IsUnresumedText, script_answers}
+use Rattle.command_outputs.proofs.Written.{one_text, whole}
 use Rattle.kept_outputs.specs.Laws.{ResumesAreOne}
 use Rattle.kept_outputs.proofs.Replayed.{history_replayed}
 use Rattle.kept_outputs.proofs.Resumed.{AreAlike, AreKept, ReadingsAreOne, no_kept_line, one_unresumed, resumed_alike, same_tables}
@@ -60,8 +60,8 @@ one_asked one grows run bytes facts other state then kept before after later sta
     Same s = EndsAsked facts state (Some bytes) before after s output → EndsAsked other then (Some bytes) before later s again → output ≡ again
 
     done : Same Done
-    done (inl first) second = absurd (whole _ Done output tt first.0)
-    done (inr first) (inl second) = absurd (whole _ Done again tt second.0)
+    done (inl first) second = absurd (whole _ Done output tt first.0).2
+    done (inr first) (inl second) = absurd (whole _ Done again tt second.0).2
     done (inr first) (inr second) =
         one_output grows run facts other state then first.2.0 second.2.0 kept first.0 second.0 output again alike (one_script bytes first.0 second.0 first.1 second.1)
         first.2.1.answers second.2.1.answers
@@ -71,10 +71,7 @@ one_asked one grows run bytes facts other state then kept before after later sta
     usage (inr first) second = absurd first.2
 
     bad : Same BadInput
-    bad (inl first) (inl second) =
-        let a = whole (IsUnaskedText (Some bytes)) BadInput output tt first.0 in
-        let b = whole (IsUnaskedText (Some bytes)) BadInput again tt second.0 in
-        (one bytes).one_line output again (left_has IsRequestFaultLine bytes output a) (left_has IsRequestFaultLine bytes again b)
+    bad (inl first) (inl second) = one_text script_answers bytes (one bytes) BadInput output again tt first.0 second.0
     bad (inr first) second = absurd first.2
     bad (inl first) (inr second) = absurd second.2
 

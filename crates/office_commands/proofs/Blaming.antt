@@ -1,16 +1,16 @@
 -- Which objects the status of a command blames.
-use Rattle.std.proofs.Common.{◌≡◌, ◌≢◌, ◌⊎◌, ◌∙◌, ◌≤◌, inl, inr, ℕ, List, [], ◌∷◌, Option, map, refl, sym}
+use Rattle.std.proofs.Common.{◌≡◌, ◌≢◌, ◌⊎◌, ◌∙◌, ◌≤◌, inl, inr, ℕ, true, List, [], ◌∷◌, Option, map, refl, sym}
 use Rattle.office_base.specs.Outside.{Rose}
 use Rattle.kept_rows.specs.Tables.{Tables, still}
 use Rattle.season_file.specs.declared.season.Season.{Season}
 use Rattle.office_base.specs.declared.asks.Request.{Request}
-use Rattle.season_commands.specs.Check.{check_answers}
+use Rattle.season_commands.specs.Check.{bundle_answers, check_answers}
 use Rattle.generate_command.specs.Generated.{IsCountedText, IsGeneratedText}
-use Rattle.season_commands.specs.Resume.{EndsResume, IsUnaskedText, IsUnresumedText}
-use Rattle.season_commands.specs.Run.{EndsSeason, IsUnbegunText, IsUnreadText}
+use Rattle.season_commands.specs.Resume.{EndsResume, IsUnresumedText, script_answers}
+use Rattle.season_commands.specs.Run.{EndsSeason, IsUnbegunText}
 use Rattle.office_moves.specs.Season.{facts_of}
 use Rattle.special_command.specs.Special.{EndsSpecial, IsSpecialText}
-use Rattle.units_command.specs.Units.{IsUnitsText}
+use Rattle.units_command.specs.Units.{units_answers}
 use Rattle.step_command.specs.Step.{step_answers}
 use Rattle.audit_command.specs.Audit.{IsAuditText}
 use Rattle.audit_command.specs.Best.{IsBestText}
@@ -38,7 +38,7 @@ no_season season script before after output (inr begun) = begun.1
 
 no_resume : (left : Option (List ℕ)) (before after : Tables) (output : List ℕ) → EndsResume left before after DoorFault output → ⊥
 no_resume left before after output (inl unresumed) = no_text (IsUnresumedText (still before after)) output (λ text h. h) unresumed.0
-no_resume left before after output (inr (facts, start, is, inl unasked)) = no_text (IsUnaskedText left) output (λ text h. h) unasked.0
+no_resume left before after output (inr (facts, start, is, inl unasked)) = no_text (IsTextOf script_answers left) output (λ text h. h) unasked.0
 no_resume left before after output (inr (facts, start, is, inr (script, are, ends))) = ends
 
 no_special : (left : Option (List ℕ)) (before after : Tables) (output : List ℕ) → EndsSpecial left before after DoorFault output → ⊥
@@ -49,10 +49,10 @@ no_special left before after output (inr (facts, state, is, writes, told)) = no_
 no_door : (command : Command) (left : Option (List ℕ)) (before after : Tables) (doors : Doors) (output : List ℕ) → (Serves command → ⊥) → Ends command left before after doors DoorFault output → ⊥
 no_door Step left before after doors output other ends = no_text (IsTextOf step_answers left) output (λ text h. h) ends.0
 no_door Check left before after doors output other ends = no_text (IsTextOf check_answers left) output (λ text h. h) ends.0
-no_door (Run store) left before after doors output other (inl unread) = no_text (IsUnreadText left) output (λ text h. h) unread.0
+no_door (Run store) left before after doors output other (inl unread) = no_text (IsTextOf (bundle_answers true) left) output (λ text h. h) unread.0
 no_door (Run store) left before after doors output other (inr (season, script, is, ends)) = no_season season script before after output ends
 no_door (Resume store) left before after doors output other ends = no_resume left before after output ends
-no_door (Units store) left before after doors output other (inl unread) = no_text (IsUnitsText left) output (λ text h. h) unread.0
+no_door (Units store) left before after doors output other (inl unread) = no_text (IsTextOf units_answers left) output (λ text h. h) unread.0
 no_door (Units store) left before after doors output other (inr (season, script, is, ends)) = no_season season script before after output ends
 no_door (Special store) left before after doors output other ends = no_special left before after output ends
 no_door (Serve conns workers start port store) left before after doors output other ends = other tt

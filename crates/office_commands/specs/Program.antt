@@ -1,5 +1,5 @@
 -- What the program writes and how it ends.
-use Rattle.std.specs.Prelude.{◌≡◌, ◌⊎◌, ℕ, List, Option, codes}
+use Rattle.std.specs.Prelude.{◌≡◌, ◌⊎◌, ℕ, true, false, List, Option, codes}
 use Rattle.kept_rows.specs.Tables.{Tables}
 use Rattle.audit_command.specs.Audit.{AreDossier, AreFaultyDossier, EndsWell, IsAuditText}
 use Rattle.audit_command.specs.Best.{IsBestText}
@@ -11,7 +11,7 @@ use Rattle.season_commands.specs.Run.{EndsRun, TellsNoSeason}
 use Rattle.special_command.specs.Special.{EndsSpecial}
 use Rattle.units_command.specs.Units.{EndsUnits, IsFaultyUnits, IsUnitsInput}
 use Rattle.serve_command.specs.Doors.{Doors}
-use Rattle.serve_command.specs.Serve.{EndsServe, EndsServeKept, IsFaultySeason, IsSeasonBundle}
+use Rattle.serve_command.specs.Serve.{EndsServe, EndsServeKept}
 use Rattle.step_command.specs.Step.{IsFaultySheet, IsSheet, step_answers}
 use Rattle.command_words.specs.Words.{Spell, SpellNothing}
 use Rattle.command_answers.specs.Writes.{IsTextOf, IsWantText, Writes}
@@ -81,12 +81,12 @@ IsWritten words left before after doors status output = EndsUnread before after 
 -- what `special` takes depends on the tables too, and has its own clause
 abbrev pub TellsInput : Command → Option (List ℕ) → Type 0
 TellsInput Step left = Tells IsSheet left
-TellsInput Check left = Tells IsBundle left
-TellsInput (Run store) left = Tells IsBundle left
+TellsInput Check left = Tells (IsBundle true) left
+TellsInput (Run store) left = Tells (IsBundle true) left
 TellsInput (Resume store) left = Tells IsScript left
 TellsInput (Units store) left = Tells IsUnitsInput left
 TellsInput (Special store) left = ⊥
-TellsInput (Serve conns workers start.New port store) left = Tells IsSeasonBundle left
+TellsInput (Serve conns workers start.New port store) left = Tells (IsBundle false) left
 TellsInput (Serve conns workers start.Kept port store) left = Unit {0}
 TellsInput Audit left = Tells AreDossier left
 TellsInput AuditBest left = Tells AreDossier left
@@ -97,10 +97,10 @@ TellsInput (Generate n seed out) left = Unit {0}
 -- under `serve` with `kept` there is no input, and a generated season has none either: its own bundle has no fault
 abbrev pub TellsFault : Command → Option (List ℕ) → Type 0
 TellsFault Step left = Tells IsFaultySheet left
-TellsFault Check left = Tells IsFaultyBundle left
-TellsFault (Run store) left = Tells IsFaultyBundle left
+TellsFault Check left = Tells (IsFaultyBundle true) left
+TellsFault (Run store) left = Tells (IsFaultyBundle true) left
 TellsFault (Units store) left = Tells IsFaultyUnits left
-TellsFault (Serve conns workers start.New port store) left = Tells IsFaultySeason left
+TellsFault (Serve conns workers start.New port store) left = Tells (IsFaultyBundle false) left
 TellsFault Audit left = Tells AreFaultyDossier left
 TellsFault AuditBest left = Tells AreFaultyDossier left
 TellsFault other left = ⊥

@@ -19,10 +19,10 @@ use Rattle.histories.specs.Laws.{HistoryGrows}
 use Rattle.proceedings.specs.Proceeding.{last_of as last_number}
 use Rattle.round_cut.specs.declared.fault.OfficeFault.{OfficeFault}
 use Rattle.shown_replies.specs.Shown.{reply_bytes}
-use Rattle.script_runs.specs.Runs.{Accepts, AfterSome, Answers, EndsBefore, EndsWithin, Moment}
+use Rattle.script_runs.specs.Runs.{Accepts, AfterSome, Answers, EndsBefore, EndsBy, EndsWithin}
 use Rattle.script_runs.specs.declared.fault.RunFault.{RunFault}
 use Rattle.script_runs.specs.declared.fault.RunFault.TheVariants.{KeeperFault, OutOfMemory, WriteFault}
-use Rattle.script_runs.specs.Steps.{HasAccepted, IsAnswered, IsAnsweredInPart, IsUnanswered}
+use Rattle.script_runs.specs.Steps.{HasAccepted, IsAnswered, IsAnsweredInPart, IsUnanswered, Moment}
 use Rattle.script_runs.proofs.RunLemmas.{goes_on}
 
 -- ---- what is written
@@ -171,30 +171,36 @@ goes facts script j request season season' old now new running next (n, some, al
 -- ---- ends
 
 -- the request is not answered
-pub stops_before : (facts : SeasonFacts) (script : List Request) (j : ℕ) (season season' : SeasonFacts) (old now new : Moment) → IsRunning facts script j season old now → j < length script
-    → IsUnanswered now new → IsLeft season season' new.entries new.state new.tables → EndsBefore facts script old new
+stops_before : (facts : SeasonFacts) (script : List Request) (j : ℕ) (season season' : SeasonFacts) (old now new : Moment) → IsRunning facts script j season old now → j < length script
+    → IsUnanswered now new → IsLeft season season' new.entries new.state new.tables
+    → (output : List ℕ) × Appends output old.written new.written × EndsBefore facts old.state script output new.state new.tables
 stops_before facts script j season season' old now new running within unanswered left = (
-  j,
   running.output,
-  within,
-  record {
-    answers = subst (λ s. Answers facts old.state (take j script) running.output s) (sym unanswered.state) running.run.answers;
-    history = subst (λ s. (es : List Entry) × IsHistory facts es s) (sym unanswered.state) running.run.history;
-    promise = subst (λ s. KeepsItsWord facts s) (sym unanswered.state) running.run.promise;
-    stands = subst (λ f. Stand f new.state new.tables) (left.same ∙ running.same) left.stands;
-  },
   subst (λ o. Appends running.output old.written o) (sym unanswered.written) running.written,
+  (
+    j,
+    within,
+    record {
+      answers = subst (λ s. Answers facts old.state (take j script) running.output s) (sym unanswered.state) running.run.answers;
+      history = subst (λ s. (es : List Entry) × IsHistory facts es s) (sym unanswered.state) running.run.history;
+      promise = subst (λ s. KeepsItsWord facts s) (sym unanswered.state) running.run.promise;
+      stands = subst (λ f. Stand f new.state new.tables) (left.same ∙ running.same) left.stands;
+    },
+  ),
 )
 
 -- the request is answered, and its reply is not written whole
-pub stops_within : (facts : SeasonFacts) (script : List Request) (j : ℕ) (request : Request) (season season' : SeasonFacts) (n : ℕ) (old now new : Moment) → IsRunning facts script j season old now
-    → IsNext script j request → IsAnsweredInPart season request n now new → IsLeft season season' new.entries new.state new.tables → EndsWithin facts script n old new
+stops_within : (facts : SeasonFacts) (script : List Request) (j : ℕ) (request : Request) (season season' : SeasonFacts) (n : ℕ) (old now new : Moment) → IsRunning facts script j season old now
+    → IsNext script j request → IsAnsweredInPart season request n now new → IsLeft season season' new.entries new.state new.tables
+    → (output : List ℕ) × Appends output old.written new.written × EndsWithin facts old.state script n output new.state new.tables
 stops_within facts script j request season season' n old now new running next some left =
     let part = answered_at facts season request n now new running.same some in
     let here = left_at facts season season' new running.same left in (
-      running.output,
+      running.output ++ take n (reply_bytes facts new.state part.reply),
+      appends_on running.output (take n (reply_bytes facts new.state part.reply)) old.written now.written new.written running.written part.written,
       record {
         j = j;
+        some = running.output;
         mid = now.state;
         request = request;
         reply = part.reply;
@@ -202,9 +208,26 @@ stops_within facts script j request season season' n old now new running next so
         there = next.there;
         moves = part.moves;
         after = longer facts old.state now.state new.state script j request running.output part.reply season' new.entries now.tables new.tables running.run next part.moves here;
+        written = refl;
       },
-      appends_on running.output (take n (reply_bytes facts new.state part.reply)) old.written now.written new.written running.written part.written,
     )
+
+-- by each fault of the next request
+pub ends_at_fault : (facts : SeasonFacts) (script : List Request) (j : ℕ) (request : Request) (season season' : SeasonFacts) (old now new : Moment) (fault : RunFault) → IsRunning facts script j season old now
+    → IsNext script j request → (fault ≡ KeeperFault → IsUnanswered now new) → (fault ≡ OutOfMemory → IsUnanswered now new ⊎ IsAnsweredInPart season request 0 now new)
+    → (fault ≡ WriteFault → (n : ℕ) × IsAnsweredInPart season request n now new) → IsLeft season season' new.entries new.state new.tables
+    → (output : List ℕ) × Appends output old.written new.written × EndsBy facts old.state script (Err fault) output new.state new.tables
+ends_at_fault facts script j request season season' old now new KeeperFault running next keeper memory write left =
+    stops_before facts script j season season' old now new running next.within (keeper refl) left
+ends_at_fault facts script j request season season' old now new OutOfMemory running next keeper memory write left =
+    elim (memory refl) [
+      | inl un ↦ let (output, appends, is) = stops_before facts script j season season' old now new running next.within un left in (output, appends, inl is)
+      | inr part ↦ let (output, appends, is) = stops_within facts script j request season season' 0 old now new running next part left in (output, appends, inr is)
+    ]
+ends_at_fault facts script j request season season' old now new WriteFault running next keeper memory write left =
+    let (n, part) = write refl in
+    let (output, appends, is) = stops_within facts script j request season season' n old now new running next part left in
+    (output, appends, (n, is))
 
 -- ---- the entries at an end
 

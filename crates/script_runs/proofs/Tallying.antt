@@ -11,7 +11,7 @@ use Rattle.office_moves.specs.History.{IsHistory}
 use Rattle.office_moves.specs.Promise.{KeepsItsWord}
 use Rattle.office_moves.specs.Stands.{Stand}
 use Rattle.office_moves.specs.declared.moves.Entry.{Entry}
-use Rattle.script_runs.specs.Tally.{AfterHandled, AreHandled, CountsAll, Handled, IsCounted, StopsWithin, is_receipt, is_refused_answer, noted_in, refused_in, requests_of}
+use Rattle.script_runs.specs.Tally.{AfterHandled, AreHandled, CountsAll, Handled, IsCounted, StopsBefore, is_receipt, is_refused_answer, noted_in, refused_in, requests_of}
 use Rattle.script_runs.specs.declared.tally.Tally.{Tally}
 use Rattle.script_runs.proofs.Running.{IsLeft, IsNext}
 
@@ -97,7 +97,7 @@ counts_all facts start script j season entries state tables tally keeper keeper_
 -- a request is not answered
 pub stops : (facts : SeasonFacts) (start : State) (script : List Request) (j : ℕ) (season season' : SeasonFacts) (entries entries' : List Entry) (state state' : State) (tables tables' : Tables) (tally : Tally)
     (keeper keeper_now : ℕ) → IsCounting facts start script j season entries state tables tally keeper keeper_now → j < length script → state' ≡ state → IsLeft season season' entries' state' tables'
-    → StopsWithin facts start script state' tables'
+    → StopsBefore facts start script state' tables'
 stops facts start script j season season' entries entries' state state' tables tables' tally keeper keeper_now running within same left = (
   j,
   running.handled,

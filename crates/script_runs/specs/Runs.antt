@@ -1,8 +1,6 @@
 -- Requests that are answered one after another, each reply written before the next request is handled.
-use Rattle.std.specs.Prelude.{◌≡◌, ◌<◌, ◌+◌, ◌⊎◌, ℕ, List, [], ◌∷◌, ◌++◌, Option, Some, length, take, slice_get}
+use Rattle.std.specs.Prelude.{◌≡◌, ◌<◌, ◌+◌, ◌⊎◌, ℕ, List, [], ◌∷◌, ◌++◌, Some, Result, Ok, Err, length, take, slice_get}
 use Rattle.office_base.specs.declared.asks.Request.{Request}
-use Rattle.office_base.specs.Outside.{Appends}
-use Rattle.keeper_mem.specs.Keeper.{Shelf}
 use Rattle.kept_rows.specs.Tables.{Tables}
 use Rattle.office_moves.specs.Facts.{SeasonFacts}
 use Rattle.office_moves.specs.State.{State}
@@ -14,8 +12,9 @@ use Rattle.office_moves.specs.Stands.{Stand}
 use Rattle.office_moves.specs.declared.moves.Entry.{Entry}
 use Rattle.office_moves.specs.declared.moves.Reply.{Reply}
 use Rattle.proceedings.specs.Proceeding.{last_of}
-use Rattle.round_cut.specs.Office.{Opened}
 use Rattle.shown_replies.specs.Shown.{reply_bytes}
+use Rattle.script_runs.specs.declared.fault.RunFault.{RunFault}
+use Rattle.script_runs.specs.declared.fault.RunFault.TheVariants.{KeeperFault, OutOfMemory, WriteFault}
 
 -- ---- a run
 
@@ -39,49 +38,29 @@ pub record AfterSome (facts : SeasonFacts) (start : State) (requests : List Requ
   pub promise : KeepsItsWord facts state
   pub stands : Stand facts state tables
 
--- The first j requests are answered, with this output, and one more, with a reply whose text follows the output.
-pub record AfterOneMore (facts : SeasonFacts) (start : State) (script : List Request) (output : List ℕ) (state : State) (tables : Tables) : Type 0 where
+-- ---- where a run ends: with this output, in this state, over these tables; after all requests by `AfterSome`
+
+-- before the next request: the first j are answered, and it is not
+abbrev pub EndsBefore : SeasonFacts → State → List Request → List ℕ → State → Tables → Type 0
+EndsBefore facts start script output state tables = (j : ℕ) × (j < length script) × AfterSome facts start (take j script) output state tables
+
+-- Within a reply: one request more than the first j is answered, and of its reply n bytes are written.
+pub record EndsWithin (facts : SeasonFacts) (start : State) (script : List Request) (n : ℕ) (output : List ℕ) (state : State) (tables : Tables) : Type 0 where
   pub j : ℕ
+  pub some : List ℕ
   pub mid : State
   pub request : Request
   pub reply : Reply
-  pub before : Answers facts start (take j script) output mid
+  pub before : Answers facts start (take j script) some mid
   pub there : slice_get script j ≡ Some request
   pub moves : IsMove facts mid request reply state
-  pub after : AfterSome facts start (take (j + 1) script) (output ++ reply_bytes facts state reply) state tables
+  pub after : AfterSome facts start (take (j + 1) script) (some ++ reply_bytes facts state reply) state tables
+  pub written : output ≡ some ++ take n (reply_bytes facts state reply)
 
--- ---- how a run ends
-
--- a moment of a run: the state of the office, its entries, the tables of its keeper, and what is written so far
-pub record Moment : Type 0 where
-  pub state : State
-  pub entries : List Entry
-  pub tables : Tables
-  pub written : Option (List ℕ)
-
--- the moment of an office, by the tables of its keeper and what is written
-abbrev pub moment_of : {K : Type 0} → (K → Shelf) → Opened K → Option (List ℕ) → Moment
-moment_of seen office written = record { state = office.state; entries = office.entries; tables = (seen office.keeper).tables; written = written }
-
--- all requests are answered, and all replies are written
-abbrev pub EndsWell : SeasonFacts → List Request → Moment → Moment → Type 0
-EndsWell facts script old new = (output : List ℕ) × AfterSome facts old.state script output new.state new.tables × Appends output old.written new.written
-
--- the next request after the first j is not answered, and their replies are written
-abbrev pub EndsBefore : SeasonFacts → List Request → Moment → Moment → Type 0
-EndsBefore facts script old new =
-    (j : ℕ) × (output : List ℕ) × (j < length script) × AfterSome facts old.state (take j script) output new.state new.tables × Appends output old.written new.written
-
--- one more is answered, and n bytes of its reply are written
-abbrev pub EndsWithin : SeasonFacts → List Request → ℕ → Moment → Moment → Type 0
-EndsWithin facts script n old new =
-    (output : List ℕ) × (more : AfterOneMore facts old.state script output new.state new.tables)
-    × Appends (output ++ take n (reply_bytes facts new.state more.reply)) old.written new.written
-
--- memory runs out: a request is not answered, or its reply is not written at all
-abbrev pub EndsShort : SeasonFacts → List Request → Moment → Moment → Type 0
-EndsShort facts script old new = EndsBefore facts script old new ⊎ EndsWithin facts script 0 old new
-
+-- by the result: if memory runs out, the next request is not answered, or its reply is not written at all;
 -- if the sink fails, of the reply to the last answered request a prefix is written
-abbrev pub EndsCut : SeasonFacts → List Request → Moment → Moment → Type 0
-EndsCut facts script old new = (n : ℕ) × EndsWithin facts script n old new
+abbrev pub EndsBy : SeasonFacts → State → List Request → Result (Unit {0}) RunFault → List ℕ → State → Tables → Type 0
+EndsBy facts start script (Ok done) output state tables = AfterSome facts start script output state tables
+EndsBy facts start script (Err KeeperFault) output state tables = EndsBefore facts start script output state tables
+EndsBy facts start script (Err OutOfMemory) output state tables = EndsBefore facts start script output state tables ⊎ EndsWithin facts start script 0 output state tables
+EndsBy facts start script (Err WriteFault) output state tables = (n : ℕ) × EndsWithin facts start script n output state tables

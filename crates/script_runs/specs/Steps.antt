@@ -1,7 +1,7 @@
 -- One request of a run, from the moment before it to the moment after it.
-use Rattle.std.specs.Prelude.{◌≡◌, ◌⊎◌, ◌+◌, ℕ, List, length, take}
+use Rattle.std.specs.Prelude.{◌≡◌, ◌⊎◌, ◌+◌, ℕ, List, Option, length, take}
 use Rattle.keeper_mem.specs.Keeper.{Shelf}
-use Rattle.kept_rows.specs.Tables.{IsTold}
+use Rattle.kept_rows.specs.Tables.{IsTold, Tables}
 use Rattle.office_base.specs.Outside.{Appends}
 use Rattle.office_base.specs.declared.asks.Request.{Request}
 use Rattle.office_moves.specs.Facts.{SeasonFacts}
@@ -15,7 +15,17 @@ use Rattle.office_moves.specs.declared.moves.Reply.{Reply}
 use Rattle.proceedings.specs.Proceeding.{last_of}
 use Rattle.round_cut.specs.Office.{Opened}
 use Rattle.shown_replies.specs.Shown.{reply_bytes}
-use Rattle.script_runs.specs.Runs.{Moment}
+
+-- a moment of a run: the state of the office, its entries, the tables of its keeper, and what is written so far
+pub record Moment : Type 0 where
+  pub state : State
+  pub entries : List Entry
+  pub tables : Tables
+  pub written : Option (List ℕ)
+
+-- the moment of an office, by the tables of its keeper and what is written
+abbrev pub moment_of : {K : Type 0} → (K → Shelf) → Opened K → Option (List ℕ) → Moment
+moment_of seen office written = record { state = office.state; entries = office.entries; tables = (seen office.keeper).tables; written = written }
 
 -- the entries have what the request newly accepted, under the number after the last one
 abbrev pub HasAccepted : SeasonFacts → State → Request → List Entry → List Entry → Type 0

@@ -90,6 +90,6 @@ CountsAll facts start script state tables tally =
     (handled : List Handled) × (requests_of handled ≡ script) × AfterHandled facts start handled state tables × (tally ≡ tally_of handled)
 
 -- the requests before one of them are answered, and it and those after it are not
-abbrev pub StopsWithin : SeasonFacts → State → List Request → State → Tables → Type 0
-StopsWithin facts start script state tables =
+abbrev pub StopsBefore : SeasonFacts → State → List Request → State → Tables → Type 0
+StopsBefore facts start script state tables =
     (j : ℕ) × (handled : List Handled) × (j < length script) × (requests_of handled ≡ take j script) × AfterHandled facts start handled state tables

@@ -1,14 +1,14 @@
 // A script, answered request after request.
-ghost use Rattle.std.specs.Prelude.{ℕ, IfOk, OnOk, IsErrOf, IsOkUnless, take};
-ghost use Rattle.office_base.specs.Outside.{Fails, Rose};
+ghost use Rattle.std.specs.Prelude.{ℕ, List, IfOk, OnOk, IsErrOf, IsOkUnless, take};
+ghost use Rattle.office_base.specs.Outside.{Appends, Fails, Rose};
 ghost use Rattle.histories.specs.Orderly.{IsOrderly};
 ghost use Rattle.office_moves.specs.History.{IsHistory};
 ghost use Rattle.office_moves.specs.Moves.{IsMove};
 ghost use Rattle.office_moves.specs.Stands.{Stand};
 ghost use Rattle.round_cut.specs.Answering.{KeepsOn};
-ghost use Rattle.script_runs.specs.Runs.{Accepts, EndsBefore, EndsCut, EndsShort, EndsWell, moment_of};
+ghost use Rattle.script_runs.specs.Runs.{Accepts, EndsBy};
 ghost use Rattle.shown_replies.specs.Shown.{CameOf, CanBeShown};
-ghost use Rattle.script_runs.specs.Steps.{Continues, HasAccepted, IsAnswered, IsAnsweredInPart, IsCutOff, IsUnanswered};
+ghost use Rattle.script_runs.specs.Steps.{Continues, HasAccepted, IsAnswered, IsAnsweredInPart, IsCutOff, IsUnanswered, moment_of};
 
 use crate::fault::RunFault;
 use keeper_mem::Keeper;
@@ -30,18 +30,9 @@ pub fn answer_all<P: Keeper, K: Sink>(
 ) -> Result<(), RunFault>
     requires history { IsHistory office.old.season office.old.entries office.old.state }
     requires stands { Stand office.old.season office.old.state (P.seen office.old.keeper).tables }
-    ensures done { OnOk result (EndsWell office.old.season script.now
-        (moment_of P.seen office.old (K.written sink.old))
-        (moment_of P.seen office.new (K.written sink.new))) }
-    ensures keeper { IsErrOf result RunFault.KeeperFault → EndsBefore office.old.season script.now
-        (moment_of P.seen office.old (K.written sink.old))
-        (moment_of P.seen office.new (K.written sink.new)) }
-    ensures memory { IsErrOf result RunFault.OutOfMemory → EndsShort office.old.season script.now
-        (moment_of P.seen office.old (K.written sink.old))
-        (moment_of P.seen office.new (K.written sink.new)) }
-    ensures write { IsErrOf result RunFault.WriteFault → EndsCut office.old.season script.now
-        (moment_of P.seen office.old (K.written sink.old))
-        (moment_of P.seen office.new (K.written sink.new)) }
+    ensures ended { (output : List ℕ) × Appends output (K.written sink.old) (K.written sink.new)
+        × EndsBy office.old.season office.old.state script.now result output
+        office.new.state (P.seen office.new.keeper).tables }
     ensures entries { (j : ℕ) × Accepts office.old.season office.old.state office.old.entries
         (take j script.now) office.new.state office.new.entries }
     ensures continues { Continues P.seen office.old office.new }

@@ -6,7 +6,7 @@ ghost use Rattle.office_moves.specs.History.{IsHistory};
 ghost use Rattle.office_moves.specs.Stands.{Stand};
 ghost use Rattle.round_cut.specs.Answering.{KeepsOn};
 ghost use Rattle.script_runs.specs.Steps.{Continues};
-ghost use Rattle.script_runs.specs.Tally.{CountsAll, IsCounted, StopsWithin, is_answer, is_receipt, is_refusal, is_refused_answer};
+ghost use Rattle.script_runs.specs.Tally.{CountsAll, IsCounted, StopsBefore, is_answer, is_receipt, is_refusal, is_refused_answer};
 
 use crate::run::{check_order, next_reply};
 use keeper_mem::Keeper;
@@ -36,7 +36,7 @@ pub fn count_all<P: Keeper>(
     requires stands { Stand office.old.season office.old.state (P.seen office.old.keeper).tables }
     ensures counted { IfOk result (CountsAll office.old.season office.old.state
         script.now office.new.state (P.seen office.new.keeper).tables) }
-    ensures stopped { OnErr result (StopsWithin office.old.season office.old.state
+    ensures stopped { OnErr result (StopsBefore office.old.season office.old.state
         script.now office.new.state (P.seen office.new.keeper).tables) }
     ensures continues { Continues P.seen office.old office.new }
     ensures blamed { Fails (IsErrOf result OfficeFault.KeeperFault)

@@ -18,14 +18,13 @@ use Rattle.command_answers.specs.Answers.{IsFailureOf}
 use Rattle.office_base.specs.FaultLines.{memory_line}
 use Rattle.command_answers.specs.Writes.{IsTextOut, Writes, keeper_line, status_of, text_of}
 use Rattle.command_answers.specs.declared.failure.Failure.{Failure}
-use Rattle.command_answers.specs.declared.failure.Failure.TheVariants.{Read, Bad, NoMemory}
 use Rattle.command_answers.specs.declared.status.Status.{Status}
 use Rattle.command_answers.specs.declared.status.Status.TheVariants.{BadInput, WriteFault, KeeperFault as KeeperFailed, OutOfMemory, Differs as StatusDiffers}
-use Rattle.command_answers.proofs.Ended.{told_is_written}
+use Rattle.command_answers.proofs.Ended.{answer_is_written, told_is_written}
 use Rattle.season_commands.proofs.Still.{still_from, still_resumed}
 use Rattle.seat_matrix.specs.Matrix.{SeatTable}
 use Rattle.round_cut.proofs.Standing.{told_on}
-use Rattle.season_commands.specs.Resume.{EndsAsked, EndsResume, EndsUnresumed, IsUnaskedText, IsUnresumedText, made_status, made_text, no_season_line, script_answers}
+use Rattle.season_commands.specs.Resume.{EndsAsked, EndsResume, EndsUnresumed, IsUnresumedText, made_status, made_text, no_season_line, script_answers}
 use Rattle.season_commands.specs.Stray.{differs_line, raise_line_of, stray_line}
 
 -- ---- no office resumes
@@ -98,18 +97,12 @@ unresumed_ends before after why written now status told stopped writes =
 
 -- ---- no requests are read
 
--- the text of why goes with its status
-text_of_unasked : (left : Option (List ℕ)) (failed : Type 0) (failure : Failure) → IsFailureOf script_answers left failed failure → IsUnaskedText left (status_of (Err failure)) (text_of (Err failure))
-text_of_unasked left failed Read cause = refl
-text_of_unasked left failed (Bad line) cause = cause
-text_of_unasked left failed NoMemory cause = refl
-
 -- The failure is written.
 pub unasked_ends : (facts : SeasonFacts) (start : State) (left : Option (List ℕ)) (failed : Type 0) (failure : Failure) (before after : Tables) (written now : Option (List ℕ)) (broke : Type 0) (result : Status)
     → IsFailureOf script_answers left failed failure → IsTextOut (status_of (Err failure)) (text_of (Err failure)) written now broke result → AreTold before after
     → (output : List ℕ) × Appends output written now × EndsAsked facts start left before after result output
 unasked_ends facts start left failed failure before after written now broke result cause is told =
-    let (output, appends, writes) = told_is_written (IsUnaskedText left) (status_of (Err failure)) result (text_of (Err failure)) written now broke (text_of_unasked left failed failure cause) is in
+    let (output, appends, writes) = answer_is_written script_answers left failed (Err failure) result written now broke tt cause is in
     (output, appends, inl (writes, told))
 
 -- ---- what is visible of the tables

@@ -1,5 +1,5 @@
 -- How the command `run` ends.
-use Rattle.std.proofs.Common.{◌≡◌, inl, inr, ℕ, true, false, List, Option, Some, None, Err, refl, subst}
+use Rattle.std.proofs.Common.{◌≡◌, inl, inr, ℕ, Bool, true, false, List, Option, Some, None, Err, refl, subst}
 use Rattle.office_base.specs.Outside.{Appends}
 use Rattle.office_base.specs.declared.asks.Request.{Request}
 use Rattle.season_file.specs.declared.season.Season.{Season}
@@ -12,14 +12,13 @@ use Rattle.round_cut.specs.declared.fault.BeginFault.{BeginFault}
 use Rattle.round_cut.specs.declared.fault.BeginFault.TheVariants.{NotEmpty, KeeperFault as NoKeeper, OutOfMemory as NoMemory}
 use Rattle.season_file.specs.Season.{content_of}
 use Rattle.command_answers.specs.Answers.{HaveOneAnswer, IsFailureOf, Tells}
-use Rattle.season_commands.specs.Check.{IsBundle, IsFaultyBundle, IsLeftBundle, check_answers}
+use Rattle.season_commands.specs.Check.{IsBundle, IsFaultyBundle, IsLeftBundle, bundle_answers}
 use Rattle.command_answers.specs.Writes.{status_of, text_of}
-use Rattle.season_commands.specs.Run.{EndsRun, EndsSeason, IsUnbegunText, IsUnreadText, begin_status, begin_text}
+use Rattle.season_commands.specs.Run.{EndsRun, EndsSeason, IsUnbegunText, begin_status, begin_text}
 use Rattle.command_answers.specs.Writes.{IsTextOut}
 use Rattle.command_answers.specs.declared.failure.Failure.{Failure}
-use Rattle.command_answers.specs.declared.failure.Failure.TheVariants.{Read, Bad, NoMemory as NoMemoryToRead}
 use Rattle.command_answers.specs.declared.status.Status.{Status}
-use Rattle.command_answers.proofs.Ended.{told_is_written}
+use Rattle.command_answers.proofs.Ended.{answer_is_written, told_is_written}
 use Rattle.season_commands.proofs.Still.{still_from, still_none}
 
 -- the text of why no office began goes with its status
@@ -50,29 +49,23 @@ begun_ends season script facts start before mid after written now status same fr
   ),
 )
 
--- the text of why no bundle was read goes with its status
-text_of_failure : (left : Option (List ℕ)) (failed : Type 0) (failure : Failure) → IsFailureOf check_answers left failed failure
-    → IsUnreadText left (status_of (Err failure)) (text_of (Err failure))
-text_of_failure left failed Read cause = refl
-text_of_failure left failed (Bad line) cause = cause
-text_of_failure left failed NoMemoryToRead cause = refl
-
 -- No bundle was read.
 pub unread_ends : (left : Option (List ℕ)) (failed : Type 0) (failure : Failure) (tables : Tables) (written now : Option (List ℕ)) (broke : Type 0) (result : Status)
-    → IsFailureOf check_answers left failed failure → IsTextOut (status_of (Err failure)) (text_of (Err failure)) written now broke result
+    → IsFailureOf (bundle_answers true) left failed failure → IsTextOut (status_of (Err failure)) (text_of (Err failure)) written now broke result
     → (output : List ℕ) × Appends output written now × EndsRun left tables tables result output
 unread_ends left failed failure tables written now broke result cause is =
-    let (output, appends, writes) = told_is_written (IsUnreadText left) (status_of (Err failure)) result (text_of (Err failure)) written now broke (text_of_failure left failed failure cause) is in
+    let (output, appends, writes) = answer_is_written (bundle_answers true) left failed (Err failure) result written now broke tt cause is in
     (output, appends, inl (writes, refl))
 
 -- No season can be read if a bundle has a fault.
-pub no_faulty_bundle : (left : Option (List ℕ)) (season : Season) (script : List Request) → ((bytes : List ℕ) → HaveOneAnswer check_answers bytes) → IsLeftBundle left season script → Tells IsFaultyBundle left → ⊥
-no_faulty_bundle None season script laws is tells = tells
-no_faulty_bundle (Some bytes) season script laws is tells =
-    let given = subst (λ b. IsBundle b) is.1 (content_of season is.2.row, script, is.2.given) in (laws bytes).apart given tells
+pub no_faulty_bundle : (requests : Bool) (left : Option (List ℕ)) (season : Season) (script : List Request) → ((requests : Bool) (bytes : List ℕ) → HaveOneAnswer (bundle_answers requests) bytes)
+    → IsLeftBundle requests left season script → Tells (IsFaultyBundle requests) left → ⊥
+no_faulty_bundle requests None season script laws is tells = tells
+no_faulty_bundle requests (Some bytes) season script laws is tells =
+    let given = subst (λ b. IsBundle requests b) is.1 (content_of season is.2.row, script, is.2.given) in (laws requests bytes).apart given tells
 
 -- A bundle was read, and its season ended.
-pub read_ends : (left : Option (List ℕ)) (before after : Tables) (season : Season) (script shown : List Request) (written now : Option (List ℕ)) (status : Status) → IsLeftBundle left season script
+pub read_ends : (left : Option (List ℕ)) (before after : Tables) (season : Season) (script shown : List Request) (written now : Option (List ℕ)) (status : Status) → IsLeftBundle true left season script
     → shown ≡ script → (output : List ℕ) × Appends output written now × EndsSeason season shown before after status output
     → (output : List ℕ) × Appends output written now × EndsRun left before after status output
 read_ends left before after season script shown written now status is same end =

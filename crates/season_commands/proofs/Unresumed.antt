@@ -15,8 +15,9 @@ use Rattle.season_file.specs.Season.{IsSeason, content_of}
 use Rattle.season_file.specs.declared.season.Season.{Season}
 use Rattle.command_answers.specs.declared.status.Status.{Status}
 use Rattle.command_answers.specs.declared.status.Status.TheVariants.{BadInput, WriteFault, OutOfMemory, Differs as StatusDiffers}
+use Rattle.season_commands.specs.Check.{IsFaultyBundle}
 use Rattle.season_commands.specs.Outside.{Outside, held}
-use Rattle.season_commands.specs.Resume.{HaveNoFault, HaveRowFault, HaveTextFault, JudgesRecords, TellsNoOffice, TellsRowFault, TellsSound, TellsTextFault, unresumed_status}
+use Rattle.season_commands.specs.Resume.{HaveNoFault, HaveRowFault, JudgesRecords, TellsNoOffice, TellsRowFault, TellsSound, TellsTextFault, unresumed_status}
 use Rattle.season_commands.specs.Run.{TellsNoSeason}
 use Rattle.season_commands.proofs.Still.{still_to}
 
@@ -80,7 +81,7 @@ stops want fault result rose broke stop cause held status wrote kept =
     ]
 
 -- A text that is no bundle spells no season.
-spells_none : (records : Kept) (season : Season) → HaveOneReading false records.season → HaveTextFault records → IsSeason records.season season → ⊥
+spells_none : (records : Kept) (season : Season) → HaveOneReading false records.season → IsFaultyBundle false records.season → IsSeason records.season season → ⊥
 spells_none records season reading (fault, has) read = reading.apart (content_of season read.row) [] fault read.given has
 
 -- An office does not resume from records whose text is no bundle.
@@ -89,9 +90,9 @@ none_goes_on_from_no_bundle : (tables : Tables) (facts : SeasonFacts) (start : S
 none_goes_on_from_no_bundle Untold facts start reading resumed tells = tells
 none_goes_on_from_no_bundle NoSeason facts start reading resumed tells = tells
 none_goes_on_from_no_bundle (Records kept) facts start reading (records, loaded, lead) tells =
-    spells_none records lead.season (reading false records.season) (subst (λ (k : Kept). HaveTextFault k) loaded tells) lead.read
+    spells_none records lead.season (reading false records.season) (subst (λ (k : Kept). IsFaultyBundle false k.season) loaded tells) lead.read
 
-text_fault : (records : Kept) (fault : Unresumed) → HaveOneReading false records.season → HaveTextFault records → HaveStopped records fault → IsStop BadInput fault
+text_fault : (records : Kept) (fault : Unresumed) → HaveOneReading false records.season → IsFaultyBundle false records.season → HaveStopped records fault → IsStop BadInput fault
 text_fault records NoneKept reading have is = absurd is
 text_fault records (BadSeason fault) reading have is = inl refl
 text_fault records (Stray row) reading have is = let (season, read, fault) = is in absurd (spells_none records season reading have read)

@@ -26,11 +26,12 @@ use Rattle.replays.specs.declared.fault.ReplayFault.TheVariants.{OutOfMemory as 
 use Rattle.round_cut.specs.Resume.{IsResumed}
 use Rattle.round_cut.specs.declared.resume.Unresumed.{Unresumed}
 use Rattle.round_cut.specs.declared.resume.Unresumed.TheVariants.{NoSeason as NoneKept, BadSeason, Stray, StrayRaise, Differs as SeatsDiffer, KeeperFault as KeeperFailed, OutOfMemory as NoMemoryToResume}
-use Rattle.command_answers.specs.Answers.{Answers, HasLeft, Tells}
-use Rattle.office_base.specs.FaultLines.{memory_line, read_line}
-use Rattle.command_answers.specs.Writes.{Writes, keeper_line}
+use Rattle.command_answers.specs.Answers.{Answers, Tells}
+use Rattle.office_base.specs.FaultLines.{memory_line}
+use Rattle.command_answers.specs.Writes.{IsTextOf, Writes, keeper_line}
 use Rattle.command_answers.specs.declared.status.Status.{Status}
 use Rattle.command_answers.specs.declared.status.Status.TheVariants.{Ok as Done, BadInput, ReadFault, KeeperFault, OutOfMemory, DoorFault, Differs}
+use Rattle.season_commands.specs.Check.{IsBundleFaultLine, IsFaultyBundle}
 use Rattle.season_commands.specs.Office.{EndsOffice}
 use Rattle.season_commands.specs.Outside.{BlamesOffice, EndsWith, Held, Outside, held}
 use Rattle.season_commands.specs.Run.{TellsNoSeason}
@@ -73,10 +74,6 @@ script_answers = record { IsInput = IsScript; IsFaulty = IsFaultyScript; IsOutpu
 
 -- ---- the records
 
--- the text that is kept is no bundle, and this is the line of its fault
-abbrev pub IsTextFaultLine : Kept → List ℕ → Type 0
-IsTextFaultLine records line = (fault : SeasonFault) × HasFault false records.season fault × (line ≡ fault_line fault)
-
 -- the records of a season do not replay, and this is the line of their fault
 abbrev pub IsReplayFaultLine : Kept → List ℕ → Type 0
 IsReplayFaultLine records line = (season : Season) × (fault : ReplayFault) × IsSeason records.season season × IsReplayFault (facts_of season) records fault
@@ -84,7 +81,7 @@ IsReplayFaultLine records line = (season : Season) × (fault : ReplayFault) × I
 
 -- there is no season, or the text that is kept is no bundle, and this is the line of that
 abbrev pub IsKeptFaultLine : Tables → List ℕ → Type 0
-IsKeptFaultLine tables line = (IsFound false tables × (line ≡ no_season_line)) ⊎ ((records : Kept) × IsLoaded tables records × IsTextFaultLine records line)
+IsKeptFaultLine tables line = (IsFound false tables × (line ≡ no_season_line)) ⊎ ((records : Kept) × IsLoaded tables records × IsBundleFaultLine false records.season line)
 
 -- ---- how the command ends
 
@@ -96,14 +93,6 @@ IsUnresumedText tables OutOfMemory text = text ≡ memory_line
 IsUnresumedText tables Differs text = (records : Kept) × IsLoaded tables records × IsReplayFaultLine records text
 IsUnresumedText tables other text = ⊥
 
--- the whole text that goes with each status if an office resumes and no requests are read,
--- for the bytes that the source had left
-abbrev pub IsUnaskedText : Option (List ℕ) → Status → List ℕ → Type 0
-IsUnaskedText left BadInput text = HasLeft IsRequestFaultLine left text
-IsUnaskedText left ReadFault text = text ≡ read_line
-IsUnaskedText left OutOfMemory text = text ≡ memory_line
-IsUnaskedText left other text = ⊥
-
 -- how a command ends if no office resumes: the tables are unchanged.
 -- What was kept is visible if the tables are visible both before and after.
 abbrev pub EndsUnresumed : Tables → Tables → Status → List ℕ → Type 0
@@ -112,7 +101,7 @@ EndsUnresumed before after status output = Writes (IsUnresumedText (still before
 -- how an office that resumed ends: no requests are read, and the tables are unchanged;
 -- or they are answered from its state
 abbrev pub EndsAsked : SeasonFacts → State → Option (List ℕ) → Tables → Tables → Status → List ℕ → Type 0
-EndsAsked facts start left before after status output = (Writes (IsUnaskedText left) status output × AreTold before after)
+EndsAsked facts start left before after status output = (Writes (IsTextOf script_answers left) status output × AreTold before after)
     ⊎ ((script : List Request) × AreLeftRequests left script × EndsOffice facts start script after status output)
 
 -- how `resume` ends: no office resumes; or the records lead to the state of a season, and an office resumes from it
@@ -130,13 +119,9 @@ abbrev pub TellsSound : Tables → Type 0
 TellsSound (Records records) = HaveNoFault records
 TellsSound other = ⊥
 
--- the text of the records is no bundle
-abbrev pub HaveTextFault : Kept → Type 0
-HaveTextFault records = (fault : SeasonFault) × HasFault false records.season fault
-
 -- the tables are visible records whose text is no bundle
 abbrev pub TellsTextFault : Tables → Type 0
-TellsTextFault (Records records) = HaveTextFault records
+TellsTextFault (Records records) = IsFaultyBundle false records.season
 TellsTextFault other = ⊥
 
 -- The text of the records is a bundle, and of each season that the text spells a row or a seat of theirs has a fault.

@@ -9,27 +9,18 @@ use Rattle.office_moves.specs.State.{opening}
 use Rattle.round_cut.specs.declared.fault.BeginFault.{BeginFault}
 use Rattle.round_cut.specs.declared.fault.BeginFault.TheVariants.{NotEmpty, KeeperFault as NoKeeper, OutOfMemory as NoMemory}
 use Rattle.office_base.specs.Outside.{IsAtEnd, Rose}
-use Rattle.command_answers.specs.Answers.{HasLeft, Tells}
-use Rattle.season_commands.specs.Check.{IsBundle, IsBundleFaultLine, IsFaultyBundle, IsLeftBundle}
+use Rattle.command_answers.specs.Answers.{Tells}
+use Rattle.season_commands.specs.Check.{IsLeftBundle, bundle_answers}
 use Rattle.office_base.specs.Visible.{Readable}
 use Rattle.season_commands.specs.Outside.{BlamesOffice, BlamesSource, EndsWith, Held, Outside, held}
 use Rattle.season_commands.specs.Office.{EndsOffice}
-use Rattle.office_base.specs.FaultLines.{memory_line, read_line}
-use Rattle.command_answers.specs.Writes.{Writes, keeper_line}
+use Rattle.office_base.specs.FaultLines.{memory_line}
+use Rattle.command_answers.specs.Writes.{IsTextOf, Writes, keeper_line}
 use Rattle.command_answers.specs.declared.status.Status.{Status}
 use Rattle.command_answers.specs.declared.status.Status.TheVariants.{Ok as Done, BadInput, ReadFault, KeeperFault, OutOfMemory}
 
 abbrev pub not_empty_line : List ℕ
 not_empty_line = codes "fault: keeper holds a season\n"
-
--- ---- where no bundle is read
-
--- the whole text that goes with each status, for the bytes that the source had left
-abbrev pub IsUnreadText : Option (List ℕ) → Status → List ℕ → Type 0
-IsUnreadText left BadInput text = HasLeft IsBundleFaultLine left text
-IsUnreadText left ReadFault text = text ≡ read_line
-IsUnreadText left OutOfMemory text = text ≡ memory_line
-IsUnreadText left other text = ⊥
 
 -- ---- where no office begins
 
@@ -63,8 +54,8 @@ EndsSeason season script before after status output = (Writes (IsUnbegunText (st
 -- how `run` ends: no bundle is read, and the tables are unchanged;
 -- or the bytes that were left are a bundle, and its season ends
 abbrev pub EndsRun : Option (List ℕ) → Tables → Tables → Status → List ℕ → Type 0
-EndsRun left before after status output = (Writes (IsUnreadText left) status output × (after ≡ before))
-    ⊎ ((season : Season) × (script : List Request) × IsLeftBundle left season script × EndsSeason season script before after status output)
+EndsRun left before after status output = (Writes (IsTextOf (bundle_answers true) left) status output × (after ≡ before))
+    ⊎ ((season : Season) × (script : List Request) × IsLeftBundle true left season script × EndsSeason season script before after status output)
 
 -- the visible tables have no season
 abbrev pub TellsNoSeason : Tables → Type 0

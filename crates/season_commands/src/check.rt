@@ -11,6 +11,7 @@ use season_texts::counts_text;
 use std::alloc::Global;
 
 /// Returns the output of `check` for the bundle that the source gives.
+#[tactic(auto, using(crate::proofs::CheckFaults::check_failed))]
 pub fn check_answer<S: Source>(alloc: Global, source: &mut S) -> Result<Text, Failure>
     ensures output { IfOk result (HasLeft check_answers.IsOutput (S.left source.old)) }
     ensures ended { OnOk result (IsAtEnd (S.left source.new)) }
@@ -19,6 +20,6 @@ pub fn check_answer<S: Source>(alloc: Global, source: &mut S) -> Result<Text, Fa
     ensures count { S.faults source.old ≤ S.faults source.new }
     ensures steady { ¬ IsErrOf result Failure.Read → S.faults source.new ≡ S.faults source.old }
 {
-    let (season, _) = read_bundle(alloc, source)?;
+    let (season, _) = read_bundle(alloc, source, true)?;
     Ok(counts_text(alloc, &season)?)
 }

@@ -15,7 +15,7 @@ mod resume;
 mod run;
 mod stray;
 
-pub use bundle::bundle_failure;
+pub use bundle::{bundle_failure, read_bundle};
 pub use check::check_answer;
 pub use resume::{resume_office, resume_season};
 pub use run::{run_script, run_season, tell_unbegun};

@@ -7,14 +7,14 @@ ghost use Rattle.kept_rows.specs.Tables.{still};
 ghost use Rattle.office_moves.specs.Stands.{Stand};
 ghost use Rattle.office_moves.specs.State.{opening};
 ghost use Rattle.command_answers.specs.Answers.{IsFailureOf, Tells};
-ghost use Rattle.season_commands.specs.Check.{IsBundle, IsFaultyBundle, check_answers};
+ghost use Rattle.season_commands.specs.Check.{IsBundle, IsFaultyBundle, bundle_answers};
 ghost use Rattle.office_base.specs.Visible.{source_of};
 ghost use Rattle.season_commands.specs.Outside.{Outputs, outside_of};
 ghost use Rattle.season_commands.specs.Run.{EndsRun, EndsSeason, RunsInput, RunsScript, begin_status, begin_text};
 ghost use Rattle.command_answers.specs.Writes.{IsTextOut};
 
 use crate::bundle::read_bundle;
-use crate::laws::one_answer;
+use crate::laws::one_bundle_answer;
 use crate::office::run_office;
 use command_answers::{Status, tell_failure, tell_keeper_fault, tell_no_memory, write_answer};
 use keeper_mem::Keeper;
@@ -32,12 +32,12 @@ pub fn run_season<S: Source, K: Sink, P: Keeper>(
 ) -> (Status, P)
     ensures written { Outputs (EndsRun (S.left source.old)) (outside_of K.Sink P.Keeper
         sink.old keeper) (outside_of K.Sink P.Keeper sink.new result.1) result.0 }
-    ensures runs { RunsInput IsBundle IsFaultyBundle (source_of S.Source source.old)
+    ensures runs { RunsInput (IsBundle true) (IsFaultyBundle true) (source_of S.Source source.old)
         (source_of S.Source source.new) (outside_of K.Sink P.Keeper sink.old keeper)
         (outside_of K.Sink P.Keeper sink.new result.1) result.0 }
 {
-    one_answer();
-    match read_bundle(alloc, source) {
+    one_bundle_answer();
+    match read_bundle(alloc, source, true) {
         Ok((season, script)) => run_script(alloc, season, script.as_slice(), sink, keeper),
         Err(failure) => (tell_failure(sink, failure), keeper),
     }

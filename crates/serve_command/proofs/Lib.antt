@@ -1,4 +1,2 @@
-mod OneSeason
-mod SeasonFaults
 mod ServeEnds
 mod ServedEnds

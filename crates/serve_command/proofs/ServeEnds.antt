@@ -1,7 +1,7 @@
 -- How the command `serve` ends.
-use Rattle.std.proofs.Common.{◌≡◌, inl, inr, ℕ, true, false, List, [], Option, Some, None, Err, refl, subst}
+use Rattle.std.proofs.Common.{◌≡◌, inl, inr, ℕ, true, false, List, [], Option, Err, refl, subst}
 use Rattle.office_base.specs.Outside.{Appends}
-use Rattle.season_file.specs.Season.{content_of}
+use Rattle.office_base.specs.declared.asks.Request.{Request}
 use Rattle.season_file.specs.declared.season.Season.{Season}
 use Rattle.kept_rows.specs.Tables.{Tables, AreTold, IsFound, IsTold as IsTablesTold, still}
 use Rattle.office_moves.specs.Facts.{SeasonFacts}
@@ -12,17 +12,17 @@ use Rattle.office_moves.specs.declared.moves.Entry.{Entry}
 use Rattle.round_cut.specs.Resume.{HoldsTheKept, IsResumed}
 use Rattle.round_cut.specs.declared.fault.BeginFault.{BeginFault}
 use Rattle.round_cut.specs.declared.fault.BeginFault.TheVariants.{NotEmpty}
+use Rattle.season_commands.specs.Check.{IsLeftBundle, bundle_answers}
 use Rattle.season_commands.specs.Run.{IsUnbegunText, begin_status, begin_text}
-use Rattle.command_answers.specs.Answers.{HaveOneAnswer, IsFailureOf, Tells}
+use Rattle.command_answers.specs.Answers.{IsFailureOf}
 use Rattle.command_answers.specs.Writes.{IsTextOut, status_of, text_of}
 use Rattle.command_answers.specs.declared.failure.Failure.{Failure}
-use Rattle.command_answers.specs.declared.failure.Failure.TheVariants.{Read, Bad, NoMemory as NoMemoryToRead}
 use Rattle.command_answers.specs.declared.status.Status.{Status}
-use Rattle.command_answers.proofs.Ended.{told_is_written}
+use Rattle.command_answers.proofs.Ended.{answer_is_written, told_is_written}
 use Rattle.season_commands.proofs.Still.{still_from, still_later, still_resumed}
 use Rattle.season_commands.proofs.RunEnds.{text_of_begin}
 use Rattle.serve_command.specs.Doors.{Doors}
-use Rattle.serve_command.specs.Serve.{EndsBegun, EndsServe, EndsServeKept, EndsServed, IsFaultySeason, IsLeftSeason, IsSeasonBundle, IsUnreadText, season_answers}
+use Rattle.serve_command.specs.Serve.{EndsBegun, EndsServe, EndsServeKept, EndsServed}
 
 -- ---- an office begins
 
@@ -49,33 +49,20 @@ begun_ends season facts held before mid after doors written now status same none
   ),
 )
 
--- the text of why no season was read goes with its status
-text_of_failure : (left : Option (List ℕ)) (failed : Type 0) (failure : Failure) → IsFailureOf season_answers left failed failure → IsUnreadText left (status_of (Err failure)) (text_of (Err failure))
-text_of_failure left failed Read cause = refl
-text_of_failure left failed (Bad line) cause = cause
-text_of_failure left failed NoMemoryToRead cause = refl
-
--- No season was read.
+-- No bundle was read.
 pub unread_ends : (left : Option (List ℕ)) (failed : Type 0) (failure : Failure) (tables : Tables) (doors : Doors) (written now : Option (List ℕ)) (broke : Type 0) (result : Status)
-    → IsFailureOf season_answers left failed failure → doors.spared → IsTextOut (status_of (Err failure)) (text_of (Err failure)) written now broke result
+    → IsFailureOf (bundle_answers false) left failed failure → doors.spared → IsTextOut (status_of (Err failure)) (text_of (Err failure)) written now broke result
     → (output : List ℕ) × Appends output written now × EndsServe left tables tables doors result output
 unread_ends left failed failure tables doors written now broke result cause spared is =
-    let (output, appends, writes) = told_is_written (IsUnreadText left) (status_of (Err failure)) result (text_of (Err failure)) written now broke (text_of_failure left failed failure cause) is in
+    let (output, appends, writes) = answer_is_written (bundle_answers false) left failed (Err failure) result written now broke tt cause is in
     (output, appends, inl (writes, refl, spared))
 
--- No season can be read if a bundle has a fault.
-pub no_faulty_season : (left : Option (List ℕ)) (season : Season) → ((bytes : List ℕ) → HaveOneAnswer season_answers bytes) → IsLeftSeason left season → Tells IsFaultySeason left → ⊥
-no_faulty_season None season laws is tells = tells
-no_faulty_season (Some bytes) season laws is tells =
-    let (script, with) = is.2 in
-    let given = subst (λ b. IsSeasonBundle b) is.1 (content_of season with.row, script, with.given) in
-    (laws bytes).apart given tells
-
--- A season was read, and ended.
-pub read_ends : (left : Option (List ℕ)) (before after : Tables) (doors : Doors) (season : Season) (written now : Option (List ℕ)) (status : Status) → IsLeftSeason left season
+-- A bundle was read, and its season ended.
+pub read_ends : (left : Option (List ℕ)) (before after : Tables) (doors : Doors) (season : Season) (script : List Request) (written now : Option (List ℕ)) (status : Status)
+    → IsLeftBundle false left season script
     → (output : List ℕ) × Appends output written now × EndsBegun season before after doors status output
     → (output : List ℕ) × Appends output written now × EndsServe left before after doors status output
-read_ends left before after doors season written now status is end = (end.0, end.1, inr (season, is, end.2))
+read_ends left before after doors season script written now status is end = (end.0, end.1, inr (season, script, is, end.2))
 
 -- ---- an office resumes
 

@@ -2,16 +2,11 @@
 -- served at doors. Its output is how far the office is at the end, and how many entries its history has.
 use Rattle.std.specs.Prelude.{◌≡◌, ◌⊎◌, ℕ, Bool, true, false, List, [], ◌++◌, Option, codes, length}
 use Rattle.std.specs.Fmt.{decimal}
-use Rattle.office_base.specs.FaultLines.{memory_line, read_line}
-use Rattle.office_base.specs.Outside.{AreLeft, Rose}
+use Rattle.office_base.specs.FaultLines.{memory_line}
+use Rattle.office_base.specs.Outside.{Rose}
 use Rattle.office_base.specs.Visible.{Readable}
 use Rattle.office_base.specs.declared.asks.Request.{Request}
-use Rattle.season_file.specs.Laws.{HasFault}
-use Rattle.season_file.specs.Season.{BundleGives, IsSeasonWith}
-use Rattle.season_file.specs.declared.content.Content.{Content}
-use Rattle.season_file.specs.declared.fault.SeasonFault.{SeasonFault}
 use Rattle.season_file.specs.declared.season.Season.{Season}
-use Rattle.season_texts.specs.Texts.{fault_line}
 use Rattle.kept_rows.specs.Tables.{Tables, AreTold, IsFound, still}
 use Rattle.office_moves.specs.Facts.{SeasonFacts}
 use Rattle.office_moves.specs.History.{IsHistory}
@@ -22,44 +17,16 @@ use Rattle.office_moves.specs.State.{State}
 use Rattle.office_moves.specs.declared.moves.Entry.{Entry}
 use Rattle.reply_texts.specs.Replies.{state_line}
 use Rattle.round_cut.specs.Resume.{HoldsTheKept, IsResumed}
+use Rattle.season_commands.specs.Check.{IsBundle, IsFaultyBundle, IsLeftBundle, bundle_answers}
 use Rattle.season_commands.specs.Resume.{EndsUnresumed}
 use Rattle.season_commands.specs.Outside.{EndsWith, Held, Outside, held}
 use Rattle.season_commands.specs.Run.{IsUnbegunText, TellsNoSeason, TellsSeason}
-use Rattle.command_answers.specs.Answers.{Answers, HasLeft, Tells}
-use Rattle.command_answers.specs.Writes.{Writes}
+use Rattle.command_answers.specs.Answers.{Tells}
+use Rattle.command_answers.specs.Writes.{IsTextOf, Writes}
 use Rattle.command_answers.specs.declared.status.Status.{Status}
-use Rattle.command_answers.specs.declared.status.Status.TheVariants.{Ok as Done, BadInput, ReadFault, OutOfMemory}
+use Rattle.command_answers.specs.declared.status.Status.TheVariants.{Ok as Done, BadInput, OutOfMemory}
 use Rattle.serve_command.specs.Doors.{Doors}
 use Rattle.serve_command.specs.Ending.{served_status}
-
--- ---- the input of an office that begins: a season bundle without requests, whose section is a fault there
-
--- the bytes are such a bundle without faults
-abbrev pub IsSeasonBundle : List ℕ → Type 0
-IsSeasonBundle bytes = (content : Content) × (script : List Request) × BundleGives false bytes content script
-
--- the bytes that were left are such a bundle, and this is its season
-abbrev pub IsLeftSeason : Option (List ℕ) → Season → Type 0
-IsLeftSeason left season = (bytes : List ℕ) × AreLeft bytes left × ((script : List Request) × IsSeasonWith false bytes season script)
-
--- the bytes have a fault as such a bundle
-abbrev pub IsFaultySeason : List ℕ → Type 0
-IsFaultySeason bytes = (fault : SeasonFault) × HasFault false bytes fault
-
--- the bytes have a fault as such a bundle, and this is its line
-abbrev pub IsSeasonFaultLine : List ℕ → List ℕ → Type 0
-IsSeasonFaultLine bytes line = (fault : SeasonFault) × HasFault false bytes fault × (line ≡ fault_line fault)
-
--- what is answered to the bytes alone: the line of a fault
-abbrev pub season_answers : Answers
-season_answers = record { IsInput = IsSeasonBundle; IsFaulty = IsFaultySeason; IsOutput = λ bytes output. ⊥; IsFaultLine = IsSeasonFaultLine }
-
--- the whole text that goes with each status if no season is read, for the bytes that the source had left
-abbrev pub IsUnreadText : Option (List ℕ) → Status → List ℕ → Type 0
-IsUnreadText left BadInput text = HasLeft IsSeasonFaultLine left text
-IsUnreadText left ReadFault text = text ≡ read_line
-IsUnreadText left OutOfMemory text = text ≡ memory_line
-IsUnreadText left other text = ⊥
 
 -- ---- the output
 
@@ -114,11 +81,11 @@ abbrev pub EndsBegun : Season → Tables → Tables → Doors → Status → Lis
 EndsBegun season before after doors status output = (Writes (IsUnbegunText (still before after)) status output × AreTold before after × doors.spared)
     ⊎ (IsFound false (still before after) × EndsServed (facts_of season) [] after doors status output)
 
--- how `serve` with `new` ends: no season is read, and the tables and the doors are unchanged;
--- or the bytes that were left are a season's, and that season ends
+-- how `serve` with `new` ends: no bundle is read, and the tables and the doors are unchanged;
+-- or the bytes that were left are a bundle without requests, and its season ends
 abbrev pub EndsServe : Option (List ℕ) → Tables → Tables → Doors → Status → List ℕ → Type 0
-EndsServe left before after doors status output = (Writes (IsUnreadText left) status output × (after ≡ before) × doors.spared)
-    ⊎ ((season : Season) × IsLeftSeason left season × EndsBegun season before after doors status output)
+EndsServe left before after doors status output = (Writes (IsTextOf (bundle_answers false) left) status output × (after ≡ before) × doors.spared)
+    ⊎ ((season : Season) × (script : List Request) × IsLeftBundle false left season script × EndsBegun season before after doors status output)
 
 -- the records of the tables lead to a state of a season, and these are the entries that they hold
 abbrev pub IsKept : Tables → SeasonFacts → List Entry → Type 0
@@ -136,6 +103,6 @@ EndsServeKept before after doors status output = (EndsUnresumed before after sta
 -- If nothing failed, doors included: a bundle without errors is served, a faulty one is refused, and so is any bundle
 -- if the keeper holds a season already.
 pub record AnswersBundle (source now : Readable) (old new : Outside) (DoorFailed : Type 0) (status : Status) : Type 0 where
-  pub complete : Tells IsSeasonBundle source.left → TellsNoSeason (held old new) → ¬ Rose source.faults now.faults → Held old new → ¬ DoorFailed → EndsWith Done status
-  pub refused : Tells IsFaultySeason source.left → ¬ Rose source.faults now.faults → ¬ Rose old.write_faults new.write_faults → EndsWith BadInput status
+  pub complete : Tells (IsBundle false) source.left → TellsNoSeason (held old new) → ¬ Rose source.faults now.faults → Held old new → ¬ DoorFailed → EndsWith Done status
+  pub refused : Tells (IsFaultyBundle false) source.left → ¬ Rose source.faults now.faults → ¬ Rose old.write_faults new.write_faults → EndsWith BadInput status
   pub not_empty : TellsSeason (held old new) → ¬ Rose source.faults now.faults → Held old new → EndsWith BadInput status

@@ -8,7 +8,6 @@
 #![tactic(auto)]
 
 mod kept;
-pub mod laws;
 mod season;
 mod serving;
 mod telling;

@@ -1,11 +1,10 @@
 // An office begins with the season of the bundle that a source gives, over a keeper that holds none, and is served.
-ghost use Rattle.std.specs.Prelude.{◌≡◌, ◌≢◌, ◌≤◌, ◌⊎◌, ℕ, List, length, IfOk, IfErr, OnOk, IsErrOf};
+ghost use Rattle.std.specs.Prelude.{◌≡◌, ◌≢◌, ◌≤◌, ◌⊎◌, ℕ, List, length};
 ghost use Rattle.std.specs.List.{AllByRecursion};
 ghost use Rattle.office_base.specs.Limits.{most_doors, most_connections};
 ghost use Rattle.office_base.specs.Outside.{Rose, IsAtEnd, Appends};
 ghost use Rattle.season_file.specs.Season.{IsSeason};
 ghost use Rattle.kept_rows.specs.Tables.{still};
-ghost use Rattle.command_answers.specs.Answers.{IsFailureOf};
 ghost use Rattle.door_histories.specs.Ending.{SomeRose};
 ghost use Rattle.door_histories.specs.Served.{telling};
 ghost use Rattle.season_commands.specs.Run.{TellsNoSeason, TellsSeason};
@@ -14,16 +13,16 @@ ghost use Rattle.office_base.specs.Visible.{sink_of, source_of};
 ghost use Rattle.season_commands.specs.Outside.{BlamesSource, EndsWith, outside_of};
 ghost use Rattle.serve_command.specs.Blames.{BlamesDoors, BlamesKeeper};
 ghost use Rattle.serve_command.specs.Doors.{doors_seen};
-ghost use Rattle.serve_command.specs.Serve.{AnswersBundle, EndsBegun, EndsServe, IsLeftSeason, season_answers};
+ghost use Rattle.serve_command.specs.Serve.{AnswersBundle, EndsBegun, EndsServe};
 
-use crate::laws::one_season_answer;
 use crate::serving::serve_office;
-use command_answers::{Failure, Status, tell_failure};
+use command_answers::{Status, tell_failure};
 use keeper_mem::Keeper;
 use office_base::{Sink, Source};
 use office_links::Door;
 use round_cut::Office;
-use season_commands::{bundle_failure, tell_unbegun};
+use season_commands::laws::one_bundle_answer;
+use season_commands::{read_bundle, tell_unbegun};
 use season_file::Season;
 use std::alloc::Global;
 use std::sync::Wait;
@@ -57,26 +56,10 @@ pub fn serve_season<
         (outside_of K.Sink P.Keeper sink.old keeper) (outside_of K.Sink P.Keeper sink.new result.1)
         (SomeRose D.faults doors.old doors.new) result.0 }
 {
-    one_season_answer();
-    match read_season(alloc, source) {
-        Ok(season) => begin_and_serve(rt, alloc, season, sink, keeper, doors),
+    one_bundle_answer();
+    match read_bundle(alloc, source, false) {
+        Ok((season, _)) => begin_and_serve(rt, alloc, season, sink, keeper, doors),
         Err(failure) => (tell_failure(sink, failure), keeper),
-    }
-}
-
-/// Reads the season of the bundle without requests that the source gives.
-fn read_season<S: Source>(alloc: Global, source: &mut S) -> Result<Season, Failure>
-    ensures season { IfOk result (IsLeftSeason (S.left source.old)) }
-    ensures text { IfOk result (λ season. IsSeason season.text season) }
-    ensures ended { OnOk result (IsAtEnd (S.left source.new)) }
-    ensures failure { IfErr result (IsFailureOf season_answers (S.left source.old)
-        (Rose (S.faults source.old) (S.faults source.new))) }
-    ensures count { S.faults source.old ≤ S.faults source.new }
-    ensures steady { ¬ IsErrOf result Failure.Read → S.faults source.new ≡ S.faults source.old }
-{
-    match Season::read(alloc, source, false) {
-        Ok((season, _)) => Ok(season),
-        Err(fault) => Err(bundle_failure(alloc, fault)),
     }
 }
 

@@ -14,7 +14,7 @@ use Rattle.command_answers.specs.declared.failure.Failure.{Failure}
 use Rattle.command_answers.specs.declared.failure.Failure.TheVariants.{Read, Bad, NoMemory}
 use Rattle.command_answers.specs.declared.status.Status.{Status}
 use Rattle.command_answers.specs.declared.status.Status.TheVariants.{Ok as Done, OutOfMemory}
-use Rattle.command_answers.proofs.Ended.{told_is_written}
+use Rattle.command_answers.proofs.Ended.{answer_is_written, status_is_told, told_is_written}
 use Rattle.season_commands.proofs.Still.{still_resumed}
 use Rattle.special_command.specs.Special.{AreFaultyLists, AreSpecialLists, EndsSpecial, HaveOneSpecial, IsListsFaultLine, IsSpecialOutput, IsSpecialText, IsToldFault, special_answers, too_long_line}
 
@@ -43,19 +43,12 @@ pub round_ends : (facts : SeasonFacts) (state : State) (left : Option (List ℕ)
 round_ends facts state left text shown written now broke result made same told =
     told_is_written (IsSpecialText facts state left) Done result shown written now broke (subst (HasLeft (IsSpecialOutput facts state) left) (sym same) made) told
 
--- the text of why there is none goes with its status
-text_of_failure : (facts : SeasonFacts) (state : State) (left : Option (List ℕ)) (failed : Type 0) (failure : Failure) → IsFailureOf (special_answers facts state) left failed failure
-    → IsSpecialText facts state left (status_of (Err failure)) (text_of (Err failure))
-text_of_failure facts state left failed Read cause = refl
-text_of_failure facts state left failed (Bad line) cause = cause
-text_of_failure facts state left failed NoMemory cause = refl
-
 -- It was written why there is none.
 pub none_ends : (facts : SeasonFacts) (state : State) (left : Option (List ℕ)) (failed : Type 0) (failure : Failure) (written now : Option (List ℕ)) (broke : Type 0) (result : Status)
     → IsFailureOf (special_answers facts state) left failed failure → IsTextOut (status_of (Err failure)) (text_of (Err failure)) written now broke result
     → (output : List ℕ) × Appends output written now × Writes (IsSpecialText facts state left) result output
 none_ends facts state left failed failure written now broke result cause told =
-    told_is_written (IsSpecialText facts state left) (status_of (Err failure)) result (text_of (Err failure)) written now broke (text_of_failure facts state left failed failure cause) told
+    answer_is_written (special_answers facts state) left failed (Err failure) result written now broke tt cause told
 
 -- ---- which lists are answered
 
@@ -73,10 +66,6 @@ no_fault facts state None line laws has tells = tells
 no_fault facts state (Some bytes) line laws has tells =
     (laws facts state bytes).apart tells (subst (AreFaultyLists facts state) has.1 ((laws facts state has.0).of_fault line has.2))
 
--- if the sink did not fail, the status is that of the text
-status_is : (status result : Status) (text : List ℕ) (written now : Option (List ℕ)) (broke : Type 0) → IsTextOut status text written now broke result → (broke → ⊥) → result ≡ status
-status_is status result text written now broke told held = elim told [ inl whole ↦ whole.0 | inr cut ↦ absurd (held cut.1) ]
-
 -- Lists without a fault are answered, if neither side failed and memory did not run out.
 pub lists_are_answered : (facts : SeasonFacts) (state : State) (left : Option (List ℕ)) (failed : Type 0) (failure : Failure) (written now : Option (List ℕ)) (broke : Type 0) (result : Status)
     → ((facts : SeasonFacts) (state : State) (bytes : List ℕ) → HaveOneSpecial facts state bytes) → IsFailureOf (special_answers facts state) left failed failure
@@ -84,7 +73,7 @@ pub lists_are_answered : (facts : SeasonFacts) (state : State) (left : Option (L
     → (result ≡ Done) ⊎ (result ≡ OutOfMemory)
 lists_are_answered facts state left failed Read written now broke result laws cause told tells read wrote = absurd (read cause)
 lists_are_answered facts state left failed (Bad line) written now broke result laws cause told tells read wrote = absurd (no_fault facts state left line laws cause tells)
-lists_are_answered facts state left failed NoMemory written now broke result laws cause told tells read wrote = inr (status_is OutOfMemory result _ written now broke told wrote)
+lists_are_answered facts state left failed NoMemory written now broke result laws cause told tells read wrote = inr (status_is_told OutOfMemory result _ written now broke told wrote)
 
 -- ---- all together
 

@@ -1,7 +1,7 @@
 -- A bundle with units has one answer.
-use Rattle.std.proofs.Common.{◌≡◌, ◌⊎◌, inl, inr, ℕ, List, Result, Ok, Err, refl, sym, ap, subst, ◌∙◌}
+use Rattle.std.proofs.Common.{◌≡◌, ◌⊎◌, inl, inr, ℕ, true, List, Result, Ok, Err, refl, sym, ap, subst, ◌∙◌}
 use Rattle.command_answers.specs.Answers.{HaveOneAnswer}
-use Rattle.season_commands.specs.Check.{IsBundle, IsBundleFaultLine, IsFaultyBundle, check_answers}
+use Rattle.season_commands.specs.Check.{IsBundle, IsBundleFaultLine, IsFaultyBundle, bundle_answers}
 use Rattle.quota_units.specs.Input.{expansion}
 use Rattle.quota_units.specs.declared.fault.UnitFault.{UnitFault}
 use Rattle.units_command.specs.Texts.{unit_line}
@@ -16,7 +16,7 @@ one_fault r a b e f = cc
 never_both : (r : Result (List ℕ) UnitFault) (a : List ℕ) (b : UnitFault) → r ≡ Ok a → r ≡ Err b → ⊥
 never_both r a b e f = cc
 
-pub one_units_answer : ((bytes : List ℕ) → HaveOneAnswer check_answers bytes) → (bytes : List ℕ) → HaveOneAnswer units_answers bytes
+pub one_units_answer : ((bytes : List ℕ) → HaveOneAnswer (bundle_answers true) bytes) → (bytes : List ℕ) → HaveOneAnswer units_answers bytes
 one_units_answer laws bytes = record {
   some = some (expansion bytes) refl;
   apart = apart;
@@ -26,7 +26,7 @@ one_units_answer laws bytes = record {
   one_line = one_line;
 }
   where
-    input : (text : List ℕ) → expansion bytes ≡ Ok text → IsBundle text ⊎ IsFaultyBundle text → IsUnitsInput bytes ⊎ IsFaultyUnits bytes
+    input : (text : List ℕ) → expansion bytes ≡ Ok text → IsBundle true text ⊎ IsFaultyBundle true text → IsUnitsInput bytes ⊎ IsFaultyUnits bytes
     input text e (inl is) = inl (text, e, is)
     input text e (inr has) = inr (inr (text, e, has))
 
@@ -36,7 +36,7 @@ one_units_answer laws bytes = record {
 
     apart : IsUnitsInput bytes → IsFaultyUnits bytes → ⊥
     apart is (inl has) = never_both (expansion bytes) is.0 has.0 is.1 has.1
-    apart is (inr has) = (laws is.0).apart is.2 (subst IsFaultyBundle (one_text (expansion bytes) has.0 is.0 has.1 is.1) has.2)
+    apart is (inr has) = (laws is.0).apart is.2 (subst (IsFaultyBundle true) (one_text (expansion bytes) has.0 is.0 has.1 is.1) has.2)
 
     of_fault : (line : List ℕ) → IsUnitsFaultLine bytes line → IsFaultyUnits bytes
     of_fault line (inl has) = inl (has.0, has.1)
@@ -46,4 +46,4 @@ one_units_answer laws bytes = record {
     one_line line other (inl a) (inl b) = a.2 ∙ ap unit_line (one_fault (expansion bytes) a.0 b.0 a.1 b.1) ∙ sym b.2
     one_line line other (inl a) (inr b) = absurd (never_both (expansion bytes) b.0 a.0 b.1 a.1)
     one_line line other (inr a) (inl b) = absurd (never_both (expansion bytes) a.0 b.0 a.1 b.1)
-    one_line line other (inr a) (inr b) = (laws a.0).one_line line other a.2 (subst (λ (t : List ℕ). IsBundleFaultLine t other) (one_text (expansion bytes) b.0 a.0 b.1 a.1) b.2)
+    one_line line other (inr a) (inr b) = (laws a.0).one_line line other a.2 (subst (λ (t : List ℕ). IsBundleFaultLine true t other) (one_text (expansion bytes) b.0 a.0 b.1 a.1) b.2)

@@ -1,5 +1,5 @@
 -- How the command `units` ends.
-use Rattle.std.proofs.Common.{◌≡◌, ◌<◌, inl, inr, ℕ, Bool, true, cond, List, Option, Some, None, Result, Ok, Err, length, refl, sym, ap, subst}
+use Rattle.std.proofs.Common.{◌≡◌, ◌<◌, inl, inr, ℕ, Bool, true, cond, List, Option, Some, None, Result, Ok, Err, length, refl, ap, subst}
 use Rattle.std.proofs.lemmas.Bool.{lt-ltb}
 use Rattle.office_base.specs.Limits.{most_bundle_bytes}
 use Rattle.office_base.specs.Outside.{Appends, AreLeft}
@@ -18,16 +18,16 @@ use Rattle.command_answers.specs.Writes.{IsTextOut, status_of, text_of}
 use Rattle.command_answers.specs.declared.failure.Failure.{Failure}
 use Rattle.command_answers.specs.declared.failure.Failure.TheVariants.{Read, Bad, NoMemory}
 use Rattle.command_answers.specs.declared.status.Status.{Status}
-use Rattle.command_answers.proofs.Ended.{all_left, long_left, told_is_written}
+use Rattle.command_answers.proofs.Ended.{all_left, answer_is_written, long_left}
 use Rattle.season_commands.specs.Check.{IsBundle, TellsSeasonFault}
 use Rattle.season_commands.specs.Run.{EndsSeason}
 use Rattle.quota_units.specs.Expansion.{GaveUnitFault, IsUnitFault}
 use Rattle.quota_units.specs.Homes.{states_of, units_of}
 use Rattle.quota_units.specs.Input.{expanded, expansion, input_of, with_row}
 use Rattle.quota_units.specs.declared.fault.UnitFault.{UnitFault}
-use Rattle.quota_units.specs.declared.fault.UnitFault.TheVariants.{ReadFault, TooLong, BadFirstLine, Section, BadUnit, BadState, DirectUnit, NoState, OutOfMemory}
+use Rattle.quota_units.specs.declared.fault.UnitFault.TheVariants.{ReadFault, TooLong, BadFirstLine, Section, BadUnit, BadState, OutOfMemory}
 use Rattle.units_command.specs.Texts.{unit_line}
-use Rattle.units_command.specs.Units.{EndsUnits, IsFaultyUnits, IsLeftExpansion, IsUnitsText, TellsUnitFault, units_answers}
+use Rattle.units_command.specs.Units.{EndsUnits, IsFaultyUnits, IsLeftExpansion, TellsUnitFault, units_answers}
 
 -- ---- why there is no bundle
 
@@ -83,18 +83,12 @@ text_failed left bytes text failed fault NoMemory are made first told = tt
 
 -- ---- how the command ends
 
--- the text of why no bundle was read goes with its status
-text_of_failure : (left : Option (List ℕ)) (failed : Type 0) (failure : Failure) → IsFailureOf units_answers left failed failure → IsUnitsText left (status_of (Err failure)) (text_of (Err failure))
-text_of_failure left failed Read cause = refl
-text_of_failure left failed (Bad line) cause = cause
-text_of_failure left failed NoMemory cause = refl
-
 -- No bundle was read.
 pub unread_ends : (left : Option (List ℕ)) (failed : Type 0) (failure : Failure) (tables : Tables) (written now : Option (List ℕ)) (broke : Type 0) (result : Status)
     → IsFailureOf units_answers left failed failure → IsTextOut (status_of (Err failure)) (text_of (Err failure)) written now broke result
     → (output : List ℕ) × Appends output written now × EndsUnits left tables tables result output
 unread_ends left failed failure tables written now broke result cause is =
-    let (output, appends, writes) = told_is_written (IsUnitsText left) (status_of (Err failure)) result (text_of (Err failure)) written now broke (text_of_failure left failed failure cause) is in
+    let (output, appends, writes) = answer_is_written units_answers left failed (Err failure) result written now broke tt cause is in
     (output, appends, inl (writes, refl))
 
 -- No season can be read if the bytes have a fault.
@@ -102,7 +96,7 @@ pub no_faulty_units : (left : Option (List ℕ)) (season : Season) (script : Lis
 no_faulty_units None season script laws is tells = tells
 no_faulty_units (Some all) season script laws (bytes, text, are, more) tells =
     let (made, with, right) = more in
-    let given : IsBundle text = (content_of season with.row, script, with.given) in
+    let given : IsBundle true text = (content_of season with.row, script, with.given) in
     (laws all).apart (subst (λ (b : List ℕ). units_answers.IsInput b) are (text, made.made, given)) tells
 
 -- A bundle was read, and its season ended.

@@ -2,7 +2,6 @@
 use Rattle.std.specs.Prelude.{◌≡◌, ◌⊎◌, ℕ, true, List, Option, Some, Ok, Err}
 use Rattle.office_base.specs.Lists.{IsAmong}
 use Rattle.office_base.specs.Outside.{AreLeft}
-use Rattle.office_base.specs.FaultLines.{memory_line, read_line}
 use Rattle.office_base.specs.declared.asks.Request.{Request}
 use Rattle.office_base.specs.declared.asks.Seat.{Seat}
 use Rattle.season_file.specs.Season.{IsSeasonWith}
@@ -20,12 +19,11 @@ use Rattle.quota_units.specs.Input.{expansion}
 use Rattle.quota_units.specs.Reads.{LivesRight}
 use Rattle.quota_units.specs.declared.fault.UnitFault.{UnitFault}
 use Rattle.quota_units.specs.declared.fault.UnitFault.TheVariants.{ReadFault, OutOfMemory as NoUnitMemory}
-use Rattle.command_answers.specs.Answers.{Answers, HasLeft}
-use Rattle.command_answers.specs.Writes.{Writes}
+use Rattle.command_answers.specs.Answers.{Answers}
+use Rattle.command_answers.specs.Writes.{IsTextOf, Writes}
 use Rattle.command_answers.specs.declared.failure.Failure.{Failure}
 use Rattle.command_answers.specs.declared.failure.Failure.TheVariants.{Read, Bad, NoMemory}
 use Rattle.command_answers.specs.declared.status.Status.{Status}
-use Rattle.command_answers.specs.declared.status.Status.TheVariants.{BadInput, ReadFault as SourceFailed, OutOfMemory}
 use Rattle.season_commands.specs.Check.{IsBundle, IsBundleFaultLine, IsFaultyBundle}
 use Rattle.season_commands.specs.Run.{EndsSeason}
 use Rattle.units_command.specs.Texts.{unit_line}
@@ -34,16 +32,16 @@ use Rattle.units_command.specs.Texts.{unit_line}
 
 -- the bytes result in a plain bundle without faults
 abbrev pub IsUnitsInput : List ℕ → Type 0
-IsUnitsInput bytes = (text : List ℕ) × (expansion bytes ≡ Ok text) × IsBundle text
+IsUnitsInput bytes = (text : List ℕ) × (expansion bytes ≡ Ok text) × IsBundle true text
 
 -- the bytes result in none, or in one with a fault
 abbrev pub IsFaultyUnits : List ℕ → Type 0
-IsFaultyUnits bytes = ((fault : UnitFault) × (expansion bytes ≡ Err fault)) ⊎ ((text : List ℕ) × (expansion bytes ≡ Ok text) × IsFaultyBundle text)
+IsFaultyUnits bytes = ((fault : UnitFault) × (expansion bytes ≡ Err fault)) ⊎ ((text : List ℕ) × (expansion bytes ≡ Ok text) × IsFaultyBundle true text)
 
 -- the line of the fault of the bytes, or otherwise of the plain bundle
 abbrev pub IsUnitsFaultLine : List ℕ → List ℕ → Type 0
 IsUnitsFaultLine bytes line =
-    ((fault : UnitFault) × (expansion bytes ≡ Err fault) × (line ≡ unit_line fault)) ⊎ ((text : List ℕ) × (expansion bytes ≡ Ok text) × IsBundleFaultLine text line)
+    ((fault : UnitFault) × (expansion bytes ≡ Err fault) × (line ≡ unit_line fault)) ⊎ ((text : List ℕ) × (expansion bytes ≡ Ok text) × IsBundleFaultLine true text line)
 
 -- how the input is judged; its output are the replies of an office
 abbrev pub units_answers : Answers
@@ -73,17 +71,10 @@ abbrev pub IsLeftExpansion : Option (List ℕ) → Season → List Request → T
 IsLeftExpansion left season script =
     (bytes text : List ℕ) × AreLeft bytes left × ((made : IsExpansion bytes text) × IsSeasonWith true text season script × AlwaysLiveRight made.units made.states (facts_of season))
 
--- the whole text that goes with each status, for the bytes that the source had left, if no bundle is read
-abbrev pub IsUnitsText : Option (List ℕ) → Status → List ℕ → Type 0
-IsUnitsText left BadInput text = HasLeft IsUnitsFaultLine left text
-IsUnitsText left SourceFailed text = text ≡ read_line
-IsUnitsText left OutOfMemory text = text ≡ memory_line
-IsUnitsText left other text = ⊥
-
 -- how `units` ends: no bundle is read, and the tables are unchanged;
 -- or the bytes that were left result in a bundle, and its season ends
 abbrev pub EndsUnits : Option (List ℕ) → Tables → Tables → Status → List ℕ → Type 0
-EndsUnits left before after status output = (Writes (IsUnitsText left) status output × (after ≡ before))
+EndsUnits left before after status output = (Writes (IsTextOf units_answers left) status output × (after ≡ before))
     ⊎ ((season : Season) × (script : List Request) × IsLeftExpansion left season script × EndsSeason season script before after status output)
 
 -- The failure reports this fault by its line, or that the source failed. If memory ran out, the source did not fail.

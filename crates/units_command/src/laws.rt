@@ -13,7 +13,7 @@ ghost use Rattle.units_command.specs.Units.{AlwaysLiveRight, units_answers};
 pub fn one_units_answer()
     ensures { (bytes : List ℕ) → HaveOneAnswer units_answers bytes }
 {
-    season_commands::laws::one_answer();
+    season_commands::laws::one_bundle_answer();
 }
 
 /// Shows that a candidate who has a seat in a unit, in any round, lives where the unit is for.

@@ -1,8 +1,7 @@
-use Rattle.std.proofs.Common.{Err, inl, inr, refl, ap, rules, ◌∙◌}
-use Rattle.std.specs.Prelude.{IsErrOf}
-use Rattle.script_runs.specs.Runs.{moment_of}
-use Rattle.script_runs.specs.declared.fault.RunFault.TheVariants.{OutOfMemory, WriteFault}
-use Rattle.script_runs.proofs.Running.{IsLeft, accepts_at_fault, begins, goes, next_at, stops_before, stops_within}
+use Rattle.std.proofs.Common.{Err, refl, ap, ◌∙◌}
+use Rattle.std.proofs.lemmas.Result.{err_from_is_err_and}
+use Rattle.script_runs.specs.Steps.{moment_of}
+use Rattle.script_runs.proofs.Running.{IsLeft, accepts_at_fault, begins, ends_at_fault, goes, next_at}
 use Rattle.script_runs.proofs.run.answer_all.Goals as goal
 
 pub requests-init : goal.requests-init
@@ -31,35 +30,19 @@ requests-preserved g c =
       told_before = λ told. c.requests.invariant.told_before (ends.continues.told_before told);
     }
 
-pub returns-in_err-answer_one-clause-memory : goal.returns-in_err-answer_one-clause-memory
-returns-in_err-answer_one-clause-memory g c e =
+pub returns-in_err-answer_one-clause-ended : goal.returns-in_err-answer_one-clause-ended
+returns-in_err-answer_one-clause-ended g c =
     let next = next_at c.args.script.now c.requests.request-index c.request-item.result c.requests-test.true c.request-item.is in
-    let ends = c.answer_one.ensures in
-    let was : IsErrOf c.answer_one.result OutOfMemory = search rules in
+    let ends = c.in_err-answer_one.ensures in
     let left : IsLeft c.requests.office.season c.answer_one.new.office.season c.answer_one.new.office.entries c.answer_one.new.office.state (g.P.Keeper.seen c.answer_one.new.office.keeper).tables = record {
       same = ends.continues.season;
       history = ends.continues.history;
       word = ends.orderly.word;
       stands = ends.continues.stands;
     } in
-    elim (ends.memory was) [
-      | inl un ↦ inl (stops_before _ _ _ _ _ _ _ _ c.requests.invariant.running next.within un left)
-      | inr part ↦ inr (stops_within _ _ _ _ _ _ _ _ _ _ c.requests.invariant.running next part left)
-    ]
-
-pub returns-in_err-answer_one-clause-write : goal.returns-in_err-answer_one-clause-write
-returns-in_err-answer_one-clause-write g c e =
-    let next = next_at c.args.script.now c.requests.request-index c.request-item.result c.requests-test.true c.request-item.is in
-    let ends = c.answer_one.ensures in
-    let was : IsErrOf c.answer_one.result WriteFault = search rules in
-    let left : IsLeft c.requests.office.season c.answer_one.new.office.season c.answer_one.new.office.entries c.answer_one.new.office.state (g.P.Keeper.seen c.answer_one.new.office.keeper).tables = record {
-      same = ends.continues.season;
-      history = ends.continues.history;
-      word = ends.orderly.word;
-      stands = ends.continues.stands;
-    } in
-    let part = ends.write was in
-    (part.0, stops_within _ _ _ _ _ _ _ _ _ _ c.requests.invariant.running next part.1 left)
+    let p = err_from_is_err_and c.from_residual.result c.from_residual.ensures.1 in
+    rw (p.1, p.2) (ends_at_fault _ _ _ _ _ _ _ _ _ c.in_err-answer_one.field-0.0 c.requests.invariant.running next
+    (λ e. ends.keeper (ap Err e)) (λ e. ends.memory (ap Err e)) (λ e. ends.write (ap Err e)) left)
 
 pub returns-in_err-answer_one-clause-entries : goal.returns-in_err-answer_one-clause-entries
 returns-in_err-answer_one-clause-entries g c =

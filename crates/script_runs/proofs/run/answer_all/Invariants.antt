@@ -1,6 +1,6 @@
 use Rattle.std.proofs.Common.{◌≡◌}
 use Rattle.kept_rows.specs.Tables.{IsTold}
-use Rattle.script_runs.specs.Runs.{moment_of}
+use Rattle.script_runs.specs.Steps.{moment_of}
 use Rattle.script_runs.proofs.Running.{IsRunning}
 use Rattle.script_runs.proofs.run.answer_all.Given as goal
 

@@ -10,7 +10,7 @@ returns-in-Ok-clause-bundle g c =
 
 pub returns-in-Err-clause-failure : goal.returns-in-Err-clause-failure
 returns-in-Err-clause-failure g c =
-    season_failed _ _ _ c.in-Err.fault c.bundle_failure.result (λ same. c.read.ensures.cause (c.in-Err.is ∙ ap Err same)) c.in-Err.ensures.fault c.bundle_failure.ensures
+    season_failed c.args.requests _ _ _ c.in-Err.fault c.bundle_failure.result (λ same. c.read.ensures.cause (c.in-Err.is ∙ ap Err same)) c.in-Err.ensures.fault c.bundle_failure.ensures
 
 pub returns-in-Err-clause-steady : goal.returns-in-Err-clause-steady
 returns-in-Err-clause-steady g c other =

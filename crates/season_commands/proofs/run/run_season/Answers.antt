@@ -1,5 +1,5 @@
-use Rattle.std.proofs.Common.{Err, rules}
-use Rattle.season_commands.specs.Check.{check_answers}
+use Rattle.std.proofs.Common.{true, Err, rules}
+use Rattle.season_commands.specs.Check.{bundle_answers}
 use Rattle.command_answers.proofs.Ended.{input_is_answered}
 use Rattle.season_commands.proofs.RunEnds.{no_faulty_bundle, read_ends, unread_ends}
 use Rattle.season_commands.proofs.run.run_season.Goals as goal
@@ -16,7 +16,7 @@ returns-in-Ok-clause-runs g c =
       read_blamed = search rules;
       blamed = e.blamed;
       complete = λ tells none read kept. e.complete none kept;
-      refused = λ tells read wrote. absurd (no_faulty_bundle _ c.in-Ok.season c.in-Ok.script c.one_answer.ensures c.in-Ok.ensures.bundle tells);
+      refused = λ tells read wrote. absurd (no_faulty_bundle true _ c.in-Ok.season c.in-Ok.script c.one_bundle_answer.ensures c.in-Ok.ensures.bundle tells);
       not_empty = λ tells read kept. e.not_empty tells kept;
     }
 
@@ -29,7 +29,7 @@ returns-in-Err-clause-runs g c = record {
   read_whole = search rules;
   read_blamed = search rules;
   blamed = search rules;
-  complete = λ tells none read kept. input_is_answered check_answers _ _ (Err c.in-Err.failure) c.tell_failure.result _ _ _ c.one_answer.ensures c.in-Err.ensures.failure c.tell_failure.ensures.told tells read kept.0;
+  complete = λ tells none read kept. input_is_answered (bundle_answers true) _ _ (Err c.in-Err.failure) c.tell_failure.result _ _ _ (c.one_bundle_answer.ensures true) c.in-Err.ensures.failure c.tell_failure.ensures.told tells read kept.0;
   refused = search rules;
   not_empty = search rules;
 }
