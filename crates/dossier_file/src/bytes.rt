@@ -1,30 +1,9 @@
-// Lines, and what bytes begin with.
-ghost use Rattle.std.specs.Prelude.{◌≡◌, ◌≢◌, ◌<◌, ◌≤◌, ◌^◌, ◌++◌, ◌∷◌, List, ℕ, IfNone, IfSome, length};
-ghost use Rattle.text_readers.specs.Reading.{HasNo, lines_in};
+// How many lines there are, and where bytes are cut.
+ghost use Rattle.std.specs.Prelude.{◌≡◌, ◌<◌, ◌≤◌, ◌^◌, ◌++◌, List, ℕ, IfNone, IfSome, length};
+ghost use Rattle.text_readers.specs.Reading.{lines_in};
 ghost use Rattle.dossier_file.specs.Texts.{IsCutAfter, IsNoHead};
 
-use memchr::memchr;
-
-/// Returns the first line without its end, and what follows it. `None` if no line ends.
-fn cut_line(bytes: &[u8]) -> Option<(&[u8], &[u8])>
-    ensures some { IfSome result (λ parts. bytes.now ≡ parts.0.now ++ 10 ∷ parts.1.now) }
-    ensures first { IfSome result (λ parts. HasNo 10 parts.0.now) }
-    ensures shorter { IfSome result (λ parts. length parts.1.now < length bytes.now) }
-    ensures none { IfNone result (HasNo 10 bytes.now) }
-{
-    match memchr(b'\n', bytes) {
-        Some(end) => Some((&bytes[..end], &bytes[end + 1..])),
-        None => None,
-    }
-}
-
-/// Returns what follows a word. `None` if the bytes do not begin with it.
-fn after<'a>(bytes: &'a [u8], word: &[u8]) -> Option<&'a [u8]>
-    ensures some { IfSome result (λ rest. bytes.now ≡ word.now ++ rest.now) }
-    ensures none { IfNone result ((rest : List ℕ) → bytes.now ≢ word.now ++ rest) }
-{
-    bytes.strip_prefix(word)
-}
+use text_readers::{after, cut};
 
 /// Returns how many lines there are. What follows the last LF is a line too.
 pub(crate) fn line_count(bytes: &[u8]) -> u32
@@ -34,7 +13,7 @@ pub(crate) fn line_count(bytes: &[u8]) -> u32
 {
     let mut rest = bytes;
     let mut count: u32 = 0;
-    'lines: while let Some((_, later)) = cut_line(rest) {
+    'lines: while let Some((_, later)) = cut(rest, b'\n') {
         count += 1;
         rest = later;
     }
@@ -60,7 +39,7 @@ pub(crate) fn cut_text<'a>(bytes: &'a [u8], ending: &[u8]) -> (&'a [u8], &'a [u8
     ensures { IsCutAfter ending.now bytes.now result.0.now result.1.now }
 {
     let mut rest = bytes;
-    'lines: while let Some((line, later)) = cut_line(rest) {
+    'lines: while let Some((line, later)) = cut(rest, b'\n') {
         if line == ending {
             return bytes.split_at(bytes.len() - later.len());
         }

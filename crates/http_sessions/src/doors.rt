@@ -11,24 +11,6 @@ use crate::gate::Gate;
 use office_links::{Door, Link};
 use std::alloc::Global;
 
-/// Holds a session on a link.
-fn hold<C: Counter, L: Link, G: Gate>(
-    alloc: Global,
-    counter: &mut C,
-    link: &mut L,
-    buffers: &mut Buffers,
-    gate: &G,
-    worker: u32,
-)
-    requires { most_messages ≤ C.asks_left counter.old }
-    ensures held { IsHeld C.answers L.left L.written L.faults
-        counter.old counter.new link.old link.new }
-    ensures left { C.asks_left counter.old ≤ C.asks_left counter.new + most_messages }
-    ensures same { C.lender counter.new ≡ C.lender counter.old }
-{
-    session(alloc, counter, link, buffers, gate, worker);
-}
-
 /// Holds a session on a connection of the door, and gives it back.
 fn serve_one<C: Counter, D: Door, G: Gate>(
     alloc: Global,
@@ -50,7 +32,7 @@ fn serve_one<C: Counter, D: Door, G: Gate>(
     ensures same { C.lender counter.new ≡ C.lender counter.old }
 {
     let mut conn = conn;
-    hold(alloc, counter, &mut conn, buffers, gate, worker);
+    session(alloc, counter, &mut conn, buffers, gate, worker);
     door.give_back(conn);
 }
 

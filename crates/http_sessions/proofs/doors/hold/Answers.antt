@@ -1,6 +1,0 @@
-use Rattle.http_sessions.proofs.doors.hold.Goals as goal
-
-pub returns-clause-held : goal.returns-clause-held
-returns-clause-held g c =
-    let s = c.session.ensures in
-    record { bytes = s.met.0; end = c.session.result; are = s.met.1; session = s.met.2; cause = s.blamed.cause; steady = s.blamed.steady }
