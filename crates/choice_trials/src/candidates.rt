@@ -1,9 +1,10 @@
 // Candidates, steps and programmes that the trials share.
-ghost use Rattle.std.specs.Prelude.{◌≡◌, ◌≢◌, ◌∷◌, [], IsTrue};
+ghost use Rattle.std.specs.Prelude.{◌≡◌, ◌≢◌, IsTrue};
 ghost use Rattle.std.specs.List.{AllByRecursion};
 ghost use Rattle.office_base.specs.Merit.{IsNewTo};
 ghost use Rattle.office_base.specs.Person.{IsList, number_in};
 ghost use Rattle.programme_lists.specs.Chosen.{AreApplicants};
+ghost use Rattle.choice_trials.specs.Candidates.{general};
 
 use office_base::{
     CandId, Category, ListId, OutOfMemory, People, Person, Place, Protections, Step, TraitSet,
@@ -33,12 +34,7 @@ pub const fn applicant(category: Category, traits: u8, common: bool) -> Kind {
 
 /// A general candidate with the number as the common place in list 1.
 pub fn candidate(number: u32, traits: u8) -> Person
-    ensures { result ≡ record {
-      id = record { 0 = number };
-      category = Category.Gen;
-      traits = record { 0 = traits };
-      places = Place.Common number ∷ Place.Absent ∷ Place.Absent ∷ Place.Absent ∷ [];
-    } }
+    ensures { result ≡ general number traits }
 {
     Person {
         id: CandId(number),

@@ -24,6 +24,10 @@ pub record FailingMemory : Type 0 where
   pub fail_at : List ℕ
   pub faults : ℕ
 
+-- a keeper of these tables before its first call, without room in advance
+abbrev pub fresh_keeper : Tables → List ℕ → FailingMemory
+fresh_keeper tables fail_at = record { memory = record { tables = tables; spare = 0 }; calls = 0; fail_at = fail_at; faults = 0 }
+
 -- the keeper as it is seen
 abbrev pub shelf_of : FailingMemory → Shelf
 shelf_of k = record { tables = k.memory.tables; faults = k.faults; holds_room = true; spare = k.memory.spare }

@@ -3,7 +3,7 @@ ghost use Rattle.std.specs.Prelude.{◌≡◌, ◌≤◌, ◌-◌, ◌↔◌, �
 ghost use Rattle.office_base.specs.Memory.{counted};
 ghost use Rattle.office_base.specs.Outside.{Rose};
 ghost use Rattle.keeper_mem.specs.Keeper.{IsLook, IsPut, TakesRoom};
-ghost use Rattle.keeper_mem.specs.Memory.{shelf_of};
+ghost use Rattle.keeper_mem.specs.Memory.{fresh_keeper, shelf_of};
 ghost use Rattle.kept_rows.specs.Tables.{NoSeason, Records, with_season, with_answer, with_raise, with_cut, AreTold, IsFound, IsLoaded};
 
 use crate::memory::Memory;
@@ -34,15 +34,7 @@ impl Model for MemKeeper {
 impl MemKeeper {
     /// Makes a keeper without a season.
     pub fn new(alloc: Global, fail_at: &[u32]) -> Result<MemKeeper, OutOfMemory>
-        ensures { IfOk result (λ keeper. keeper ≡ record {
-          memory = record {
-            tables = NoSeason;
-            spare = 0;
-          };
-          calls = 0;
-          fail_at = fail_at.now;
-          faults = 0;
-        }) }
+        ensures { IfOk result (λ keeper. keeper ≡ fresh_keeper NoSeason fail_at.now) }
     {
         Ok(MemKeeper {
             memory: Memory::new(alloc),
@@ -54,15 +46,7 @@ impl MemKeeper {
 
     /// Makes a keeper with the records of a season.
     pub fn from_tables(alloc: Global, kept: Kept, fail_at: &[u32]) -> Result<MemKeeper, OutOfMemory>
-        ensures { IfOk result (λ keeper. keeper ≡ record {
-          memory = record {
-            tables = Records kept;
-            spare = 0;
-          };
-          calls = 0;
-          fail_at = fail_at.now;
-          faults = 0;
-        }) }
+        ensures { IfOk result (λ keeper. keeper ≡ fresh_keeper (Records kept) fail_at.now) }
     {
         let fail_at = Vec::from_slice(alloc, fail_at)?;
         Ok(MemKeeper {

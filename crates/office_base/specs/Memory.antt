@@ -9,6 +9,10 @@ pub record SourceMemory : Type 0 where
   pub fail_at : List ℕ
   pub faults : ℕ
 
+-- a source of these bytes before its first call
+abbrev pub fresh_source : List ℕ → ℕ → List ℕ → SourceMemory
+fresh_source bytes piece fail_at = record { left = bytes; piece = piece; calls = 0; fail_at = fail_at; faults = 0 }
+
 -- a sink in memory: the bytes written, the most that it takes in all, the calls so far, those that fail, and the faults
 pub record SinkMemory : Type 0 where
   pub written : List ℕ

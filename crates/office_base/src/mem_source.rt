@@ -1,7 +1,7 @@
 // A source in memory with visible bytes. It fails at chosen calls.
 ghost use Rattle.std.specs.Prelude.{◌≡◌, ◌<◌, ◌≤◌, ◌↔◌, [], ℕ, List, Option, length, take, drop, min, IfOk, OnOk, OnErr, IsErr, IsTrue, Some, Contains};
 ghost use Rattle.office_base.specs.Outside.{Rose, TakesPrefix, ComesAtTheEnd};
-ghost use Rattle.office_base.specs.Memory.{IsMemoryRead};
+ghost use Rattle.office_base.specs.Memory.{IsMemoryRead, fresh_source};
 
 use crate::{Failed, OutOfMemory, Source};
 use std::alloc::Global;
@@ -39,13 +39,7 @@ impl MemSource {
         fail_at: &[u32],
     ) -> Result<MemSource, OutOfMemory>
         requires { 0 < piece }
-        ensures { IfOk result (λ source. source ≡ record {
-          left = bytes.now;
-          piece = piece;
-          calls = 0;
-          fail_at = fail_at.now;
-          faults = 0;
-        }) }
+        ensures { IfOk result (λ source. source ≡ fresh_source bytes.now piece fail_at.now) }
     {
         Ok(MemSource {
             bytes: Vec::from_slice(alloc, bytes)?,

@@ -9,7 +9,7 @@ use Rattle.office_base.specs.declared.person.Category.TheVariants.{Ews, Obc, Sc,
 use Rattle.office_base.specs.declared.person.ListId.{ListId}
 use Rattle.office_base.specs.declared.person.Person.{Person}
 use Rattle.office_base.specs.Person.{is_common}
-use Rattle.placements.specs.Ranks.{without}
+use Rattle.placements.specs.Ranks.{AreDistinct, without}
 use Rattle.office_base.specs.declared.step.StepKind.{StepKind}
 use Rattle.merit_choice.specs.State.{StepKept, step_with}
 use Rattle.merit_choice.specs.declared.state.Offered.{Offered}
@@ -17,7 +17,7 @@ use Rattle.merit_choice.specs.declared.state.Offered.TheVariants.{Taken, Displac
 use Rattle.office_base.specs.declared.step.StepKind.TheVariants.{Open, Ews as EwsStep, Obc as ObcStep, Sc as ScStep, St as StStep}
 use Rattle.seat_matrix.specs.Seats.{AreProgrammeSeats, seats_of}
 use Rattle.seat_matrix.specs.declared.seats.ProgrammeSeats.{ProgrammeSeats}
-use Rattle.programme_lists.specs.Chosen.{AreApplicants, ChoosesFrom, everybody}
+use Rattle.programme_lists.specs.Chosen.{AreApplicants, ChoosesFrom, IsWith, everybody}
 use Rattle.programme_lists.specs.Programme.{Admissions, is_of, unfilled}
 
 -- the version, the seats, and whom each step admits of all who were offered
@@ -36,6 +36,15 @@ pub record IsProgrammeKept (state : ProgrammeKept) : Type 0 where
 -- nobody is admitted by any step
 abbrev pub nobody : Admissions
 nobody = record { open_step = []; ews = []; obc = []; sc = []; st = []; dereserved = [] }
+
+-- a programme to which nobody came yet
+abbrev pub empty_programme : ℕ → ProgrammeSeats → ProgrammeKept
+empty_programme version seats = record { version = version; seats = seats; admissions = nobody }
+
+-- if the programme held the choice from some applicants, it now holds the choice from all: those and this person
+abbrev pub ChoosesOn : Person → ProgrammeKept → ProgrammeKept → Type 0
+ChoosesOn person old new = (some all : List Person) → AreDistinct some → AreApplicants old.seats.list all → IsWith person some all → (IsAmong person some → ⊥)
+    → ChoosesFrom old.version old.seats some old.admissions → ChoosesFrom old.version old.seats all new.admissions
 
 -- what a step keeps for a programme
 abbrev pub step_kept : ProgrammeSeats → StepKind → List Person → StepKept

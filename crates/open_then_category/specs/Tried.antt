@@ -2,11 +2,17 @@
 use Rattle.std.specs.Prelude.{◌≡◌, ◌+◌, ℕ, List, Bool, length, if◌then◌else◌}
 use Rattle.std.specs.List.{filter}
 use Rattle.office_base.specs.Person.{is_common}
+use Rattle.office_base.specs.declared.person.Category.{Category}
 use Rattle.office_base.specs.declared.person.Category.TheVariants.{Ews, Obc, Sc, St}
 use Rattle.office_base.specs.declared.person.ListId.{ListId}
 use Rattle.office_base.specs.declared.person.Person.{Person}
+use Rattle.office_base.specs.declared.step.StepKind.{StepKind}
+use Rattle.office_base.specs.declared.step.StepKind.TheVariants.{Dereserved}
+use Rattle.seat_matrix.specs.Seats.{no_protections, seats_of}
 use Rattle.programme_lists.specs.Chosen.{AreApplicants, ChoosesFrom}
-use Rattle.programme_lists.specs.Programme.{Admissions, is_of}
+use Rattle.programme_lists.specs.Listing.{Shows}
+use Rattle.programme_lists.specs.Programme.{Admissions, admitted_by, is_of, unfilled}
+use Rattle.programme_lists.specs.declared.programme.StepList.{StepList}
 use Rattle.open_then_category.specs.State.{ProgrammeKept}
 use Rattle.open_then_category.specs.declared.kept_lists.Tried.{Tried}
 
@@ -49,3 +55,13 @@ abbrev pub common_taken : ListId → Admissions → ℕ
 common_taken list admissions =
     length (filter (is_common list) admissions.open_step) + length (filter (is_common list) admissions.ews) + length (filter (is_common list) admissions.obc)
     + length (filter (is_common list) admissions.sc) + length (filter (is_common list) admissions.st)
+
+-- the list of a category's step is shown of any members whom the open step left, if with those whom it took so many came
+abbrev pub ShowsCategory : ProgrammeKept → StepKind → Category → ℕ → StepList → Type 0
+ShowsCategory state kind category came list = (people : List Person) → length people + length (filter (is_of category) state.admissions.open_step) ≡ came
+    → Shows kind (seats_of state.seats kind).seats (seats_of state.seats kind).protections people (admitted_by state.admissions kind) list
+
+-- the list of the de-reserved step is shown of any who have a common place and whom no step before took, if with those whom one took so many came
+abbrev pub ShowsDereserved : ProgrammeKept → ℕ → StepList → Type 0
+ShowsDereserved state came list = (people : List Person) → length people + common_taken state.seats.list state.admissions ≡ came
+    → Shows Dereserved (unfilled state.version state.seats state.admissions) no_protections people state.admissions.dereserved list

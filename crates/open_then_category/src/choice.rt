@@ -1,18 +1,17 @@
 // The choice of a programme, step by step.
-ghost use Rattle.std.specs.Prelude.{◌≡◌, ◌≤◌, ◌<◌, List, IfOk, length, take};
+ghost use Rattle.std.specs.Prelude.{◌≡◌, ◌≤◌, ◌<◌, IfOk, length, take};
 ghost use Rattle.std.specs.List.{filter};
 ghost use Rattle.office_base.specs.Limits.{most_step_seats};
 ghost use Rattle.office_base.specs.Person.{IsList, is_common};
 ghost use Rattle.office_base.specs.StepChoice.{AreRanked, IsStep, IsStepChoice};
 ghost use Rattle.office_base.specs.Version.{IsVersion};
-ghost use Rattle.office_base.specs.declared.person.Person.{Person as AnyPerson};
 ghost use Rattle.office_base.specs.declared.step.StepKind.TheVariants.{Open as OpenStep, Ews as EwsStep, Obc as ObcStep, Dereserved as DereservedStep};
 ghost use Rattle.seat_matrix.specs.Matrix.{list_in, seats_in};
 ghost use Rattle.seat_matrix.specs.Seats.{AreProgrammeSeats, no_protections, seats_of};
 ghost use Rattle.programme_lists.specs.Chosen.{AreApplicants, ShowsFrom};
 ghost use Rattle.programme_lists.specs.Listing.{Shows, ShowsChoice};
 ghost use Rattle.programme_lists.specs.Programme.{is_of, without, step_with};
-ghost use Rattle.open_then_category.specs.Stepwise.{AreCategorySteps, ShowsLast, empty_after};
+ghost use Rattle.open_then_category.specs.Stepwise.{AreCategorySteps, ShowsFromRest, ShowsLast, empty_after};
 
 use crate::filters::{left_over, members, without};
 use dereserve::{commons, fill, left_unfilled};
@@ -216,10 +215,7 @@ fn choose_from_rest(
     requires seats { AreProgrammeSeats seats.now }
     requires ranked { AreRanked seats.now.list rest.now }
     requires few { length rest.now ≤ 4294967295 }
-    ensures { IfOk result (λ programme. (applicants : List AnyPerson) → rest.now ≡ without applicants first.admitted
-        → IsStepChoice (step_with seats.now.list (seats_of seats.now OpenStep) (filter (is_common seats.now.list) applicants)) first.admitted
-        → Shows OpenStep (seats_of seats.now OpenStep).seats (seats_of seats.now OpenStep).protections (filter (is_common seats.now.list) applicants) first.admitted first
-        → ShowsChoice version seats.now applicants programme) }
+    ensures { IfOk result (λ programme. ShowsFromRest version seats.now first rest.now programme) }
 {
     let steps = category_steps(alloc, seats, rest)?;
     let last = last_step(alloc, version, seats, rest, &steps)?;

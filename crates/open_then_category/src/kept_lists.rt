@@ -5,12 +5,12 @@ ghost use Rattle.office_base.specs.Person.{IsList, IsTraitSet, is_common};
 ghost use Rattle.office_base.specs.declared.person.Person.{Person as AnyPerson};
 ghost use Rattle.placements.specs.Ranks.{AreDistinct};
 ghost use Rattle.office_base.specs.Limits.{most_step_seats};
-ghost use Rattle.office_base.specs.declared.step.StepKind.TheVariants.{Dereserved as DereservedStep, Open as OpenStep};
-ghost use Rattle.seat_matrix.specs.Seats.{no_protections, seats_of};
+ghost use Rattle.office_base.specs.declared.step.StepKind.TheVariants.{Open as OpenStep};
+ghost use Rattle.seat_matrix.specs.Seats.{seats_of};
 ghost use Rattle.programme_lists.specs.Chosen.{ShowsFrom};
 ghost use Rattle.programme_lists.specs.Listing.{Shows};
-ghost use Rattle.programme_lists.specs.Programme.{admitted_by, is_of, unfilled};
-ghost use Rattle.open_then_category.specs.Tried.{HaveCome, common_taken, counted, with_one};
+ghost use Rattle.programme_lists.specs.Programme.{admitted_by, is_of};
+ghost use Rattle.open_then_category.specs.Tried.{HaveCome, ShowsCategory, ShowsDereserved, common_taken, counted, with_one};
 
 use crate::filters::is_of;
 use crate::laws::step_laws;
@@ -160,8 +160,7 @@ fn category_list(
     requires traits { AllByRecursion (λ person. IsTraitSet person.traits)
         (admitted_by state.now.admissions kind) }
     requires few { length (filter (is_of category) state.now.admissions.open_step) ≤ came }
-    ensures { IfOk result (λ list. (people : List AnyPerson) → length people + length (filter (is_of category) state.now.admissions.open_step) ≡ came
-        → Shows kind (seats_of state.now.seats kind).seats (seats_of state.now.seats kind).protections people (admitted_by state.now.admissions kind) list) }
+    ensures { IfOk result (λ list. ShowsCategory state.now kind category came list) }
 {
     let seats = state.programme_seats().of(kind);
     let candidates = came - count_members(state.admitted(StepKind::Open), category);
@@ -194,8 +193,7 @@ fn last_list(alloc: Global, state: &ProgrammeState, came: u32) -> Result<StepLis
     requires traits { AllByRecursion (λ person. IsTraitSet person.traits)
         state.now.admissions.dereserved }
     requires few { common_taken state.now.seats.list state.now.admissions ≤ came }
-    ensures { IfOk result (λ list. (people : List AnyPerson) → length people + common_taken state.now.seats.list state.now.admissions ≡ came
-        → Shows DereservedStep (unfilled state.now.version state.now.seats state.now.admissions) no_protections people state.now.admissions.dereserved list) }
+    ensures { IfOk result (λ list. ShowsDereserved state.now came list) }
 {
     let seats = state.programme_seats();
     let empty = left_unfilled(

@@ -1,19 +1,17 @@
 // The choice of a programme from applicants who come one at a time.
-ghost use Rattle.std.specs.Prelude.{◌≡◌, ◌≤◌, ◌<◌, ◌+◌, [], ◌∷◌, List, Some, length, take, slice_get, vec_len, vec_capacity, IfOk};
+ghost use Rattle.std.specs.Prelude.{◌≡◌, ◌≤◌, ◌<◌, ◌+◌, [], ◌∷◌, Some, length, take, slice_get, vec_len, vec_capacity, IfOk};
 ghost use Rattle.office_base.specs.Limits.{most_step_seats};
-ghost use Rattle.office_base.specs.Lists.{IsAmong};
 ghost use Rattle.office_base.specs.Merit.{IsNewTo};
 ghost use Rattle.office_base.specs.Person.{IsList, is_common};
 ghost use Rattle.office_base.specs.StepChoice.{AreRanked};
 ghost use Rattle.office_base.specs.Version.{IsVersion};
 ghost use Rattle.office_base.specs.declared.person.Person.{Person as AnyPerson};
-ghost use Rattle.office_base.specs.declared.step.StepKind.TheVariants.{Ews as EwsStep, Obc as ObcStep, Sc as ScStep, St as StStep};
-ghost use Rattle.placements.specs.Ranks.{AreDistinct};
 ghost use Rattle.seat_matrix.specs.Matrix.{seats_in};
 ghost use Rattle.seat_matrix.specs.Seats.{AreProgrammeSeats};
-ghost use Rattle.programme_lists.specs.Chosen.{AreApplicants, ChoosesFrom, IsWith, everybody};
+ghost use Rattle.programme_lists.specs.Chosen.{AreApplicants, ChoosesFrom, everybody};
 ghost use Rattle.programme_lists.specs.Programme.{admitted_by, is_of};
-ghost use Rattle.open_then_category.specs.State.{IsAnswered, IsLastOffer, IsOffer, IsProgrammeKept, nobody, step_kept};
+ghost use Rattle.open_then_category.specs.State.{ChoosesOn, IsAnswered, IsLastOffer, IsOffer, IsProgrammeKept, empty_programme, step_kept};
+ghost use Rattle.open_then_category.specs.Stepwise.{empty_categories};
 
 use crate::filters::is_of;
 use crate::laws::{offers_keep_choices, offers_leave_one, resumes, step_laws};
@@ -59,11 +57,8 @@ impl ProgrammeState {
     ) -> Result<ProgrammeState, OutOfMemory>
         requires programme { prog.0 < length matrix.now.programmes }
         requires version { IsVersion version }
-        ensures { IfOk result (λ state. state ≡ record {
-          version = version;
-          seats = seats_in matrix.now prog.0;
-          admissions = nobody;
-        }) }
+        ensures { IfOk result (λ state.
+            state ≡ empty_programme version (seats_in matrix.now prog.0)) }
     {
         step_laws();
         let seats = matrix.programme(prog);
@@ -91,8 +86,7 @@ impl ProgrammeState {
         ensures stays { self.new ≡ record self.old { admissions = self.new.admissions } }
         ensures choice { ChoosesFrom self.old.version self.old.seats
             (person.now ∷ everybody self.old.admissions) self.new.admissions }
-        ensures all { (some all : List AnyPerson) → AreDistinct some → AreApplicants self.old.seats.list all → IsWith person.now some all → (IsAmong person.now some → ⊥)
-            → ChoosesFrom self.old.version self.old.seats some self.old.admissions → ChoosesFrom self.old.version self.old.seats all self.new.admissions }
+        ensures all { ChoosesOn person.now self.old self.new }
         ensures answer { IsAnswered self.old person.now result self.new }
         ensures cost { steps.new ≡ steps.old + 1 }
     {
@@ -168,13 +162,7 @@ pub(crate) struct CategoryStates {
 /// The steps of the categories of a programme, which hold nobody.
 fn category_states(alloc: Global, seats: &ProgrammeSeats) -> Result<CategoryStates, OutOfMemory>
     requires { AreProgrammeSeats seats.now }
-    ensures { IfOk result (λ states. states
-        ≡ record {
-          ews = step_kept seats.now EwsStep [];
-          obc = step_kept seats.now ObcStep [];
-          sc = step_kept seats.now ScStep [];
-          st = step_kept seats.now StStep [];
-        }) }
+    ensures { IfOk result (λ states. states ≡ empty_categories seats.now) }
 {
     Ok(CategoryStates {
         ews: step_state(alloc, seats, StepKind::Ews)?,

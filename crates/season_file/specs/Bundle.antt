@@ -2,6 +2,7 @@
 use Rattle.std.specs.Prelude.{◌+◌, ◌-◌, ℕ, suc, Bool, true, ◌==◌, ◌&&◌, List, [], ◌∷◌, Option, Some, None, Result, Ok, Err, length, take, drop, bytes_eq, codes, if◌then◌else◌}
 use Rattle.office_text.specs.Lines.{drop_cr, lines_of, skip_mark, trimmed}
 use Rattle.section_rows.specs.Steps.{after, needs}
+use Rattle.season_file.specs.declared.cutting.Pieces.{Pieces}
 use Rattle.season_file.specs.declared.fault.SeasonFault.{SeasonFault}
 use Rattle.season_file.specs.declared.fault.SeasonFault.TheVariants.{BadFirstLine, Section}
 
@@ -14,6 +15,10 @@ pub record Parts : Type 0 where
   pub matrix : List ℕ
   pub choices : List ℕ
   pub requests : List ℕ
+
+-- what these pieces are in the bytes
+abbrev pub parts_of : Pieces → Parts
+parts_of cut = record { version = cut.version; season = cut.season.now; register = cut.register.now; matrix = cut.matrix.now; choices = cut.choices.now; requests = cut.requests.now }
 
 -- how many bytes come before the first LF
 abbrev pub line_len : List ℕ → ℕ
@@ -92,9 +97,13 @@ with_line text (Err rest) = Err (Section (fault_line text rest))
 abbrev pub version_of : List ℕ → Option ℕ
 version_of line = if bytes_eq line (codes "office bundle 1") then Some 1 else if bytes_eq line (codes "office bundle 2") then Some 2 else None
 
+-- the sections after the first line, in this version
+abbrev pub sections_after : Bool → ℕ → List ℕ → Result Parts SeasonFault
+sections_after requests version text = with_line text (sections requests version (skip_empty (after_line text)))
+
 -- the sections after the first line
 abbrev pub text_of : Bool → List ℕ → Result Parts SeasonFault
-text_of requests text = needs (version_of (title text)) BadFirstLine (λ version. with_line text (sections requests version (skip_empty (after_line text))))
+text_of requests text = needs (version_of (title text)) BadFirstLine (λ version. sections_after requests version text)
 
 -- what a bundle is cut into, or the fault of its first line or of its sections; with its requests, or without
 abbrev pub bundle_of : Bool → List ℕ → Result Parts SeasonFault

@@ -4,7 +4,7 @@ ghost use Rattle.office_base.specs.Limits.{most_bundle_bytes};
 ghost use Rattle.office_base.specs.Outside.{IsAtEnd, Rose, Took};
 ghost use Rattle.rank_lists.specs.Register.{find_holder};
 ghost use Rattle.request_rows.specs.Requests.{IsScriptFault as AreRowsWithout, script_of};
-ghost use Rattle.season_file.specs.Bundle.{season_text};
+ghost use Rattle.season_file.specs.Bundle.{parts_of, season_text};
 ghost use Rattle.season_file.specs.Season.{AreAligned, BundleGives, IsSeasonFault, IsSectionFault, IsText, IsUnread, SectionsGive, choice_error, matrix_error, register_error, rows_of_requests, script_error};
 
 use crate::cutting::{Pieces, after_line, cut};
@@ -78,9 +78,9 @@ pub(crate) fn script_error(fault: ScriptFault) -> SeasonFault
 
 /// What the sections give, or the first fault of one.
 fn read_sections(alloc: Global, cut: Pieces<'_>) -> Result<Content, SeasonFault>
-    ensures value { IfOk result (λ content. SectionsGive (record { version = cut.entry.version; season = cut.entry.season.now; register = cut.entry.register.now; matrix = cut.entry.matrix.now; choices = cut.entry.choices.now; requests = cut.entry.requests.now }) content) }
+    ensures value { IfOk result (λ content. SectionsGive (parts_of cut.entry) content) }
     ensures aligned { IfOk result AreAligned }
-    ensures fault { IfErr result (λ fault. IsSectionFault (record { version = cut.entry.version; season = cut.entry.season.now; register = cut.entry.register.now; matrix = cut.entry.matrix.now; choices = cut.entry.choices.now; requests = cut.entry.requests.now }) fault) }
+    ensures fault { IfErr result (λ fault. IsSectionFault (parts_of cut.entry) fault) }
 {
     let head = match read_head(alloc, cut.season)? {
         Ok(head) => head,

@@ -2,7 +2,7 @@
 ghost use Rattle.std.specs.Prelude.{◌≡◌, ◌≤◌, length, MatchResult, Ok, Err, true};
 ghost use Rattle.office_base.specs.Limits.{most_bundle_bytes};
 ghost use Rattle.office_text.specs.Lines.{lines_of};
-ghost use Rattle.season_file.specs.Bundle.{after_line, body_len, breaks, bundle_of, fault_line, last_section, line_len, section, sections, skip_empty, title, version_of, with_line};
+ghost use Rattle.season_file.specs.Bundle.{after_line, body_len, breaks, bundle_of, fault_line, last_section, line_len, parts_of, section, sections, sections_after, skip_empty, title, version_of};
 ghost use Rattle.season_file.specs.Titles.{begins_title};
 
 use crate::fault::SeasonFault;
@@ -125,7 +125,8 @@ fn last_section(text: &[u8], requests: bool) -> Result<&[u8], &[u8]>
 /// Returns the sections in their order, or what there is from the first wrong line on: nothing, if a section is
 /// missing at the end.
 fn cut_sections(text: &[u8], version: u8, requests: bool) -> Result<Pieces<'_>, &[u8]>
-    ensures { MatchResult result (λ cut. sections requests version text.now ≡ Ok (record { version = cut.version; season = cut.season.now; register = cut.register.now; matrix = cut.matrix.now; choices = cut.choices.now; requests = cut.requests.now })) (λ rest. sections requests version text.now ≡ Err rest.now) }
+    ensures { MatchResult result (λ cut. sections requests version text.now ≡ Ok (parts_of cut))
+        (λ rest. sections requests version text.now ≡ Err rest.now) }
 {
     let (season, rest) = section(text, b"[season]".as_slice())?;
     let (register, rest) = section(rest, b"[register]".as_slice())?;
@@ -204,7 +205,9 @@ fn read_version(text: &[u8]) -> Option<u8>
 /// The sections after the first line, or the line that is wrong.
 fn cut_after(text: &[u8], version: u8, requests: bool) -> Result<Pieces<'_>, SeasonFault>
     requires { length text.now ≤ most_bundle_bytes }
-    ensures { MatchResult result (λ cut. with_line text.now (sections requests version (skip_empty (after_line text.now))) ≡ Ok (record { version = cut.version; season = cut.season.now; register = cut.register.now; matrix = cut.matrix.now; choices = cut.choices.now; requests = cut.requests.now })) (λ fault. with_line text.now (sections requests version (skip_empty (after_line text.now))) ≡ Err fault) }
+    ensures { MatchResult result
+        (λ cut. sections_after requests version text.now ≡ Ok (parts_of cut))
+        (λ fault. sections_after requests version text.now ≡ Err fault) }
 {
     match cut_sections(skip_empty(after_line(text)), version, requests) {
         Ok(cut) => Ok(cut),
@@ -218,7 +221,8 @@ fn cut_after(text: &[u8], version: u8, requests: bool) -> Result<Pieces<'_>, Sea
 /// sections where requests are not read.
 pub(crate) fn cut(bytes: &[u8], requests: bool) -> Result<Pieces<'_>, SeasonFault>
     requires { length bytes.now ≤ most_bundle_bytes }
-    ensures { MatchResult result (λ cut. bundle_of requests bytes.now ≡ Ok (record { version = cut.version; season = cut.season.now; register = cut.register.now; matrix = cut.matrix.now; choices = cut.choices.now; requests = cut.requests.now })) (λ fault. bundle_of requests bytes.now ≡ Err fault) }
+    ensures { MatchResult result (λ cut. bundle_of requests bytes.now ≡ Ok (parts_of cut))
+        (λ fault. bundle_of requests bytes.now ≡ Err fault) }
 {
     let text = skip_mark(bytes);
     match read_version(text) {
@@ -230,7 +234,8 @@ pub(crate) fn cut(bytes: &[u8], requests: bool) -> Result<Pieces<'_>, SeasonFaul
 /// What a bundle is cut into with its requests, or the fault of its first line or of its sections.
 pub fn cut_with_requests(bytes: &[u8]) -> Result<Pieces<'_>, SeasonFault>
     requires { length bytes.now ≤ most_bundle_bytes }
-    ensures { MatchResult result (λ cut. bundle_of true bytes.now ≡ Ok (record { version = cut.version; season = cut.season.now; register = cut.register.now; matrix = cut.matrix.now; choices = cut.choices.now; requests = cut.requests.now })) (λ fault. bundle_of true bytes.now ≡ Err fault) }
+    ensures { MatchResult result (λ cut. bundle_of true bytes.now ≡ Ok (parts_of cut))
+        (λ fault. bundle_of true bytes.now ≡ Err fault) }
 {
     cut(bytes, true)
 }

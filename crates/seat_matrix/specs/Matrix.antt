@@ -142,6 +142,10 @@ seats_in table prog = record { list = list_in table prog; steps = steps_in table
 abbrev pub seating_in : SeatTable → ℕ → StepKind → Seating
 seating_in table prog step = of_step (steps_in table prog) step
 
+-- so many seats in a step of a programme, with its protections as they are
+abbrev pub resized : SeatTable → ℕ → StepKind → ℕ → Seating
+resized table prog step seats = record { seats = seats; protections = (seating_in table prog step).protections }
+
 -- What holds of every matrix: no code is listed twice, and the seats of each programme are sound.
 pub record AreSeats (table : SeatTable) : Type 0 where
   pub codes : Pairwise (λ a b. a ≢ b) (codes_in table.programmes)

@@ -4,7 +4,7 @@ ghost use Rattle.office_base.specs.Person.{IsList};
 ghost use Rattle.section_rows.specs.Rows.{rows_of};
 ghost use Rattle.office_base.specs.Limits.{most_step_seats};
 ghost use Rattle.office_text.specs.Names.{code_of};
-ghost use Rattle.seat_matrix.specs.Matrix.{IsRead, IsFault, HasSeating, list_in, matrix_with, seating_in, seats_in, steps_in};
+ghost use Rattle.seat_matrix.specs.Matrix.{IsRead, IsFault, HasSeating, list_in, matrix_with, resized, seating_in, seats_in, steps_in};
 ghost use Rattle.seat_matrix.specs.Seats.{AreProgrammeSeats, IsSeated, is_dereserved};
 
 use crate::builder::MatrixBuilder;
@@ -150,14 +150,10 @@ impl Matrix {
         requires step { is_dereserved step ≡ false }
         requires more { (seating_in self.old prog.0 step).seats ≤ seats }
         requires most { seats ≤ most_step_seats }
-        ensures whole { self.new ≡ matrix_with self.old prog.0 step (record {
-          seats = seats;
-          protections = (seating_in self.old prog.0 step).protections;
-        }) }
-        ensures seats { HasSeating self.old prog.0 step (record {
-          seats = seats;
-          protections = (seating_in self.old prog.0 step).protections;
-        }) self.new }
+        ensures whole { self.new
+            ≡ matrix_with self.old prog.0 step (resized self.old prog.0 step seats) }
+        ensures seats { HasSeating self.old prog.0 step
+            (resized self.old prog.0 step seats) self.new }
     {
         let protections = self.protections(prog, step);
         self.set(prog, step, seats, protections);
