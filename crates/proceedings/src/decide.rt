@@ -16,7 +16,8 @@ use office_moves::{
 };
 
 impl Proceedings {
-    /// Decides about a request. Returns also the position in the register of the candidate whose answer is accepted, else 0.
+    /// Decides about a request. With an accepted answer the number is the position of its candidate in the register.
+    /// With any other decision it means nothing.
     /// It takes no memory, and nothing changes.
     pub fn decide(&self, request: &Request) -> (Decision, u32)
         ensures { IsDecided self.now.season
@@ -77,7 +78,7 @@ impl Proceedings {
         self.season.matrix.find(code)
     }
 
-    /// Decides about an answer. Returns also the position in the register of its candidate, else 0.
+    /// Decides about an answer. If it is accepted, the number is the position of its candidate in the register.
     fn decide_answer(&self, by: By, row: AnswerRow) -> (Decision, u32)
         ensures { IsDecided self.now.season
             (decide_answer self.now.season (view_of self.now.state row.cand.0) by row) result }

@@ -176,7 +176,7 @@ fn check_later(alloc: Global, book: &mut Proceedings, kept: &Kept) -> Result<(),
 }
 
 /// Replays kept records in the proceedings of their season, in which nothing is accepted yet.
-/// Reports the first fault of the records.
+/// Reports the first fault of the records, or that memory ran out. Of the proceedings only the season is then as it was.
 /// The entries are what is kept, window after window its raises, its answers and its cut.
 /// They are numbered 1, 2, 3 and so on.
 pub fn replay(alloc: Global, book: &mut Proceedings, kept: &Kept) -> Result<(), ReplayFault>
