@@ -9,9 +9,10 @@ from documents import text_of
 
 WORD = re.compile(r"[^\s(){}\[\],;.]+")
 HEAD = re.compile(r"(?:(?:pub|abbrev|unfoldable|opaque)\s+)*(?:(record|data)\s+)?([^\s:(){},;.]+)")
-USE = re.compile(r"\buse\s+([^\s{;]+?)\.?(?:\{([^}]*)\}|\s+as\s+([^\s;]+))?(?=[\s;]|$)")
-FIELD = re.compile(r"(?<=[^\s(])\.(?=\S)[^\s(){}\[\],;.]+")
-COMMENT = re.compile(r"(?<!\S)--[^\n]*")
+# each begins with what it looks for, and then looks back: so a search need not stop at each letter
+USE = re.compile(r"use(?<!\wuse)\s+([^\s{;]+?)\.?(?:\{([^}]*)\}|\s+as\s+([^\s;]+))?(?=[\s;]|$)")
+FIELD = re.compile(r"\.(?<=[^\s(]\.)[^\s(){}\[\],;.]+")
+COMMENT = re.compile(r"--(?<!\S--)[^\n]*")
 
 
 class Declaration:
