@@ -1,12 +1,13 @@
 // The matching and its members.
 ghost use Rattle.std.specs.Prelude.{◌≡◌, ◌≤◌, [], ◌∷◌, ◌++◌, ◌↔◌, length, sum, IsTrue, IfOk};
 ghost use Rattle.office_base.specs.Lists.{AnyByRecursion};
-ghost use Rattle.office_base.specs.Person.{IsList};
+ghost use Rattle.office_base.specs.Person.{IsList, IsTraitSet};
 ghost use Rattle.office_base.specs.Placement.{IsHonoured};
 ghost use Rattle.placements.specs.Ranks.{CanBePlaced, without};
 ghost use Rattle.slot_matching.specs.Augmented.{IsAugmented};
 ghost use Rattle.slot_matching.specs.Replaceable.{IsReplaceable};
 ghost use Rattle.slot_matching.specs.Kept.{IsKept, MayJoin, with_member, without_member};
+ghost use Rattle.office_base.specs.declared.person.Person.{Person};
 
 use crate::members::{id_of, place_of, worst_within};
 use crate::spare::{all_spare, give_spare, has_spare, least_full, take_spare};
@@ -87,6 +88,15 @@ impl Matching {
         ensures { IsReplaceable self.now person.now result }
     {
         least_full(&self.spare, person.traits)
+    }
+
+    /// Returns the same for anybody who may join and holds just these traits, whoever that is.
+    pub fn replaceable_with(&self, traits: TraitSet) -> Option<TraitSet>
+        requires { IsTraitSet traits }
+        ensures { (person : Person) → MayJoin self.now person → person.traits ≡ traits
+            → IsReplaceable self.now person result }
+    {
+        least_full(&self.spare, traits)
     }
 
     /// Keeps the person too, if all members can then still be placed. A member on a position may be moved to another

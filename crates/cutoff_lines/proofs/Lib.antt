@@ -1,0 +1,6 @@
+mod Building
+mod Finding
+mod Needing
+mod Places
+mod Reading
+mod Single

@@ -1,0 +1,6 @@
+mod Alike
+mod Deciding
+mod Easing
+mod Existing
+mod Newcomers
+mod Spread

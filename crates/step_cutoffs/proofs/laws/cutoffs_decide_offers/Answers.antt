@@ -1,0 +1,5 @@
+use Rattle.step_cutoffs.proofs.Deciding
+use Rattle.step_cutoffs.proofs.laws.cutoffs_decide_offers.Goals as goal
+
+pub returns : goal.returns
+returns c = Deciding.cutoffs_decide_offers c.step_laws.ensures

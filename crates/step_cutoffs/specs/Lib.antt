@@ -1,0 +1,3 @@
+pub mod Cutoff
+pub mod Laws
+pub mod StepLaws
