@@ -1,5 +1,5 @@
 -- That the axioms name one choice alone.
-use Rattle.std.specs.Prelude.{ℕ, List}
+use Rattle.std.specs.Prelude.{◌↔◌, ℕ, List}
 use Rattle.office_base.specs.Merit.{in_merit}
 use Rattle.office_base.specs.StepChoice.{IsStep, IsStepChoice, MayAdmit}
 use Rattle.office_base.specs.declared.person.Person.{Person}
@@ -26,3 +26,8 @@ pub record MeetsThemAtEachStep (version : ℕ) (seats : ProgrammeSeats) (applica
 abbrev pub OneMeetsTheAxioms : Type 0
 OneMeetsTheAxioms = (version : ℕ) (seats : ProgrammeSeats) (people : List Person) (admissions : Admissions) → AreProgrammeSeats seats → AreApplicants seats.list people
     → MeetsThemAtEachStep version seats (in_merit seats.list people) admissions → ChoosesFrom version seats people admissions
+
+-- So the axioms are the rule: admissions are the choice of a programme exactly where they meet the axioms at each of its six steps.
+abbrev pub AxiomsAreTheRule : Type 0
+AxiomsAreTheRule = (version : ℕ) (seats : ProgrammeSeats) (people : List Person) (admissions : Admissions) → AreProgrammeSeats seats → AreApplicants seats.list people
+    → ChoosesFrom version seats people admissions ↔ MeetsThemAtEachStep version seats (in_merit seats.list people) admissions

@@ -7,7 +7,7 @@ use Rattle.office_base.specs.declared.person.Category.TheVariants.{Ews, Obc, Sc,
 use Rattle.office_base.specs.declared.person.ListId.{ListId}
 use Rattle.office_base.specs.declared.person.Person.{Person}
 use Rattle.office_base.specs.declared.step.StepKind.{StepKind}
-use Rattle.office_base.specs.declared.step.StepKind.TheVariants.{Dereserved}
+use Rattle.office_base.specs.declared.step.StepKind.TheVariants.{Open as OpenStep, Ews as EwsStep, Obc as ObcStep, Sc as ScStep, St as StStep, Dereserved}
 use Rattle.seat_matrix.specs.Seats.{no_protections, seats_of}
 use Rattle.programme_lists.specs.Chosen.{AreApplicants, ChoosesFrom}
 use Rattle.programme_lists.specs.Listing.{Shows}
@@ -65,3 +65,16 @@ ShowsCategory state kind category came list = (people : List Person) → length 
 abbrev pub ShowsDereserved : ProgrammeKept → ℕ → StepList → Type 0
 ShowsDereserved state came list = (people : List Person) → length people + common_taken state.seats.list state.admissions ≡ came
     → Shows Dereserved (unfilled state.version state.seats state.admissions) no_protections people state.admissions.dereserved list
+
+-- the lists of the steps OPEN, EWS and OBC, from so many people
+pub record AreFirst (state : ProgrammeKept) (tried : Tried) (first ews obc : StepList) : Type 0 where
+  pub first_shown : (people : List Person) → length people ≡ tried.common
+      → Shows OpenStep (seats_of state.seats OpenStep).seats (seats_of state.seats OpenStep).protections people state.admissions.open_step first
+  pub ews_shown : ShowsCategory state EwsStep Ews tried.ews ews
+  pub obc_shown : ShowsCategory state ObcStep Obc tried.obc obc
+
+-- the lists of the steps SC and ST and of the de-reserved one, from so many people
+pub record AreLast (state : ProgrammeKept) (tried : Tried) (sc st last : StepList) : Type 0 where
+  pub sc_shown : ShowsCategory state ScStep Sc tried.sc sc
+  pub st_shown : ShowsCategory state StStep St tried.st st
+  pub last_shown : ShowsDereserved state tried.common last

@@ -10,7 +10,7 @@ ghost use Rattle.seat_matrix.specs.Seats.{seats_of};
 ghost use Rattle.programme_lists.specs.Chosen.{ShowsFrom};
 ghost use Rattle.programme_lists.specs.Listing.{Shows};
 ghost use Rattle.programme_lists.specs.Programme.{admitted_by, is_of};
-ghost use Rattle.open_then_category.specs.Tried.{HaveCome, ShowsCategory, ShowsDereserved, common_taken, counted, with_one};
+ghost use Rattle.open_then_category.specs.Tried.{AreFirst, AreLast, HaveCome, ShowsCategory, ShowsDereserved, common_taken, counted, with_one};
 
 use crate::filters::is_of;
 use crate::laws::step_laws;
@@ -216,6 +216,38 @@ fn last_list(alloc: Global, state: &ProgrammeState, came: u32) -> Result<StepLis
     )
 }
 
+/// Returns the lists of the steps OPEN, EWS and OBC.
+fn first_lists(
+    alloc: Global,
+    state: &ProgrammeState,
+    tried: &Tried,
+) -> Result<(StepList, StepList, StepList), OutOfMemory>
+    requires { (people : List AnyPerson) × HaveCome state.now tried.now people }
+    ensures { IfOk result (λ lists. AreFirst state.now tried.now lists.0 lists.1 lists.2) }
+{
+    step_laws();
+    let first = open_list(alloc, state, tried.common)?;
+    let ews = category_list(alloc, state, StepKind::Ews, Category::Ews, tried.ews)?;
+    let obc = category_list(alloc, state, StepKind::Obc, Category::Obc, tried.obc)?;
+    Ok((first, ews, obc))
+}
+
+/// Returns the lists of the steps SC and ST and of the de-reserved step.
+fn last_lists(
+    alloc: Global,
+    state: &ProgrammeState,
+    tried: &Tried,
+) -> Result<(StepList, StepList, StepList), OutOfMemory>
+    requires { (people : List AnyPerson) × HaveCome state.now tried.now people }
+    ensures { IfOk result (λ lists. AreLast state.now tried.now lists.0 lists.1 lists.2) }
+{
+    step_laws();
+    let sc = category_list(alloc, state, StepKind::Sc, Category::Sc, tried.sc)?;
+    let st = category_list(alloc, state, StepKind::St, Category::St, tried.st)?;
+    let last = last_list(alloc, state, tried.common)?;
+    Ok((sc, st, last))
+}
+
 /// Returns the six lists of a programme that keeps the choice from all who came, by how many came. They are the very
 /// lists of `programme_choice` from these people, made without going through them again. The only error is that
 /// memory runs out; it leaves nothing.
@@ -229,12 +261,8 @@ pub fn lists_of(
         tried.now people → ShowsFrom state.now.version state.now.seats people programme) }
 {
     step_laws();
-    let first = open_list(alloc, state, tried.common)?;
-    let ews = category_list(alloc, state, StepKind::Ews, Category::Ews, tried.ews)?;
-    let obc = category_list(alloc, state, StepKind::Obc, Category::Obc, tried.obc)?;
-    let sc = category_list(alloc, state, StepKind::Sc, Category::Sc, tried.sc)?;
-    let st = category_list(alloc, state, StepKind::St, Category::St, tried.st)?;
-    let last = last_list(alloc, state, tried.common)?;
+    let (first, ews, obc) = first_lists(alloc, state, tried)?;
+    let (sc, st, last) = last_lists(alloc, state, tried)?;
     Ok(Programme {
         steps: [first, ews, obc, sc, st, last],
     })

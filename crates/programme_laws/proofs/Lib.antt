@@ -1,3 +1,4 @@
 mod BetterOff
+mod EmptySeats
 mod PassedOver
 mod StillChosen

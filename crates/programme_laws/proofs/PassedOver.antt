@@ -72,11 +72,11 @@ best_first list (suc n) (x ∷ people) better worse order there here ahead = eli
 module _ (passes : NobodyPassedOver) (version : ℕ) (seats : ProgrammeSeats) (applicants : List Person) (admissions : Admissions) (ok : AreProgrammeSeats seats)
     (ranked : AreRanked seats.list applicants) (choice : IsProgrammeChoice version seats applicants admissions) where
   -- a step whose people are some of the applicants
-  is_step : (kind : StepKind) → IsSublist (people_of seats.list applicants admissions kind) applicants → IsStep (step_of seats applicants admissions kind)
+  pub is_step : (kind : StepKind) → IsSublist (people_of seats.list applicants admissions kind) applicants → IsStep (step_of seats applicants admissions kind)
   is_step kind part = record { list = ok.list; people = ranked_sublist seats.list _ applicants ranked part; protections = (ok.steps kind).protections }
 
   -- people left, who pass a test
-  some_left : (p : Person → Bool) → IsSublist (filter p (without applicants admissions.open_step)) applicants
+  pub some_left : (p : Person → Bool) → IsSublist (filter p (without applicants admissions.open_step)) applicants
   some_left p = sublist_again _ _ _ (filter-sublist p (without applicants admissions.open_step)) (filter-sublist _ applicants)
 
   by_step : (kind : StepKind) (better worse : Person) → IsSublist (people_of seats.list applicants admissions kind) applicants
@@ -89,7 +89,7 @@ module _ (passes : NobodyPassedOver) (version : ℕ) (seats : ProgrammeSeats) (a
   open_within = among_sublist _ _ (sublist_again _ _ _ choice.open_step.may.people (filter-sublist (is_common seats.list) applicants))
 
   -- a member is admitted by the open step, or competes for the seats of the category
-  member_stands : (category : Category) (person : Person) → IsAmong person applicants → person.category ≡ category
+  pub member_stands : (category : Category) (person : Person) → IsAmong person applicants → person.category ≡ category
       → IsAmong person admissions.open_step ⊎ IsAmong person (filter (is_of category) (without applicants admissions.open_step))
   member_stands category person there is = elim (taken_or_left applicants applicants admissions.open_step person ranked.distinct open_within there there) [
     | inl taken ↦ inl taken
@@ -109,7 +109,7 @@ module _ (passes : NobodyPassedOver) (version : ℕ) (seats : ProgrammeSeats) (a
   category_within category chosen part = among_sublist _ _ (sublist_again _ _ _ part (some_left (is_of category)))
 
   -- one of the applicants is admitted by one of the first five steps, or is left over
-  admitted_or_left : (person : Person) → IsAmong person applicants → IsAdmitted admissions person ⊎ IsAmong person (left_over applicants admissions)
+  pub admitted_or_left : (person : Person) → IsAmong person applicants → IsAdmitted admissions person ⊎ IsAmong person (left_over applicants admissions)
   admitted_or_left person there =
       elim (taken_or_left applicants applicants admissions.open_step person ranked.distinct open_within there there) [
         | inl taken ↦ inl (Open, taken)
@@ -128,7 +128,7 @@ module _ (passes : NobodyPassedOver) (version : ℕ) (seats : ProgrammeSeats) (a
         ]
       ]
 
-  left_within : IsSublist (left_over applicants admissions) applicants
+  pub left_within : IsSublist (left_over applicants admissions) applicants
   left_within = sublist_again _ _ _ (filter-sublist _ _) (sublist_again _ _ _ (filter-sublist _ _) (sublist_again _ _ _ (filter-sublist _ _)
       (sublist_again _ _ _ (filter-sublist _ _) (filter-sublist _ applicants))))
 

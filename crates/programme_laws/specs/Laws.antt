@@ -1,5 +1,5 @@
 -- What the choice of a programme is worth to those who apply, over its definition alone.
-use Rattle.std.specs.Prelude.{◌≡◌, ◌≢◌, ◌⊎◌, ◌↔◌, ℕ, List, IsTrue, true}
+use Rattle.std.specs.Prelude.{◌≡◌, ◌≢◌, ◌<◌, ◌⊎◌, ◌↔◌, ℕ, List, IsTrue, length, true}
 use Rattle.office_base.specs.Lists.{IsAmong}
 use Rattle.office_base.specs.Person.{IsBetter, has_trait, is_common, number_in}
 use Rattle.office_base.specs.declared.person.Category.TheVariants.{Gen, Ews, Obc, Sc, St}
@@ -8,6 +8,7 @@ use Rattle.office_base.specs.declared.person.Person.{Person}
 use Rattle.office_base.specs.declared.step.StepKind.{StepKind}
 use Rattle.office_base.specs.declared.step.StepKind.TheVariants.{Open, Ews as EwsStep, Obc as ObcStep, Sc as ScStep, St as StStep, Dereserved}
 use Rattle.programme_lists.specs.Chosen.{AreApplicants, ChoosesFrom, IsAdmitted}
+use Rattle.programme_lists.specs.Listing.{seats_filled}
 use Rattle.programme_lists.specs.Programme.{Admissions, admitted_by}
 use Rattle.seat_matrix.specs.Seats.{AreProgrammeSeats}
 use Rattle.seat_matrix.specs.declared.seats.ProgrammeSeats.{ProgrammeSeats}
@@ -32,6 +33,18 @@ abbrev pub NobodyIsPassedOver : Type 0
 NobodyIsPassedOver = (version : ℕ) (seats : ProgrammeSeats) (people : List Person) (admissions : Admissions) (better worse : Person) (step : StepKind) → AreProgrammeSeats seats
     → AreApplicants seats.list people → ChoosesFrom version seats people admissions → IsAmong better people → IsAmong worse (admitted_by admissions step)
     → IsBetter seats.list better worse → MayStandFor seats.list step better → HoldsEachTraitOf better worse → IsAdmitted admissions better
+
+-- A step refuses nobody while it has a seat left: it admits fewer people than it fills seats, and an applicant may compete for it.
+-- Then the programme admits the applicant, under this step or another. This holds of all six steps.
+abbrev pub EmptySeatsRefuseNobody : Type 0
+EmptySeatsRefuseNobody = (version : ℕ) (seats : ProgrammeSeats) (people : List Person) (admissions : Admissions) (person : Person) (step : StepKind) → AreProgrammeSeats seats
+    → AreApplicants seats.list people → ChoosesFrom version seats people admissions → length (admitted_by admissions step) < seats_filled version seats admissions step
+    → IsAmong person people → MayStandFor seats.list step person → IsAdmitted admissions person
+
+-- whom a step admits may compete for it
+abbrev pub AdmittedMayStand : Type 0
+AdmittedMayStand = (version : ℕ) (seats : ProgrammeSeats) (people : List Person) (admissions : Admissions) (person : Person) (step : StepKind) → ChoosesFrom version seats people admissions
+    → IsAmong person (admitted_by admissions step) → MayStandFor seats.list step person
 
 -- ---- one applicant who is better off
 

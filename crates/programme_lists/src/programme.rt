@@ -45,15 +45,23 @@ impl Programme {
         ensures { IfOk result (λ programme. programme ≡ self.now) }
     {
         let [open, ews, obc, sc, st, dereserved] = &self.steps;
+        let (open, ews, obc) = copy_three(alloc, open, ews, obc)?;
+        let (sc, st, dereserved) = copy_three(alloc, sc, st, dereserved)?;
         Ok(Programme {
-            steps: [
-                open.copy(alloc)?,
-                ews.copy(alloc)?,
-                obc.copy(alloc)?,
-                sc.copy(alloc)?,
-                st.copy(alloc)?,
-                dereserved.copy(alloc)?,
-            ],
+            steps: [open, ews, obc, sc, st, dereserved],
         })
     }
+}
+
+/// The same three lists.
+fn copy_three(
+    alloc: Global,
+    first: &StepList,
+    second: &StepList,
+    third: &StepList,
+) -> Result<(StepList, StepList, StepList), OutOfMemory>
+    ensures { IfOk result (λ lists.
+        (lists.0 ≡ first.now) × (lists.1 ≡ second.now) × (lists.2 ≡ third.now)) }
+{
+    Ok((first.copy(alloc)?, second.copy(alloc)?, third.copy(alloc)?))
 }

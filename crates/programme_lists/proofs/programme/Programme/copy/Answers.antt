@@ -8,7 +8,9 @@ pub returns : goal.returns
 returns c =
     let steps = c.args.self.now.steps in
     let six : length steps ≡ 6 = omega arith in
-    let same = six_read steps c.in_ok-copy.field-0 c.in_ok-copy-2.field-0 c.in_ok-copy-3.field-0 c.in_ok-copy-4.field-0 c.in_ok-copy-5.field-0 c.in_ok-copy-6.field-0
+    let left = c.in_ok-open.ensures in
+    let right = c.in_ok-sc.ensures in
+    let same = six_read steps c.in_ok-open.open c.in_ok-open.ews c.in_ok-open.obc c.in_ok-sc.sc c.in_ok-sc.st c.in_ok-sc.dereserved
     c.index-self-0.result c.index-self-1.result c.index-self-2.result c.index-self-3.result c.index-self-4.result c.index-self-5.result six
-    c.in_ok-copy.ensures c.in_ok-copy-2.ensures c.in_ok-copy-3.ensures c.in_ok-copy-4.ensures c.in_ok-copy-5.ensures c.in_ok-copy-6.ensures in
+    left.0 left.1 left.2 right.0 right.1 right.2 in
     ap (λ (list : List StepList). let programme : Programme = record { steps = list } in programme) same

@@ -1,0 +1,5 @@
+mod Deciding
+mod Last
+mod Reading
+mod Standing
+mod Widening

@@ -1,0 +1,3 @@
+pub mod Cutoffs
+pub mod Laws
+pub mod Reading

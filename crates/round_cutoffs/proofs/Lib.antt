@@ -1,0 +1,4 @@
+mod Later
+mod Raised
+mod Refused
+mod Seated
