@@ -1,2 +1,8 @@
+pub mod Choices
 mod Improved
-mod Rounds
+pub mod MovingUp
+pub mod Numbered
+pub mod Numbers
+pub mod Reach
+pub mod Rounds
+pub mod SameOrder

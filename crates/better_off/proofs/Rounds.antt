@@ -1,9 +1,10 @@
 -- A candidate who is better off has no worse seat in a round.
-use Rattle.std.proofs.Common.{◌≡◌, ◌≤◌, ℕ, zero, suc, List, [], ◌∷◌, Some, None, length, map, arith, refl, sym, ap, ◌∙◌, subst}
+use Rattle.std.proofs.Common.{◌≡◌, ◌≤◌, ℕ, zero, suc, List, [], ◌∷◌, Option, Some, None, length, map, arith, refl, sym, ap, ◌∙◌, subst}
 use Rattle.std.specs.Prelude.{slice_get}
+use Rattle.office_base.specs.declared.asks.Seat.{Seat}
 use Rattle.office_base.specs.declared.person.Person.{Person}
 use Rattle.office_base.specs.declared.person.ProgId.{ProgId}
-use Rattle.allocations.specs.Fair.{IsBest}
+use Rattle.allocations.specs.Fair.{IsBest, IsFair}
 use Rattle.allocations.specs.Market.{Seeker, rank_of}
 use Rattle.allocations.proofs.Places.{rank_within}
 use Rattle.allocations.proofs.Those.{value_at}
@@ -14,13 +15,16 @@ use Rattle.seat_matrix.specs.Matrix.{AreSeats, SeatTable, seats_in}
 use Rattle.seeks.specs.Seek.{seek_leaves}
 use Rattle.seeks.specs.declared.seek.Seek.{Seek}
 use Rattle.rounds.specs.Rule.{AreEntrants, MayApplyIn, ProgrammesAdmitNoFewer, ProgrammesChooseWell, rule_of, seekers_of}
+use Rattle.rounds.specs.declared.round.Round.{Round}
 use Rattle.rounds.proofs.Entrants.{entered, market}
 use Rattle.office_moves.specs.Facts.{SeasonFacts, lists_in_order}
 use Rattle.office_moves.specs.Promise.{all_sought_then}
-use Rattle.office_moves.specs.State.{seat_of}
-use Rattle.published_rounds.specs.Published.{matrix_then, wanted_then}
+use Rattle.office_moves.specs.State.{State, seat_of}
+use Rattle.office_moves.specs.declared.moves.Entry.{Entry}
+use Rattle.published_rounds.specs.Published.{IsPublished, market_then, matrix_then, wanted_then}
 use Rattle.published_rounds.proofs.Places.{AreOrderly, course_of, in_round, made_then, may_enter}
 use Rattle.better_off.specs.Laws.{BetterOffIsNoWorse, NeverHurtsInARound, OneIsBetterOff}
+use Rattle.better_off.specs.Registers.{MovingUpNeverHurts, MovingUpNeverHurtsInARound}
 use Rattle.better_off.proofs.Improved.{Improves, no_worse}
 
 -- the laws on which this rests
@@ -106,14 +110,28 @@ better_off_is_no_worse laws version table people changed lists seeks seats other
 
 -- ---- the rounds of two histories
 
-pub never_hurts_in_a_round : AreOrderly → BetterOffIsNoWorse → (facts other : SeasonFacts) → NeverHurtsInARound facts other
-never_hurts_in_a_round orderly no_worse_off facts other entries others state then window i round later before after published published' same_version same_lists same_matrix same_sought off =
+-- in the market of a round, and with other people in the same market, the person at a place has no worse seat the second time
+abbrev pub HasNoWorse : SeasonFacts → State → ℕ → List Person → ℕ → Type 0
+HasNoWorse facts state window changed i =
+    (seats others : List (Option Seat)) (s : Seeker) (seat other : Option Seat) → AreSeats (matrix_then facts state window)
+    → AreEntrants (matrix_then facts state window) facts.people (lists_in_order facts) → AreEntrants (matrix_then facts state window) changed (lists_in_order facts)
+    → IsFair (rule_of facts.version (matrix_then facts state window)) (length (matrix_then facts state window).programmes) (market_then facts state window) seats
+    → IsBest (rule_of facts.version (matrix_then facts state window)) (length (matrix_then facts state window).programmes)
+    (seekers_of (matrix_then facts state window) changed (lists_in_order facts) (all_sought_then facts state window)) others
+    → slice_get (market_then facts state window) i ≡ Some s → slice_get seats i ≡ Some seat → slice_get others i ≡ Some other → rank_of s.list other ≤ rank_of s.list seat
+
+pub in_two_rounds : AreOrderly → (facts other : SeasonFacts) (entries others : List Entry) (state then : State) (window i : ℕ) (round later : Round) (before after : Person)
+    → IsPublished facts entries state window round → IsPublished other others then window later → other.version ≡ facts.version → other.lists ≡ facts.lists
+    → matrix_then other then window ≡ matrix_then facts state window → all_sought_then other then window ≡ all_sought_then facts state window
+    → slice_get facts.people i ≡ Some before → slice_get other.people i ≡ Some after → HasNoWorse facts state window other.people i
+    → rank_of (wanted_then facts state window before.id.0) (seat_of other (Some later) after.id.0) ≤ rank_of (wanted_then facts state window before.id.0) (seat_of facts (Some round) before.id.0)
+in_two_rounds orderly facts other entries others state then window i round later before after published published' same_version same_lists same_matrix same_sought there there' no_worse =
     let course = course_of orderly facts entries state window round published in
     let course' = course_of orderly other others then window later published' in
     let made = made_then facts state window round course published.there in
     let made' = made_then other then window later course' published'.there in
-    let mine = in_round facts state window i round before published.sound course published.there off.there in
-    let his = in_round other then window i later after published'.sound course' published'.there off.there_after in
+    let mine = in_round facts state window i round before published.sound course published.there there in
+    let his = in_round other then window i later after published'.sound course' published'.there there' in
     let table = matrix_then facts state window in
     let lists : lists_in_order other ≡ lists_in_order facts = ap (λ (l : Lists). map (λ held. held.1) l) same_lists in
     let by_version = subst (λ (v : ℕ). IsBest (rule_of v (matrix_then other then window)) (length (matrix_then other then window).programmes)
@@ -126,8 +144,20 @@ never_hurts_in_a_round orderly no_worse_off facts other entries others state the
     let enter' = subst (λ (l : List (List ProgId)). AreEntrants table other.people l) lists (subst (λ (t : SeatTable). AreEntrants t other.people (lists_in_order other)) same_matrix
     (may_enter other then window published'.sound course')) in
     let result : rank_of mine.s.list his.seat ≤ rank_of mine.s.list mine.seat =
-    no_worse_off facts.version table facts.people other.people (lists_in_order facts) (all_sought_then facts state window) round.seats later.seats i before after mine.s mine.seat his.seat
-    (course.seats (suc window)) (may_enter facts state window published.sound course) enter' off made.best.fair best mine.there mine.has his.has in
+    no_worse round.seats later.seats mine.s mine.seat his.seat (course.seats (suc window)) (may_enter facts state window published.sound course) enter' made.best.fair best
+    mine.there mine.has his.has in
     let list = wanted_then facts state window before.id.0 in
     let by_list : rank_of list his.seat ≤ rank_of list mine.seat = subst (λ l. rank_of l his.seat ≤ rank_of l mine.seat) mine.list_is result in
     subst (λ o. rank_of list o ≤ rank_of list (seat_of facts (Some round) before.id.0)) (sym his.seat_is) (subst (λ o. rank_of list his.seat ≤ rank_of list o) (sym mine.seat_is) by_list)
+
+pub never_hurts_in_a_round : AreOrderly → BetterOffIsNoWorse → (facts other : SeasonFacts) → NeverHurtsInARound facts other
+never_hurts_in_a_round orderly no_worse_off facts other entries others state then window i round later before after published published' same_version same_lists same_matrix same_sought off =
+    in_two_rounds orderly facts other entries others state then window i round later before after published published' same_version same_lists same_matrix same_sought off.there off.there_after
+    (λ seats more s seat got ok enter enter'. no_worse_off facts.version (matrix_then facts state window) facts.people other.people (lists_in_order facts) (all_sought_then facts state window)
+    seats more i before after s seat got ok enter enter' off)
+
+pub moving_up_never_hurts_in_a_round : AreOrderly → MovingUpNeverHurts → (facts other : SeasonFacts) → MovingUpNeverHurtsInARound facts other
+moving_up_never_hurts_in_a_round orderly no_worse_off facts other entries others state then window i round later before after published published' same_version same_lists same_matrix same_sought off =
+    in_two_rounds orderly facts other entries others state then window i round later before after published published' same_version same_lists same_matrix same_sought off.there off.there_after
+    (λ seats more s seat got ok enter enter'. no_worse_off facts.version (matrix_then facts state window) facts.people other.people (lists_in_order facts) (all_sought_then facts state window)
+    seats more i before after s seat got ok enter enter' off)

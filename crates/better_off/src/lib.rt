@@ -1,4 +1,5 @@
-// That being better off never hurts a candidate in a round.
+// What other registers would have given: only the order of the places counts, and being better off or moving up never
+// costs a candidate anything.
 //
 // Nothing uses it yet. It has no code but its laws, and knows of no array, no keeper and no engine.
 #![tactic(auto)]

@@ -1,5 +1,5 @@
 -- Nobody with a seat in a published round is envied by somebody better who holds the same traits.
-use Rattle.std.proofs.Common.{◌≡◌, ◌<◌, ◌≤◌, ◌⊎◌, inl, inr, ℕ, zero, suc, List, Option, Some, None, length, arith, refl, sym, ap, ◌∙◌, subst}
+use Rattle.std.proofs.Common.{◌≡◌, ◌<◌, ◌≤◌, ◌⊎◌, inl, inr, ℕ, zero, suc, List, Some, length, arith, refl, sym, ap, ◌∙◌, subst}
 use Rattle.std.specs.Prelude.{slice_get, option_map}
 use Rattle.std.specs.Option.{unwrap_or}
 use Rattle.std.proofs.lemmas.Bool.{ltb-true}
@@ -8,7 +8,6 @@ use Rattle.office_base.specs.Person.{IsBetter}
 use Rattle.office_base.specs.declared.asks.Seat.{Seat}
 use Rattle.office_base.specs.declared.person.ListId.{ListId}
 use Rattle.office_base.specs.declared.person.Person.{Person}
-use Rattle.office_base.specs.declared.person.ProgId.{ProgId}
 use Rattle.allocations.specs.Market.{applicants, applies, place_of, rank_of, seat_at}
 use Rattle.allocations.proofs.Claims.{applicants_may}
 use Rattle.allocations.proofs.Places.{applies_true, place_read, seat_same}
@@ -27,18 +26,13 @@ use Rattle.office_moves.specs.State.{State, seat_of}
 use Rattle.histories.specs.Course.{IsCourse}
 use Rattle.published_rounds.specs.Laws.{NobodyIsEnvied}
 use Rattle.published_rounds.specs.Published.{IsThatOrEarlier, market_then, matrix_then, wanted_then}
-use Rattle.published_rounds.proofs.Places.{AreOrderly, InRound, course_of, in_round, made_then, may_enter, place_among}
+use Rattle.published_rounds.proofs.Places.{AreOrderly, InRound, course_of, in_round, made_then, may_enter, place_among, seat_there_is}
 
 -- two numbers in their order
 ordered : (m n : ℕ) → (m ≤ n) ⊎ (n < m)
 ordered zero n = inl (omega arith)
 ordered (suc m) zero = inr (omega arith)
 ordered (suc m) (suc n) = elim (ordered m n) [ inl le ↦ inl (omega (arith, le)) | inr lt ↦ inr (omega (arith, lt)) ]
-
--- a seat whose place is that of a listed programme or an earlier one
-seat_there_is : (list : List ProgId) (p : ℕ) (seat : Option Seat) → place_of list p < length list → rank_of list seat ≤ place_of list p → IsThatOrEarlier list p seat
-seat_there_is list p None less within = absurd (omega (arith, less, within))
-seat_there_is list p (Some own) less within = (own, refl, within)
 
 module _ (well : ProgrammesChooseWell) (passes : NobodyIsPassedOver) (facts : SeasonFacts) (state : State) (window : ℕ) (round : Round) (sound : IsSound facts) (course : IsCourse facts state)
     (is : slice_get state.rounds window ≡ Some round) where

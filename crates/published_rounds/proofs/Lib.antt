@@ -1,4 +1,6 @@
 mod Compared
 mod Envy
+mod Fronts
 pub mod Places
-mod Within
+mod Traces
+pub mod Within

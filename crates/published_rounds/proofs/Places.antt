@@ -1,5 +1,5 @@
 -- Where the people of a season stand in a published round.
-use Rattle.std.proofs.Common.{◌≡◌, inl, inr, ℕ, suc, List, [], ◌∷◌, Option, Some, arith, sym, ap, ◌∙◌, subst}
+use Rattle.std.proofs.Common.{◌≡◌, ◌<◌, ◌≤◌, inl, inr, ℕ, suc, List, [], ◌∷◌, Option, Some, None, length, arith, refl, sym, ap, ◌∙◌, subst}
 use Rattle.std.specs.Prelude.{slice_get}
 use Rattle.std.specs.Option.{option_and_then}
 use Rattle.std.proofs.lemmas.Option.{slice_get_within}
@@ -7,8 +7,9 @@ use Rattle.office_base.proofs.People.{at_person-get}
 use Rattle.office_base.specs.Lists.{IsAmong}
 use Rattle.office_base.specs.declared.asks.Seat.{Seat}
 use Rattle.office_base.specs.declared.person.Person.{Person}
+use Rattle.office_base.specs.declared.person.ProgId.{ProgId}
 use Rattle.office_base.proofs.Lists.{there_is}
-use Rattle.allocations.specs.Market.{Seeker}
+use Rattle.allocations.specs.Market.{Seeker, place_of, rank_of}
 use Rattle.choice_lists.specs.Choices.{list_of}
 use Rattle.seeks.proofs.Left.{leaves_same}
 use Rattle.rounds.specs.Round.{IsRound}
@@ -23,7 +24,7 @@ use Rattle.histories.specs.Course.{IsCourse}
 use Rattle.histories.specs.Orderly.{IsOrderly}
 use Rattle.histories.proofs.Entering.{entrants}
 use Rattle.histories.proofs.Fits.{enters, full_seekers}
-use Rattle.published_rounds.specs.Published.{IsPublished, market_then, matrix_then, wanted_then}
+use Rattle.published_rounds.specs.Published.{IsPublished, IsThatOrEarlier, market_then, matrix_then, wanted_then}
 
 -- what the law of histories says
 abbrev pub AreOrderly : Type 0
@@ -39,6 +40,11 @@ place_among (x ∷ people) person here = elim here [
   | inl first ↦ (0, ap Some (sym first))
   | inr later ↦ let rest = place_among people person later in (suc rest.0, rest.1)
 ]
+
+-- a seat whose place is that of a listed programme or an earlier one
+pub seat_there_is : (list : List ProgId) (p : ℕ) (seat : Option Seat) → place_of list p < length list → rank_of list seat ≤ place_of list p → IsThatOrEarlier list p seat
+seat_there_is list p None less within = absurd (omega (arith, less, within))
+seat_there_is list p (Some own) less within = (own, refl, within)
 
 -- A person at a place of the people, with what the person seeks and has in a round.
 pub record InRound (facts : SeasonFacts) (state : State) (window place : ℕ) (round : Round) (person : Person) : Type 0 where

@@ -46,26 +46,26 @@ length_if true p x ps xs same = ap suc same
 length_if false p x ps xs same = same
 
 -- those who hold seats that pass a test are as many as such seats
-as_many : (f : Option Seat → Bool) (seekers : List Seeker) (seats : List (Option Seat)) → length seats ≡ length seekers → length (those (λ s seat. f seat) seekers seats) ≡ length (filter f seats)
+pub as_many : (f : Option Seat → Bool) (seekers : List Seeker) (seats : List (Option Seat)) → length seats ≡ length seekers → length (those (λ s seat. f seat) seekers seats) ≡ length (filter f seats)
 as_many f [] [] full = refl
 as_many f [] (seat ∷ seats) full = absurd (omega (arith, full))
 as_many f (s ∷ seekers) [] full = absurd (omega (arith, full))
 as_many f (s ∷ seekers) (seat ∷ seats) full = length_if (f seat) s.person seat _ _ (as_many f seekers seats (omega (arith, full)))
 
 -- a seat of a step of a programme is one of it
-under_is : (prog : ℕ) (step : StepKind) (seat : Option Seat) → is_seat_under prog step seat ≡ true → seat ≡ Some (seat_at prog step)
+pub under_is : (prog : ℕ) (step : StepKind) (seat : Option Seat) → is_seat_under prog step seat ≡ true → seat ≡ Some (seat_at prog step)
 under_is prog step None e = absurd (cc)
 under_is prog step (Some seat) e =
     let parts = and_parts (seat.prog.0 == prog) (step_number seat.step == step_number step) e in
     ap Some (seat_same seat (seat_at prog step) (eqb-true _ _ parts.0) (one_number seat.step step (eqb-true _ _ parts.1)))
 
-under_of : (prog : ℕ) (step : StepKind) (seat : Option Seat) → is_seat_under prog step seat ≡ true → is_of prog seat ≡ true
+pub under_of : (prog : ℕ) (step : StepKind) (seat : Option Seat) → is_seat_under prog step seat ≡ true → is_of prog seat ≡ true
 under_of prog step None e = absurd (cc)
 under_of prog step (Some seat) e = (and_parts (seat.prog.0 == prog) (step_number seat.step == step_number step) e).0
 
 -- ---- whom a programme admits
 
-last_seats : (version : ℕ) (table : SeatTable) (prog : ℕ) (people : List Person) (admissions : Admissions) → ChoosesFrom version (seats_in table prog) people admissions
+pub last_seats : (version : ℕ) (table : SeatTable) (prog : ℕ) (people : List Person) (admissions : Admissions) → ChoosesFrom version (seats_in table prog) people admissions
     → length admissions.dereserved ≤ unfilled version (seats_in table prog) admissions
 last_seats version table prog people admissions choice =
     let same = ap (λ (l : List Person). length l) choice.dereserved in
@@ -77,7 +77,7 @@ left_within : (all : List Person) (those : Admissions) → IsSublist (left_over 
 left_within all those = sublist_again _ _ _ (filter-sublist _ _) (sublist_again _ _ _ (filter-sublist _ _) (sublist_again _ _ _ (filter-sublist _ _)
     (sublist_again _ _ _ (filter-sublist _ _) (filter-sublist _ all))))
 
-in_order : (version : ℕ) (table : SeatTable) (prog : ℕ) (people : List Person) (admissions : Admissions) (step : StepKind) → ChoosesFrom version (seats_in table prog) people admissions
+pub in_order : (version : ℕ) (table : SeatTable) (prog : ℕ) (people : List Person) (admissions : Admissions) (step : StepKind) → ChoosesFrom version (seats_in table prog) people admissions
     → IsSublist (admitted_by admissions step) (in_merit (list_in table prog) people)
 in_order version table prog people admissions Open choice = sublist_again _ _ _ choice.open_step.may.people (filter-sublist _ _)
 in_order version table prog people admissions Ews choice = sublist_again _ _ _ choice.ews.may.people (sublist_again _ _ _ (filter-sublist _ _) (filter-sublist _ _))
@@ -89,7 +89,7 @@ in_order version table prog people admissions Dereserved choice =
     (sublist_again _ _ _ (IsSublist-take (unfilled version (seats_in table prog) admissions) _) (sublist_again _ _ _ (filter-sublist _ _) (left_within (in_merit (list_in table prog) people) admissions)))
 
 -- fewer of OBC and EWS leave no fewer empty
-left_falls : (version ews held_ews more_ews obc held_obc more_obc : ℕ) → held_ews ≤ more_ews → held_obc ≤ more_obc
+pub left_falls : (version ews held_ews more_ews obc held_obc more_obc : ℕ) → held_ews ≤ more_ews → held_obc ≤ more_obc
     → left_unfilled version ews more_ews obc more_obc ≤ left_unfilled version ews held_ews obc held_obc
 left_falls version ews held_ews more_ews obc held_obc more_obc one two = by (version == 2)
   where

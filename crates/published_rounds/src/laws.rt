@@ -1,6 +1,7 @@
 // The laws of the rounds that a history publishes. Each is the contract of a function that does nothing.
 ghost use Rattle.office_moves.specs.Facts.{SeasonFacts};
 ghost use Rattle.published_rounds.specs.Laws.{MoreSeatsHurtNobody, NoOtherListGivesMore, NobodyIsEnvied, SameAreSeated, SeatsAreWithin};
+ghost use Rattle.published_rounds.specs.Traces.{RoundsLeaveNoTrace};
 
 /// No candidate with a seat is envied by a better one who may stand for the same step and holds the same traits.
 pub fn nobody_is_envied()
@@ -41,5 +42,14 @@ pub fn more_seats_hurt_nobody()
     ensures { (facts : SeasonFacts) → MoreSeatsHurtNobody facts }
 {
     histories::laws::orderly();
+    round_laws::laws::more_seats_hurt_nobody();
+}
+
+/// Where everybody who stays floats, each round is the best allocation on the whole lists of those who stay.
+pub fn rounds_leave_no_trace()
+    ensures { (facts : SeasonFacts) → RoundsLeaveNoTrace facts }
+{
+    histories::laws::orderly();
+    round_laws::laws::choose_well();
     round_laws::laws::more_seats_hurt_nobody();
 }

@@ -25,6 +25,7 @@ use Rattle.office_moves.specs.Promise.{kept_to_the_end, standing_then}
 use Rattle.office_moves.specs.Raised.{matrix_of_round, raised, raised_before}
 use Rattle.office_moves.specs.declared.moves.Act.{Act}
 use Rattle.office_moves.specs.declared.moves.Entry.{Entry}
+use Rattle.office_moves.proofs.Grows.{none_raised}
 use Rattle.histories.specs.Course.{seek_then, seeks_then}
 use Rattle.histories.specs.Orderly.{IsOrderly}
 use Rattle.histories.proofs.Changes.{Answered, Finishes, Follows, Publishes, Raised, along, changes}
@@ -108,14 +109,10 @@ raises_in_order : (facts : SeasonFacts) (entries : List Entry) (state : State) �
 raises_in_order facts entries state reached =
     along facts (λ (s : State). AreInOrder s.now s.raises) (in_order facts) entries opening state (record { whole = λ window late. refl; none = λ window late. refl; next = λ window. refl }) reached
 
-none_before : (raises : List RaiseRow) → raised_before 0 raises ≡ []
-none_before [] = refl
-none_before (row ∷ raises) = ap (λ (b : Bool). if b then row ∷ raised_before 0 raises else raised_before 0 raises) (le-ltb row.window 0 (omega arith)) ∙ none_before raises
-
 -- so those before a window are the same, where those of each window are
 same_before : (now now' : ℕ) (raises others : List RaiseRow) → AreInOrder now raises → AreInOrder now' others → ((window : ℕ) → raises_in window others ≡ raises_in window raises) → (n : ℕ)
     → raised_before n others ≡ raised_before n raises
-same_before now now' raises others first second same zero = none_before others ∙ sym (none_before raises)
+same_before now now' raises others first second same zero = none_raised others ∙ sym (none_raised raises)
 same_before now now' raises others first second same (suc n) =
     second.next n
     ∙ (ap (λ (z : List RaiseRow). z ++ raises_in n others) (same_before now now' raises others first second same n)

@@ -10,3 +10,4 @@ mod ReadAlone
 mod ReadBack
 mod Reasons
 mod Shown
+mod Stays

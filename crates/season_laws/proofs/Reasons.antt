@@ -57,8 +57,8 @@ use Rattle.office_moves.specs.Moves.{Does, Tells, receipt}
 use Rattle.office_moves.specs.declared.decide.Decision.{Decision}
 use Rattle.office_moves.specs.declared.decide.Decision.TheVariants.{CutAgain, Publish, Tell}
 use Rattle.office_moves.specs.declared.decide.Question.{Question}
-use Rattle.office_moves.specs.declared.decide.Question.TheVariants.{Why as TheReason, List as TheList}
-use Rattle.office_moves.specs.declared.moves.Reply.TheVariants.{Final, Published, WhyIs}
+use Rattle.office_moves.specs.declared.decide.Question.TheVariants.{Why as TheReason, List as TheList, Cutoffs as TheCutoffs, Register as TheRegister}
+use Rattle.office_moves.specs.declared.moves.Reply.TheVariants.{CutoffsAre, Final, Published, RegisterIs, WhyIs}
 use Rattle.office_moves.specs.Why.{is_sought_by, reason_in, why_answer, why_beside, why_refused}
 use Rattle.office_moves.proofs.Narrows.{left_order, left_there, there_left}
 use Rattle.histories.specs.Orderly.{IsOrderly}
@@ -482,6 +482,12 @@ told_reason facts state (TheReason one other) cand prog answer tells =
     told ∙ (ap (λ z. why_answer facts (round_at state.rounds (length state.rounds)) z other) (sym who)
     ∙ ap (λ z. why_answer facts (round_at state.rounds (length state.rounds)) cand z) (sym what))
 told_reason facts state (TheList number one) cand prog answer tells = absurd (let e = tells.2 in cc)
+told_reason facts state (TheCutoffs number one) cand prog answer tells = absurd (let e = tells.4 in cc)
+told_reason facts state (TheRegister one) cand prog answer tells = absurd (no_entry (find_person one.0 facts.people) tells)
+  where
+    no_entry : (entry : Option Person) → option_map (λ person. RegisterIs person) entry ≡ Some (WhyIs cand prog answer) → ⊥
+    no_entry None tells = cc
+    no_entry (Some person) tells = cc
 told_reason facts state _ cand prog answer e = absurd (cc)
 
 told_why : (facts : SeasonFacts) (state after : State) (decision : Decision) (cand : CandId) (prog : ProgId) (answer : WhyAnswer) → Does facts state decision (WhyIs cand prog answer) after

@@ -1,7 +1,7 @@
 // The laws between what is proved of a season. Each is the contract of a function that does nothing.
 ghost use Rattle.office_moves.specs.Facts.{SeasonFacts};
 ghost use Rattle.season_laws.specs.Laws.{AnswersCanBeExchanged, OrderWithinWindowsIsFree, SeasonsCanBeFinished};
-ghost use Rattle.season_laws.specs.Looks.{ListsLookAtTheRound, RaisesLookAtRaises, RoundsLookAtNumbers, StateLooksAtNumbers};
+ghost use Rattle.season_laws.specs.Looks.{AnswersLookAtOwnRows, CutoffsLookAtTheRound, EntriesLookAtTheSeason, ListsLookAtTheRound, PublishedRepliesStay, RaisesLookAtRaises, RoundsLookAtNumbers, StateLooksAtNumbers};
 ghost use Rattle.season_laws.specs.NextRounds.{EveryRequestIsAnswered, NextRoundExists};
 ghost use Rattle.season_laws.specs.Otherwise.{FloatIsNoWorse, RaisesHurtNobody};
 ghost use Rattle.season_laws.specs.ReadBack.{PublishedIsRead, PublishedIsReadAlone};
@@ -15,6 +15,31 @@ pub fn raises_look_at_raises()
 /// The reply to who asks for a list looks at the season, at how many rounds are published and at that round alone.
 pub fn lists_look_at_the_round()
     ensures { (facts : SeasonFacts) → ListsLookAtTheRound facts }
+{}
+
+/// The reply to who asks for cutoffs looks at the season, at how many rounds are published and at that round alone.
+pub fn cutoffs_look_at_the_round()
+    ensures { (facts : SeasonFacts) → CutoffsLookAtTheRound facts }
+{
+    histories::laws::lists_hold_choices();
+    list_cutoffs::laws::one_list();
+}
+
+/// Once a round is published, who asks for a list or for cutoffs of it gets the same reply at any later time.
+pub fn published_replies_stay()
+    ensures { (facts : SeasonFacts) → PublishedRepliesStay facts }
+{
+    histories::laws::cutoffs_are_one();
+}
+
+/// The reply to who asks for an entry of the register, or for a choice list, looks at the season alone.
+pub fn entries_look_at_the_season()
+    ensures { (facts : SeasonFacts) → EntriesLookAtTheSeason facts }
+{}
+
+/// The reply to who asks for the answers of a candidate looks at the season and at that candidate's answers alone.
+pub fn answers_look_at_own_rows()
+    ensures { (facts : SeasonFacts) → AnswersLookAtOwnRows facts }
 {}
 
 /// The reply to who asks how far the office is looks at how many cuts were made and how many rounds are published alone.
@@ -59,6 +84,8 @@ pub fn every_request_is_answered()
     ensures { (facts : SeasonFacts) → EveryRequestIsAnswered facts }
 {
     next_round_exists();
+    histories::laws::lists_hold_choices();
+    list_cutoffs::laws::cutoffs_exist();
 }
 
 /// A season can always be finished: every history goes on to final rows by the clerk's cuts alone, window by window.

@@ -1,0 +1,4 @@
+pub mod Fair
+pub mod Laws
+pub mod People
+pub mod Published

@@ -1,0 +1,376 @@
+-- Markets where each seeker submits the front of a list: nobody who still lists the seat they had does worse where others list less.
+use Rattle.std.proofs.Common.{◌≡◌, ◌<◌, ◌≤◌, ◌+◌, inl, inr, ℕ, zero, suc, min, true, List, [], ◌∷◌, Option, Some, None, length, take, arith, refl, sym, ap, ◌∙◌, subst, length-take}
+use Rattle.std.specs.Prelude.{slice_get}
+use Rattle.std.specs.Option.{unwrap_or}
+use Rattle.std.proofs.lemmas.Bool.{cases_lt}
+use Rattle.std.proofs.lemmas.List.{take_all}
+use Rattle.office_base.specs.Lists.{IsSublist}
+use Rattle.office_base.specs.declared.asks.Seat.{Seat}
+use Rattle.office_base.specs.declared.person.Person.{Person}
+use Rattle.office_base.specs.declared.person.ProgId.{ProgId}
+use Rattle.office_base.specs.declared.step.StepKind.{StepKind}
+use Rattle.allocations.specs.Fair.{IsBest, IsFair, IsMarket, IsNextMarket, IsOwn}
+use Rattle.allocations.specs.Market.{Seeker, applicants, applies, place_of, rank_of, seat_at}
+use Rattle.allocations.specs.Rule.{Admits, ChoosesWell, Grows, Rule}
+use Rattle.allocations.proofs.Best.{best_there}
+use Rattle.allocations.proofs.Claims.{applicants_may}
+use Rattle.allocations.proofs.Places.{applies_means, applies_true, place_read}
+use Rattle.allocations.proofs.Those.{those_has, those_sublist, value_at}
+use Rattle.allocations.proofs.Truthful.{front_distinct, front_place, narrows_market, still_fair, with_list}
+
+-- ---- the front of a list
+
+-- where a programme is on a front: before its end, and on the list
+record IsOn (n : ℕ) (list : List ProgId) (p : ℕ) : Type 0 where
+  pub before : place_of list p < n
+  pub on : place_of list p < length list
+
+on_front : (n : ℕ) (list : List ProgId) (p : ℕ) → place_of (take n list) p < length (take n list) → IsOn n list p
+on_front n list p less =
+    let e = front_place n list p in
+    let size = length-take n list in
+    record { before = omega (arith, less, e, size); on = omega (arith, less, e, size) }
+
+front_on : (n : ℕ) (list : List ProgId) (p : ℕ) → place_of list p < n → place_of list p < length list → place_of (take n list) p < length (take n list)
+front_on n list p before on = let e = front_place n list p in let size = length-take n list in omega (arith, e, size, before, on)
+
+-- an application by a front, told by the list
+pub record AppliesBy (n : ℕ) (list : List ProgId) (p : ℕ) (seat : Option Seat) : Type 0 where
+  pub before : place_of list p < n
+  pub on : place_of list p < length list
+  pub within : place_of list p ≤ rank_of list seat
+
+pub applies_by : (n : ℕ) (list : List ProgId) (p : ℕ) (seat : Option Seat) → IsOwn (take n list) seat → applies p (take n list) seat ≡ true → AppliesBy n list p seat
+applies_by n list p None own h =
+    let a = applies_means p (take n list) None h in
+    let at = on_front n list p a.wants in
+    record { before = at.before; on = at.on; within = (let less = at.on in omega (arith, less)) }
+applies_by n list p (Some y) own h =
+    let a = applies_means p (take n list) (Some y) h in
+    let at = on_front n list p a.wants in
+    let mine = on_front n list y.prog.0 own in
+    let within : place_of (take n list) p ≤ place_of (take n list) y.prog.0 = a.within in
+    let e = front_place n list p in
+    let f = front_place n list y.prog.0 in
+    let less = mine.before in
+    record { before = at.before; on = at.on; within = omega (arith, within, e, f, less) }
+
+pub by_applies : (n : ℕ) (list : List ProgId) (p : ℕ) (seat : Option Seat) → AppliesBy n list p seat → applies p (take n list) seat ≡ true
+by_applies n list p None a =
+    let before = a.before in
+    let on = a.on in
+    let less = front_on n list p before on in
+    applies_true p (take n list) None less (omega (arith, less))
+by_applies n list p (Some y) a =
+    let before = a.before in
+    let on = a.on in
+    let within : place_of list p ≤ place_of list y.prog.0 = a.within in
+    let e = front_place n list p in
+    let f = front_place n list y.prog.0 in
+    applies_true p (take n list) (Some y) (front_on n list p before on) (omega (arith, e, f, within, before))
+
+-- a seat is at a place of a front, or there is none
+abbrev pub IsWithin : ℕ → List ProgId → Option Seat → Type 0
+IsWithin n list None = Unit {0}
+IsWithin n list (Some y) = (place_of list y.prog.0 < n) × (place_of list y.prog.0 < length list)
+
+pub within_own : (n : ℕ) (list : List ProgId) (seat : Option Seat) → IsOwn (take n list) seat → IsWithin n list seat
+within_own n list None own = tt
+within_own n list (Some y) own = let at = on_front n list y.prog.0 own in (at.before, at.on)
+
+pub own_within : (n : ℕ) (list : List ProgId) (seat : Option Seat) → IsWithin n list seat → IsOwn (take n list) seat
+own_within n list None at = tt
+own_within n list (Some y) at = front_on n list y.prog.0 at.0 at.1
+
+-- of seats of a front, the one that is no later there is no later on the list
+pub ranks_by : (n : ℕ) (list : List ProgId) (x y : Option Seat) → IsWithin n list x → IsWithin n list y → rank_of (take n list) x ≤ rank_of (take n list) y → rank_of list x ≤ rank_of list y
+ranks_by n list None None at at' le = omega arith
+ranks_by n list None (Some y) at at' le =
+    absurd (let f = front_place n list y.prog.0 in let size = length-take n list in let before = at'.0 in let on = at'.1 in omega (arith, le, f, size, before, on))
+ranks_by n list (Some x) None at at' le = let on = at.1 in omega (arith, on)
+ranks_by n list (Some x) (Some y) at at' le =
+    let e = front_place n list x.prog.0 in
+    let f = front_place n list y.prog.0 in
+    let before = at.0 in
+    let before' = at'.0 in
+    omega (arith, le, e, f, before, before')
+
+-- ---- the seekers with fronts of their lists
+
+abbrev pub fronted : (ℕ → ℕ) → List Seeker → List Seeker
+fronted k [] = []
+fronted k (s ∷ seekers) = with_list s (take (k 0) s.list) ∷ fronted (λ i. k (suc i)) seekers
+
+pub length_fronted : (k : ℕ → ℕ) (seekers : List Seeker) → length (fronted k seekers) ≡ length seekers
+length_fronted k [] = refl
+length_fronted k (s ∷ seekers) = ap suc (length_fronted (λ i. k (suc i)) seekers)
+
+pub fronted_at : (k : ℕ → ℕ) (seekers : List Seeker) (i : ℕ) (s : Seeker) → slice_get seekers i ≡ Some s → slice_get (fronted k seekers) i ≡ Some (with_list s (take (k i) s.list))
+fronted_at k [] i s there = absurd (cc)
+fronted_at k (x ∷ seekers) zero s there = let same : x ≡ s = cc in ap (λ (z : Seeker). Some (with_list z (take (k 0) z.list))) same
+fronted_at k (x ∷ seekers) (suc i) s there = fronted_at (λ j. k (suc j)) seekers i s there
+
+-- where each front is the whole list, the seekers are as they are
+pub fronted_whole : (k : ℕ → ℕ) (seekers : List Seeker) → ((i : ℕ) (s : Seeker) → slice_get seekers i ≡ Some s → length s.list ≤ k i) → fronted k seekers ≡ seekers
+fronted_whole k [] whole = refl
+fronted_whole k (s ∷ seekers) whole =
+    ap (λ l. with_list s l ∷ fronted (λ i. k (suc i)) seekers) (take_all (k 0) s.list (whole 0 s refl))
+    ∙ ap (λ rest. s ∷ rest) (fronted_whole (λ i. k (suc i)) seekers (λ i. whole (suc i)))
+
+-- how long the list at a place is
+abbrev pub size_at : List Seeker → ℕ → ℕ
+size_at [] i = 0
+size_at (s ∷ seekers) zero = length s.list
+size_at (s ∷ seekers) (suc i) = size_at seekers i
+
+pub size_there : (seekers : List Seeker) (i : ℕ) (s : Seeker) → slice_get seekers i ≡ Some s → size_at seekers i ≡ length s.list
+size_there [] i s there = absurd (cc)
+size_there (x ∷ seekers) zero s there = let same : x ≡ s = cc in ap (λ (z : Seeker). length z.list) same
+size_there (x ∷ seekers) (suc i) s there = size_there seekers i s there
+
+-- the value at a place, or none
+abbrev pub seat_of_place : List (Option Seat) → ℕ → Option Seat
+seat_of_place seats i = unwrap_or (slice_get seats i) None
+
+pub of_place : (seats : List (Option Seat)) (i : ℕ) (seat : Option Seat) → slice_get seats i ≡ Some seat → seat_of_place seats i ≡ seat
+of_place seats i seat at = ap (λ o. unwrap_or o None) at
+
+-- how far down their list the seat at a place is
+abbrev pub rank_at : List Seeker → List (Option Seat) → ℕ → ℕ
+rank_at [] seats i = 0
+rank_at (s ∷ seekers) seats zero = rank_of s.list (seat_of_place seats 0)
+rank_at (s ∷ seekers) [] (suc i) = 0
+rank_at (s ∷ seekers) (x ∷ seats) (suc i) = rank_at seekers seats i
+
+pub rank_there : (seekers : List Seeker) (seats : List (Option Seat)) (i : ℕ) (s : Seeker) (seat : Option Seat) → slice_get seekers i ≡ Some s → slice_get seats i ≡ Some seat
+    → rank_at seekers seats i ≡ rank_of s.list seat
+rank_there [] seats i s seat there has = absurd (cc)
+rank_there (x ∷ seekers) seats zero s seat there has =
+    let same : x ≡ s = cc in
+    ap (λ (z : Seeker). rank_of z.list (seat_of_place seats 0)) same ∙ ap (λ o. rank_of s.list o) (of_place seats 0 seat has)
+rank_there (x ∷ seekers) [] (suc i) s seat there has = absurd (cc)
+rank_there (x ∷ seekers) (y ∷ seats) (suc i) s seat there has = rank_there seekers seats i s seat there has
+
+-- In fair seats of the next round, by a rule that admits whom the first does, a seeker who had a seat and still wants its programme has a seat.
+still_seated : (rule more : Rule) (MayApply : ℕ → List Person → Type 0) (count p i : ℕ) (seekers next : List Seeker) (seats others : List (Option Seat)) (s t : Seeker) (kind : StepKind)
+    → IsMarket MayApply count seekers → ChoosesWell more MayApply → Grows rule more MayApply → IsFair rule count seekers seats → IsFair more count next others
+    → IsNextMarket seekers seats next → p < count → slice_get seekers i ≡ Some s → slice_get next i ≡ Some t → slice_get seats i ≡ Some (Some (seat_at p kind))
+    → place_of t.list p < length t.list → slice_get others i ≡ Some None → ⊥
+still_seated rule more MayApply count p i seekers next seats others s t kind market well grows fair fair' narrows below there there' has wanted none =
+    let full = fair.allocation.full in
+    let may = applicants_may more MayApply count p seekers seats market well below full in
+    let part : IsSublist (applicants p next others) (applicants p seekers seats) =
+    those_sublist (λ s seat. applies p s.list seat) (λ s seat. applies p s.list seat) next seekers others seats (record {
+      seekers = sym narrows.same;
+      values = full ∙ (sym narrows.same ∙ sym fair'.allocation.full);
+      persons = λ i s t there there'. sym (narrows.persons i t s there' there);
+      passes = λ i s t x y there there' at at' h. narrows.narrowed p i t s y there' there at' (applies_means p s.list x h).wants;
+    }) in
+    let same : s.person ≡ t.person = narrows.persons i s t there there' in
+    let among = those_has (λ s seat. applies p s.list seat) next others i t None there' none (applies_true p t.list None wanted (omega (arith, wanted))) in
+    let admitted : Admits rule p (applicants p seekers seats) t.person =
+    (kind, subst (λ z. rule p (applicants p seekers seats) z kind) same ((fair.agrees p i s kind below there).1 has)) in
+    let grown = grows p (applicants p seekers seats) t.person may admitted in
+    let fewer = well.fewer p (applicants p next others) (applicants p seekers seats) t.person may part among grown in
+    let seat = (fair'.agrees p i t fewer.0 below there').0 fewer.1 in
+    cc
+
+module _ (rule : Rule) (MayApply : ℕ → List Person → Type 0) (well : ChoosesWell rule MayApply) (count : ℕ) (seekers : List Seeker) (market : IsMarket MayApply count seekers) where
+  -- the seeker of a front
+  record Base (k : ℕ → ℕ) (i : ℕ) (t : Seeker) : Type 0 where
+    pub s : Seeker
+    pub there : slice_get seekers i ≡ Some s
+    pub is : t ≡ with_list s (take (k i) s.list)
+
+  base : (k : ℕ → ℕ) (i : ℕ) (t : Seeker) → slice_get (fronted k seekers) i ≡ Some t → Base k i t
+  base k i t at =
+      let s = value_at (fronted k seekers) seekers i t (sym (length_fronted k seekers)) at in
+      let here = fronted_at k seekers i s.0 s.1 in
+      record { s = s.0; there = s.1; is = (let same : Some t ≡ Some (with_list s.0 (take (k i) s.0.list)) = sym at ∙ here in cc) }
+
+  -- fronts are a market
+  pub front_market : (k : ℕ → ℕ) → IsMarket MayApply count (fronted k seekers)
+  front_market k = narrows_market rule MayApply well count seekers (fronted k seekers) market (record {
+    same = length_fronted k seekers;
+    persons = λ i s t there at.
+        let b = base k i t at in
+        let one = b.there in
+        let same : s ≡ b.s = cc in
+        ap (λ (z : Seeker). z.person) same ∙ ap (λ (z : Seeker). z.person) (sym b.is);
+    distinct = λ i j t q at get.
+        let b = base k i t at in
+        let get' = subst (λ (z : Seeker). slice_get z.list j ≡ Some q) b.is get in
+        let place = front_distinct (k i) b.s.list (λ j q at. market.distinct i j b.s q b.there at) j q get' in
+        subst (λ (z : Seeker). place_of z.list q.0 ≡ j) (sym b.is) place;
+    narrowed = λ p i s t there at less.
+        let b = base k i t at in
+        let one = b.there in
+        let same : b.s ≡ s = cc in
+        subst (λ (z : Seeker). place_of z.list p < length z.list) same
+        (on_front (k i) b.s.list p (subst (λ (z : Seeker). place_of z.list p < length z.list) b.is less)).on;
+  })
+
+  -- fair seats by fronts are of the front
+  pub front_within : (k : ℕ → ℕ) (seats : List (Option Seat)) (i : ℕ) (s : Seeker) (seat : Option Seat) → IsFair rule count (fronted k seekers) seats → slice_get seekers i ≡ Some s
+      → slice_get seats i ≡ Some seat → IsWithin (k i) s.list seat
+  front_within k seats i s seat fair there has =
+      within_own (k i) s.list seat (fair.allocation.own i (with_list s (take (k i) s.list)) seat (fronted_at k seekers i s there) has)
+
+  -- the seeker of two fronts
+  record Both (k m : ℕ → ℕ) (i : ℕ) (a b : Seeker) : Type 0 where
+    pub s : Seeker
+    pub there : slice_get seekers i ≡ Some s
+    pub first : a ≡ with_list s (take (k i) s.list)
+    pub second : b ≡ with_list s (take (m i) s.list)
+
+  both : (k m : ℕ → ℕ) (i : ℕ) (a b : Seeker) → slice_get (fronted k seekers) i ≡ Some a → slice_get (fronted m seekers) i ≡ Some b → Both k m i a b
+  both k m i a b at at' =
+      let c = base k i a at in
+      let d = base m i b at' in
+      let one = c.there in
+      let two = d.there in
+      let same : d.s ≡ c.s = cc in
+      record { s = c.s; there = c.there; first = c.is; second = d.is ∙ ap (λ (z : Seeker). with_list z (take (m i) z.list)) same }
+
+  -- fair seats by fronts are fair by others that hold them, where nobody applies to more
+  pub moved : (k m : ℕ → ℕ) (seats : List (Option Seat)) → IsFair rule count (fronted k seekers) seats
+      → ((i : ℕ) (s : Seeker) (seat : Option Seat) → slice_get seekers i ≡ Some s → slice_get seats i ≡ Some seat → IsWithin (m i) s.list seat)
+      → ((i p : ℕ) (s : Seeker) (seat : Option Seat) → slice_get seekers i ≡ Some s → slice_get seats i ≡ Some seat → AppliesBy (m i) s.list p seat → place_of s.list p < k i)
+      → IsFair rule count (fronted m seekers) seats
+  moved k m seats fair own narrow =
+      still_fair rule MayApply well count (fronted k seekers) (fronted m seekers) (front_market k) seats (length_fronted m seekers ∙ sym (length_fronted k seekers))
+      (λ i a b at at'. let c = both k m i a b at at' in ap (λ (z : Seeker). z.person) c.first ∙ ap (λ (z : Seeker). z.person) (sym c.second))
+      (λ i a b at at' seat has.
+      let c = both k m i a b at at' in
+      subst (λ (z : Seeker). IsOwn z.list seat) (sym c.second) (own_within (m i) c.s.list seat (own i c.s seat c.there has)))
+      (λ i a b at at' p seat has h.
+      let c = both k m i a b at at' in
+      let mine = own i c.s seat c.there has in
+      let by = applies_by (m i) c.s.list p seat (own_within (m i) c.s.list seat mine) (subst (λ (z : Seeker). applies p z.list seat ≡ true) c.second h) in
+      subst (λ (z : Seeker). applies p z.list seat ≡ true) (sym c.first)
+      (by_applies (k i) c.s.list p seat (record { before = narrow i p c.s seat c.there has by; on = by.on; within = by.within })))
+      fair
+
+-- ---- where some list less, and programmes admit whom they admitted
+
+module _ (rule more : Rule) (MayApply : ℕ → List Person → Type 0) (well : ChoosesWell more MayApply) (grows : Grows rule more MayApply) (count : ℕ) (seekers : List Seeker)
+    (market : IsMarket MayApply count seekers) (k m : ℕ → ℕ) (shorter : (i : ℕ) → k i ≤ m i) (seats : List (Option Seat)) (fair : IsFair rule count (fronted m seekers) seats) where
+  -- up to the seats
+  abbrev upto : ℕ → ℕ
+  upto i = min (k i) (rank_at seekers seats i + 1)
+
+  small : (small_seats : List (Option Seat)) × IsBest more count (fronted upto seekers) small_seats
+  small = best_there more MayApply count (fronted upto seekers) (front_market more MayApply well count seekers market upto) well
+
+  seat_there : (i : ℕ) (s : Seeker) → slice_get seekers i ≡ Some s → (seat : Option Seat) × (slice_get seats i ≡ Some seat)
+  seat_there i s there = value_at seekers seats i s (fair.allocation.full ∙ length_fronted m seekers) there
+
+  narrows : IsNextMarket (fronted m seekers) seats (fronted upto seekers)
+  narrows = record {
+    same = length_fronted upto seekers ∙ sym (length_fronted m seekers);
+    persons = λ i a b at at'.
+        let c = base more MayApply well count seekers market m i a at in
+        let d = base more MayApply well count seekers market upto i b at' in
+        let one = c.there in
+        let two = d.there in
+        let same : c.s ≡ d.s = cc in
+        ap (λ (z : Seeker). z.person) c.is ∙ (ap (λ (z : Seeker). z.person) same ∙ ap (λ (z : Seeker). z.person) (sym d.is));
+    narrowed = λ p i a b seat at at' has less.
+        let c = base more MayApply well count seekers market m i a at in
+        let d = base more MayApply well count seekers market upto i b at' in
+        let one = c.there in
+        let two = d.there in
+        let same : d.s ≡ c.s = cc in
+        let less' = subst (λ (z : Seeker). place_of (take (upto i) z.list) p < length (take (upto i) z.list)) same
+        (subst (λ (z : Seeker). place_of z.list p < length z.list) d.is less) in
+        let on = on_front (upto i) c.s.list p less' in
+        let before = on.before in
+        let rank = rank_there seekers seats i c.s seat c.there has in
+        let short = shorter i in
+        subst (λ (z : Seeker). applies p z.list seat ≡ true) (sym c.is)
+        (by_applies (m i) c.s.list p seat (record { before = omega (arith, before, short); on = on.on; within = omega (arith, before, rank) }));
+  }
+
+  -- who has no seat so far had none, or no longer lists it
+  not_listed : (i : ℕ) (s : Seeker) (seat : Option Seat) → slice_get seekers i ≡ Some s → slice_get seats i ≡ Some seat → slice_get small.0 i ≡ Some None
+      → (p : ℕ) → place_of s.list p < k i → place_of s.list p < length s.list → place_of s.list p < upto i
+  not_listed i s None there has none p before on = let rank = rank_there seekers seats i s None there has in omega (arith, rank, before, on)
+  not_listed i s (Some y) there has none p before on = elim (cases_lt (place_of s.list y.prog.0) (k i)) [
+    | inl listed ↦ absurd (
+        let rank = rank_there seekers seats i s (Some y) there has in
+        let own = within_own (m i) s.list (Some y) (fair.allocation.own i (with_list s (take (m i) s.list)) (Some y) (fronted_at m seekers i s there) has) in
+        let read = place_read s.list y.prog.0 own.1 in
+        let below = subst (λ n. n < count) read.2 (market.below i (place_of s.list y.prog.0) s read.0 there read.1) in
+        still_seated rule more MayApply count y.prog.0 i (fronted m seekers) (fronted upto seekers) seats small.0 (with_list s (take (m i) s.list)) (with_list s (take (upto i) s.list)) y.step
+        (front_market more MayApply well count seekers market m) well grows fair small.1.fair narrows below (fronted_at m seekers i s there) (fronted_at upto seekers i s there) has
+        (front_on (upto i) s.list y.prog.0 (omega (arith, listed, rank)) own.1) none)
+    | inr gone ↦ let rank = rank_there seekers seats i s (Some y) there has in omega (arith, gone, rank, before)
+  ]
+
+  small_fair : IsFair more count (fronted k seekers) small.0
+  small_fair = moved more MayApply well count seekers market upto k small.0 small.1.fair
+      (λ i s z there has. longer i s z (front_within more MayApply well count seekers market upto small.0 i s z small.1.fair there has))
+      (λ i p s z there has a. applied i p s z there has a)
+    where
+      longer : (i : ℕ) (s : Seeker) (z : Option Seat) → IsWithin (upto i) s.list z → IsWithin (k i) s.list z
+      longer i s None at = tt
+      longer i s (Some w) at = (let before = at.0 in omega (arith, before), at.1)
+
+      applied : (i p : ℕ) (s : Seeker) (z : Option Seat) → slice_get seekers i ≡ Some s → slice_get small.0 i ≡ Some z → AppliesBy (k i) s.list p z → place_of s.list p < upto i
+      applied i p s None there has a = let seat = seat_there i s there in not_listed i s seat.0 there seat.1 has p a.before a.on
+      applied i p s (Some w) there has a =
+          let own = front_within more MayApply well count seekers market upto small.0 i s (Some w) small.1.fair there has in
+          let before = own.0 in
+          let within : place_of s.list p ≤ place_of s.list w.prog.0 = a.within in
+          omega (arith, before, within)
+
+  -- so far the seats are no later
+  no_later : (i : ℕ) (s : Seeker) (seat z : Option Seat) → slice_get seekers i ≡ Some s → slice_get seats i ≡ Some seat → slice_get small.0 i ≡ Some z → IsWithin (k i) s.list seat
+      → rank_of s.list z ≤ rank_of s.list seat
+  no_later i s None z there has at listed = rank_within_by s z (front_within more MayApply well count seekers market upto small.0 i s z small.1.fair there at)
+    where
+      rank_within_by : (s : Seeker) (z : Option Seat) → IsWithin (upto i) s.list z → rank_of s.list z ≤ length s.list
+      rank_within_by s None at = omega arith
+      rank_within_by s (Some w) at = let on = at.1 in omega (arith, on)
+  no_later i s (Some y) None there has at listed = absurd (
+      let rank = rank_there seekers seats i s (Some y) there has in
+      let own = within_own (m i) s.list (Some y) (fair.allocation.own i (with_list s (take (m i) s.list)) (Some y) (fronted_at m seekers i s there) has) in
+      let read = place_read s.list y.prog.0 own.1 in
+      let below = subst (λ n. n < count) read.2 (market.below i (place_of s.list y.prog.0) s read.0 there read.1) in
+      let before = listed.0 in
+      still_seated rule more MayApply count y.prog.0 i (fronted m seekers) (fronted upto seekers) seats small.0 (with_list s (take (m i) s.list)) (with_list s (take (upto i) s.list)) y.step
+      (front_market more MayApply well count seekers market m) well grows fair small.1.fair narrows below (fronted_at m seekers i s there) (fronted_at upto seekers i s there) has
+      (front_on (upto i) s.list y.prog.0 (omega (arith, before, rank)) own.1) at)
+  no_later i s (Some y) (Some w) there has at listed =
+      let own = front_within more MayApply well count seekers market upto small.0 i s (Some w) small.1.fair there at in
+      let rank = rank_there seekers seats i s (Some y) there has in
+      let before = own.0 in
+      omega (arith, before, rank)
+
+  -- nobody who still lists their seat has a worse one by the best seats
+  pub still_listed : (others : List (Option Seat)) (i : ℕ) (s : Seeker) (seat other : Option Seat) → IsBest more count (fronted k seekers) others → slice_get seekers i ≡ Some s
+      → slice_get seats i ≡ Some seat → slice_get others i ≡ Some other → IsWithin (k i) s.list seat → rank_of s.list other ≤ rank_of s.list seat
+  still_listed others i s seat other best there has has' listed =
+      let z = value_at seekers small.0 i s (small_fair.allocation.full ∙ length_fronted k seekers) there in
+      let t = fronted_at k seekers i s there in
+      let one = best.best small.0 small_fair i (with_list s (take (k i) s.list)) other z.0 t has' z.1 in
+      let first = front_within more MayApply well count seekers market k others i s other best.fair there has' in
+      let second = front_within more MayApply well count seekers market k small.0 i s z.0 small_fair there z.1 in
+      let by_list = ranks_by (k i) s.list other z.0 first second one in
+      let rest = no_later i s seat z.0 there has z.1 listed in
+      omega (arith, by_list, rest)
+
+-- Where programmes admit whom they admitted, nobody has a worse seat by the best seats than by any fair ones before, all lists as they are.
+pub more_is_no_worse : (rule more : Rule) (MayApply : ℕ → List Person → Type 0) → ChoosesWell more MayApply → Grows rule more MayApply → (count i : ℕ) (seekers : List Seeker)
+    (seats others : List (Option Seat)) (s : Seeker) (seat other : Option Seat) → IsMarket MayApply count seekers → IsFair rule count seekers seats → IsBest more count seekers others
+    → slice_get seekers i ≡ Some s → slice_get seats i ≡ Some seat → slice_get others i ≡ Some other → rank_of s.list other ≤ rank_of s.list seat
+more_is_no_worse rule more MayApply well grows count i seekers seats others s seat other market fair best there has has' =
+    let all = size_at seekers in
+    let same : fronted all seekers ≡ seekers = fronted_whole all seekers (λ i s there. let e = size_there seekers i s there in omega (arith, e)) in
+    let size = size_there seekers i s there in
+    still_listed rule more MayApply well grows count seekers market all all (λ i. omega arith) seats (subst (λ l. IsFair rule count l seats) (sym same) fair) others i s seat other
+    (subst (λ l. IsBest more count l others) (sym same) best) there has has' (listed (all i) s.list seat size (fair.allocation.own i s seat there has))
+  where
+    listed : (n : ℕ) (list : List ProgId) (seat : Option Seat) → n ≡ length list → IsOwn list seat → IsWithin n list seat
+    listed n list None e own = tt
+    listed n list (Some y) e own = (omega (arith, e, own), own)

@@ -1,0 +1,5 @@
+pub mod Five
+pub mod GroupLaws
+pub mod Groups
+pub mod Laws
+pub mod Procedures
