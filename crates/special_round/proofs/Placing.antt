@@ -5,7 +5,7 @@ use Rattle.season_file.specs.declared.season.Season.{Season}
 use Rattle.seat_matrix.specs.Matrix.{SeatTable}
 use Rattle.office_moves.specs.Facts.{IsSound, SeasonFacts}
 use Rattle.office_moves.specs.Raised.{matrix_at}
-use Rattle.office_moves.specs.Season.{facts_of}
+use Rattle.season_facts.specs.Season.{facts_of}
 use Rattle.office_moves.specs.State.{State}
 use Rattle.histories.specs.Orderly.{IsOrderly}
 use Rattle.special_round.specs.Laws.{FinalsAreKnown, FinalsFit, FitInto}

@@ -22,7 +22,7 @@ use Rattle.round_laws.specs.Laws.{lists_in}
 use Rattle.round_laws.proofs.Season.{aligned_length, length_lists}
 use Rattle.office_moves.specs.Facts.{IsSound, SeasonFacts, register_of}
 use Rattle.office_moves.specs.Raised.{total_seats}
-use Rattle.office_moves.specs.Season.{facts_of}
+use Rattle.season_facts.specs.Season.{facts_of}
 use Rattle.office_moves.specs.State.{seat_of}
 use Rattle.histories.proofs.Entering.{entrants}
 use Rattle.special_round.specs.Laws.{FitInto, TogetherWithin}

@@ -1,6 +1,6 @@
 // The special round.
 ghost use Rattle.std.specs.Prelude.{◌≡◌, ◌<◌, ◌≤◌, ◌+◌, ℕ, IfOk, IfErr, length};
-ghost use Rattle.office_moves.specs.Season.{facts_of};
+ghost use Rattle.season_facts.specs.Season.{facts_of};
 ghost use Rattle.allocations.specs.Course.{places};
 ghost use Rattle.rounds.specs.Rule.{seekers_of};
 ghost use Rattle.round_laws.specs.Laws.{lists_in};
@@ -17,8 +17,8 @@ use crate::vacant::vacant_seats;
 use apply_engine::round;
 use kept_rows::AllotRow;
 use office_base::{OutOfMemory, Person, Steps};
-use office_moves::says_what_is_sound;
 use rounds::{Round, Seeks};
+use season_facts::says_what_is_sound;
 use season_file::Season;
 use seat_matrix::Matrix;
 use seeks::Seek;

@@ -3,7 +3,7 @@ ghost use Rattle.std.specs.Prelude.{◌≡◌, ◌<◌, [], IfOk, IfErr, List, N
 ghost use Rattle.office_base.specs.Lists.{Pairwise};
 ghost use Rattle.section_rows.specs.Rows.{Row, rows_of};
 ghost use Rattle.choice_lists.specs.Choices.{IsRead};
-ghost use Rattle.office_moves.specs.Season.{facts_of};
+ghost use Rattle.season_facts.specs.Season.{facts_of};
 ghost use Rattle.special_round.specs.Remaining.{AreFinals};
 ghost use Rattle.special_round.specs.Season.{AreRefused, IsLeftSeason, first_admitted};
 

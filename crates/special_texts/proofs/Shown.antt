@@ -21,7 +21,7 @@ use Rattle.rounds.proofs.Entrants.{length_seekers, market}
 use Rattle.round_laws.specs.Laws.{lists_in}
 use Rattle.round_laws.proofs.Season.{aligned_length, entrants, length_lists}
 use Rattle.office_moves.specs.Facts.{IsSound, SeasonFacts, register_of}
-use Rattle.office_moves.specs.Season.{facts_of}
+use Rattle.season_facts.specs.Season.{facts_of}
 use Rattle.published_texts.specs.Texts.{AreSeatsOf, IsSeatOf}
 use Rattle.special_round.specs.Special.{IsSpecialOver, all_whole}
 use Rattle.special_round.specs.declared.round_over.Special.{Special}

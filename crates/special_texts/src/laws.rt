@@ -2,7 +2,7 @@
 ghost use Rattle.std.specs.Prelude.{ℕ, List};
 ghost use Rattle.kept_rows.specs.declared.rows.AllotRow.{AllotRow};
 ghost use Rattle.office_moves.specs.Facts.{IsSound, SeasonFacts};
-ghost use Rattle.office_moves.specs.Season.{facts_of};
+ghost use Rattle.season_facts.specs.Season.{facts_of};
 ghost use Rattle.seat_matrix.specs.Matrix.{SeatTable};
 ghost use Rattle.special_round.specs.Special.{IsSpecialOver};
 ghost use Rattle.special_round.specs.declared.round_over.Special.{Special};

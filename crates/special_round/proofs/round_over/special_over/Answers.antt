@@ -1,6 +1,6 @@
 use Rattle.std.proofs.Common.{◌≡◌, ◌∙◌, List, ap, subst, sym}
 use Rattle.office_base.specs.declared.person.Person.{Person}
-use Rattle.office_moves.specs.Season.{facts_of}
+use Rattle.season_facts.specs.Season.{facts_of}
 use Rattle.round_laws.specs.Laws.{lists_in}
 use Rattle.rounds.specs.Rule.{AreSeeks}
 use Rattle.seeks.specs.declared.seek.Seek.{Seek}

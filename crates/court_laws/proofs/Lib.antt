@@ -1,0 +1,4 @@
+mod Narrows
+pub mod Papers
+pub mod Special
+mod Vacancies
