@@ -135,7 +135,7 @@ abbrev pub FitAll : SeasonFacts → State → ℕ → Type 0
 FitAll facts state before = (id : ℕ) → FitsCut (left_then facts state (suc before) id) (seek_then facts state before id) (seat_in facts state.rounds (suc before) id)
 
 -- those who enter the round after this one want only what they applied for in it
-next_market : (facts : SeasonFacts) (state : State) (before : ℕ) (round : Round) → IsSound facts → IsCourse facts state → FitAll facts state before → slice_get state.rounds before ≡ Some round
+pub next_market : (facts : SeasonFacts) (state : State) (before : ℕ) (round : Round) → IsSound facts → IsCourse facts state → FitAll facts state before → slice_get state.rounds before ≡ Some round
     → IsNextMarket (seekers_then facts state before) round.seats (seekers_then facts state (suc before))
 next_market facts state before round sound course fit is = record {
   same = full_seekers facts state (suc before) sound ∙ sym (full_seekers facts state before sound);

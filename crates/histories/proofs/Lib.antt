@@ -7,6 +7,7 @@ pub mod Entering
 pub mod Falls
 pub mod Fits
 mod InOrder
+mod Listed
 mod Made
 pub mod Raises
 pub mod Rows

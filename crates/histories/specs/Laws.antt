@@ -2,21 +2,23 @@
 use Rattle.std.specs.Prelude.{◌≡◌, ◌<◌, ◌≤◌, ◌+◌, ℕ, suc, List, Some, None, IsSome, length, map}
 use Rattle.office_base.specs.Numbered.{last_of_numbers}
 use Rattle.office_base.specs.declared.asks.Request.{Request}
-use Rattle.seat_matrix.specs.Matrix.{AreSeats, SeatTable}
+use Rattle.seat_matrix.specs.Matrix.{AreSeats, SeatTable, seats_in}
+use Rattle.programme_lists.specs.declared.programme.Programme.{Programme}
+use Rattle.list_cutoffs.specs.Cutoffs.{AreKeptListed}
 use Rattle.seeks.specs.declared.seek.Seek.{Seek}
 use Rattle.rounds.specs.Round.{IsRound}
 use Rattle.rounds.specs.declared.round.Round.{Round}
 use Rattle.rounds.specs.Rule.{IsRaised}
 use Rattle.office_moves.specs.Facts.{IsSound, SeasonFacts, lists_in_order}
-use Rattle.office_moves.specs.State.{State, opening}
+use Rattle.office_moves.specs.State.{State, opening, round_at}
 use Rattle.office_moves.specs.Raised.{matrix_at, matrix_of_round}
 use Rattle.office_moves.specs.Decided.{decided}
-use Rattle.office_moves.specs.Moves.{IsMove}
+use Rattle.office_moves.specs.Moves.{IsMove, programme_in}
 use Rattle.office_moves.specs.History.{IsHistory, Reaches, asked, grown, newly}
 use Rattle.office_moves.specs.declared.moves.Act.{Act}
 use Rattle.office_moves.specs.declared.moves.Entry.{Entry}
 use Rattle.office_moves.specs.declared.moves.Reply.{Reply}
-use Rattle.histories.specs.Orderly.{AreAnswers}
+use Rattle.histories.specs.Orderly.{AreAnswers, IsOrderly}
 
 -- A newly accepted request comes to the same as its act, asked by its candidate or by the clerk.
 abbrev pub AcceptedByItsAct : SeasonFacts → Type 0
@@ -70,3 +72,8 @@ RoundsAreOne = (facts : SeasonFacts) (table : SeatTable) (n : ℕ) (seeks : List
 abbrev pub AnswersAreOne : Type 0
 AnswersAreOne = (facts : SeasonFacts) (entries : List Entry) (state after other : State) (request : Request) (reply again : Reply) → IsSound facts
     → IsHistory facts entries state → IsMove facts state request reply after → IsMove facts state request again other → (reply ≡ again) × (after ≡ other)
+
+-- Each list of a published round is of a step whose seats hold a choice, so it has cutoffs.
+abbrev pub ListsHoldChoices : Type 0
+ListsHoldChoices = (facts : SeasonFacts) (state : State) (number prog : ℕ) (programme : Programme) → IsSound facts → IsOrderly facts state
+    → programme_in (round_at state.rounds number) prog ≡ Some programme → AreKeptListed (seats_in facts.matrix prog) programme.steps

@@ -1,13 +1,13 @@
 // The laws of the states that a history reaches. Each is the contract of a function that does nothing.
 ghost use Rattle.std.specs.Prelude.{◌≡◌, List};
 ghost use Rattle.office_moves.specs.Facts.{IsSound, SeasonFacts};
-ghost use Rattle.office_moves.specs.Laws.{NextRoundsAreOne, OneNextRound};
+ghost use Rattle.office_moves.specs.Laws.{CutoffsAreOne, NextRoundsAreOne, OneNextRound};
 ghost use Rattle.office_moves.specs.Promise.{KeepsItsWord};
 ghost use Rattle.office_moves.specs.State.{State, opening};
 ghost use Rattle.office_moves.specs.History.{IsHistory, Reaches};
 ghost use Rattle.office_moves.specs.declared.moves.Entry.{Entry};
 ghost use Rattle.histories.specs.Course.{IsCourse};
-ghost use Rattle.histories.specs.Laws.{AcceptedByItsAct, AnswersAreOne, HistoryGrows, RoundsAreOne, SeatsOnlyRise, TurnsCount, WindowsPass};
+ghost use Rattle.histories.specs.Laws.{AcceptedByItsAct, AnswersAreOne, HistoryGrows, ListsHoldChoices, RoundsAreOne, SeatsOnlyRise, TurnsCount, WindowsPass};
 ghost use Rattle.histories.specs.Orderly.{IsOrderly};
 
 /// A newly accepted request comes to the same as its act, asked by its candidate or by the clerk.
@@ -101,10 +101,28 @@ pub fn one_history()
     office_moves::laws::one_state();
 }
 
+/// Each list of a published round is of a step whose seats hold a choice, so it has cutoffs.
+pub fn lists_hold_choices()
+    ensures { ListsHoldChoices }
+{
+    round_laws::laws::choose_well();
+    programme_cutoffs::laws::lists_are_kept();
+}
+
+/// In each state that a history reaches, the lists of a programme in a round have one list of cutoffs at most.
+pub fn cutoffs_are_one()
+    ensures { (facts : SeasonFacts) → IsSound facts → CutoffsAreOne facts }
+{
+    orderly();
+    lists_hold_choices();
+    list_cutoffs::laws::one_list();
+}
+
 /// And a request after it has one reply, and leads to one state.
 pub fn one_answer()
     ensures { AnswersAreOne }
 {
     next_rounds_are_one();
+    cutoffs_are_one();
     office_moves::laws::one_reply();
 }

@@ -57,6 +57,19 @@ pub enum Ask {
     Choices {
         cand: CandId,
     },
+    /// The cutoffs of a programme in a round: for each step the places at which it would admit one person more.
+    Cutoffs {
+        round: u16,
+        prog: Code,
+    },
+    /// What the register has of a candidate.
+    Register {
+        cand: CandId,
+    },
+    /// The answers of a candidate that were accepted, in all windows.
+    Answers {
+        cand: CandId,
+    },
     /// How far the office is.
     State,
     /// More seats for a step of a programme, from the cut of a window on: `seats` is their new number.

@@ -1,10 +1,10 @@
 -- What holds of every refusal, and of each other thing that a request of its kind can come to, holds of what it comes to.
 -- What a decision names is there.
-use Rattle.std.proofs.Common.{◌≡◌, ◌<◌, ◌≤◌, ◌||◌, ◌&&◌, ◌==◌, ◌+◌, ◌-◌, ℕ, zero, suc, Bool, true, false, not, List, Option, Some, None, length, arith, refl, subst, nat_lt, nat_le, if◌then◌else◌}
+use Rattle.std.proofs.Common.{◌≡◌, ◌<◌, ◌≤◌, ◌||◌, ◌&&◌, ◌==◌, ◌+◌, ◌-◌, ℕ, zero, suc, Bool, true, false, not, List, Option, Some, None, length, option_map, arith, refl, subst, nat_lt, nat_le, if◌then◌else◌}
 use Rattle.std.proofs.lemmas.Bool.{ltb-false, or_parts}
 use Rattle.office_base.specs.Limits.{most_matrix_seats, most_step_seats, most_turns}
 use Rattle.office_base.specs.declared.asks.Ask.{Ask}
-use Rattle.office_base.specs.declared.asks.Ask.TheVariants.{Answer, Cut, Seat as AskSeat, Why, List as AskList, Round as AskRound, Choices as AskChoices, State as AskState, Raise}
+use Rattle.office_base.specs.declared.asks.Ask.TheVariants.{Answer, Cut, Seat as AskSeat, Why, List as AskList, Round as AskRound, Choices as AskChoices, Cutoffs as AskCutoffs, Register as AskRegister, Answers as AskAnswers, State as AskState, Raise}
 use Rattle.office_base.specs.declared.asks.By.{By}
 use Rattle.office_base.specs.declared.asks.Choice.{Choice}
 use Rattle.office_base.specs.declared.asks.Request.{Request}
@@ -24,7 +24,7 @@ use Rattle.office_moves.specs.declared.decide.AnswerLooks.{AnswerLooks}
 use Rattle.office_moves.specs.declared.decide.Decision.{Decision}
 use Rattle.office_moves.specs.declared.decide.Decision.TheVariants.{Refuse, NotedAgain, RaisedAgain, CutAgain, Note, Lift, Publish, Finish, Tell}
 use Rattle.office_moves.specs.declared.decide.Question.{Question}
-use Rattle.office_moves.specs.declared.decide.Question.TheVariants.{Seat as TheSeat, Why as TheReason, List as TheList, Round as TheRound, Choices as TheChoices, State as TheState}
+use Rattle.office_moves.specs.declared.decide.Question.TheVariants.{Seat as TheSeat, Why as TheReason, List as TheList, Round as TheRound, Choices as TheChoices, Cutoffs as TheCutoffs, Register as TheRegister, Answers as TheAnswers, State as TheState}
 use Rattle.office_moves.specs.declared.decide.RaiseLooks.{RaiseLooks}
 use Rattle.office_moves.specs.declared.refusal.Refusal.{Refusal}
 use Rattle.office_moves.specs.declared.refusal.Refusal.TheVariants.{Ahead, Denied, Falling, Gap, Gone, LastWindow, NoSeat, NoSuchRound, NotChosen, SeatLimit, StepFixed, TooManyTurns, TurnUsed, UnknownCandidate, UnknownProgramme, Widening}
@@ -43,6 +43,9 @@ abbrev pub IsThere : SeasonFacts → State → Question → Type 0
 IsThere facts state (TheSeat cand) = is_known facts cand ≡ true
 IsThere facts state (TheReason cand prog) = (is_known facts cand ≡ true) × (prog.0 < length facts.matrix.programmes) × (0 < length state.rounds)
 IsThere facts state (TheList number prog) = (0 < number) × (number ≤ length state.rounds) × (prog.0 < length facts.matrix.programmes)
+IsThere facts state (TheCutoffs number prog) = (0 < number) × (number ≤ length state.rounds) × (prog.0 < length facts.matrix.programmes)
+IsThere facts state (TheRegister cand) = is_known facts cand ≡ true
+IsThere facts state (TheAnswers cand) = is_known facts cand ≡ true
 IsThere facts state _ = Unit {0}
 
 not_zero : (n : ℕ) → (n == 0) ≡ false → 0 < n
@@ -115,13 +118,22 @@ module _ (P : Decision → Type 0) (refused : (r : Refusal) → P (Refuse r)) wh
       refused_or (not chosen) NotChosen _ (λ f.
       refused_or (published == 0) (NoSuchRound published) (Tell (TheReason cand p)) (tells e p is)))))
 
-  pub list_keeps : (prog : Option ProgId) (published number : ℕ) → ((p : ProgId) → prog ≡ Some p → (number == 0 || nat_lt published number) ≡ false → P (Tell (TheList number p)))
-      → P (judge_list prog published number)
-  list_keeps prog published number tells =
-      programme_keeps prog _ (λ p is. refused_or (number == 0 || nat_lt published number) (NoSuchRound published) (Tell (TheList number p)) (tells p is))
+  pub list_keeps : (question : ProgId → Question) (prog : Option ProgId) (published number : ℕ)
+      → ((p : ProgId) → prog ≡ Some p → (number == 0 || nat_lt published number) ≡ false → P (Tell (question p))) → P (judge_list (option_map question prog) published number)
+  list_keeps question None published number tells = refused UnknownProgramme
+  list_keeps question (Some p) published number tells = refused_or (number == 0 || nat_lt published number) (NoSuchRound published) (Tell (question p)) (tells p refl)
 
   pub round_keeps : (cuts published number : ℕ) → ((number == 0 || nat_lt cuts number) ≡ false → P (Tell (TheRound number))) → P (judge_round cuts published number)
   round_keeps cuts published number tells = refused_or (number == 0 || nat_lt cuts number) (NoSuchRound published) (Tell (TheRound number)) tells
+
+  -- a question about a programme in a round, where both are there
+  list_there : (facts : SeasonFacts) (state : State) (number : ℕ) (code : List ℕ) (question : ProgId → Question)
+      → ((p : ProgId) → (0 < number) × (number ≤ length state.rounds) × (p.0 < length facts.matrix.programmes) → P (Tell (question p)))
+      → P (judge_list (option_map question (find_programme facts code)) (length state.rounds) number)
+  list_there facts state number code question tells =
+      list_keeps question (find_programme facts code) (length state.rounds) number
+      (λ p found within. let both = or_parts (number == 0) (nat_lt (length state.rounds) number) within in
+      tells p (not_zero number both.0, ltb-false (length state.rounds) number both.1, (was_found facts code p found).below))
 
   -- what a question comes to; where it is answered, what it names is there
   pub question_there : (facts : SeasonFacts) (state : State) (by : By) (ask : Ask) → is_question ask ≡ true → ((question : Question) → IsThere facts state question → P (Tell question))
@@ -130,10 +142,10 @@ module _ (P : Decision → Type 0) (refused : (r : Refusal) → P (Refuse r)) wh
   question_there facts state by (Why cand code) is tells =
       why_keeps (is_known facts cand) (find_programme facts code) (is_chosen_by facts cand (find_programme facts code)) (length state.rounds) by cand
       (λ known p found some. tells (TheReason cand p) (known, (was_found facts code p found).below, not_zero (length state.rounds) some))
-  question_there facts state by (AskList number code) is tells =
-      list_keeps (find_programme facts code) (length state.rounds) number
-      (λ p found within. let both = or_parts (number == 0) (nat_lt (length state.rounds) number) within in
-      tells (TheList number p) (not_zero number both.0, ltb-false (length state.rounds) number both.1, (was_found facts code p found).below))
+  question_there facts state by (AskList number code) is tells = list_there facts state number code (λ p. TheList number p) (λ p there. tells (TheList number p) there)
+  question_there facts state by (AskCutoffs number code) is tells = list_there facts state number code (λ p. TheCutoffs number p) (λ p there. tells (TheCutoffs number p) there)
+  question_there facts state by (AskRegister cand) is tells = own_keeps (is_known facts cand) by cand (TheRegister cand) (λ known. tells (TheRegister cand) known)
+  question_there facts state by (AskAnswers cand) is tells = own_keeps (is_known facts cand) by cand (TheAnswers cand) (λ known. tells (TheAnswers cand) known)
   question_there facts state by (AskRound number) is tells = round_keeps state.now (length state.rounds) number (λ within. tells (TheRound number) tt)
   question_there facts state by (AskChoices cand) is tells = own_keeps (is_known facts cand) by cand (TheChoices cand) (λ known. tells (TheChoices cand) tt)
   question_there facts state by AskState is tells = tells TheState tt

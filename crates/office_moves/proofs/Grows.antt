@@ -1,5 +1,7 @@
 -- What a history only adds to, and when its windows are cut.
-use Rattle.std.proofs.Common.{◌≡◌, ◌<◌, ◌≤◌, ◌+◌, inl, inr, List, [], ◌∷◌, ◌++◌, Some, length, arith, refl, sym, ap, ◌∙◌, subst, append_assoc, append-nil, length-append}
+use Rattle.std.proofs.Common.{◌≡◌, ◌<◌, ◌≤◌, ◌+◌, inl, inr, ℕ, zero, suc, Bool, List, [], ◌∷◌, ◌++◌, Some, length, arith, refl, sym, ap, ◌∙◌, subst, if◌then◌else◌, append_assoc, append-nil, length-append}
+use Rattle.std.specs.Prelude.{slice_get}
+use Rattle.std.proofs.lemmas.Bool.{le-ltb}
 use Rattle.office_base.specs.declared.asks.Ask.{Ask}
 use Rattle.office_base.specs.declared.asks.By.{By}
 use Rattle.office_base.specs.declared.asks.Request.{Request}
@@ -7,7 +9,8 @@ use Rattle.kept_rows.specs.declared.rows.AnswerRow.{AnswerRow}
 use Rattle.kept_rows.specs.declared.rows.RaiseRow.{RaiseRow}
 use Rattle.rounds.specs.declared.round.Round.{Round}
 use Rattle.office_moves.specs.Facts.{SeasonFacts, find_programme}
-use Rattle.office_moves.specs.State.{State, view_of}
+use Rattle.office_moves.specs.State.{State, round_at, view_of}
+use Rattle.office_moves.specs.Raised.{raised_before}
 use Rattle.office_moves.specs.Decided.{answer_looks, decided, decided_by, raise_looks}
 use Rattle.office_moves.specs.Moves.{Does, IsMove}
 use Rattle.office_moves.specs.History.{Reaches, asked, newly}
@@ -20,6 +23,21 @@ use Rattle.office_moves.proofs.Chains.{answer_new, cut_new, raise_new, with_new}
 use Rattle.office_moves.proofs.Decisions.{by_kind, question_old}
 
 -- ---- lists that only grow
+
+-- what a list has at a place, it has there when more follows
+pub get_stays : {X : Type 0} (xs more : List X) (i : ℕ) (x : X) → slice_get xs i ≡ Some x → slice_get (xs ++ more) i ≡ Some x
+get_stays [] more i x e = absurd (cc)
+get_stays (y ∷ xs) more zero x e = e
+get_stays (y ∷ xs) more (suc i) x e = get_stays xs more i x e
+
+pub round_stays : (rounds more : List Round) (number : ℕ) (round : Round) → round_at rounds number ≡ Some round → round_at (rounds ++ more) number ≡ Some round
+round_stays rounds more zero round e = absurd (cc)
+round_stays rounds more (suc before) round e = get_stays rounds more before round e
+
+-- no raise is before the first window
+pub none_raised : (raises : List RaiseRow) → raised_before 0 raises ≡ []
+none_raised [] = refl
+none_raised (row ∷ raises) = ap (λ (b : Bool). if b then row ∷ raised_before 0 raises else raised_before 0 raises) (le-ltb row.window 0 (omega arith)) ∙ none_raised raises
 
 pub record Grown (a b : State) : Type 0 where
   pub answers : (more : List AnswerRow) × (b.answers ≡ a.answers ++ more)

@@ -8,5 +8,4 @@ pub mod OneState
 mod OwnView
 pub mod Repeats
 pub mod Rising
-pub mod Sound
 pub mod Sums

@@ -1,8 +1,8 @@
 -- What each request comes to in a state: what it looks at, and what is judged by that.
-use Rattle.std.specs.Prelude.{ℕ, Bool, true, false, ◌==◌, ◌&&◌, List, Option, Some, None, length, is_some}
+use Rattle.std.specs.Prelude.{ℕ, Bool, true, false, ◌==◌, ◌&&◌, List, Option, Some, None, length, is_some, option_map}
 use Rattle.std.specs.List.{list_any}
 use Rattle.office_base.specs.declared.asks.Ask.{Ask}
-use Rattle.office_base.specs.declared.asks.Ask.TheVariants.{Answer, Cut, Seat as AskSeat, Why, List as AskList, Round as AskRound, Choices as AskChoices, State as AskState, Raise}
+use Rattle.office_base.specs.declared.asks.Ask.TheVariants.{Answer, Cut, Seat as AskSeat, Why, List as AskList, Round as AskRound, Choices as AskChoices, Cutoffs as AskCutoffs, Register as AskRegister, Answers as AskAnswers, State as AskState, Raise}
 use Rattle.office_base.specs.declared.asks.By.{By}
 use Rattle.office_base.specs.declared.asks.Request.{Request}
 use Rattle.office_base.specs.declared.person.CandId.{CandId}
@@ -23,7 +23,7 @@ use Rattle.office_moves.specs.declared.decide.AnswerLooks.{AnswerLooks}
 use Rattle.office_moves.specs.declared.decide.Decision.{Decision}
 use Rattle.office_moves.specs.declared.decide.Decision.TheVariants.{Tell}
 use Rattle.office_moves.specs.declared.decide.Question.{Question}
-use Rattle.office_moves.specs.declared.decide.Question.TheVariants.{Seat as TheSeat, Choices as TheChoices, State as TheState}
+use Rattle.office_moves.specs.declared.decide.Question.TheVariants.{Seat as TheSeat, List as TheList, Choices as TheChoices, Cutoffs as TheCutoffs, Register as TheRegister, Answers as TheAnswers, State as TheState}
 use Rattle.office_moves.specs.declared.decide.RaiseLooks.{RaiseLooks}
 
 -- ---- requests of a candidate: they look at the season and at the candidate's view
@@ -65,8 +65,9 @@ decide_why facts view by cand code =
 abbrev pub decide_cut : SeasonFacts → State → By → ℕ → Decision
 decide_cut facts state by window = judge_cut by state.now facts.rounds window
 
-abbrev pub decide_list : SeasonFacts → State → ℕ → List ℕ → Decision
-decide_list facts state round code = judge_list (find_programme facts code) (length state.rounds) round
+-- a question about the programme of this code in a round
+abbrev pub decide_list : SeasonFacts → State → ℕ → List ℕ → (ProgId → Question) → Decision
+decide_list facts state round code question = judge_list (option_map question (find_programme facts code)) (length state.rounds) round
 
 abbrev pub decide_round : State → ℕ → Decision
 decide_round state round = judge_round state.now (length state.rounds) round
@@ -100,9 +101,12 @@ decided_by facts state by (Answer cand window turn choice) = decide_answer facts
 decided_by facts state by (Cut window) = decide_cut facts state by window
 decided_by facts state by (AskSeat cand) = decide_own facts by cand (TheSeat cand)
 decided_by facts state by (Why cand code) = decide_why facts (view_of state cand.0) by cand code
-decided_by facts state by (AskList round code) = decide_list facts state round code
+decided_by facts state by (AskList round code) = decide_list facts state round code (λ prog. TheList round prog)
 decided_by facts state by (AskRound round) = decide_round state round
 decided_by facts state by (AskChoices cand) = decide_own facts by cand (TheChoices cand)
+decided_by facts state by (AskCutoffs round code) = decide_list facts state round code (λ prog. TheCutoffs round prog)
+decided_by facts state by (AskRegister cand) = decide_own facts by cand (TheRegister cand)
+decided_by facts state by (AskAnswers cand) = decide_own facts by cand (TheAnswers cand)
 decided_by facts state by AskState = Tell TheState
 decided_by facts state by (Raise window code step seats) = decide_raise facts state by window code step seats
 

@@ -17,7 +17,7 @@ use Rattle.office_moves.specs.declared.decide.AnswerLooks.{AnswerLooks}
 use Rattle.office_moves.specs.declared.decide.Decision.{Decision}
 use Rattle.office_moves.specs.declared.decide.Decision.TheVariants.{Refuse, NotedAgain, RaisedAgain, CutAgain, Note, Lift, Publish, Finish, Tell}
 use Rattle.office_moves.specs.declared.decide.Question.{Question}
-use Rattle.office_moves.specs.declared.decide.Question.TheVariants.{Why as TheReason, List as TheList, Round as TheRound}
+use Rattle.office_moves.specs.declared.decide.Question.TheVariants.{Why as TheReason, Round as TheRound}
 use Rattle.office_moves.specs.declared.decide.RaiseLooks.{RaiseLooks}
 use Rattle.office_moves.specs.declared.refusal.Refusal.{Refusal}
 use Rattle.office_moves.specs.declared.refusal.Refusal.TheVariants.{UnknownCandidate, UnknownProgramme, Denied, TurnUsed, Late, Ahead, Gap, Gone, NoSeat, Widening, TooManyTurns, NotChosen, NoSuchRound, LastWindow, StepFixed, Falling, SeatLimit}
@@ -150,8 +150,10 @@ judge_why known prog chosen published by cand =
     (refuse_if (published == 0) (NoSuchRound published)
     (Tell (TheReason cand prog))))))
 
-abbrev pub judge_list : Option ProgId → ℕ → ℕ → Decision
-judge_list prog published round = with_programme prog (λ prog. refuse_if (round == 0 || nat_lt published round) (NoSuchRound published) (Tell (TheList round prog)))
+-- by the question about a programme in a round, if the code is one of the matrix, and the number of published rounds
+abbrev pub judge_list : Option Question → ℕ → ℕ → Decision
+judge_list None published round = Refuse UnknownProgramme
+judge_list (Some question) published round = refuse_if (round == 0 || nat_lt published round) (NoSuchRound published) (Tell question)
 
 -- by the number of cuts, each of which published a text, and the number of published rounds
 abbrev pub judge_round : ℕ → ℕ → ℕ → Decision

@@ -1,15 +1,20 @@
 -- What holds of moves and of histories, over the definitions alone.
-use Rattle.std.specs.Prelude.{◌≡◌, List, Option, Some, None}
+use Rattle.std.specs.Prelude.{◌≡◌, ℕ, List, Option, Some, None}
 use Rattle.office_base.specs.declared.asks.Ask.{Ask}
-use Rattle.office_base.specs.declared.asks.Ask.TheVariants.{Answer, Seat, Why, Choices}
+use Rattle.office_base.specs.declared.asks.Ask.TheVariants.{Answer, Cut, Seat, Why, List as AskList, Round as AskRound, Choices, Cutoffs, Register, Answers, State as AskState, Raise}
 use Rattle.office_base.specs.declared.asks.By.{By}
 use Rattle.office_base.specs.declared.asks.Request.{Request}
 use Rattle.office_base.specs.declared.person.CandId.{CandId}
+use Rattle.office_base.specs.declared.person.ProgId.{ProgId}
+use Rattle.seat_matrix.specs.Matrix.{seats_in}
+use Rattle.programme_lists.specs.declared.programme.Programme.{Programme}
+use Rattle.list_cutoffs.specs.Cutoffs.{AreCutoffsIn}
+use Rattle.list_cutoffs.specs.declared.cutoffs.StepCutoff.{StepCutoff}
 use Rattle.rounds.specs.declared.round.Round.{Round}
 use Rattle.office_moves.specs.Facts.{SeasonFacts}
-use Rattle.office_moves.specs.State.{State, opening, view_of}
+use Rattle.office_moves.specs.State.{State, opening, round_at, view_of}
 use Rattle.office_moves.specs.Decided.{decided}
-use Rattle.office_moves.specs.Moves.{IsMove, IsNextRound}
+use Rattle.office_moves.specs.Moves.{IsMove, IsNextRound, programme_in}
 use Rattle.office_moves.specs.History.{IsHistory, Reaches, newly}
 use Rattle.office_moves.specs.declared.moves.Act.{Act}
 use Rattle.office_moves.specs.declared.moves.Entry.{Entry}
@@ -21,7 +26,14 @@ looks_at (Answer cand window turn choice) = Some cand
 looks_at (Seat cand) = Some cand
 looks_at (Why cand code) = Some cand
 looks_at (Choices cand) = Some cand
-looks_at _ = None
+looks_at (Register cand) = Some cand
+looks_at (Answers cand) = Some cand
+looks_at (AskList round code) = None
+looks_at (AskRound round) = None
+looks_at (Cutoffs round code) = None
+looks_at AskState = None
+looks_at (Cut window) = None
+looks_at (Raise window code step seats) = None
 
 -- Two states that agree in a candidate's view give equal replies to the requests that look at that view alone.
 -- The view is how many cuts were made, the published rounds and the candidate's own rows.
@@ -43,10 +55,19 @@ OneNextRound facts state = (round other : Round) → IsNextRound facts state rou
 abbrev pub NextRoundsAreOne : SeasonFacts → Type 0
 NextRoundsAreOne facts = (entries : List Entry) (state : State) → Reaches facts opening entries state → OneNextRound facts state
 
--- Where rounds are one, a history leads to one state, and a request in it to one reply and one next state.
+-- the lists of a programme in a round of a state have one list of cutoffs at most
+abbrev pub OneListOfCutoffs : SeasonFacts → State → Type 0
+OneListOfCutoffs facts state = (number : ℕ) (prog : ProgId) (programme : Programme) (lines others : List StepCutoff) → programme_in (round_at state.rounds number) prog.0 ≡ Some programme
+    → AreCutoffsIn (seats_in facts.matrix prog.0) programme.steps lines → AreCutoffsIn (seats_in facts.matrix prog.0) programme.steps others → lines ≡ others
+
+-- so it is in each state that acts reach
+abbrev pub CutoffsAreOne : SeasonFacts → Type 0
+CutoffsAreOne facts = (entries : List Entry) (state : State) → Reaches facts opening entries state → OneListOfCutoffs facts state
+
+-- Where rounds are one, a history leads to one state. Where the cutoffs of lists are one too, a request in it leads to one reply and one next state.
 abbrev pub OneState : SeasonFacts → Type 0
 OneState facts = NextRoundsAreOne facts → (entries : List Entry) (state other : State) → IsHistory facts entries state → IsHistory facts entries other → state ≡ other
 
 abbrev pub OneReply : SeasonFacts → Type 0
-OneReply facts = NextRoundsAreOne facts → (entries : List Entry) (state after then : State) (request : Request) (reply other : Reply) → IsHistory facts entries state
+OneReply facts = NextRoundsAreOne facts → CutoffsAreOne facts → (entries : List Entry) (state after then : State) (request : Request) (reply other : Reply) → IsHistory facts entries state
     → IsMove facts state request reply after → IsMove facts state request other then → (reply ≡ other) × (after ≡ then)

@@ -7,7 +7,6 @@ pub mod Moves
 pub mod Promise
 pub mod Raised
 pub mod Refusals
-pub mod Season
 pub mod Stands
 pub mod State
 pub mod Why

@@ -1,5 +1,5 @@
 -- A move of the office: a request in a state leads to a reply and the next state.
-use Rattle.std.specs.Prelude.{◌≡◌, ◌+◌, ℕ, nat_lt, List, [], ◌∷◌, Option, Some, None, length, map, option_map, slice_get, if◌then◌else◌}
+use Rattle.std.specs.Prelude.{◌≡◌, ◌+◌, ℕ, zero, suc, nat_lt, List, [], ◌∷◌, ◌++◌, Option, Some, None, length, map, option_map, slice_get, if◌then◌else◌}
 use Rattle.std.specs.Option.{unwrap_or}
 use Rattle.office_base.specs.declared.asks.Request.{Request}
 use Rattle.office_base.specs.declared.asks.Seat.{Seat}
@@ -10,8 +10,12 @@ use Rattle.kept_rows.specs.declared.rows.AllotRow.{AllotRow}
 use Rattle.kept_rows.specs.declared.rows.AnswerRow.{AnswerRow}
 use Rattle.kept_rows.specs.declared.rows.RaiseRow.{RaiseRow}
 use Rattle.allocations.specs.Market.{place_of}
+use Rattle.rank_lists.specs.Register.{find_person}
 use Rattle.choice_lists.specs.Choices.{list_of}
+use Rattle.seat_matrix.specs.Matrix.{seats_in}
 use Rattle.programme_lists.specs.declared.programme.Programme.{Programme}
+use Rattle.list_cutoffs.specs.Cutoffs.{AreCutoffsIn}
+use Rattle.list_cutoffs.specs.declared.cutoffs.StepCutoff.{StepCutoff}
 use Rattle.seeks.specs.declared.seek.Seek.{Seek}
 use Rattle.rounds.specs.Round.{IsRound, seated}
 use Rattle.rounds.specs.declared.round.Round.{Round}
@@ -19,16 +23,16 @@ use Rattle.round_options.specs.Options.{holds, seek_after}
 use Rattle.round_options.specs.declared.standing.Standing.{Standing}
 use Rattle.round_options.specs.declared.standing.Standing.TheVariants.{Waiting, Offered, Freeze, Float, Slide, Withdrawn, NoShow}
 use Rattle.office_moves.specs.Facts.{SeasonFacts, lists_in_order}
-use Rattle.office_moves.specs.State.{State, View, last_seat, round_at, seat_of, standing_at, view_of, with_finals, with_raise, with_round, with_row}
+use Rattle.office_moves.specs.State.{State, View, in_window, last_seat, round_at, seat_of, standing_at, view_of, with_finals, with_raise, with_round, with_row}
 use Rattle.office_moves.specs.Raised.{matrix_at}
 use Rattle.office_moves.specs.Decided.{decided}
 use Rattle.office_moves.specs.Why.{why_answer}
 use Rattle.office_moves.specs.declared.decide.Decision.{Decision}
 use Rattle.office_moves.specs.declared.decide.Decision.TheVariants.{Refuse, NotedAgain, RaisedAgain, CutAgain, Note, Lift, Publish, Finish, Tell}
 use Rattle.office_moves.specs.declared.decide.Question.{Question}
-use Rattle.office_moves.specs.declared.decide.Question.TheVariants.{Seat as TheSeat, Why as TheReason, List as TheList, Round as TheRound, Choices as TheChoices, State as TheState}
+use Rattle.office_moves.specs.declared.decide.Question.TheVariants.{Seat as TheSeat, Why as TheReason, List as TheList, Round as TheRound, Choices as TheChoices, Cutoffs as TheCutoffs, Register as TheRegister, Answers as TheAnswers, State as TheState}
 use Rattle.office_moves.specs.declared.moves.Reply.{Reply}
-use Rattle.office_moves.specs.declared.moves.Reply.TheVariants.{Noted, Raised, Published, Final, SeatIs, WhyIs, ListIs, RoundIs, ChoicesAre, StateIs, Refused}
+use Rattle.office_moves.specs.declared.moves.Reply.TheVariants.{Noted, Raised, Published, Final, SeatIs, WhyIs, ListIs, RoundIs, ChoicesAre, CutoffsAre, RegisterIs, AnswersAre, StateIs, Refused}
 
 -- ---- the next round
 
@@ -108,6 +112,15 @@ seat_reply facts view cand =
 abbrev pub why_reply : SeasonFacts → View → CandId → ProgId → Reply
 why_reply facts view cand prog = WhyIs cand prog (why_answer facts (round_at view.rounds (length view.rounds)) cand prog)
 
+-- the rows of the first windows, so many, one window after another
+abbrev pub in_windows : ℕ → List AnswerRow → List AnswerRow
+in_windows zero rows = []
+in_windows (suc window) rows = in_windows window rows ++ in_window window rows
+
+-- the candidate's answers in all windows of the season; their numbers are from 0 to the number of rounds
+abbrev pub answers_reply : SeasonFacts → View → CandId → Reply
+answers_reply facts view cand = AnswersAre cand (in_windows (suc facts.rounds) view.rows)
+
 -- how far the office is
 abbrev pub state_reply : SeasonFacts → State → Reply
 state_reply facts state = StateIs state.now facts.rounds (length state.rounds)
@@ -118,12 +131,17 @@ programme_in None prog = None
 programme_in (Some round) prog = slice_get round.programmes prog
 
 -- The reply to a question in a state. The number of a round names what its cut published: the round, or the final admissions.
+-- Cutoffs are those of the published lists. Of the matrix they look at merit lists and protections alone, which no raise changes.
 abbrev pub Tells : SeasonFacts → State → Question → Reply → Type 0
 Tells facts state (TheSeat cand) reply = reply ≡ seat_reply facts (view_of state cand.0) cand
 Tells facts state (TheReason cand prog) reply = reply ≡ why_reply facts (view_of state cand.0) cand prog
 Tells facts state (TheList number prog) reply = (programme : Programme) × (programme_in (round_at state.rounds number) prog.0 ≡ Some programme) × (reply ≡ ListIs number prog programme)
 Tells facts state (TheRound number) reply = reply ≡ RoundIs number
 Tells facts state (TheChoices cand) reply = reply ≡ ChoicesAre cand (list_of facts.lists cand.0)
+Tells facts state (TheCutoffs number prog) reply = (programme : Programme) × (lines : List StepCutoff) × (programme_in (round_at state.rounds number) prog.0 ≡ Some programme)
+    × AreCutoffsIn (seats_in facts.matrix prog.0) programme.steps lines × (reply ≡ CutoffsAre number prog lines)
+Tells facts state (TheRegister cand) reply = option_map (λ person. RegisterIs person) (find_person cand.0 facts.people) ≡ Some reply
+Tells facts state (TheAnswers cand) reply = reply ≡ answers_reply facts (view_of state cand.0) cand
 Tells facts state TheState reply = reply ≡ state_reply facts state
 
 -- ---- moves

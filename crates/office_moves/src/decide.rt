@@ -44,6 +44,12 @@ pub enum Question {
     Round { round: u16 },
     /// The choice list of the candidate.
     Choices { cand: CandId },
+    /// The cutoffs of the programme in the round.
+    Cutoffs { round: u16, prog: ProgId },
+    /// What the register has of the candidate.
+    Register { cand: CandId },
+    /// The accepted answers of the candidate, in all windows.
+    Answers { cand: CandId },
     /// How far the office is.
     State,
 }
@@ -203,17 +209,18 @@ pub fn judge_why(
     Decision::Tell(Question::Why { cand, prog })
 }
 
-/// What comes of asking for a list, by the programme of the code and how many rounds are published. It takes no memory.
-pub fn judge_list(prog: Option<ProgId>, published: u16, round: u16) -> Decision
-    ensures { result ≡ judge_list prog published round }
+/// Returns what comes of a question about a programme in a round, by how many rounds are published.
+/// Without a programme of the asked code there is no question. It takes no memory.
+pub fn judge_list(question: Option<Question>, published: u16, round: u16) -> Decision
+    ensures { result ≡ judge_list question published round }
 {
-    let Some(prog) = prog else {
+    let Some(question) = question else {
         return Decision::Refuse(Refusal::UnknownProgramme);
     };
     if round == 0 || published < round {
         return Decision::Refuse(Refusal::NoSuchRound { published });
     }
-    Decision::Tell(Question::List { round, prog })
+    Decision::Tell(question)
 }
 
 /// Returns what comes of asking for what was published under a number, by the cuts that were made and the rounds that are published.

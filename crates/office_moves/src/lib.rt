@@ -6,7 +6,6 @@
 #![tactic(auto)]
 
 pub mod decide;
-pub mod facts;
 pub mod laws;
 pub mod moves;
 pub mod refusal;
@@ -15,6 +14,5 @@ pub use decide::{
     AnswerLooks, Decision, Question, RaiseLooks, judge_answer, judge_cut, judge_list, judge_own,
     judge_raise, judge_round, judge_why,
 };
-pub use facts::says_what_is_sound;
 pub use moves::{Act, Entry, Reply};
 pub use refusal::Refusal;

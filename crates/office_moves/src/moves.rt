@@ -3,8 +3,9 @@ ghost use Rattle.std.specs.Prelude.{◌≡◌};
 ghost use Rattle.office_moves.specs.Moves.{noted, raised_reply};
 
 use crate::refusal::Refusal;
-use kept_rows::{AnswerRow, RaiseRow};
-use office_base::{CandId, Choice, Listed, ProgId, Seat, StepKind};
+use kept_rows::{AnswerRow, AnswerRows, RaiseRow};
+use list_cutoffs::StepCutoff;
+use office_base::{CandId, Choice, Listed, Person, ProgId, Seat, StepKind};
 use programme_lists::Programme;
 use reasons::WhyAnswer;
 use round_options::Standing;
@@ -80,6 +81,21 @@ pub enum Reply {
     ChoicesAre {
         cand: CandId,
         progs: Listed<ProgId>,
+    },
+    /// The cutoffs of a programme in a round: lines for each step, in the order of the lists.
+    CutoffsAre {
+        round: u16,
+        prog: ProgId,
+        lines: Listed<StepCutoff>,
+    },
+    /// What the register has of a candidate.
+    RegisterIs {
+        person: Person,
+    },
+    /// The accepted answers of a candidate, in the order of windows and turns.
+    AnswersAre {
+        cand: CandId,
+        rows: AnswerRows,
     },
     /// The window that is open now, the rounds of the season, and how many of them are published. After the last cut the window is
     /// the number of rounds plus 1, and takes nothing.

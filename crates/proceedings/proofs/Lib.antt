@@ -5,6 +5,7 @@ pub mod Judged
 pub mod Lasts
 pub mod NextLemmas
 pub mod NoteLemmas
+pub mod OwnRows
 pub mod Positions
 pub mod Published
 pub mod Replies

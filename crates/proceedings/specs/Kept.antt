@@ -4,7 +4,7 @@ use Rattle.office_base.specs.declared.asks.Choice.{Choice}
 use Rattle.office_moves.specs.Facts.{IsSound}
 use Rattle.office_moves.specs.History.{IsHistory}
 use Rattle.office_moves.specs.Raised.{matrix_at}
-use Rattle.office_moves.specs.Season.{facts_of}
+use Rattle.season_facts.specs.Season.{facts_of}
 use Rattle.office_moves.specs.State.{State, in_window, rows_of}
 use Rattle.histories.specs.Orderly.{IsOrderly}
 use Rattle.proceedings.specs.Proceeding.{Proceeding, answers_of, left_along, still_of, table_along}

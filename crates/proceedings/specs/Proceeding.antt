@@ -2,6 +2,7 @@
 use Rattle.std.specs.Prelude.{◌+◌, ℕ, List, [], ◌∷◌, map, if◌then◌else◌}
 use Rattle.office_base.specs.Numbered.{last_of_numbers}
 use Rattle.office_base.specs.declared.asks.Choice.{Choice}
+use Rattle.office_base.specs.declared.person.CandId.{CandId}
 use Rattle.office_base.specs.declared.person.Person.{Person}
 use Rattle.kept_rows.specs.declared.rows.AnswerRow.{AnswerRow}
 use Rattle.round_options.specs.declared.standing.Standing.{Standing}
@@ -46,6 +47,11 @@ left_along facts state = map (λ person. left_by facts (view_of state person.id.
 -- the choices of a candidate in a window, in the order of their turns
 abbrev pub choices_in : State → ℕ → ℕ → List Choice
 choices_in state window id = map (λ row. row.choice) (in_window window (rows_of id state.answers))
+
+-- the rows of choices of a candidate in a window, at the turns after this one
+abbrev pub rows_after : ℕ → CandId → ℕ → List Choice → List AnswerRow
+rows_after window cand turn [] = []
+rows_after window cand turn (choice ∷ choices) = record { window = window; cand = cand; turn = turn + 1; choice = choice } ∷ rows_after window cand (turn + 1) choices
 
 -- the choices of each in a window
 abbrev pub table_along : SeasonFacts → State → ℕ → List (List Choice)

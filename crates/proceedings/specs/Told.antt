@@ -3,12 +3,14 @@ use Rattle.std.specs.Prelude.{Bool, true, false}
 use Rattle.office_moves.specs.declared.decide.Decision.{Decision}
 use Rattle.office_moves.specs.declared.decide.Decision.TheVariants.{Refuse, NotedAgain, RaisedAgain, CutAgain, Note, Lift, Publish, Finish, Tell}
 use Rattle.office_moves.specs.declared.decide.Question.{Question}
-use Rattle.office_moves.specs.declared.decide.Question.TheVariants.{List as TheList, Choices as TheChoices}
+use Rattle.office_moves.specs.declared.decide.Question.TheVariants.{List as TheList, Choices as TheChoices, Cutoffs as TheCutoffs, Answers as TheAnswers}
 
--- The reply to the question copies nothing of what is asked for, and takes no memory.
+-- The reply to the question makes no list of what is asked for, and takes no memory.
 abbrev pub copies_nothing : Question → Bool
 copies_nothing (TheList number prog) = false
 copies_nothing (TheChoices cand) = false
+copies_nothing (TheCutoffs number prog) = false
+copies_nothing (TheAnswers cand) = false
 copies_nothing _ = true
 
 -- The reply takes no memory, and nothing changes.

@@ -42,9 +42,20 @@ impl Proceedings {
             Ask::Cut { window } => judge_cut(by, self.window, self.season.rounds, window),
             Ask::Seat { cand } => self.decide_own(by, cand, Question::Seat { cand }),
             Ask::Why { cand, prog } => self.decide_why(by, cand, prog),
-            Ask::List { round, prog } => judge_list(self.find(prog), self.published(), round),
+            Ask::List { round, prog } => {
+                let question = self.find(prog).map(|prog| Question::List { round, prog });
+                judge_list(question, self.published(), round)
+            }
             Ask::Round { round } => judge_round(self.window, self.published(), round),
             Ask::Choices { cand } => self.decide_own(by, cand, Question::Choices { cand }),
+            Ask::Cutoffs { round, prog } => {
+                let question = self
+                    .find(prog)
+                    .map(|prog| Question::Cutoffs { round, prog });
+                judge_list(question, self.published(), round)
+            }
+            Ask::Register { cand } => self.decide_own(by, cand, Question::Register { cand }),
+            Ask::Answers { cand } => self.decide_own(by, cand, Question::Answers { cand }),
             Ask::State => Decision::Tell(Question::State),
             Ask::Raise {
                 window,

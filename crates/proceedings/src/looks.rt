@@ -1,14 +1,19 @@
 // What is looked up at the position of a candidate in the register.
-ghost use Rattle.std.specs.Prelude.{◌≡◌, ◌<◌, ℕ, [], Some, IfSome, IfNone, length, option_map, slice_get};
+ghost use Rattle.std.specs.Prelude.{◌≡◌, ◌<◌, ◌++◌, ℕ, suc, List, [], Some, IfSome, IfNone, IfOk, OnOk, length, option_map, slice_get};
 ghost use Rattle.histories.specs.Orderly.{AreTurnsAfter};
+ghost use Rattle.office_moves.specs.Moves.{in_windows};
 ghost use Rattle.office_moves.specs.State.{accepted, answered, in_window, last_seat, last_turn, left_by, rows_of, standing_at, view_of};
+ghost use Rattle.rank_lists.specs.Register.{row_of};
+ghost use Rattle.office_base.specs.declared.asks.Choice.{Choice};
 ghost use Rattle.office_turns.specs.Turns.{last_choice};
-ghost use Rattle.proceedings.specs.Proceeding.{choices_in, table_along};
+ghost use Rattle.proceedings.specs.Proceeding.{choices_in, rows_after, table_along};
 
 use crate::book::Proceedings;
-use office_base::{Choice, Seat};
+use kept_rows::{AnswerRow, AnswerRows};
+use office_base::{CandId, Choice, Listed, OutOfMemory, Seat};
 use office_turns::TurnTable;
 use round_options::{Standing, standing_of};
+use std::alloc::Global;
 
 impl Proceedings {
     /// The turns of each candidate in a window. None only where nothing was answered in it, since it is not open yet, or is no window of the season.
@@ -44,6 +49,44 @@ impl Proceedings {
         match self.table(self.window) {
             Some(table) => table.taken(at),
             None => 0,
+        }
+    }
+
+    /// Lists the accepted answers of the candidate at this position, in the order of windows and turns.
+    pub(crate) fn answers(
+        &self,
+        alloc: Global,
+        at: usize,
+        cand: CandId,
+    ) -> Result<AnswerRows, OutOfMemory>
+        requires within { at < length self.now.season.people }
+        requires place { row_of cand.0 self.now.season.people ≡ Some at }
+        ensures { IfOk result (λ rows. rows
+            ≡ in_windows (suc self.now.season.rounds) (rows_of cand.0 self.now.state.answers)) }
+    {
+        let mut rows = Listed::new(alloc);
+        for window in 0..self.season.rounds + 1 {
+            self.push_answers(&mut rows, at, cand, window)?;
+        }
+        Ok(rows)
+    }
+
+    /// Puts the answers that this candidate gave in a window at the end of these rows, in the order of their turns.
+    fn push_answers(
+        &self,
+        rows: &mut AnswerRows,
+        at: usize,
+        cand: CandId,
+        window: u16,
+    ) -> Result<(), OutOfMemory>
+        requires within { at < length self.now.season.people }
+        requires place { row_of cand.0 self.now.season.people ≡ Some at }
+        ensures { OnOk result (rows.new
+            ≡ rows.old ++ in_window window (rows_of cand.0 self.now.state.answers)) }
+    {
+        match self.table(window) {
+            Some(table) => push_turns(rows, table, at, cand, window),
+            None => Ok(()),
         }
     }
 
@@ -92,4 +135,30 @@ impl Proceedings {
             None => None,
         }
     }
+}
+
+/// Puts the turns of the candidate at this position at the end of these rows, in their order.
+fn push_turns(
+    rows: &mut AnswerRows,
+    table: &TurnTable,
+    at: usize,
+    cand: CandId,
+    window: u16,
+) -> Result<(), OutOfMemory>
+    requires { at < length table.now }
+    ensures { OnOk result ((choices : List Choice) → slice_get table.now at ≡ Some choices
+        → rows.new ≡ rows.old ++ rows_after window cand 0 choices) }
+{
+    for before in 0..table.taken(at) {
+        let turn = before + 1;
+        if let Some(choice) = table.choice(at, turn) {
+            rows.push(AnswerRow {
+                window,
+                cand,
+                turn,
+                choice,
+            })?;
+        }
+    }
+    Ok(())
 }

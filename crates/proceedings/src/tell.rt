@@ -5,10 +5,11 @@ ghost use Rattle.rank_lists.specs.Register.{row_of};
 ghost use Rattle.office_moves.specs.Decided.{decided, is_known};
 ghost use Rattle.office_moves.specs.Moves.{Does, Tells, programme_in, receipt, seat_reply, seated_in, told_seat, why_reply};
 ghost use Rattle.office_moves.specs.State.{round_at, view_of};
-ghost use Rattle.office_moves.specs.declared.decide.Question.TheVariants.{Choices as TheChoices, List as TheList};
+ghost use Rattle.office_moves.specs.declared.decide.Question.TheVariants.{Answers as TheAnswers, Choices as TheChoices, Cutoffs as TheCutoffs, List as TheList, Register as TheRegister};
 ghost use Rattle.proceedings.specs.Told.{copies_nothing, is_repeat};
 
 use crate::book::Proceedings;
+use list_cutoffs::cutoffs_in;
 use office_base::{CandId, Listed, OutOfMemory, ProgId, Request, Seat};
 use office_moves::{Decision, Question, Reply};
 use programme_lists::Programme;
@@ -36,7 +37,7 @@ impl Proceedings {
     }
 
     /// Answers the question that a request comes to. Nothing changes.
-    /// It takes memory only for a reply that copies what is asked for.
+    /// It takes memory only for a reply that lists what is asked for.
     pub fn answer(
         &self,
         alloc: Global,
@@ -54,6 +55,9 @@ impl Proceedings {
             Question::List { round, prog } => self.list(alloc, round, prog),
             Question::Round { round } => Ok(Reply::RoundIs { round }),
             Question::Choices { cand } => self.choice_list(alloc, cand),
+            Question::Cutoffs { round, prog } => self.cutoffs(alloc, round, prog),
+            Question::Register { cand } => Ok(self.register_reply(cand)),
+            Question::Answers { cand } => self.answer_list(alloc, cand),
             Question::State => Ok(Reply::StateIs {
                 now: self.now(),
                 rounds: self.season().rounds,
@@ -86,6 +90,44 @@ impl Proceedings {
         let mut progs = Listed::new(alloc);
         progs.extend_from_slice(self.season.choices.list(cand))?;
         Ok(Reply::ChoicesAre { cand, progs })
+    }
+
+    /// Lists the cutoffs of a programme in a published round.
+    fn cutoffs(&self, alloc: Global, round: u16, prog: ProgId) -> Result<Reply, OutOfMemory>
+        requires some { 0 < round }
+        requires published { round ≤ length self.now.state.rounds }
+        requires programme { prog.0 < length self.now.season.matrix.programmes }
+        ensures { IfOk result (λ reply.
+            Tells self.now.season self.now.state (TheCutoffs round prog) reply) }
+    {
+        histories::laws::lists_hold_choices();
+        let seats = self.season.matrix.programme(prog);
+        let lines = cutoffs_in(alloc, &seats, self.shown(round, prog))?;
+        Ok(Reply::CutoffsAre { round, prog, lines })
+    }
+
+    /// Lists the accepted answers of a candidate.
+    fn answer_list(&self, alloc: Global, cand: CandId) -> Result<Reply, OutOfMemory>
+        requires { is_known self.now.season cand ≡ true }
+        ensures { IfOk result (λ reply.
+            Tells self.now.season self.now.state (TheAnswers cand) reply) }
+    {
+        let Some(at) = self.season.register.position(cand) else {
+            unreachable!("the candidate is known")
+        };
+        let rows = self.answers(alloc, at as usize, cand)?;
+        Ok(Reply::AnswersAre { cand, rows })
+    }
+
+    /// Returns what the register has of a candidate.
+    fn register_reply(&self, cand: CandId) -> Reply
+        requires { is_known self.now.season cand ≡ true }
+        ensures { Tells self.now.season self.now.state (TheRegister cand) result }
+    {
+        let Some(person) = self.season.register.person(cand) else {
+            unreachable!("the candidate is known")
+        };
+        Reply::RegisterIs { person: *person }
     }
 
     /// The lists of a programme in a published round.

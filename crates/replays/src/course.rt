@@ -16,8 +16,8 @@ use crate::later::{later_round, later_window};
 use crate::rows::replay_rows;
 use kept_rows::Kept;
 use office_base::{OutOfMemory, Seat};
-use office_moves::says_what_is_sound;
 use proceedings::Proceedings;
+use season_facts::says_what_is_sound;
 use std::alloc::Global;
 
 /// Nobody has a seat.

@@ -9,7 +9,7 @@ use Rattle.season_file.specs.declared.fault.SeasonFault.{SeasonFault}
 use Rattle.season_file.specs.declared.fault.SeasonFault.TheVariants as reading
 use Rattle.season_file.specs.declared.season.Season.{Season}
 use Rattle.office_moves.specs.Facts.{SeasonFacts}
-use Rattle.office_moves.specs.Season.{facts_of}
+use Rattle.season_facts.specs.Season.{facts_of}
 use Rattle.office_moves.specs.Stands.{AreRecordsOf, Stand}
 use Rattle.office_moves.specs.State.{State}
 use Rattle.replays.specs.Faults.{IsReplayFault}

@@ -7,7 +7,7 @@ use Rattle.keeper_mem.specs.Keeper.{Blames, Shelf}
 use Rattle.kept_rows.specs.Tables.{AreTold, IsFound, IsLoaded, Tables, still}
 use Rattle.kept_rows.specs.declared.rows.Kept.{Kept}
 use Rattle.office_moves.specs.Facts.{SeasonFacts}
-use Rattle.office_moves.specs.Season.{facts_of}
+use Rattle.season_facts.specs.Season.{facts_of}
 use Rattle.office_moves.specs.History.{IsHistory}
 use Rattle.office_moves.specs.Promise.{KeepsItsWord}
 use Rattle.office_moves.specs.Stands.{Stand}

@@ -5,7 +5,7 @@ ghost use Rattle.season_file.specs.Season.{IsSeason};
 ghost use Rattle.kept_rows.specs.Tables.{AreTold, IsFound, IsTold, still};
 ghost use Rattle.office_moves.specs.History.{IsHistory};
 ghost use Rattle.office_moves.specs.Raised.{matrix_at};
-ghost use Rattle.office_moves.specs.Season.{facts_of};
+ghost use Rattle.season_facts.specs.Season.{facts_of};
 ghost use Rattle.office_moves.specs.Stands.{Stand};
 ghost use Rattle.office_moves.specs.State.{opening, round_at};
 ghost use Rattle.proceedings.specs.Proceeding.{last_of, still_of};

@@ -1,7 +1,7 @@
 use Rattle.std.proofs.Common.{◌≡◌, List, IfOk, length, sym, ap, ◌∙◌, subst}
 use Rattle.kept_rows.specs.declared.rows.AllotRow.{AllotRow}
 use Rattle.office_moves.specs.Moves.{IsNextRound, allot_rows}
-use Rattle.office_moves.specs.Season.{facts_of}
+use Rattle.season_facts.specs.Season.{facts_of}
 use Rattle.proceedings.specs.Kept.{state_of}
 use Rattle.proceedings.specs.Proceeding.{Proceeding}
 use Rattle.proceedings.proofs.NextLemmas.{by_allotted, next_full}

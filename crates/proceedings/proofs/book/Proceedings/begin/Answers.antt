@@ -5,7 +5,7 @@ use Rattle.office_turns.specs.Turns.{no_turns}
 use Rattle.round_options.specs.declared.standing.Standing.TheVariants.{Waiting}
 use Rattle.office_moves.specs.Facts.{SeasonFacts}
 use Rattle.office_moves.specs.Raised.{raised}
-use Rattle.office_moves.specs.Season.{facts_of}
+use Rattle.season_facts.specs.Season.{facts_of}
 use Rattle.office_moves.specs.State.{State, opening}
 use Rattle.proceedings.specs.Proceeding.{answers_of, left_along, still_of}
 use Rattle.proceedings.proofs.ChangeLemmas.{opening_history, opening_later, opening_left, opening_state, opening_still, opening_tables}

@@ -6,7 +6,7 @@ use Rattle.kept_rows.specs.declared.rows.AnswerRow.{AnswerRow}
 use Rattle.office_moves.specs.Decided.{decided}
 use Rattle.office_moves.specs.History.{IsHistory, asked}
 use Rattle.office_moves.specs.Moves.{final_rows}
-use Rattle.office_moves.specs.Season.{facts_of}
+use Rattle.season_facts.specs.Season.{facts_of}
 use Rattle.office_moves.specs.State.{State, in_window, rows_of, with_finals}
 use Rattle.office_moves.specs.declared.decide.Decision.TheVariants.{Finish}
 use Rattle.office_moves.specs.declared.moves.Act.TheVariants.{Cut}

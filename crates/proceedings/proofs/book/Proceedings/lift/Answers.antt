@@ -6,7 +6,7 @@ use Rattle.seat_matrix.specs.Matrix.{SeatTable}
 use Rattle.office_moves.specs.Decided.{decided}
 use Rattle.office_moves.specs.History.{IsHistory, asked}
 use Rattle.office_moves.specs.Raised.{matrix_at}
-use Rattle.office_moves.specs.Season.{facts_of}
+use Rattle.season_facts.specs.Season.{facts_of}
 use Rattle.office_moves.specs.State.{State, in_window, rows_of, with_raise}
 use Rattle.office_moves.specs.declared.decide.Decision.TheVariants.{Lift}
 use Rattle.office_moves.specs.declared.moves.Act.TheVariants.{Raise}

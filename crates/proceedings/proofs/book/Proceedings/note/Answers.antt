@@ -3,7 +3,7 @@ use Rattle.std.specs.Prelude.{vec_capacity, vec_len}
 use Rattle.std.proofs.lemmas.Option.{slice_get_read}
 use Rattle.office_base.specs.declared.asks.Choice.TheVariants.{Withdraw}
 use Rattle.office_moves.specs.History.{IsHistory}
-use Rattle.office_moves.specs.Season.{facts_of}
+use Rattle.season_facts.specs.Season.{facts_of}
 use Rattle.office_moves.specs.State.{State, in_window, rows_of, with_row}
 use Rattle.office_moves.specs.declared.moves.Entry.{Entry}
 use Rattle.proceedings.specs.Changes.{IsAnswerAt}

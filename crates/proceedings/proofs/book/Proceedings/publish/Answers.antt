@@ -5,7 +5,7 @@ use Rattle.office_base.specs.declared.asks.Choice.{Choice}
 use Rattle.office_moves.specs.Decided.{decided}
 use Rattle.office_moves.specs.History.{IsHistory, asked}
 use Rattle.office_moves.specs.Moves.{IsNextRound}
-use Rattle.office_moves.specs.Season.{facts_of}
+use Rattle.season_facts.specs.Season.{facts_of}
 use Rattle.office_moves.specs.State.{State, with_round}
 use Rattle.office_moves.specs.declared.decide.Decision.TheVariants.{Publish}
 use Rattle.office_moves.specs.declared.moves.Act.TheVariants.{Cut}

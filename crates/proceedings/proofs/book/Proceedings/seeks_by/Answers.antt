@@ -3,7 +3,7 @@ use Rattle.std.specs.Prelude.{slice_get}
 use Rattle.rounds.specs.declared.round.Round.{Round}
 use Rattle.seeks.specs.declared.seek.Seek.{Seek}
 use Rattle.office_moves.specs.Moves.{next_seeks}
-use Rattle.office_moves.specs.Season.{facts_of}
+use Rattle.season_facts.specs.Season.{facts_of}
 use Rattle.proceedings.specs.Kept.{state_of}
 use Rattle.proceedings.specs.Proceeding.{Proceeding, table_along}
 use Rattle.proceedings.proofs.NextLemmas.{by_seated, by_seeks}

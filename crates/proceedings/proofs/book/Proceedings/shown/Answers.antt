@@ -1,7 +1,7 @@
 use Rattle.std.proofs.Common.{◌≡◌, Option, Some, length, option_copied, refl, sym, ap, ◌∙◌}
 use Rattle.rounds.specs.declared.round.Round.{Round}
 use Rattle.office_moves.specs.Moves.{programme_in}
-use Rattle.office_moves.specs.Season.{facts_of}
+use Rattle.season_facts.specs.Season.{facts_of}
 use Rattle.office_moves.specs.State.{round_at}
 use Rattle.proceedings.specs.Kept.{state_of}
 use Rattle.proceedings.proofs.Published.{programmes_of, six_steps}

@@ -1,6 +1,6 @@
 // What holds of every season that was read.
 ghost use Rattle.office_moves.specs.Facts.{IsSound};
-ghost use Rattle.office_moves.specs.Season.{facts_of};
+ghost use Rattle.season_facts.specs.Season.{facts_of};
 
 use season_file::Season;
 

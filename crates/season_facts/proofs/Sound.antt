@@ -6,7 +6,7 @@ use Rattle.season_file.specs.Laws.{HaveOneReading}
 use Rattle.season_file.specs.Season.{BundleGives, content_of}
 use Rattle.season_file.specs.declared.season.Season.{Season}
 use Rattle.office_moves.specs.Facts.{IsSound}
-use Rattle.office_moves.specs.Season.{facts_of}
+use Rattle.season_facts.specs.Season.{facts_of}
 
 -- What a season says is sound, whichever bytes give it with whichever requests.
 pub given_sound : (requests : Bool) (bytes : List ℕ) (season : Season) (row : ℕ) (script : List Request) → HaveOneReading requests bytes → BundleGives requests bytes (content_of season row) script

@@ -1,6 +1,6 @@
 use Rattle.std.proofs.Common.{Bool}
 use Rattle.office_base.proofs.Options.{none_from}
-use Rattle.office_moves.proofs.facts.says_what_is_sound.Goals as goal
+use Rattle.season_facts.proofs.facts.says_what_is_sound.Goals as goal
 
 pub returns : goal.returns
 returns c = record {
