@@ -10,12 +10,19 @@ use Rattle.kept_rows.specs.declared.rows.AllotRow.{AllotRow}
 use Rattle.office_base.specs.Certificate.{slot_of}
 use Rattle.office_base.specs.Codes.{is_code, is_code_byte}
 use Rattle.office_base.specs.Limits.{longest_code, shortest_code}
+use Rattle.office_base.specs.Person.{has_trait}
 use Rattle.office_base.specs.declared.asks.Seat.{Seat}
 use Rattle.office_base.specs.declared.person.Person.{Person}
+use Rattle.office_base.specs.declared.person.Place.{Place}
+use Rattle.office_base.specs.declared.person.Place.TheVariants.{Absent, Common, Relaxed}
+use Rattle.office_base.specs.declared.person.TraitSet.{TraitSet}
 use Rattle.office_base.specs.declared.step.Pair.{Pair}
 use Rattle.office_base.specs.declared.step.StepKind.{StepKind}
 use Rattle.office_base.specs.declared.step.StepKind.TheVariants.{Open, Ews, Obc, Sc, St, Dereserved}
-use Rattle.office_text.specs.Traits.{letters}
+use Rattle.office_text.specs.Traits.{letter, letters}
+use Rattle.step_cutoffs.specs.declared.cutoff.Cutoff.{Cutoff}
+use Rattle.step_cutoffs.specs.declared.cutoff.Cutoff.TheVariants.{Nobody, UpTo, Anybody}
+use Rattle.list_cutoffs.specs.declared.cutoffs.StepCutoff.{StepCutoff}
 use Rattle.programme_lists.specs.declared.programme.Programme.{Programme}
 use Rattle.programme_lists.specs.declared.programme.StepList.{StepList}
 use Rattle.published_texts.specs.Texts.{AreSeatsOf, IsSeatOf, admit_line, allot_line, allot_lines, answer_lines, better_line, code_in, final_head, final_text, list_head, list_step, list_text, reason_head, reason_lines, reason_text, round_head, round_text, seat_line, step_why, why_line, worse_words}
@@ -25,7 +32,7 @@ use Rattle.reasons.specs.declared.reason.StepWhy.{StepWhy}
 use Rattle.reasons.specs.declared.reason.WhyAnswer.{WhyAnswer}
 use Rattle.reasons.specs.declared.reason.WhyAnswer.TheVariants.{Reason as ReasonIs, Better, NotSought}
 use Rattle.reply_bodies.specs.Plain.{ArePlainCodes, HasPlainCode}
-use Rattle.reply_texts.specs.Replies.{AreShownOf, shown_text}
+use Rattle.reply_texts.specs.Replies.{AreShownOf, cutoff_line, cutoff_word, cutoffs_head, cutoffs_text, letter_if, letters_below, place_word, shown_text, traits_word}
 use Rattle.rounds.specs.Round.{seated}
 use Rattle.rounds.specs.declared.round.Round.{Round}
 use Rattle.seat_matrix.specs.Matrix.{SeatTable}
@@ -193,6 +200,55 @@ pub ascii_shown : (table : SeatTable) (people : List Person) (round : Option Rou
     → IsAscii (shown_text table people round rows)
 ascii_shown table people None rows plain are = ascii_final table rows plain are.1
 ascii_shown table people (Some round) rows plain are = ascii_round table people round plain are.0.programmes
+
+-- ---- what the register has
+
+a_trait : (traits : TraitSet) (t : ℕ) → IsAscii (letter_if traits t)
+a_trait traits t = either_case (has_trait traits t) (letter t ∷ []) [] (IsAscii-cons (letter t) [] (words letters refl t) IsAscii-nil) IsAscii-nil
+
+some_traits : (traits : TraitSet) (t : ℕ) → IsAscii (letters_below traits t)
+some_traits traits zero = IsAscii-nil
+some_traits traits (suc t) = then_text (letters_below traits t) (letter_if traits t) (some_traits traits t) (a_trait traits t)
+
+pub ascii_traits : (traits : TraitSet) → IsAscii (traits_word traits)
+ascii_traits traits = either_case (traits.0 == 0) (codes "-") (letters_below traits 6) (words (codes "-") refl) (some_traits traits 6)
+
+pub ascii_place : (place : Place) → IsAscii (place_word place)
+ascii_place Absent = words (codes "-") refl
+ascii_place (Common n) = number n
+ascii_place (Relaxed n) = say (decimal n) (codes "R") (number n) refl
+
+-- ---- cutoffs
+
+a_place : (cutoff : Cutoff) → IsAscii (cutoff_word cutoff)
+a_place Nobody = words (codes "none") refl
+a_place (UpTo last) = number last
+a_place Anybody = words (codes "any") refl
+
+a_cutoff : (line : StepCutoff) → IsAscii (cutoff_line line)
+a_cutoff line =
+    let a = step_name line.step ++ codes " " in
+    let b = a ++ traits_word line.traits in
+    let c = b ++ codes " " in
+    let d = c ++ cutoff_word line.cutoff in
+    let sa : IsAscii a = say (step_name line.step) (codes " ") (step line.step) refl in
+    let sb : IsAscii b = then_text a (traits_word line.traits) sa (ascii_traits line.traits) in
+    let sd : IsAscii d = then_text c (cutoff_word line.cutoff) (say b (codes " ") sb refl) (a_place line.cutoff) in
+    say d (codes "\n") sd refl
+
+head_of_cutoffs : (table : SeatTable) (round prog : ℕ) → IsAscii (code_in table prog) → IsAscii (cutoffs_head table round prog)
+head_of_cutoffs table round prog code =
+    let a = codes "cutoffs " ++ decimal round in
+    let b = a ++ codes " " in
+    let c = b ++ code_in table prog in
+    let sa : IsAscii a = count (codes "cutoffs ") round (words (codes "cutoffs ") refl) in
+    let sc : IsAscii c = then_text b (code_in table prog) (say a (codes " ") sa refl) code in
+    say c (codes "\n") sc refl
+
+pub ascii_cutoffs : (table : SeatTable) (round prog : ℕ) (lines : List StepCutoff) → IsAscii (code_in table prog) → IsAscii (cutoffs_text table round prog lines)
+ascii_cutoffs table round prog lines code =
+    let a = cutoffs_head table round prog ++ flat_map cutoff_line lines in
+    say a (codes "end cutoffs\n") (then_text (cutoffs_head table round prog) (flat_map cutoff_line lines) (head_of_cutoffs table round prog code) (each cutoff_line a_cutoff lines)) refl
 
 -- ---- reasons
 

@@ -4,20 +4,24 @@ use Rattle.serde_json.specs.Data.{Data, Members, null, number, unsigned, string,
 use Rattle.serde_json.specs.View.{items_of}
 use Rattle.serde_json.specs.Written.{compact_text}
 use Rattle.kept_rows.specs.declared.rows.AllotRow.{AllotRow}
+use Rattle.kept_rows.specs.declared.rows.AnswerRow.{AnswerRow}
 use Rattle.office_base.specs.declared.asks.Choice.{Choice}
 use Rattle.office_base.specs.declared.asks.Seat.{Seat}
 use Rattle.office_base.specs.declared.person.Person.{Person}
+use Rattle.office_base.specs.declared.person.Place.{Place}
+use Rattle.office_base.specs.declared.person.Place.TheVariants.{Absent, Common, Relaxed}
 use Rattle.office_base.specs.declared.person.ProgId.{ProgId}
 use Rattle.office_base.specs.declared.step.StepKind.{StepKind}
 use Rattle.office_moves.specs.Refusals.{name_of, number_of}
 use Rattle.office_moves.specs.declared.moves.Reply.{Reply}
-use Rattle.office_moves.specs.declared.moves.Reply.TheVariants.{Noted, Raised, Published, Final, SeatIs, WhyIs, ListIs, RoundIs, ChoicesAre, StateIs, Refused}
+use Rattle.office_moves.specs.declared.moves.Reply.TheVariants.{Noted, Raised, Published, Final, SeatIs, WhyIs, ListIs, RoundIs, ChoicesAre, CutoffsAre, RegisterIs, AnswersAre, StateIs, Refused}
 use Rattle.office_moves.specs.declared.refusal.Refusal.{Refusal}
 use Rattle.office_moves.specs.declared.refusal.Refusal.TheVariants.{UnknownCandidate, UnknownProgramme, Denied, TurnUsed, Late, Ahead, Gap, Gone, NoSeat, Widening, TooManyTurns, NotChosen, NoSuchRound, LastWindow, StepFixed, Falling, SeatLimit}
+use Rattle.list_cutoffs.specs.declared.cutoffs.StepCutoff.{StepCutoff}
 use Rattle.programme_lists.specs.declared.programme.Programme.{Programme}
 use Rattle.published_texts.specs.Texts.{code_in, list_text, reason_text}
 use Rattle.reasons.specs.declared.reason.WhyAnswer.{WhyAnswer}
-use Rattle.reply_texts.specs.Replies.{choice_name, shown_text, standing_name}
+use Rattle.reply_texts.specs.Replies.{category_name, choice_name, cutoffs_text, place_word, shown_text, standing_name, traits_word}
 use Rattle.round_options.specs.declared.standing.Standing.{Standing}
 use Rattle.rounds.specs.declared.round.Round.{Round}
 use Rattle.seat_matrix.specs.Matrix.{SeatTable}
@@ -102,6 +106,39 @@ abbrev pub choices_data : SeatTable → ℕ → List ProgId → Data
 choices_data table cand progs =
     object (member (codes "cand") (count cand) (member (codes "programmes") (codes_data table progs) (member (codes "reply") (word (codes "choices")) no_members)))
 
+-- the cutoffs of a programme in a round: their text with its line ends
+abbrev pub cutoffs_data : SeatTable → ℕ → ℕ → List StepCutoff → Data
+cutoffs_data table round prog lines =
+    object (member (codes "programme") (code table prog) (member (codes "reply") (word (codes "cutoffs")) (member (codes "round") (count round)
+    (member (codes "text") (string (cutoffs_text table round prog lines)) no_members))))
+
+-- a place as the register spells it, or null where there is none
+abbrev pub place_data : Place → Data
+place_data Absent = null
+place_data (Common n) = word (place_word (Common n))
+place_data (Relaxed n) = word (place_word (Relaxed n))
+
+abbrev pub places_data : List Place → Data
+places_data places = array (items_of (map place_data places))
+
+-- what the register has of a candidate
+abbrev pub register_data : Person → Data
+register_data person =
+    object (member (codes "cand") (count person.id.0) (member (codes "category") (word (category_name person.category)) (member (codes "places") (places_data person.places)
+    (member (codes "reply") (word (codes "register")) (member (codes "traits") (word (traits_word person.traits)) no_members)))))
+
+-- an answer
+abbrev pub answer_data : AnswerRow → Data
+answer_data row =
+    object (member (codes "choice") (word (choice_name row.choice)) (member (codes "turn") (count row.turn) (member (codes "window") (count row.window) no_members)))
+
+abbrev pub rows_data : List AnswerRow → Data
+rows_data rows = array (items_of (map answer_data rows))
+
+-- the answers of a candidate
+abbrev pub answers_data : ℕ → List AnswerRow → Data
+answers_data cand rows = object (member (codes "answers") (rows_data rows) (member (codes "cand") (count cand) (member (codes "reply") (word (codes "answers")) no_members)))
+
 -- how far the office is
 abbrev pub state_data : ℕ → ℕ → ℕ → Data
 state_data now rounds published =
@@ -152,6 +189,9 @@ reply_data table people round rows (WhyIs cand prog answer) = why_data table can
 reply_data table people round rows (ListIs n prog programme) = list_data table n prog.0 programme
 reply_data table people round rows (RoundIs n) = round_data table people round rows n
 reply_data table people round rows (ChoicesAre cand progs) = choices_data table cand.0 progs
+reply_data table people round rows (CutoffsAre n prog lines) = cutoffs_data table n prog.0 lines
+reply_data table people round rows (RegisterIs person) = register_data person
+reply_data table people round rows (AnswersAre cand answers) = answers_data cand.0 answers
 reply_data table people round rows (StateIs now rounds published) = state_data now rounds published
 reply_data table people round rows (Refused refusal) = refused_data refusal
 

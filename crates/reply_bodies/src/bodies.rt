@@ -8,8 +8,11 @@ ghost use Rattle.reply_texts.specs.Replies.{HasTraitSlots, IsReplyOf};
 ghost use Rattle.reply_bodies.specs.Bodies.{final_data, list_data, published_data, raised_data, reply_body, reply_data, why_data};
 ghost use Rattle.reply_bodies.specs.Built.{IsBuilt};
 
+use crate::answers::answers_value;
 use crate::choices::choices_value;
+use crate::cutoffs::cutoffs_value;
 use crate::refusals::refused_value;
+use crate::register::register_value;
 use crate::shown::round_value;
 use crate::spelled::{noted_text, seat_text, state_text};
 use crate::texts::{answers_are_ascii, code_value, codes_are_ascii, text_value};
@@ -124,6 +127,13 @@ fn reply_value(
         } => list_value(alloc, matrix, *number, *prog, programme),
         Reply::RoundIs { round: number } => round_value(alloc, season, round, rows, *number),
         Reply::ChoicesAre { cand, progs } => choices_value(alloc, matrix, *cand, progs.as_slice()),
+        Reply::CutoffsAre {
+            round: number,
+            prog,
+            lines,
+        } => cutoffs_value(alloc, matrix, *number, *prog, lines.as_slice()),
+        Reply::RegisterIs { person } => register_value(alloc, person),
+        Reply::AnswersAre { cand, rows } => answers_value(alloc, *cand, rows.as_slice()),
         Reply::Refused(refusal) => refused_value(alloc, *refusal),
         Reply::Noted { .. } | Reply::SeatIs { .. } | Reply::StateIs { .. } => {
             unreachable!("it is spelled straight into its text")

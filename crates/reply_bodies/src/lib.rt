@@ -9,9 +9,12 @@
 // It decides nothing, and must never know how a reply came about, nor know of messages or of links.
 #![tactic(auto)]
 
+mod answers;
 mod bodies;
 mod choices;
+mod cutoffs;
 mod refusals;
+mod register;
 mod shown;
 mod spelled;
 mod status;

@@ -1,13 +1,24 @@
 -- The texts of replies. Each line ends with LF.
-use Rattle.std.specs.Prelude.{◌≡◌, ◌<◌, ℕ, List, [], ◌++◌, length, Option, Some, None, IfSome, codes}
+use Rattle.std.specs.Prelude.{◌≡◌, ◌<◌, ◌==◌, ℕ, zero, suc, List, [], ◌∷◌, ◌++◌, length, Option, Some, None, IfSome, codes, if◌then◌else◌}
 use Rattle.std.specs.Fmt.{decimal}
 use Rattle.std.specs.List.{AllByRecursion, flat_map}
 use Rattle.kept_rows.specs.declared.rows.AllotRow.{AllotRow}
+use Rattle.kept_rows.specs.declared.rows.AnswerRow.{AnswerRow}
+use Rattle.office_base.specs.Person.{has_trait}
 use Rattle.office_base.specs.declared.asks.Choice.{Choice}
 use Rattle.office_base.specs.declared.asks.Choice.TheVariants.{Freeze as ToFreeze, Float as ToFloat, Slide as ToSlide, Withdraw as ToWithdraw}
 use Rattle.office_base.specs.declared.asks.Seat.{Seat}
+use Rattle.office_base.specs.declared.person.Category.{Category}
+use Rattle.office_base.specs.declared.person.Category.TheVariants.{Gen, Ews, Obc, Sc, St}
 use Rattle.office_base.specs.declared.person.Person.{Person}
+use Rattle.office_base.specs.declared.person.Place.{Place}
+use Rattle.office_base.specs.declared.person.Place.TheVariants.{Absent, Common, Relaxed}
 use Rattle.office_base.specs.declared.person.ProgId.{ProgId}
+use Rattle.office_base.specs.declared.person.TraitSet.{TraitSet}
+use Rattle.office_text.specs.Traits.{letter}
+use Rattle.step_cutoffs.specs.declared.cutoff.Cutoff.{Cutoff}
+use Rattle.step_cutoffs.specs.declared.cutoff.Cutoff.TheVariants.{Nobody, UpTo, Anybody}
+use Rattle.list_cutoffs.specs.declared.cutoffs.StepCutoff.{StepCutoff}
 use Rattle.programme_lists.specs.declared.programme.Programme.{Programme}
 use Rattle.published_texts.specs.Texts.{AreSeatsOf, IsAnswerOf, IsSeatOf, code_in, final_text, list_text, reason_text, round_text}
 use Rattle.round_options.specs.declared.standing.Standing.{Standing}
@@ -17,7 +28,7 @@ use Rattle.seat_matrix.specs.Matrix.{SeatTable}
 use Rattle.step_lines.specs.Lines.{step_name}
 use Rattle.office_moves.specs.Refusals.{name_of, number_of}
 use Rattle.office_moves.specs.declared.moves.Reply.{Reply}
-use Rattle.office_moves.specs.declared.moves.Reply.TheVariants.{Noted, Raised, Published, Final, SeatIs, WhyIs, ListIs, RoundIs, ChoicesAre, StateIs, Refused}
+use Rattle.office_moves.specs.declared.moves.Reply.TheVariants.{Noted, Raised, Published, Final, SeatIs, WhyIs, ListIs, RoundIs, ChoicesAre, CutoffsAre, RegisterIs, AnswersAre, StateIs, Refused}
 use Rattle.office_moves.specs.declared.refusal.Refusal.{Refusal}
 use Rattle.office_moves.specs.declared.refusal.Refusal.TheVariants.{UnknownCandidate, UnknownProgramme, Denied, TurnUsed, Late, Ahead, Gap, Gone, NoSeat, Widening, TooManyTurns, NotChosen, NoSuchRound, LastWindow, StepFixed, Falling, SeatLimit}
 
@@ -97,6 +108,75 @@ choice_word table prog = codes " " ++ code_in table prog.0
 abbrev pub choices_line : SeatTable → ℕ → List ProgId → List ℕ
 choices_line table cand progs = codes "choices " ++ decimal cand ++ flat_map (choice_word table) progs ++ codes "\n"
 
+-- how the register spells a category
+abbrev pub category_name : Category → List ℕ
+category_name Gen = codes "GEN"
+category_name Ews = codes "EWS"
+category_name Obc = codes "OBC"
+category_name Sc = codes "SC"
+category_name St = codes "ST"
+
+-- the letter of a trait that the set has, and nothing for another one
+abbrev pub letter_if : TraitSet → ℕ → List ℕ
+letter_if traits t = if has_trait traits t then letter t ∷ [] else []
+
+-- the letters of those of the first traits, so many, that the set has
+abbrev pub letters_below : TraitSet → ℕ → List ℕ
+letters_below traits zero = []
+letters_below traits (suc t) = letters_below traits t ++ letter_if traits t
+
+-- how a set of traits is spelled: their letters in order, or a dash for none
+abbrev pub traits_word : TraitSet → List ℕ
+traits_word traits = if traits.0 == 0 then codes "-" else letters_below traits 6
+
+-- how the register spells a place; a dash where there is none
+abbrev pub place_word : Place → List ℕ
+place_word Absent = codes "-"
+place_word (Common number) = decimal number
+place_word (Relaxed number) = decimal number ++ codes "R"
+
+-- a place behind others
+abbrev pub place_after : Place → List ℕ
+place_after place = codes " " ++ place_word place
+
+-- the line of what the register has of a candidate, up to the places
+abbrev pub register_head : Person → List ℕ
+register_head person = codes "register " ++ decimal person.id.0 ++ codes " " ++ category_name person.category ++ codes " " ++ traits_word person.traits
+
+-- the whole line
+abbrev pub register_line : Person → List ℕ
+register_line person = register_head person ++ flat_map place_after person.places ++ codes "\n"
+
+-- the last place of a cutoff, or that every place is within it
+abbrev pub cutoff_word : Cutoff → List ℕ
+cutoff_word Nobody = codes "none"
+cutoff_word (UpTo last) = decimal last
+cutoff_word Anybody = codes "any"
+
+-- a line of cutoffs: the step, the traits and the last place
+abbrev pub cutoff_line : StepCutoff → List ℕ
+cutoff_line line = step_name line.step ++ codes " " ++ traits_word line.traits ++ codes " " ++ cutoff_word line.cutoff ++ codes "\n"
+
+-- the first line of the cutoffs of a programme
+abbrev pub cutoffs_head : SeatTable → ℕ → ℕ → List ℕ
+cutoffs_head table number prog = codes "cutoffs " ++ decimal number ++ codes " " ++ code_in table prog ++ codes "\n"
+
+-- the cutoffs of a programme in the round of this number
+abbrev pub cutoffs_text : SeatTable → ℕ → ℕ → List StepCutoff → List ℕ
+cutoffs_text table number prog lines = cutoffs_head table number prog ++ flat_map cutoff_line lines ++ codes "end cutoffs\n"
+
+-- the receipt of an answer
+abbrev pub row_line : AnswerRow → List ℕ
+row_line row = noted_line row.cand.0 row.window row.turn row.choice
+
+-- the first line of a candidate's answers
+abbrev pub answers_head : ℕ → ℕ → List ℕ
+answers_head cand noted = codes "answers " ++ decimal cand ++ codes " noted " ++ decimal noted ++ codes "\n"
+
+-- the receipts of a candidate's answers, after a line with how many there are
+abbrev pub answers_text : ℕ → List AnswerRow → List ℕ
+answers_text cand rows = answers_head cand (length rows) ++ flat_map row_line rows ++ codes "end answers\n"
+
 -- the line of how far the office is
 abbrev pub state_line : ℕ → ℕ → ℕ → List ℕ
 state_line window rounds published = codes "state window " ++ decimal window ++ codes " rounds " ++ decimal rounds ++ codes " published " ++ decimal published ++ codes "\n"
@@ -130,6 +210,9 @@ reply_text table people round rows (WhyIs cand prog answer) = reason_text table 
 reply_text table people round rows (ListIs number prog programme) = list_text table number prog.0 programme
 reply_text table people round rows (RoundIs number) = shown_text table people round rows
 reply_text table people round rows (ChoicesAre cand progs) = choices_line table cand.0 progs
+reply_text table people round rows (CutoffsAre number prog lines) = cutoffs_text table number prog.0 lines
+reply_text table people round rows (RegisterIs person) = register_line person
+reply_text table people round rows (AnswersAre cand answers) = answers_text cand.0 answers
 reply_text table people round rows (StateIs window rounds published) = state_line window rounds published
 reply_text table people round rows (Refused refusal) = refusal_line refusal
 
@@ -158,4 +241,5 @@ IsReplyOf table people round rows (WhyIs cand prog answer) = (prog.0 < length ta
 IsReplyOf table people round rows (ListIs number prog programme) = (prog.0 < length table.programmes) × HasTraitSlots programme
 IsReplyOf table people round rows (RoundIs number) = AreShownOf table people round rows
 IsReplyOf table people round rows (ChoicesAre cand progs) = AllByRecursion (λ prog. prog.0 < length table.programmes) progs
+IsReplyOf table people round rows (CutoffsAre number prog lines) = prog.0 < length table.programmes
 IsReplyOf table people round rows _ = Unit {0}

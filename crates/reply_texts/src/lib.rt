@@ -4,11 +4,16 @@
 // that text. It decides nothing, and must never know how a reply came about, of commands or of sinks.
 #![tactic(auto)]
 
+mod answers;
 mod choices;
+mod cutoffs;
 mod receipts;
 mod refusals;
+mod register;
 mod reply;
 mod words;
 
+pub use cutoffs::cutoffs_text;
+pub use register::{push_place, push_traits};
 pub use reply::{reply_text, shown_text};
-pub use words::{choice_name, standing_name};
+pub use words::{category_name, choice_name, standing_name};

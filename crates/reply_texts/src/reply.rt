@@ -5,11 +5,14 @@ ghost use Rattle.published_texts.specs.Texts.{IsSeatOf, final_text};
 ghost use Rattle.reply_texts.specs.Replies.{AreShownOf, IsReplyOf, IsRoundOf, final_line, noted_line, published_line, raised_line, refusal_line, reply_text, shown_text, standing_line, state_line, text_of_round};
 ghost use Rattle.step_lines.specs.Lines.{step_name};
 
+use crate::answers::answers_text;
 use crate::choices::choices_text;
+use crate::cutoffs::cutoffs_text;
 use crate::receipts::{
     push_final, push_noted, push_published, push_raised, push_standing, push_state,
 };
 use crate::refusals::push_refusal;
+use crate::register::register_text;
 use kept_rows::AllotRow;
 use office_base::{CandId, Choice, OutOfMemory, Person, ProgId, Seat, StepKind, Text};
 use office_moves::{Refusal, Reply};
@@ -65,6 +68,13 @@ pub fn reply_text(
         } => list_text(alloc, matrix, *number, *prog, programme),
         Reply::RoundIs { .. } => shown_text(alloc, matrix, people, round, rows),
         Reply::ChoicesAre { cand, progs } => choices_text(alloc, matrix, *cand, progs.as_slice()),
+        Reply::CutoffsAre {
+            round: number,
+            prog,
+            lines,
+        } => cutoffs_text(alloc, matrix, *number, *prog, lines.as_slice()),
+        Reply::RegisterIs { person } => register_text(alloc, person),
+        Reply::AnswersAre { cand, rows } => answers_text(alloc, *cand, rows.as_slice()),
         Reply::StateIs {
             now,
             rounds,

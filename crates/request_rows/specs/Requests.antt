@@ -3,7 +3,7 @@ use Rattle.std.specs.Prelude.{◌≡◌, ◌+◌, ℕ, Bool, ◌==◌, ◌&&◌,
 use Rattle.std.specs.Option.{option_and_then, option_map}
 use Rattle.office_base.specs.Limits.{last_id, last_turn, last_window, most_step_seats}
 use Rattle.office_base.specs.declared.asks.Ask.{Ask}
-use Rattle.office_base.specs.declared.asks.Ask.TheVariants.{Answer, Cut, Seat, Why, List as ListOf, Round, Choices, State, Raise}
+use Rattle.office_base.specs.declared.asks.Ask.TheVariants.{Answer, Cut, Seat, Why, List as ListOf, Round, Choices, Cutoffs, Register, Answers, State, Raise}
 use Rattle.office_base.specs.declared.asks.By.{By}
 use Rattle.office_base.specs.declared.asks.By.TheVariants.{Clerk, Candidate, Nobody}
 use Rattle.office_base.specs.declared.asks.Request.{Request}
@@ -62,6 +62,15 @@ round_of row = option_and_then (λ round. Some (Round round)) (window_of (field 
 abbrev pub choices_of : Row → Option Ask
 choices_of row = option_and_then (λ cand. Some (Choices cand)) (candidate_of (field row 2))
 
+abbrev pub cutoffs_of : Row → Option Ask
+cutoffs_of row = option_and_then (λ round. option_and_then (λ prog. Some (Cutoffs round prog)) (code_of (field row 3))) (window_of (field row 2))
+
+abbrev pub register_of : Row → Option Ask
+register_of row = option_and_then (λ cand. Some (Register cand)) (candidate_of (field row 2))
+
+abbrev pub answers_of : Row → Option Ask
+answers_of row = option_and_then (λ cand. Some (Answers cand)) (candidate_of (field row 2))
+
 abbrev pub raise_of : Row → Option Ask
 raise_of row =
     option_and_then (λ window. option_and_then (λ prog. option_and_then (λ step. option_and_then (λ seats. Some (Raise window prog step seats))
@@ -81,6 +90,9 @@ ask_of row =
     else if is_kind (codes "list") 4 row then list_of row
     else if is_kind (codes "round") 3 row then round_of row
     else if is_kind (codes "choices") 3 row then choices_of row
+    else if is_kind (codes "cutoffs") 4 row then cutoffs_of row
+    else if is_kind (codes "register") 3 row then register_of row
+    else if is_kind (codes "answers") 3 row then answers_of row
     else if is_kind (codes "state") 2 row then Some State
     else if is_kind (codes "raise") 6 row then raise_of row
     else None

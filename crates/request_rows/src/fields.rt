@@ -1,6 +1,6 @@
 // The fields of a request's row.
 ghost use Rattle.std.specs.Prelude.{◌≡◌};
-ghost use Rattle.request_rows.specs.Requests.{answer_of, ask_of, by_of, candidate_of, choices_of, cut_of, is_kind, list_of, raise_of, request_of, round_of, seat_of, seats_of, turn_of, why_of, window_of};
+ghost use Rattle.request_rows.specs.Requests.{answer_of, answers_of, ask_of, by_of, candidate_of, choices_of, cut_of, cutoffs_of, is_kind, list_of, raise_of, register_of, request_of, round_of, seat_of, seats_of, turn_of, why_of, window_of};
 
 use office_base::limits::{LAST_ID, LAST_TURN, LAST_WINDOW, MOST_STEP_SEATS};
 use office_base::{Ask, By, CandId, Code, Request};
@@ -119,6 +119,31 @@ fn read_choices(row: &Rows<'_>) -> Option<Ask>
     Some(Ask::Choices { cand })
 }
 
+/// Returns what a row of the kind `cutoffs` asks.
+fn read_cutoffs(row: &Rows<'_>) -> Option<Ask>
+    ensures { result ≡ cutoffs_of row.now.row }
+{
+    let round = read_window(row.field(2))?;
+    let prog = Code::read(row.field(3))?;
+    Some(Ask::Cutoffs { round, prog })
+}
+
+/// Returns what a row of the kind `register` asks.
+fn read_register(row: &Rows<'_>) -> Option<Ask>
+    ensures { result ≡ register_of row.now.row }
+{
+    let cand = read_candidate(row.field(2))?;
+    Some(Ask::Register { cand })
+}
+
+/// Returns what a row of the kind `answers` asks.
+fn read_answers(row: &Rows<'_>) -> Option<Ask>
+    ensures { result ≡ answers_of row.now.row }
+{
+    let cand = read_candidate(row.field(2))?;
+    Some(Ask::Answers { cand })
+}
+
 /// What a row of the kind `raise` asks.
 fn read_raise(row: &Rows<'_>) -> Option<Ask>
     ensures { result ≡ raise_of row.now.row }
@@ -160,6 +185,12 @@ fn read_ask(row: &Rows<'_>) -> Option<Ask>
         read_round(row)
     } else if is_kind(row, b"choices".as_slice(), 3) {
         read_choices(row)
+    } else if is_kind(row, b"cutoffs".as_slice(), 4) {
+        read_cutoffs(row)
+    } else if is_kind(row, b"register".as_slice(), 3) {
+        read_register(row)
+    } else if is_kind(row, b"answers".as_slice(), 3) {
+        read_answers(row)
     } else if is_kind(row, b"state".as_slice(), 2) {
         Some(Ask::State)
     } else if is_kind(row, b"raise".as_slice(), 6) {

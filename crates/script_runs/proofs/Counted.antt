@@ -1,9 +1,11 @@
 -- Each answer is noted or refused, and no other request is counted.
-use Rattle.std.proofs.Common.{◌≡◌, ◌+◌, ◌&&◌, ℕ, Bool, true, false, [], ◌∷◌, cond, if◌then◌else◌, arith, refl, ap, ◌∙◌}
+use Rattle.std.proofs.Common.{◌≡◌, ◌+◌, ◌&&◌, ℕ, Bool, true, false, [], ◌∷◌, Option, Some, None, option_map, cond, if◌then◌else◌, arith, refl, ap, ◌∙◌}
 use Rattle.std.proofs.lemmas.List.Sums.{sum_by-cons}
 use Rattle.office_base.specs.declared.asks.Ask.{Ask}
 use Rattle.office_base.specs.declared.asks.Ask.TheVariants.{Answer, Cut, Raise}
 use Rattle.office_base.specs.declared.asks.By.{By}
+use Rattle.office_base.specs.declared.person.Person.{Person}
+use Rattle.rank_lists.specs.Register.{find_person}
 use Rattle.kept_rows.specs.declared.rows.AnswerRow.{AnswerRow}
 use Rattle.kept_rows.specs.declared.rows.RaiseRow.{RaiseRow}
 use Rattle.office_moves.specs.Facts.{SeasonFacts, find_programme}
@@ -13,9 +15,9 @@ use Rattle.office_moves.specs.Moves.{Does, Tells}
 use Rattle.office_moves.specs.declared.decide.Decision.{Decision}
 use Rattle.office_moves.specs.declared.decide.Decision.TheVariants.{Refuse, NotedAgain, CutAgain, Note, Publish, Tell}
 use Rattle.office_moves.specs.declared.decide.Question.{Question}
-use Rattle.office_moves.specs.declared.decide.Question.TheVariants.{List as TheList}
+use Rattle.office_moves.specs.declared.decide.Question.TheVariants.{List as TheList, Cutoffs as TheCutoffs, Register as TheRegister}
 use Rattle.office_moves.specs.declared.moves.Reply.{Reply}
-use Rattle.office_moves.specs.declared.moves.Reply.TheVariants.{Published, Final}
+use Rattle.office_moves.specs.declared.moves.Reply.TheVariants.{Published, Final, RegisterIs}
 use Rattle.office_moves.proofs.Decisions.{answer_keeps, cut_keeps, programme_keeps, question_keeps, raise_keeps}
 use Rattle.script_runs.specs.Laws.{EachAnswerIsCounted}
 use Rattle.script_runs.specs.Tally.{is_answer, is_receipt, is_refusal, is_refused_answer, requests_of}
@@ -49,6 +51,12 @@ a_cut false m s n reply window same = as_reply (CutAgain window) (Final n) reply
 -- nor is the reply to a question
 told : (facts : SeasonFacts) (state : State) (question : Question) (reply : Reply) → Tells facts state question reply → IsReplyTo (Tell question) reply
 told facts state (TheList number prog) reply tells = as_reply (Tell (TheList number prog)) _ reply tells.2 refl refl
+told facts state (TheCutoffs number prog) reply tells = as_reply (Tell (TheCutoffs number prog)) _ reply tells.4 refl refl
+told facts state (TheRegister cand) reply tells = an_entry (find_person cand.0 facts.people) tells
+  where
+    an_entry : (entry : Option Person) → option_map (λ person. RegisterIs person) entry ≡ Some reply → IsReplyTo (Tell (TheRegister cand)) reply
+    an_entry None tells = absurd (cc)
+    an_entry (Some person) tells = let same : reply ≡ RegisterIs person = cc in as_reply (Tell (TheRegister cand)) (RegisterIs person) reply same refl refl
 told facts state question reply tells = as_reply (Tell question) _ reply tells refl refl
 
 replied : (facts : SeasonFacts) (old : State) (decision : Decision) (reply : Reply) (new : State) → Does facts old decision reply new → IsReplyTo decision reply

@@ -34,7 +34,7 @@ one_tally facts laws sound entries old new then (a ∷ handled) (b ∷ other) hi
     let rounds : NextRoundsAreOne facts = λ es state reached. laws.one_round state sound (laws.orderly es state sound reached) in
     let (first, rest) = same_requests a b handled other asked in
     let moved : IsMove facts old a.request b.reply again.0 = subst (λ r. IsMove facts old r b.reply again.0) (sym first) again.1 in
-    let same = laws.one_reply rounds entries old run.0 again.0 a.request a.reply b.reply history run.1 moved in
+    let same = laws.one_reply rounds (laws.one_cutoffs sound) entries old run.0 again.0 a.request a.reply b.reply history run.1 moved in
     let number = last_of_numbers (map (λ (entry : Entry). entry.number) entries) + 1 in
     let later = laws.grows entries old run.0 a.request a.reply number history (omega arith) run.1 in
     let on : AreHandled facts run.0 other then = subst (λ s. AreHandled facts s other then) (sym same.1) again.2 in

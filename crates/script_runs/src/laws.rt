@@ -19,6 +19,7 @@ pub fn one_run()
     histories::laws::history_grows();
     histories::laws::orderly();
     histories::laws::one_next_round();
+    histories::laws::cutoffs_are_one();
     office_moves::laws::one_reply();
 }
 
@@ -29,6 +30,7 @@ pub fn one_tally()
     histories::laws::history_grows();
     histories::laws::orderly();
     histories::laws::one_next_round();
+    histories::laws::cutoffs_are_one();
     office_moves::laws::one_reply();
 }
 

@@ -13,8 +13,9 @@ ghost use Rattle.script_runs.specs.Steps.{Continues, HasAccepted, IsAnswered, Is
 use crate::fault::RunFault;
 use keeper_mem::Keeper;
 use office_base::{Request, Sink, write_whole};
-use office_moves::{Reply, says_what_is_sound};
+use office_moves::Reply;
 use round_cut::{Office, OfficeFault};
+use season_facts::says_what_is_sound;
 use shown_replies::laws::replies_can_be_shown;
 use shown_replies::reply_line;
 use std::alloc::Global;

@@ -1,6 +1,6 @@
 -- The reply that led to a state in which all is in order can be shown.
 use Rattle.std.proofs.Common.{◌≡◌, ◌+◌, ℕ, Bool, true, false, Option, Some, None, length, refl, sym, ap, ◌∙◌, subst, if◌then◌else◌}
-use Rattle.std.specs.Prelude.{slice_get, nat_lt, ◌==◌}
+use Rattle.std.specs.Prelude.{slice_get, nat_lt, option_map, ◌==◌}
 use Rattle.allocations.specs.Market.{place_of}
 use Rattle.choice_lists.specs.Choices.{list_of}
 use Rattle.office_base.specs.Person.{at_person}
@@ -23,9 +23,9 @@ use Rattle.office_moves.specs.Decided.{decided}
 use Rattle.office_moves.specs.declared.decide.Decision.{Decision}
 use Rattle.office_moves.specs.declared.decide.Decision.TheVariants.{RaisedAgain, CutAgain, Lift, Publish, Finish, Tell}
 use Rattle.office_moves.specs.declared.decide.Question.{Question}
-use Rattle.office_moves.specs.declared.decide.Question.TheVariants.{Seat as TheSeat, Why as TheReason, List as TheList, Round as TheRound, Choices as TheChoices}
+use Rattle.office_moves.specs.declared.decide.Question.TheVariants.{Seat as TheSeat, Why as TheReason, List as TheList, Round as TheRound, Choices as TheChoices, Cutoffs as TheCutoffs, Register as TheRegister}
 use Rattle.office_moves.specs.declared.moves.Reply.{Reply}
-use Rattle.office_moves.specs.declared.moves.Reply.TheVariants.{Published, Final}
+use Rattle.office_moves.specs.declared.moves.Reply.TheVariants.{Published, Final, RegisterIs}
 use Rattle.office_moves.proofs.Decisions.{IsThere, NamesThere, decided_there}
 use Rattle.published_texts.specs.Texts.{IsAnswerOf, IsSeatOf}
 use Rattle.histories.specs.Orderly.{IsOrderly}
@@ -109,6 +109,12 @@ tells_shows facts state (TheList number prog) reply laws sound orderly there tel
 tells_shows facts state (TheRound number) reply laws sound orderly there e =
     subst (λ r. Shows facts state r) (sym e) (is_round_shown facts state number laws sound orderly, finals_show facts state laws sound orderly)
 tells_shows facts state (TheChoices cand) reply laws sound orderly there e = subst (λ r. Shows facts state r) (sym e) (sound.choices cand.0).numbers
+tells_shows facts state (TheCutoffs number prog) reply laws sound orderly there tells = subst (λ r. Shows facts state r) (sym tells.4) there.2
+tells_shows facts state (TheRegister cand) reply laws sound orderly there e = entry_shows (find_person cand.0 facts.people) e
+  where
+    entry_shows : (entry : Option Person) → option_map (λ person. RegisterIs person) entry ≡ Some reply → Shows facts state reply
+    entry_shows None none = absurd (cc)
+    entry_shows (Some person) some = let same : RegisterIs person ≡ reply = cc in subst (λ r. Shows facts state r) same tt
 tells_shows facts state question reply laws sound orderly there e = subst (λ r. Shows facts state r) (sym e) tt
 
 -- ---- each decision
