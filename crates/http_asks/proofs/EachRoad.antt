@@ -1,7 +1,8 @@
 -- What holds of each road, by its row.
-use Rattle.std.proofs.Common.{◌≡◌, ◌<◌, ◌≤◌, ◌^◌, ℕ, true, codes, List, [], ◌∷◌, ◌++◌, refl, arith, lit<}
+use Rattle.std.proofs.Common.{◌≡◌, ◌<◌, ◌≤◌, ◌^◌, ℕ, true, codes, List, [], ◌∷◌, ◌++◌, Some, refl, arith, lit<}
 use Rattle.std.specs.Fmt.{decimal}
 use Rattle.std.specs.List.{list_all}
+use Rattle.matchit.specs.Seek.{own}
 use Rattle.office_base.specs.Codes.{is_code, is_code_byte}
 use Rattle.office_base.specs.declared.asks.Ask.TheVariants as ask
 use Rattle.http_asks.specs.Laws.{HasPath, page_text}
@@ -11,7 +12,7 @@ use Rattle.http_asks.specs.Router.{fit, parameters, road_rows, road_start}
 use Rattle.http_asks.specs.declared.pages.Page.{Page}
 use Rattle.http_asks.specs.declared.pages.Page.TheVariants.{Answers, Cuts, Raises, Reads}
 use Rattle.http_asks.specs.declared.roads.Road.{Road}
-use Rattle.http_asks.specs.declared.roads.Road.TheVariants.{Answer, Choices, Cut, Raise, Round, Seat, Why, RoundList, State}
+use Rattle.http_asks.specs.declared.roads.Road.TheVariants.{Answer, AnswerList, Choices, Cut, Cutoffs, Raise, Register, Round, Seat, Why, RoundList, State}
 use Rattle.http_asks.proofs.WalkLemmas.{AreBytes, steps}
 
 -- what follows the name in the path with a number and a code, as far as the shape has them
@@ -56,6 +57,9 @@ on-road (Reads (ask.Why cand prog)) range = record { road = Why; n = cand.0; cod
 on-road (Reads (ask.List round prog)) range = record { road = RoundList; n = round; code = prog; is = refl; within = (omega arith, range.0, range.1) }
 on-road (Reads (ask.Round round)) range = record { road = Round; n = round; code = []; is = refl; within = (omega arith, range) }
 on-road (Reads (ask.Choices cand)) range = record { road = Choices; n = cand.0; code = []; is = refl; within = range }
+on-road (Reads (ask.Cutoffs round prog)) range = record { road = Cutoffs; n = round; code = prog; is = refl; within = (omega arith, range.0, range.1) }
+on-road (Reads (ask.Register cand)) range = record { road = Register; n = cand.0; code = []; is = refl; within = range }
+on-road (Reads (ask.Answers cand)) range = record { road = AnswerList; n = cand.0; code = []; is = refl; within = range }
 on-road (Reads ask.State) range = record { road = State; n = 0; code = []; is = refl; within = tt }
 on-road (Reads (ask.Answer cand window turn choice)) range = absurd range
 on-road (Reads (ask.Cut window)) range = absurd range
@@ -87,10 +91,15 @@ pub start-bytes : (road : Road) → AreBytes (road_start road)
 start-bytes Answer = grind arith
 start-bytes _ = grind arith
 
--- no other road begins as this one does
-pub own-steps : (road : Road) → steps (road_start road) road_rows ≡ (parameters (shape_of road), road) ∷ []
-own-steps Answer = refl
-own-steps _ = refl
+-- No other road begins as this one does, or this one has nothing behind its start and is found there.
+pub data HasOwnSteps (road : Road) : Type 0 where
+  Alone : steps (road_start road) road_rows ≡ (parameters (shape_of road), road) ∷ [] → HasOwnSteps road
+  Among : parameters (shape_of road) ≡ [] → own (steps (road_start road) road_rows) ≡ Some road → HasOwnSteps road
+
+pub own-steps : (road : Road) → HasOwnSteps road
+own-steps Answer = Among refl refl
+own-steps Cut = Among refl refl
+own-steps _ = Alone refl
 
 -- no road conflicts with those before it
 pub all-fit : fit all_roads [] ≡ true

@@ -20,7 +20,7 @@ use Rattle.http_asks.specs.Roads.{Shape, alone, number, number_and_code, all_roa
 use Rattle.http_asks.specs.Router.{Fits, IsOn, IsRouteOf, parameters, pattern_of, road_rows, road_start, roads_of, slash_before, with_roads}
 use Rattle.http_asks.specs.declared.pages.Page.{Page}
 use Rattle.http_asks.specs.declared.roads.Road.{Road}
-use Rattle.http_asks.proofs.EachRoad.{own-steps, start-bytes}
+use Rattle.http_asks.proofs.EachRoad.{Alone, Among, HasOwnSteps, own-steps, start-bytes}
 use Rattle.http_asks.proofs.PagesLemmas.{among, cond-some, slashed, slashed-cut}
 use Rattle.http_asks.proofs.WalkLemmas.{Follows, Matched, along, first-matched, follows-front, last-found, pair-found}
 
@@ -87,6 +87,7 @@ found-as path known same found = subst (λ (text : List ℕ). IsFound text) (sym
 record IsEnd (shape : Shape) (pieces : List (List ℕ)) (road : Road) : Type 0 where
   rest : List ℕ
   text : slashed pieces ≡ slash_before (parameters shape) ++ rest
+  ends : parameters shape ≡ [] → rest ≡ []
   found : is_some (first ((parameters shape, road) ∷ []) rest) ≡ true
 
 number-filled : (low high : ℕ) (asked : ℕ → Ask) (piece : List ℕ) (page : Page) → page_after (number low high asked) (piece ∷ []) ≡ Some page → 0 < length piece
@@ -107,12 +108,13 @@ both-filled low high asked (byte ∷ piece) (other ∷ code) page e = (omega ari
 -- a page's pieces are found behind the start
 end-found : (shape : Shape) (pieces : List (List ℕ)) (road : Road) (page : Page) → ArePlain pieces → page_after shape pieces ≡ Some page → IsEnd shape pieces road
 unfolding seek
-end-found (alone known) [] road page plain e = record { rest = []; text = refl; found = refl }
+end-found (alone known) [] road page plain e = record { rest = []; text = refl; ends = λ none. refl; found = refl }
 end-found (alone known) (piece ∷ pieces) road page plain e = absurd (none-some page e)
 end-found (number low high asked) [] road page plain e = absurd (none-some page e)
 end-found (number low high asked) (piece ∷ []) road page plain e = record {
   rest = piece;
   text = ap (λ (text : List ℕ). 47 ∷ text) (append-nil piece);
+  ends = λ none. absurd (cc);
   found = last-found road piece (number-filled low high asked piece page e) plain.0;
 }
 end-found (number low high asked) (piece ∷ other ∷ pieces) road page plain e = absurd (none-some page e)
@@ -122,13 +124,20 @@ end-found (number_and_code low high asked) (piece ∷ code ∷ []) road page pla
     let filled = both-filled low high asked piece code page e in record {
       rest = piece ++ 47 ∷ code;
       text = ap (λ (text : List ℕ). 47 ∷ (piece ++ 47 ∷ text)) (append-nil code);
+      ends = λ none. absurd (cc);
       found = pair-found road piece code filled.0 plain.0 filled.1 plain.1.0;
     }
 end-found (number_and_code low high asked) (piece ∷ code ∷ third ∷ pieces) road page plain e = absurd (none-some page e)
 
 -- the path on a road is found
-road-found : (road : Road) (rest : List ℕ) → is_some (first ((parameters (shape_of road), road) ∷ []) rest) ≡ true → IsFound (road_start road ++ rest)
-road-found road rest found = along (road_start road) road_rows rest (subst (λ (rows : RowsOf Road). is_some (first rows rest) ≡ true) (sym (own-steps road)) found)
+road-found : (road : Road) (rest : List ℕ) → (parameters (shape_of road) ≡ [] → rest ≡ []) → is_some (first ((parameters (shape_of road), road) ∷ []) rest) ≡ true → IsFound (road_start road ++ rest)
+unfolding seek
+road-found road rest ends found = by (own-steps road)
+  where
+    by : HasOwnSteps road → IsFound (road_start road ++ rest)
+    by (Alone only) = along (road_start road) road_rows rest (subst (λ (rows : RowsOf Road). is_some (first rows rest) ≡ true) (sym only) found)
+    by (Among none here) =
+        subst (λ (text : List ℕ). IsFound (road_start road ++ text)) (sym (ends none)) (along (road_start road) road_rows [] (ap (λ (o : Option Road). is_some o) here))
 
 named-found : (pieces : List (List ℕ)) (page : Page) → ArePlain pieces → page_named pieces ≡ Some page → IsFound (codes "/v1" ++ slashed pieces)
 named-found [] page plain e = absurd (none-some page e)
@@ -140,7 +149,7 @@ named-found (name ∷ pieces) page plain e =
     (ap (λ (text : List ℕ). codes "/v1/" ++ text ++ slashed pieces) on.same
     ∙ ap (λ (text : List ℕ). codes "/v1/" ++ name_of on.road ++ text) end.text
     ∙ ap (λ (text : List ℕ). codes "/v1/" ++ text) (sym (append_assoc (name_of on.road) slash end.rest)))
-    (road-found on.road end.rest end.found)
+    (road-found on.road end.rest end.ends end.found)
 
 at-found : (pieces : List (List ℕ)) (path : List ℕ) (page : Page) → ArePlain pieces → slashed pieces ≡ 47 ∷ path → page_at pieces ≡ Some page → IsFound path
 at-found [] path page plain same e = absurd (none-some page e)

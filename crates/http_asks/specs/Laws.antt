@@ -4,7 +4,7 @@ use Rattle.std.specs.Fmt.{decimal}
 use Rattle.office_base.specs.Codes.{is_code}
 use Rattle.office_base.specs.Limits.{last_id, last_window}
 use Rattle.office_base.specs.declared.asks.Ask.{Ask}
-use Rattle.office_base.specs.declared.asks.Ask.TheVariants.{Answer, Cut, Seat, Why, List as ListOf, Round, Choices, State, Raise}
+use Rattle.office_base.specs.declared.asks.Ask.TheVariants.{Answer, Cut, Seat, Why, List as ListOf, Round, Choices, Cutoffs, Register, Answers as AnswersOf, State, Raise}
 use Rattle.http_asks.specs.Pages.{page_of, path_of}
 use Rattle.http_asks.specs.declared.pages.Page.{Page}
 use Rattle.http_asks.specs.declared.pages.Page.TheVariants.{Answers, Cuts, Raises, Reads}
@@ -16,6 +16,9 @@ asked_text (Why cand prog) = codes "/v1/why/" ++ decimal cand.0 ++ 47 ∷ prog
 asked_text (ListOf round prog) = codes "/v1/list/" ++ decimal round ++ 47 ∷ prog
 asked_text (Round round) = codes "/v1/round/" ++ decimal round
 asked_text (Choices cand) = codes "/v1/choices/" ++ decimal cand.0
+asked_text (Cutoffs round prog) = codes "/v1/cutoffs/" ++ decimal round ++ 47 ∷ prog
+asked_text (Register cand) = codes "/v1/register/" ++ decimal cand.0
+asked_text (AnswersOf cand) = codes "/v1/answers/" ++ decimal cand.0
 asked_text State = codes "/v1/state"
 asked_text (Answer cand window turn choice) = []
 asked_text (Cut window) = []
@@ -35,6 +38,9 @@ IsReadable (Why cand prog) = (1 ≤ cand.0) × (cand.0 ≤ last_id) × (is_code 
 IsReadable (ListOf round prog) = (round ≤ last_window) × (is_code prog ≡ true)
 IsReadable (Round round) = round ≤ last_window
 IsReadable (Choices cand) = (1 ≤ cand.0) × (cand.0 ≤ last_id)
+IsReadable (Cutoffs round prog) = (round ≤ last_window) × (is_code prog ≡ true)
+IsReadable (Register cand) = (1 ≤ cand.0) × (cand.0 ≤ last_id)
+IsReadable (AnswersOf cand) = (1 ≤ cand.0) × (cand.0 ≤ last_id)
 IsReadable State = Unit {0}
 IsReadable (Answer cand window turn choice) = ⊥
 IsReadable (Cut window) = ⊥

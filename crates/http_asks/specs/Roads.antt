@@ -10,7 +10,7 @@ use Rattle.office_text.specs.Number.{number_within}
 use Rattle.http_asks.specs.declared.pages.Page.{Page}
 use Rattle.http_asks.specs.declared.pages.Page.TheVariants.{Answers, Cuts, Raises, Reads}
 use Rattle.http_asks.specs.declared.roads.Road.{Road}
-use Rattle.http_asks.specs.declared.roads.Road.TheVariants.{Answer, Choices, Cut, Raise, Round, Seat, Why, RoundList, State}
+use Rattle.http_asks.specs.declared.roads.Road.TheVariants.{Answer, AnswerList, Choices, Cut, Cutoffs, Raise, Register, Round, Seat, Why, RoundList, State}
 
 -- What the paths of a page have after its name, and the page that they name: nothing and this page,
 -- a number within bounds and what is asked with it, or such a number and the code of a programme.
@@ -38,17 +38,20 @@ round_and_code asked = number_and_code 0 last_window asked
 -- the roads to all pages
 abbrev pub row_of : Road → List ℕ × Shape
 row_of Answer = (codes "answer", alone Answers)
+row_of AnswerList = (codes "answers", candidate (λ cand. ask.Answers cand))
 row_of Choices = (codes "choices", candidate (λ cand. ask.Choices cand))
 row_of Cut = (codes "cut", alone Cuts)
+row_of Cutoffs = (codes "cutoffs", round_and_code (λ round prog. ask.Cutoffs round prog))
 row_of RoundList = (codes "list", round_and_code (λ round prog. ask.List round prog))
 row_of Raise = (codes "raise", alone Raises)
+row_of Register = (codes "register", candidate (λ cand. ask.Register cand))
 row_of Round = (codes "round", round (λ round. ask.Round round))
 row_of Seat = (codes "seat", candidate (λ cand. ask.Seat cand))
 row_of State = (codes "state", alone (Reads ask.State))
 row_of Why = (codes "why", candidate_and_code (λ cand prog. ask.Why cand prog))
 
 abbrev pub all_roads : List Road
-all_roads = Answer ∷ Choices ∷ Cut ∷ RoundList ∷ Raise ∷ Round ∷ Seat ∷ State ∷ Why ∷ []
+all_roads = Answer ∷ AnswerList ∷ Choices ∷ Cut ∷ Cutoffs ∷ RoundList ∷ Raise ∷ Register ∷ Round ∷ Seat ∷ State ∷ Why ∷ []
 
 -- the name of the page, and what comes after it
 abbrev pub name_of : Road → List ℕ

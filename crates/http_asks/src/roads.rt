@@ -14,10 +14,13 @@ use office_base::{Ask, Code};
 #[derive(Clone, Copy, Debug, PartialEq, Eq)]
 pub enum Road {
     Answer,
+    AnswerList,
     Choices,
     Cut,
+    Cutoffs,
     RoundList,
     Raise,
+    Register,
     Round,
     Seat,
     State,
@@ -25,12 +28,15 @@ pub enum Road {
 }
 
 /// The roads to all pages.
-pub(crate) const ROADS: [Road; 9] = [
+pub(crate) const ROADS: [Road; 12] = [
     Road::Answer,
+    Road::AnswerList,
     Road::Choices,
     Road::Cut,
+    Road::Cutoffs,
     Road::RoundList,
     Road::Raise,
+    Road::Register,
     Road::Round,
     Road::Seat,
     Road::State,
@@ -46,10 +52,13 @@ impl Road {
     {
         match self {
             Road::Answer => "/v1/answer",
+            Road::AnswerList => "/v1/answers/{cand}",
             Road::Choices => "/v1/choices/{cand}",
             Road::Cut => "/v1/cut",
+            Road::Cutoffs => "/v1/cutoffs/{round}/{prog}",
             Road::RoundList => "/v1/list/{round}/{prog}",
             Road::Raise => "/v1/raise",
+            Road::Register => "/v1/register/{cand}",
             Road::Round => "/v1/round/{round}",
             Road::Seat => "/v1/seat/{cand}",
             Road::State => "/v1/state",
@@ -72,13 +81,22 @@ impl Road {
     {
         match self {
             Road::Answer => Some(Page::Answers),
+            Road::AnswerList => {
+                let cand = read_candidate(one_piece(rest)?)?;
+                Some(Page::Reads(Ask::Answers { cand }))
+            }
             Road::Choices => {
                 let cand = read_candidate(one_piece(rest)?)?;
                 Some(Page::Reads(Ask::Choices { cand }))
             }
             Road::Cut => Some(Page::Cuts),
+            Road::Cutoffs => cutoffs_page(rest),
             Road::RoundList => list_page(rest),
             Road::Raise => Some(Page::Raises),
+            Road::Register => {
+                let cand = read_candidate(one_piece(rest)?)?;
+                Some(Page::Reads(Ask::Register { cand }))
+            }
             Road::Round => {
                 let round = read_round(one_piece(rest)?)?;
                 Some(Page::Reads(Ask::Round { round }))
@@ -101,6 +119,16 @@ fn list_page(rest: &[u8]) -> Option<Page>
     let round = read_round(round)?;
     let prog = Code::read(prog)?;
     Some(Page::Reads(Ask::List { round, prog }))
+}
+
+/// Returns the page of a programme's cutoffs in a round.
+fn cutoffs_page(rest: &[u8]) -> Option<Page>
+    ensures { result ≡ page_after (shape_of Road.Cutoffs) (cut_at 47 rest.now) }
+{
+    let (round, prog) = two_pieces(rest)?;
+    let round = read_round(round)?;
+    let prog = Code::read(prog)?;
+    Some(Page::Reads(Ask::Cutoffs { round, prog }))
 }
 
 /// Returns the page of why a candidate has a seat of a programme or none.

@@ -2,5 +2,6 @@ pub mod Doors
 pub mod Exchange
 pub mod Held
 pub mod Limits
+pub mod Replies
 pub mod Sessions
 pub mod Steps

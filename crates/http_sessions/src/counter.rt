@@ -1,7 +1,8 @@
 // What a session puts its asks to.
-ghost use Rattle.std.specs.Prelude.{◌≡◌, ◌+◌, ◌≤◌, ℕ, List, Option, Result, option_copied};
+ghost use Rattle.std.specs.Prelude.{◌≡◌, ◌+◌, ◌≤◌, ℕ, List, Ok, Option, Result, option_copied, true};
 ghost use Rattle.std.specs.Borrow.{GName};
 ghost use Rattle.office_base.specs.declared.asks.Ask.{Ask as AnyAsk};
+ghost use Rattle.http_sessions.specs.Replies.{is_reply_status};
 ghost use Rattle.http_sessions.specs.declared.counter.Answered.{Answered as AnyAnswered};
 ghost use Rattle.http_wire.specs.declared.faults.Fault.{Fault as AnyFault};
 
@@ -35,4 +36,9 @@ pub trait Counter {
         ensures answer { answers self.old (option_copied token.entry) ask.now result self.new }
         ensures left { asks_left self.old ≤ asks_left self.new + 1 }
         ensures same { lender self.new ≡ lender self.old };
+
+    /// The status of an answer is one that replies have, so never 503 or 507: these say that there is no answer,
+    /// or no memory for its body.
+    ghost replied: { (before : Self) (token : Option (List ℕ)) (ask : AnyAsk) (answered : AnyAnswered) (after : Self)
+        → answers before token ask (Ok answered) after → is_reply_status answered.status ≡ true };
 }

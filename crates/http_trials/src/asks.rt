@@ -38,7 +38,7 @@ fn posted(alloc: Global, target: &str, body: &[u8]) -> Option<Judged> {
 }
 
 /// Targets that name no page, whatever the method.
-const UNKNOWN: [&str; 46] = [
+const UNKNOWN: [&str; 57] = [
     "/",
     "*",
     "/v1",
@@ -85,6 +85,17 @@ const UNKNOWN: [&str; 46] = [
     "/v1/choices/0",
     "/v1/choices/1/A",
     "/v1/choices/1000000000",
+    "/v1/cutoffs/1",
+    "/v1/cutoffs/01/A",
+    "/v1/cutoffs/65536/A",
+    "/v1/cutoffs/1/A/",
+    "/v1/cutoff/1/A",
+    "/v1/register",
+    "/v1/register/0",
+    "/v1/register/1/A",
+    "/v1/answers",
+    "/v1/answers/0",
+    "/v1/answers/1000000000",
 ];
 
 /// Whether a target names no page, whatever the method.
@@ -106,7 +117,7 @@ fn others_are_none(alloc: Global) -> bool {
 }
 
 /// Methods and targets of which the page has another method, and that method.
-const OTHERS: [(&str, &str, Method); 14] = [
+const OTHERS: [(&str, &str, Method); 17] = [
     ("HEAD", "/v1/state", Method::Get),
     ("POST", "/v1/state", Method::Get),
     ("get", "/v1/state?x=1", Method::Get),
@@ -116,6 +127,9 @@ const OTHERS: [(&str, &str, Method); 14] = [
     ("PUT", "/v1/list/0/A", Method::Get),
     ("POST", "/v1/round/1", Method::Get),
     ("HEAD", "/v1/choices/2?x", Method::Get),
+    ("POST", "/v1/cutoffs/1/A", Method::Get),
+    ("POST", "/v1/register/2", Method::Get),
+    ("PUT", "/v1/answers/2", Method::Get),
     ("GET", "/v1/answer", Method::Post),
     ("PUT", "/v1/answer", Method::Post),
     ("HEAD", "/v1/cut", Method::Post),
@@ -234,6 +248,28 @@ fn choices_are_asked(alloc: Global) -> bool {
     true
 }
 
+/// Returns whether a target asks for a candidate's entry in the register, and another for their answers.
+fn entries_are_asked(alloc: Global) -> bool {
+    let register = Judged::Asked(Ask::Register { cand: CandId(7) });
+    let answers = Judged::Asked(Ask::Answers {
+        cand: CandId(999_999_999),
+    });
+    asked(alloc, "GET", "/v1/register/7?x=1") == Some(register)
+        && asked(alloc, "GET", "/v1/answers/999999999") == Some(answers)
+}
+
+/// Returns whether a target asks for the cutoffs of a programme in a round.
+fn cutoffs_are_asked(alloc: Global) -> bool {
+    let Some(prog) = Code::read(b"A") else {
+        return false;
+    };
+    asked(alloc, "GET", "/v1/cutoffs/65535/A")
+        == Some(Judged::Asked(Ask::Cutoffs {
+            round: 65_535,
+            prog,
+        }))
+}
+
 #[test]
 fn pages_and_methods_are_told(rt: HostRuntime) {
     let alloc = rt.alloc();
@@ -248,6 +284,8 @@ fn gets_are_read(alloc: Global) -> bool {
         && lists_are_asked(alloc)
         && rounds_are_asked(alloc)
         && choices_are_asked(alloc)
+        && entries_are_asked(alloc)
+        && cutoffs_are_asked(alloc)
 }
 
 #[test]
