@@ -38,6 +38,7 @@ impl<'a, V: Booked, R: Wait> DeskCounter<'a, V, R> {
 impl<K: Keeper, B: TablesBefore, R: Wait> Counter for DeskCounter<'_, DeskOffice<K, B>, R> {
     ghost use Rattle.std.specs.Prelude.{◌≡◌};
     ghost use Rattle.desk_counters.specs.Knowing.{AsksInTurn, known_of};
+    ghost use Rattle.desk_counters.specs.Statuses.{replied};
     ghost use Rattle.office_desk.specs.Words.{left_of, origin_of};
 
     ghost asks_left = { λ c. left_of c.pass.now };
@@ -59,4 +60,7 @@ impl<K: Keeper, B: TablesBefore, R: Wait> Counter for DeskCounter<'_, DeskOffice
             { office.put(alloc, number, has_token, bytes, ask) },
         )
     }
+
+    ghost replied = { λ before token ask answered after asked. replied (origin_of before.desk.now).season (K.seen (origin_of before.desk.now).keeper).holds_room
+        (known_of before.pass.now) token ask answered (known_of after.pass.now) asked.1 };
 }

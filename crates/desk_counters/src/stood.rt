@@ -7,7 +7,7 @@ ghost use Rattle.proceedings.specs.Proceeding.{last_of};
 use http_sessions::Answered;
 use http_wire::Fault;
 use keeper_mem::Keeper;
-use office_asks::put_to_office;
+use office_asks::{Bodies, put_to_office};
 use office_base::{Ask, Booked};
 use office_moves::Entry;
 use round_cut::Office;
@@ -30,18 +30,21 @@ impl TablesBefore for Brand {
 /// An office whose keeper's tables are visible only if they were visible at the beginning.
 pub struct DeskOffice<K: Keeper, B: TablesBefore> {
     pub(crate) office: Office<K>,
+    // what was made before of the published rounds
+    bodies: Bodies,
     of: PhantomData<B>,
 }
 
 impl<K: Keeper, B: TablesBefore> Model for DeskOffice<K, B> {
     ghost use Rattle.kept_rows.specs.Tables.{IsTold};
+    ghost use Rattle.office_asks.specs.Bodies.{AreBodies};
     ghost use Rattle.round_cut.specs.Office.{Opened};
 
     ghost Value = { Opened K };
 
     ghost view = { λ a. a.office };
 
-    ghost invariant = { λ a. IsTold (K.seen a.office.keeper).tables → IsTold B.tables };
+    ghost invariant = { λ a. (IsTold (K.seen a.office.keeper).tables → IsTold B.tables) × AreBodies a.office.season a.office.state a.bodies };
 }
 
 /// It is the same book as the office.
@@ -69,12 +72,13 @@ impl<K: Keeper, B: TablesBefore> Booked for DeskOffice<K, B> {
 
 impl<K: Keeper, B: TablesBefore> DeskOffice<K, B> {
     /// Takes the office as it is at the beginning.
-    pub fn new(office: Office<K>) -> DeskOffice<K, B>
+    pub fn new(alloc: Global, office: Office<K>) -> DeskOffice<K, B>
         requires { (K.seen office.keeper).tables ≡ B.tables }
         ensures { result ≡ office }
     {
         DeskOffice {
             office,
+            bodies: Bodies::new(alloc),
             of: PhantomData,
         }
     }
@@ -92,7 +96,15 @@ impl<K: Keeper, B: TablesBefore> DeskOffice<K, B> {
         ensures { AsksOffice K.seen number (token_of has_token token.now)
             ask.now result self.old self.new }
     {
-        put_to_office(alloc, &mut self.office, number, has_token, token, ask)
+        put_to_office(
+            alloc,
+            &mut self.office,
+            &mut self.bodies,
+            number,
+            has_token,
+            token,
+            ask,
+        )
     }
 
     /// Returns the office. The tables of its keeper are visible only if they were visible at the beginning.
@@ -100,7 +112,11 @@ impl<K: Keeper, B: TablesBefore> DeskOffice<K, B> {
         ensures same { result ≡ self }
         ensures told { IsTold (K.seen result.keeper).tables → IsTold B.tables }
     {
-        let DeskOffice { office, of: _ } = self;
+        let DeskOffice {
+            office,
+            bodies: _bodies,
+            of: _,
+        } = self;
         office
     }
 }

@@ -1,6 +1,7 @@
 // An office as a counter.
 ghost use Rattle.std.specs.Prelude.{◌≡◌};
 
+use crate::bodies::Bodies;
 use crate::putting::{put_to_office, token_parts};
 use http_sessions::{Answered, Counter};
 use http_wire::Fault;
@@ -29,6 +30,7 @@ impl<'a, K: Keeper> OfficeCounter<'a, K> {
 impl<K: Keeper> Counter for OfficeCounter<'_, K> {
     ghost use Rattle.std.specs.Prelude.{◌+◌, ◌-◌, ◌^◌};
     ghost use Rattle.office_asks.specs.Asking.{AsksOffice};
+    ghost use Rattle.office_asks.specs.Statuses.{replied};
     ghost use Rattle.proceedings.specs.Proceeding.{last_of};
 
     ghost asks_left = { λ c. 2 ^ 42 - last_of c.office.now.entries };
@@ -40,6 +42,17 @@ impl<K: Keeper> Counter for OfficeCounter<'_, K> {
     fn ask(&mut self, alloc: Global, token: Option<&[u8]>, ask: &Ask) -> Result<Answered, Fault> {
         let (has_token, bytes) = token_parts(token);
         let number = self.office.last_number() + 1;
-        put_to_office(alloc, self.office, number, has_token, bytes, ask)
+        let mut bodies = Bodies::new(alloc);
+        put_to_office(
+            alloc,
+            self.office,
+            &mut bodies,
+            number,
+            has_token,
+            bytes,
+            ask,
+        )
     }
+
+    ghost replied = { λ before token ask answered after asked. replied before.office.now.season after.office.now.state asked.reply answered asked.answer };
 }

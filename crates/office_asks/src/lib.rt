@@ -6,8 +6,10 @@
 // It must never know of messages, of links, nor whether others ask the same office.
 #![tactic(auto)]
 
+mod bodies;
 mod counter;
 mod putting;
 
+pub use bodies::{Bodies, RoundBody};
 pub use counter::OfficeCounter;
 pub use putting::{put_to_office, token_parts};

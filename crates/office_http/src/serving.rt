@@ -92,7 +92,7 @@ fn serve_stood<
     let Ok(mut buffers) = make_buffers(alloc, doors.len()) else {
         return Err((office, OutOfMemory));
     };
-    match Desk::begin(alloc, DeskOffice::<K, B>::new(office)) {
+    match Desk::begin(alloc, DeskOffice::<K, B>::new(alloc, office)) {
         Ok((desk, pass)) => Ok(serve_desk(rt, alloc, desk, pass, doors, gate, &mut buffers)),
         Err((stood, want)) => Err((stood.into_office(), want)),
     }
