@@ -1,9 +1,11 @@
 // The season over two files whose disk stops at a call. Each later call on that file fails, and a crash leaves what was synced.
 // What is opened then holds the requests that were reported as accepted, perhaps one more, and resumes from there.
+// No head of a log that a crash leaves is refused.
 use crate::seasons::{goes_on, run_told, whole};
+use file_keepers::open_store;
 use keeper_sqlite::SqliteKeeper;
 use kept_rows::Kept;
-use sqlite::{Connection, FileStore, Files, Options};
+use sqlite::{FileStore, Files, Options};
 use sqlite_disk::{Crash, Disk, Fuse, Memory};
 use std::alloc::Global;
 use std::test::Fail;
@@ -45,9 +47,9 @@ fn opened(alloc: Global, files: Stopping) -> Result<Store, Stopping> {
     if !files.log.may_be_used() || !files.db.may_be_used() {
         return Err(files);
     }
-    match Connection::open_files(alloc, files, options()) {
+    match open_store(alloc, files, options()) {
         Ok(connection) => Ok(SqliteKeeper::new(connection)),
-        Err((_, left)) => Err(left.into_files()),
+        Err(unopened) => Err(unopened.into_files()),
     }
 }
 
