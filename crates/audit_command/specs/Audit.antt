@@ -9,7 +9,7 @@ use Rattle.audit_rules.specs.declared.verdict.Verdict.{Verdict}
 use Rattle.audit_rules.specs.Fair.{AreFairRounds}
 use Rattle.audit_rules.specs.Verdict.{IsVerdict}
 use Rattle.audit_rules.specs.declared.verdict.Verdict.TheVariants.{Sound, Broken}
-use Rattle.office_moves.specs.Season.{facts_of}
+use Rattle.season_facts.specs.Season.{facts_of}
 use Rattle.season_audit.specs.Audit.{papers_in}
 use Rattle.dossier_file.specs.Dossier.{HasDossierFault, IsDossier}
 use Rattle.dossier_file.specs.declared.dossier.Dossier.{Dossier}

@@ -8,7 +8,7 @@ use Rattle.office_base.specs.declared.person.CandId.{CandId}
 use Rattle.office_base.specs.declared.person.ProgId.{ProgId}
 use Rattle.list_audit.specs.declared.clause.Clause.{Clause}
 use Rattle.audit_rules.specs.declared.verdict.Verdict.TheVariants.{Sound, Broken}
-use Rattle.office_moves.specs.Season.{facts_of}
+use Rattle.season_facts.specs.Season.{facts_of}
 use Rattle.season_audit.specs.Audit.{papers_in}
 use Rattle.best_rounds.specs.Best.{IsBestVerdict}
 use Rattle.best_rounds.specs.declared.verdict.BestVerdict.{BestVerdict}

@@ -7,7 +7,7 @@ use Rattle.office_base.specs.declared.person.Person.{Person}
 use Rattle.seat_matrix.specs.Matrix.{SeatTable}
 use Rattle.season_file.specs.Season.{IsSeason}
 use Rattle.office_moves.specs.Facts.{SeasonFacts}
-use Rattle.office_moves.specs.Season.{facts_of}
+use Rattle.season_facts.specs.Season.{facts_of}
 use Rattle.office_moves.specs.State.{State}
 use Rattle.dossier_file.specs.Dossier.{IsDossier, papers_of}
 use Rattle.dossier_file.specs.Laws.{HaveOneDossier, TextsAreOne}

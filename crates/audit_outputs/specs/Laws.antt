@@ -6,12 +6,12 @@ use Rattle.command_answers.specs.declared.status.Status.{Status}
 use Rattle.audit_command.specs.Audit.{IsAuditText}
 use Rattle.audit_command.specs.Best.{IsBestText}
 
--- Two runs of `audit` over the same bytes that end with the same status write the same.
+-- Two runs of `audit` over the same bytes that both end with an answer end with the same status and write the same.
 abbrev pub AuditsAreOne : Type 0
-AuditsAreOne = (bytes output again : List ℕ) (status : Status) → IsAnswered status → Writes (IsAuditText (Some bytes)) status output
-    → Writes (IsAuditText (Some bytes)) status again → output ≡ again
+AuditsAreOne = (bytes output again : List ℕ) (status other : Status) → IsAnswered status → IsAnswered other → Writes (IsAuditText (Some bytes)) status output
+    → Writes (IsAuditText (Some bytes)) other again → (status ≡ other) × (output ≡ again)
 
 -- So do two of `audit best`.
 abbrev pub BestAuditsAreOne : Type 0
-BestAuditsAreOne = (bytes output again : List ℕ) (status : Status) → IsAnswered status → Writes (IsBestText (Some bytes)) status output
-    → Writes (IsBestText (Some bytes)) status again → output ≡ again
+BestAuditsAreOne = (bytes output again : List ℕ) (status other : Status) → IsAnswered status → IsAnswered other → Writes (IsBestText (Some bytes)) status output
+    → Writes (IsBestText (Some bytes)) other again → (status ≡ other) × (output ≡ again)

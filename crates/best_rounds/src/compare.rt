@@ -1,7 +1,7 @@
 // Whom the best round gives a better place.
 ghost use Rattle.std.specs.Prelude.{◌≡◌, ◌<◌, ◌↔◌, IfOk, IsTrue, length};
 ghost use Rattle.allocations.specs.Market.{rank_of};
-ghost use Rattle.office_moves.specs.Season.{facts_of};
+ghost use Rattle.season_facts.specs.Season.{facts_of};
 ghost use Rattle.best_rounds.specs.Compared.{AreCompared, GainComesTo, Setting};
 
 use office_base::{CandId, OutOfMemory, ProgId, Seat};

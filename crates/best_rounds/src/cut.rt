@@ -3,7 +3,7 @@ ghost use Rattle.std.specs.Prelude.{◌≡◌, ◌<◌, ◌↔◌, IfOk, IsTrue,
 ghost use Rattle.office_base.specs.declared.asks.Request.{Request as AnyRequest};
 ghost use Rattle.office_moves.specs.Decided.{decided};
 ghost use Rattle.office_moves.specs.Facts.{SeasonFacts};
-ghost use Rattle.office_moves.specs.Season.{facts_of};
+ghost use Rattle.season_facts.specs.Season.{facts_of};
 ghost use Rattle.office_moves.specs.State.{State};
 ghost use Rattle.office_moves.specs.declared.decide.Decision.TheVariants.{Publish};
 ghost use Rattle.season_audit.specs.Audit.{IsUpTo, papers_in};

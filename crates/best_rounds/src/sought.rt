@@ -2,7 +2,7 @@
 ghost use Rattle.std.specs.Prelude.{◌≡◌, ◌≤◌, IfOk, IsSome, length, option_map, true};
 ghost use Rattle.allocations.specs.Market.{place_of};
 ghost use Rattle.office_moves.specs.Moves.{next_seeks};
-ghost use Rattle.office_moves.specs.Season.{facts_of};
+ghost use Rattle.season_facts.specs.Season.{facts_of};
 ghost use Rattle.office_moves.specs.State.{State};
 ghost use Rattle.round_options.specs.Options.{holds};
 ghost use Rattle.audit_rules.specs.InOrder.{IsInOrder};

@@ -1,6 +1,6 @@
 // The second verdict on a dossier.
 ghost use Rattle.std.specs.Prelude.{◌<◌, ◌+◌, IfOk, OnOk, length};
-ghost use Rattle.office_moves.specs.Season.{facts_of};
+ghost use Rattle.season_facts.specs.Season.{facts_of};
 ghost use Rattle.audit_rules.specs.Fair.{AreFairRounds};
 ghost use Rattle.audit_rules.specs.Replay.{before};
 ghost use Rattle.season_audit.specs.Audit.{AllHold, IsUpTo, papers_in};

@@ -7,7 +7,7 @@ ghost use Rattle.programme_lists.specs.Chosen.{AreApplicants};
 ghost use Rattle.seat_matrix.specs.Matrix.{list_in, seats_in};
 ghost use Rattle.audit_rules.specs.Cut.{seekers_at};
 ghost use Rattle.cut_checks.specs.Groups.{AreGroups, picked};
-ghost use Rattle.office_moves.specs.Season.{facts_of};
+ghost use Rattle.season_facts.specs.Season.{facts_of};
 ghost use Rattle.cut_checks.specs.AtCut.{IsAtCut, Setting};
 ghost use Rattle.cut_checks.specs.Comes.{AllListed, AreLists, CutComesTo, HoldOn, ListsComeTo};
 

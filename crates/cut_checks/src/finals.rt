@@ -1,7 +1,7 @@
 // Whether the final admissions in the papers are those of the last round.
 ghost use Rattle.std.specs.Prelude.{◌≡◌, ◌↔◌, ◌≤◌, ◌+◌, IsTrue, None, length, if◌then◌else◌};
 ghost use Rattle.office_moves.specs.Moves.{final_rows};
-ghost use Rattle.office_moves.specs.Season.{facts_of};
+ghost use Rattle.season_facts.specs.Season.{facts_of};
 ghost use Rattle.round_options.specs.Options.{holds};
 ghost use Rattle.office_moves.specs.State.{State};
 ghost use Rattle.cut_checks.specs.Finals.{GoesOn, rows_of};

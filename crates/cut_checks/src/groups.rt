@@ -2,7 +2,7 @@
 ghost use Rattle.std.specs.Prelude.{◌≡◌, ◌<◌, ◌≤◌, ◌^◌, ◌++◌, ◌∷◌, ℕ, [], IfOk, List, OnOk, Some, length, replicate, slice_get, if◌then◌else◌};
 ghost use Rattle.allocations.specs.Market.{applies, is_of, place_of};
 ghost use Rattle.office_base.specs.declared.person.ProgId.{ProgId as AnyProg};
-ghost use Rattle.office_moves.specs.Season.{facts_of};
+ghost use Rattle.season_facts.specs.Season.{facts_of};
 ghost use Rattle.seeks.specs.Seek.{AreBelow};
 ghost use Rattle.audit_rules.specs.Cut.{seekers_at};
 ghost use Rattle.cut_checks.specs.AtCut.{IsAtCut, Setting};

@@ -1,6 +1,6 @@
 // How candidates stand after a cut.
 ghost use Rattle.std.specs.Prelude.{◌≡◌, IfOk, length};
-ghost use Rattle.office_moves.specs.Season.{facts_of};
+ghost use Rattle.season_facts.specs.Season.{facts_of};
 ghost use Rattle.office_moves.specs.State.{with_round};
 ghost use Rattle.audit_rules.specs.Replay.{round_of};
 ghost use Rattle.cut_checks.specs.AtCut.{IsAtCut, Setting};

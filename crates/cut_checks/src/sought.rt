@@ -3,7 +3,7 @@ ghost use Rattle.std.specs.Prelude.{◌≡◌, ◌<◌, ◌≤◌, ◌↔◌, If
 ghost use Rattle.allocations.specs.Fair.{IsOwn};
 ghost use Rattle.allocations.specs.Market.{place_of};
 ghost use Rattle.office_base.specs.declared.asks.Seat.{Seat as AnySeat};
-ghost use Rattle.office_moves.specs.Season.{facts_of};
+ghost use Rattle.season_facts.specs.Season.{facts_of};
 ghost use Rattle.round_options.specs.Options.{holds};
 ghost use Rattle.seeks.specs.Seek.{AreBelow, seek_leaves};
 ghost use Rattle.audit_rules.specs.Cut.{HasStayed, IsFirstWithout, IsSought, IsUnsought, OfEach};

@@ -1,7 +1,7 @@
 // Where a round's text and the lists of its programmes differ.
 ghost use Rattle.std.specs.Prelude.{◌≡◌, ◌<◌, ◌↔◌, ◌∷◌, ◌++◌, ◌+◌, [], Bool, IfOk, IsTrue, List, Some, false, length, replicate, Option};
 ghost use Rattle.office_base.specs.declared.person.Person.{Person};
-ghost use Rattle.office_moves.specs.Season.{facts_of};
+ghost use Rattle.season_facts.specs.Season.{facts_of};
 ghost use Rattle.cut_checks.specs.AtCut.{IsAtCut, Setting};
 ghost use Rattle.cut_checks.specs.Comes.{AreLists, HoldOn, UnlistedComesTo};
 ghost use Rattle.cut_checks.specs.Entries.{AreMarked, AreMarking, IsEarlier, IsFirstMiss, IsMiss, IsWrong, TakesPlace};

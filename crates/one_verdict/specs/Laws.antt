@@ -1,6 +1,6 @@
 -- The same bytes of a dossier have one verdict.
 use Rattle.std.specs.Prelude.{◌≡◌, ℕ, List, map, option_map}
-use Rattle.office_moves.specs.Season.{facts_of}
+use Rattle.season_facts.specs.Season.{facts_of}
 use Rattle.dossier_file.specs.Dossier.{IsDossier}
 use Rattle.dossier_file.specs.declared.dossier.Dossier.{Dossier}
 use Rattle.audit_rules.specs.Papers.{Papers}

@@ -3,7 +3,7 @@ ghost use Rattle.std.specs.Prelude.{◌≡◌, ◌↔◌, ◌<◌, ◌≤◌, �
 ghost use Rattle.office_base.specs.declared.asks.Request.{Request as AnyRequest};
 ghost use Rattle.office_moves.specs.Decided.{decide_answer, decide_cut, decide_raise_of, decided};
 ghost use Rattle.office_moves.specs.Facts.{find_programme};
-ghost use Rattle.office_moves.specs.Season.{facts_of};
+ghost use Rattle.season_facts.specs.Season.{facts_of};
 ghost use Rattle.office_moves.specs.State.{State, opening, view_of};
 ghost use Rattle.office_moves.specs.declared.decide.Decision.TheVariants.{Finish, Publish};
 ghost use Rattle.audit_rules.specs.Papers.{Papers};
@@ -20,8 +20,8 @@ use dossier_file::Dossier;
 use kept_rows::{AnswerRow, RaiseRow};
 use list_audit::Clause;
 use office_base::{Ask, By, Code, OutOfMemory, ProgId, Request};
-use office_moves::says_what_is_sound;
 use raised_seats::RaisedSeats;
+use season_facts::says_what_is_sound;
 use season_file::Season;
 use std::alloc::Global;
 

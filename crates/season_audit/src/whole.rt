@@ -2,7 +2,7 @@
 ghost use Rattle.std.specs.Prelude.{◌≡◌, ◌≤◌, ◌+◌, ℕ, IfOk, List, length, option_map};
 ghost use Rattle.office_base.specs.declared.asks.Request.{Request};
 ghost use Rattle.office_moves.specs.Facts.{SeasonFacts};
-ghost use Rattle.office_moves.specs.Season.{facts_of};
+ghost use Rattle.season_facts.specs.Season.{facts_of};
 ghost use Rattle.audit_rules.specs.Fair.{AreFairRounds};
 ghost use Rattle.audit_rules.specs.Papers.{Papers};
 ghost use Rattle.audit_rules.specs.Verdict.{IsVerdict};
@@ -13,7 +13,7 @@ use audit_rules::Verdict;
 use cut_checks::Fault;
 use dossier_file::Dossier;
 use office_base::OutOfMemory;
-use office_moves::says_what_is_sound;
+use season_facts::says_what_is_sound;
 use std::alloc::Global;
 
 /// Returns the first clause that a cut breaks, with the number of the round that the cut publishes.
@@ -54,7 +54,7 @@ fn verdict_of(rounds: u16, broken: Option<(u16, Fault)>) -> Verdict
 /// falls. It fails only when memory runs out.
 ///
 /// Its cost is linear in the dossier, but for a sort of each programme's applicants by merit. In particular a raise walks neither
-/// the matrix nor the raises before it. It calls nothing of the office that made the papers.
+/// the matrix nor the raises before it. Of what the office runs, it calls only the bookkeeping of raises.
 pub fn audit(alloc: Global, dossier: &Dossier) -> Result<Verdict, OutOfMemory>
     ensures verdict { IfOk result
         (IsVerdict (facts_of dossier.now.season) dossier.now.script (papers_in dossier.now)) }

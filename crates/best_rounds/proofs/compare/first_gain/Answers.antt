@@ -2,7 +2,7 @@ use Rattle.std.proofs.Common.{◌≡◌, ◌<◌, List, length, get_or, arith, a
 use Rattle.std.proofs.lemmas.Option.{slice_get-get_or}
 use Rattle.office_base.specs.declared.person.Person.{Person}
 use Rattle.choice_lists.specs.Choices.{list_of}
-use Rattle.office_moves.specs.Season.{facts_of}
+use Rattle.season_facts.specs.Season.{facts_of}
 use Rattle.best_rounds.specs.Best.{GainsFirst}
 use Rattle.best_rounds.proofs.Gaining.{full_best, full_seats, gains_first, left_is, nobody_gains, nobody_next, seeker_is}
 use Rattle.best_rounds.proofs.Seeking.{nobody_there}

@@ -1,4 +1,4 @@
-use Rattle.office_moves.specs.Season.{facts_of}
+use Rattle.season_facts.specs.Season.{facts_of}
 use Rattle.best_rounds.proofs.Gaining.{NobodyBefore}
 use Rattle.best_rounds.proofs.compare.first_gain.Given as goal
 

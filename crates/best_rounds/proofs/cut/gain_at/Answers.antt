@@ -1,5 +1,5 @@
 use Rattle.std.proofs.Common.{refl}
-use Rattle.office_moves.specs.Season.{facts_of}
+use Rattle.season_facts.specs.Season.{facts_of}
 use Rattle.best_rounds.proofs.Replaying.{all_publish, as_request, early_there, fair_there, tested}
 use Rattle.best_rounds.proofs.cut.gain_at.Goals as goal
 

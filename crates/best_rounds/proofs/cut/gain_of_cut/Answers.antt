@@ -2,7 +2,7 @@ use Rattle.std.proofs.Common.{◌≤◌, List, arith, subst, sym, ◌∙◌}
 use Rattle.seeks.specs.declared.seek.Seek.{Seek}
 use Rattle.rounds.specs.Rule.{AreSeeks}
 use Rattle.office_moves.specs.Facts.{lists_in_order}
-use Rattle.office_moves.specs.Season.{facts_of}
+use Rattle.season_facts.specs.Season.{facts_of}
 use Rattle.season_audit.specs.Audit.{papers_in}
 use Rattle.best_rounds.proofs.Gaining.{compared}
 use Rattle.best_rounds.proofs.Seeking.{seeks_fit}

@@ -2,7 +2,7 @@ use Rattle.std.proofs.Common.{◌≡◌, ◌<◌, List, length, get_or, arith, a
 use Rattle.office_base.specs.declared.person.Person.{Person}
 use Rattle.choice_lists.specs.Choices.{list_of}
 use Rattle.office_moves.specs.Moves.{next_seek}
-use Rattle.office_moves.specs.Season.{facts_of}
+use Rattle.season_facts.specs.Season.{facts_of}
 use Rattle.cut_checks.proofs.Along.{map_more, map_whole}
 use Rattle.best_rounds.proofs.Seeking.{nobody_there, seek_is}
 use Rattle.best_rounds.proofs.sought.seeks_at.Goals as goal

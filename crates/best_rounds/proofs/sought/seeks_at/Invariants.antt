@@ -1,7 +1,7 @@
 use Rattle.std.proofs.Common.{◌≡◌, map, take}
 use Rattle.office_base.specs.declared.person.Person.{Person}
 use Rattle.office_moves.specs.Moves.{next_seek}
-use Rattle.office_moves.specs.Season.{facts_of}
+use Rattle.season_facts.specs.Season.{facts_of}
 use Rattle.best_rounds.proofs.sought.seeks_at.Given as goal
 
 abbrev pub invariant-loop-k : goal.invariant-loop-k

@@ -1,5 +1,5 @@
 use Rattle.std.proofs.Common.{arith, refl}
-use Rattle.office_moves.specs.Season.{facts_of}
+use Rattle.season_facts.specs.Season.{facts_of}
 use Rattle.season_audit.specs.Audit.{papers_in}
 use Rattle.best_rounds.proofs.Replaying.{all_best, fair_text, few_windows, gone_next, here_best, here_not}
 use Rattle.best_rounds.proofs.whole.best_rounds.Goals as goal

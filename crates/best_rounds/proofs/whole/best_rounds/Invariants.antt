@@ -1,4 +1,4 @@
-use Rattle.office_moves.specs.Season.{facts_of}
+use Rattle.season_facts.specs.Season.{facts_of}
 use Rattle.audit_rules.specs.Replay.{before}
 use Rattle.season_audit.specs.Audit.{papers_in}
 use Rattle.best_rounds.proofs.Replaying.{Gone}

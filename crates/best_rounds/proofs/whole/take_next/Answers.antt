@@ -1,6 +1,6 @@
 use Rattle.std.proofs.Common.{sym, ◌∙◌}
 use Rattle.office_base.proofs.Options.{none_from}
-use Rattle.office_moves.specs.Season.{facts_of}
+use Rattle.season_facts.specs.Season.{facts_of}
 use Rattle.season_audit.specs.Audit.{papers_in}
 use Rattle.best_rounds.proofs.Replaying.{found_there, goes_on, never_broken}
 use Rattle.best_rounds.proofs.whole.take_next.Goals as goal

@@ -1,7 +1,7 @@
 use Rattle.std.proofs.Common.{◌≡◌, ◌<◌, Some, length, arith}
 use Rattle.std.specs.Prelude.{slice_get}
 use Rattle.std.proofs.lemmas.Option.{slice_get-get_or}
-use Rattle.office_moves.specs.Season.{facts_of}
+use Rattle.season_facts.specs.Season.{facts_of}
 use Rattle.cut_checks.proofs.Seeking.{comes_to, group_is, list_within, may_be_ranked, sound_next, sound_whole, unsound_is}
 use Rattle.cut_checks.proofs.cut.unsound_in.Goals as goal
 

@@ -1,5 +1,5 @@
 use Rattle.std.proofs.Common.{ℕ, ◌<◌}
-use Rattle.office_moves.specs.Season.{facts_of}
+use Rattle.season_facts.specs.Season.{facts_of}
 use Rattle.audit_rules.specs.Cut.{IsSoundList}
 use Rattle.cut_checks.proofs.cut.unsound_in.Given as goal
 

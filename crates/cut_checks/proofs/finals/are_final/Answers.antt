@@ -2,7 +2,7 @@ use Rattle.std.proofs.Common.{◌≡◌, ◌<◌, ◌+◌, ◌∙◌, ℕ, List,
 use Rattle.office_base.specs.declared.person.Person.{Person}
 use Rattle.round_options.specs.Options.{holds}
 use Rattle.office_moves.specs.Moves.{final_seat}
-use Rattle.office_moves.specs.Season.{facts_of}
+use Rattle.season_facts.specs.Season.{facts_of}
 use Rattle.cut_checks.specs.Finals.{GoesOn}
 use Rattle.cut_checks.specs.Stands.{stand_of}
 use Rattle.cut_checks.specs.declared.stand.Stand.{Stand}

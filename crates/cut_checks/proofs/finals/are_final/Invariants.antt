@@ -1,6 +1,6 @@
 use Rattle.std.proofs.Common.{◌+◌}
 use Rattle.office_moves.specs.Moves.{final_seat}
-use Rattle.office_moves.specs.Season.{facts_of}
+use Rattle.season_facts.specs.Season.{facts_of}
 use Rattle.cut_checks.proofs.Ending.{Ends}
 use Rattle.cut_checks.proofs.finals.are_final.Given as goal
 

@@ -2,7 +2,7 @@ use Rattle.std.proofs.Common.{◌≡◌, ◌<◌, ◌+◌, ◌∙◌, ℕ, List,
 use Rattle.office_base.specs.declared.person.Person.{Person}
 use Rattle.office_base.proofs.Lists.{whole_again}
 use Rattle.choice_lists.specs.Choices.{list_of}
-use Rattle.office_moves.specs.Season.{facts_of}
+use Rattle.season_facts.specs.Season.{facts_of}
 use Rattle.audit_rules.specs.Cut.{seekers_at}
 use Rattle.cut_checks.proofs.Grouping.{Grouping}
 use Rattle.cut_checks.proofs.Seeking.{grouped_next, grouped_whole, leaves_below, leaves_once, left_is, nobody_there}

@@ -1,5 +1,5 @@
 use Rattle.std.proofs.Common.{length}
-use Rattle.office_moves.specs.Season.{facts_of}
+use Rattle.season_facts.specs.Season.{facts_of}
 use Rattle.audit_rules.specs.Cut.{seekers_at}
 use Rattle.cut_checks.proofs.Grouping.{Grouping}
 use Rattle.cut_checks.proofs.groups.applicants.Given as goal

@@ -1,6 +1,6 @@
 use Rattle.std.proofs.Common.{◌<◌, length, arith}
 use Rattle.office_base.specs.declared.person.Person.{Person}
-use Rattle.office_moves.specs.Season.{facts_of}
+use Rattle.season_facts.specs.Season.{facts_of}
 use Rattle.office_moves.specs.State.{with_round}
 use Rattle.audit_rules.specs.Replay.{round_of}
 use Rattle.cut_checks.specs.Stands.{stand_of}

@@ -1,5 +1,5 @@
 use Rattle.std.proofs.Common.{◌≡◌, map, take}
-use Rattle.office_moves.specs.Season.{facts_of}
+use Rattle.season_facts.specs.Season.{facts_of}
 use Rattle.office_moves.specs.State.{with_round}
 use Rattle.audit_rules.specs.Replay.{round_of}
 use Rattle.cut_checks.specs.Stands.{stand_of}

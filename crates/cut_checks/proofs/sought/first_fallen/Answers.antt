@@ -1,6 +1,6 @@
 use Rattle.std.proofs.Common.{◌<◌, List, length, get_or, arith, ap, subst, sym}
 use Rattle.office_base.specs.declared.person.Person.{Person}
-use Rattle.office_moves.specs.Season.{facts_of}
+use Rattle.season_facts.specs.Season.{facts_of}
 use Rattle.audit_rules.specs.Cut.{HasStayed, IsFirstWithout}
 use Rattle.cut_checks.proofs.Seeking.{has_fallen, has_stayed, nobody_there, not_fallen, of_each, sought_next}
 use Rattle.cut_checks.proofs.sought.first_fallen.Goals as goal

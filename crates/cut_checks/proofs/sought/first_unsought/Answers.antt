@@ -1,7 +1,7 @@
 use Rattle.std.proofs.Common.{◌≡◌, ◌<◌, List, length, get_or, arith, ap, subst, sym}
 use Rattle.office_base.specs.declared.person.Person.{Person}
 use Rattle.choice_lists.specs.Choices.{list_of}
-use Rattle.office_moves.specs.Season.{facts_of}
+use Rattle.season_facts.specs.Season.{facts_of}
 use Rattle.audit_rules.specs.Cut.{IsSought, IsUnsought}
 use Rattle.cut_checks.proofs.Seeking.{is_below, is_own, is_seated, is_sought, is_unsought, nobody_there, of_each, sought_next}
 use Rattle.cut_checks.proofs.sought.first_unsought.Goals as goal

@@ -1,7 +1,7 @@
 use Rattle.std.proofs.Common.{◌≡◌, ◌<◌, ℕ, Some}
 use Rattle.std.specs.Prelude.{slice_get}
 use Rattle.office_base.specs.declared.person.Person.{Person}
-use Rattle.office_moves.specs.Season.{facts_of}
+use Rattle.season_facts.specs.Season.{facts_of}
 use Rattle.audit_rules.specs.Cut.{IsSought}
 use Rattle.cut_checks.proofs.sought.first_unsought.Given as goal
 

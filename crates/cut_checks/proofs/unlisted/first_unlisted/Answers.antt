@@ -1,7 +1,7 @@
 use Rattle.std.proofs.Common.{◌≡◌, ◌∙◌, List, Some, None, length, get_or, arith, ap, subst, sym}
 use Rattle.office_base.specs.declared.person.Person.{Person}
 use Rattle.std.proofs.lemmas.Option.{slice_get-get_or}
-use Rattle.office_moves.specs.Season.{facts_of}
+use Rattle.season_facts.specs.Season.{facts_of}
 use Rattle.audit_rules.specs.Cut.{Differ}
 use Rattle.cut_checks.specs.Comes.{told_by}
 use Rattle.cut_checks.specs.Entries.{AreMarked, IsFirstMiss, IsMiss, entries_from}

@@ -1,4 +1,4 @@
-use Rattle.office_moves.specs.Season.{facts_of}
+use Rattle.season_facts.specs.Season.{facts_of}
 use Rattle.season_audit.proofs.Requests.{others_quiet}
 use Rattle.season_audit.proofs.auditor.deed_of.Goals as goal
 

@@ -1,5 +1,5 @@
 use Rattle.std.proofs.Common.{◌∙◌, sym}
-use Rattle.office_moves.specs.Season.{facts_of}
+use Rattle.season_facts.specs.Season.{facts_of}
 use Rattle.season_audit.proofs.Taking.{not_known, noted, unnoted}
 use Rattle.season_audit.proofs.auditor.note.Goals as goal
 

@@ -2,7 +2,7 @@ use Rattle.std.proofs.Common.{◌∙◌, subst, sym}
 use Rattle.std.proofs.lemmas.List.{length-map}
 use Rattle.audit_rules.specs.Verdict.{IsVerdict}
 use Rattle.audit_rules.specs.declared.verdict.Verdict.{Verdict}
-use Rattle.office_moves.specs.Season.{facts_of}
+use Rattle.season_facts.specs.Season.{facts_of}
 use Rattle.publish.specs.declared.reads.RoundRead.{RoundRead}
 use Rattle.season_audit.specs.Audit.{papers_in}
 use Rattle.season_audit.proofs.Taking.{is_whole}

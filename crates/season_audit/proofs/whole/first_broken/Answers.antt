@@ -1,5 +1,5 @@
 use Rattle.std.proofs.Common.{arith, refl}
-use Rattle.office_moves.specs.Season.{facts_of}
+use Rattle.season_facts.specs.Season.{facts_of}
 use Rattle.season_audit.specs.Audit.{papers_in}
 use Rattle.season_audit.proofs.Taking.{stood_none, stood_whole}
 use Rattle.season_audit.proofs.Scripts.{few_windows, stood_breaks, stood_more}

@@ -4,7 +4,7 @@ use Rattle.std.proofs.lemmas.List.{with_items_is}
 use Rattle.cut_checks.specs.declared.stand.Stand.{Stand}
 use Rattle.season_audit.specs.Audit.{StandAfter}
 use Rattle.season_audit.specs.declared.auditor.Auditor.{Auditor}
-use Rattle.office_moves.specs.Season.{facts_of}
+use Rattle.season_facts.specs.Season.{facts_of}
 use Rattle.season_audit.proofs.Taking.{answer_by, answer_passes, not_now, quiet}
 use Rattle.season_audit.proofs.auditor.Auditor.answer.Goals as goal
 

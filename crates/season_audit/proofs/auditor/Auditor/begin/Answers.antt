@@ -1,7 +1,7 @@
 use Rattle.std.proofs.Common.{◌≡◌, ◌∙◌, None, length, refl, rules}
 use Rattle.std.specs.Prelude.{replicate}
 use Rattle.round_options.specs.declared.standing.Standing.TheVariants.{Waiting}
-use Rattle.office_moves.specs.Season.{facts_of}
+use Rattle.season_facts.specs.Season.{facts_of}
 use Rattle.season_audit.proofs.Taking.{begun}
 use Rattle.season_audit.proofs.auditor.Auditor.begin.Goals as goal
 

@@ -1,5 +1,5 @@
 use Rattle.std.proofs.Common.{◌≡◌, ◌<◌, ◌∙◌, true, false, arith, sym}
-use Rattle.office_moves.specs.Season.{facts_of}
+use Rattle.season_facts.specs.Season.{facts_of}
 use Rattle.office_moves.specs.declared.decide.Decision.TheVariants.{Finish, Publish}
 use Rattle.season_audit.specs.Audit.{papers_in}
 use Rattle.season_audit.proofs.Requests.{comes_as, ok_as}

@@ -1,6 +1,6 @@
 use Rattle.std.proofs.Common.{◌≡◌, Option, None, refl, subst, sym, ◌∙◌}
 use Rattle.office_base.proofs.Options.{none_from}
-use Rattle.office_moves.specs.Season.{facts_of}
+use Rattle.season_facts.specs.Season.{facts_of}
 use Rattle.cut_checks.specs.Comes.{CutComesTo}
 use Rattle.cut_checks.specs.declared.fault.Fault.{Fault}
 use Rattle.season_audit.specs.Audit.{papers_in}

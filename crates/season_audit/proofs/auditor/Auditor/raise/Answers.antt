@@ -4,7 +4,7 @@ use Rattle.kept_rows.specs.declared.rows.RaiseRow.{RaiseRow}
 use Rattle.seat_matrix.specs.Matrix.{SeatTable, matrix_with, seating_in}
 use Rattle.office_moves.specs.Decided.{same_raise}
 use Rattle.office_moves.specs.Raised.{raised_to}
-use Rattle.office_moves.specs.Season.{facts_of}
+use Rattle.season_facts.specs.Season.{facts_of}
 use Rattle.office_moves.specs.declared.decide.RaiseLooks.{RaiseLooks}
 use Rattle.cut_checks.specs.Raises.{lifts}
 use Rattle.season_audit.proofs.Requests.{of_matrix}

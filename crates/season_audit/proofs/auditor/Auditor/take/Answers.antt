@@ -2,7 +2,7 @@ use Rattle.std.proofs.Common.{◌≡◌, Some, subst}
 use Rattle.std.specs.Prelude.{slice_get}
 use Rattle.office_base.specs.declared.asks.Request.{Request}
 use Rattle.office_moves.specs.Decided.{decided}
-use Rattle.office_moves.specs.Season.{facts_of}
+use Rattle.season_facts.specs.Season.{facts_of}
 use Rattle.season_audit.specs.Audit.{papers_in}
 use Rattle.season_audit.specs.Deeds.{Does}
 use Rattle.season_audit.specs.declared.auditor.Deed.{Deed}
