@@ -17,7 +17,7 @@ ghost use Rattle.office_commands.specs.Named.{doors_named};
 use command_answers::{Status, tell_no_memory};
 use command_words::laws::one_spelling;
 use command_words::{Service, WordsFault, read_words};
-use file_keepers::{close_keeper, open_keeper};
+use file_keepers::{Unknown, close_keeper, open_keeper};
 use keeper_mem::{Keeper, SureKeeper};
 use loopback_links::{Edge, LoopbackDoor, SystemListener, Watched};
 use office_base::{OutOfMemory, Sink, Text, Words};
@@ -143,7 +143,7 @@ fn over_store<H: Threads + Wait + Sync + Net<Listener = TcpListener, Stream = Tc
     let Some(name) = &call.file else {
         return answer(rt, host, alloc, call, sink, SureKeeper::new(alloc)).0;
     };
-    let Some(keeper) = open_keeper(rt, name) else {
+    let Some(keeper) = open_keeper(rt, name, Unknown) else {
         return Err(Unopened::Store);
     };
     let (ended, keeper) = answer(rt, host, alloc, call, sink, keeper);

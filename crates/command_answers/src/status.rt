@@ -23,8 +23,8 @@ pub enum Status {
     DoorFault = 8,
     /// The records of the keeper do not replay: the line written names the first row, or the first seat that differs.
     Differs = 9,
-    /// Published lists are not what the rules give: the line written names the first clause that does not hold.
-    /// The input was read to its end.
+    /// What a dossier publishes is not what the rules give, or under `audit best` a round is not the best one.
+    /// The lines written name the first clause that does not hold, or the first such round. The input was read to its end.
     Broken = 10,
 }
 

@@ -6,7 +6,7 @@ use Rattle.season_file.specs.Season.{IsSeasonWith, content_of}
 use Rattle.season_file.specs.declared.season.Season.{Season}
 use Rattle.season_generator.specs.Bundle.{generated}
 use Rattle.season_generator.specs.Summary.{summary_text}
-use Rattle.office_moves.specs.Season.{facts_of}
+use Rattle.season_facts.specs.Season.{facts_of}
 use Rattle.script_runs.specs.Tally.{tally_of}
 use Rattle.command_answers.specs.Answers.{HaveOneAnswer}
 use Rattle.command_answers.specs.Status.{IsAnswered}

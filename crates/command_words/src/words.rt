@@ -50,7 +50,7 @@ pub enum Command {
         store: Store,
     },
     /// Reads a dossier, which is a season bundle with requests and what was published, and writes whether what was
-    /// published is what the rules give.
+    /// published breaks a clause.
     Audit,
     /// Reads a dossier as `Audit` does, and also writes whether every published round is the best one.
     AuditBest,

@@ -8,7 +8,7 @@ use Rattle.season_file.specs.declared.season.Season.{Season}
 use Rattle.kept_rows.specs.Tables.{Tables, AreTold, IsFound, still}
 use Rattle.rounds.specs.Round.{seated}
 use Rattle.office_moves.specs.Facts.{SeasonFacts}
-use Rattle.office_moves.specs.Season.{facts_of}
+use Rattle.season_facts.specs.Season.{facts_of}
 use Rattle.office_moves.specs.State.{State, opening}
 use Rattle.shown_replies.specs.Shown.{rows_shown}
 use Rattle.script_runs.specs.Tally.{CountsAll, StopsBefore}

@@ -1,5 +1,5 @@
 -- `resume` writes the same for the same input.
-use Rattle.std.proofs.Common.{◌≡◌, ◌⊎◌, inl, inr, ℕ, List, [], ◌∷◌, Some, sym, subst}
+use Rattle.std.proofs.Common.{◌≡◌, ◌⊎◌, inl, inr, ℕ, List, [], ◌∷◌, Some, refl, sym, subst}
 use Rattle.office_base.specs.declared.asks.Request.{Request}
 use Rattle.office_base.specs.declared.person.CandId.{CandId}
 use Rattle.kept_rows.specs.Tables.{AreTold, IsTold, Tables, still}
@@ -13,15 +13,15 @@ use Rattle.shown_replies.specs.Shown.{reply_bytes}
 use Rattle.script_runs.specs.Runs.{Answers}
 use Rattle.command_answers.specs.Answers.{HaveOneAnswer}
 use Rattle.command_answers.specs.Status.{IsAnswered}
-use Rattle.command_answers.specs.Writes.{Writes}
+use Rattle.command_answers.specs.Writes.{IsTextOf, Writes}
 use Rattle.command_answers.specs.declared.status.Status.{Status}
 use Rattle.command_answers.specs.declared.status.Status.TheVariants.{Ok as Done, Usage, BadInput, Differs, Broken}
 use Rattle.command_answers.proofs.Answered.{by_answer}
-use Rattle.season_commands.specs.Resume.{AreLeftRequests, AreRequests, EndsAsked, IsUnresumedText, script_answers}
-use Rattle.command_outputs.proofs.Written.{one_text, whole}
+use Rattle.season_commands.specs.Resume.{AreLeftRequests, AreRequests, EndsAsked, IsFaultyScript, IsRequestFaultLine, IsScript, IsUnresumedText, script_answers}
+use Rattle.command_outputs.proofs.Written.{left_has, one_text, whole}
 use Rattle.kept_outputs.specs.Laws.{ResumesAreOne}
 use Rattle.kept_outputs.proofs.Replayed.{history_replayed}
-use Rattle.kept_outputs.proofs.Resumed.{AreAlike, AreKept, ReadingsAreOne, no_kept_line, one_unresumed, resumed_alike, same_tables}
+use Rattle.kept_outputs.proofs.Resumed.{AreAlike, AreKept, ReadingsAreOne, no_unresumed, one_unresumed, one_unresumed_status, resumed_alike, same_tables}
 use Rattle.kept_outputs.proofs.Tokens.{kept_so, same_season}
 
 -- ---- requests that are answered from one state
@@ -83,40 +83,80 @@ one_asked one grows run bytes facts other state then kept before after later sta
     broken (inl first) second = absurd (whole _ Broken output tt first.0)
     broken (inr first) second = absurd first.2
 
--- ---- no office resumes, or one does
+-- ---- one status
 
--- an office that resumed ends with no text of one that did not
-not_both : ReadingsAreOne → (tables : Tables) → IsTold tables → (bytes : List ℕ) (facts : SeasonFacts) (state : State) (before after : Tables) (status : Status) (output again : List ℕ)
-    → IsAnswered status → IsResumed tables facts state → IsUnresumedText tables status output → EndsAsked facts state (Some bytes) before after status again → ⊥
-not_both readings tables told bytes facts state before after status output again answered resumed =
-    by_answer (λ s. IsUnresumedText tables s output → EndsAsked facts state (Some bytes) before after s again → ⊥) (λ text ends. text) (λ text ends. text)
-    (λ text ends. no_kept_line readings tables told facts state output resumed text) (λ text. differs) (λ text ends. text) status answered
+asked_done : (bytes : List ℕ) (facts : SeasonFacts) (state : State) (before after : Tables) (output : List ℕ) → EndsAsked facts state (Some bytes) before after Done output → IsScript bytes
+asked_done bytes facts state before after output (inl first) = absurd (whole _ Done output tt first.0).2
+asked_done bytes facts state before after output (inr first) = (first.0, subst (λ (b : List ℕ). AreRequests b first.0) first.1.1 first.1.2)
+
+asked_bad : ((bytes : List ℕ) → HaveOneAnswer script_answers bytes) → (bytes : List ℕ) (facts : SeasonFacts) (state : State) (before after : Tables) (output : List ℕ)
+    → EndsAsked facts state (Some bytes) before after BadInput output → IsFaultyScript bytes
+asked_bad one bytes facts state before after output (inl first) =
+    (one bytes).of_fault output (left_has IsRequestFaultLine bytes output (whole (IsTextOf script_answers (Some bytes)) BadInput output tt first.0))
+asked_bad one bytes facts state before after output (inr first) = absurd first.2
+
+-- the statuses that requests never end with
+never_usage : (bytes : List ℕ) (facts : SeasonFacts) (state : State) (before after : Tables) (output : List ℕ) → EndsAsked facts state (Some bytes) before after Usage output → ⊥
+never_usage bytes facts state before after output (inl first) = whole _ Usage output tt first.0
+never_usage bytes facts state before after output (inr first) = first.2
+
+never_differs : (bytes : List ℕ) (facts : SeasonFacts) (state : State) (before after : Tables) (output : List ℕ) → EndsAsked facts state (Some bytes) before after Differs output → ⊥
+never_differs bytes facts state before after output (inl first) = whole _ Differs output tt first.0
+never_differs bytes facts state before after output (inr first) = first.2
+
+never_broken : (bytes : List ℕ) (facts : SeasonFacts) (state : State) (before after : Tables) (output : List ℕ) → EndsAsked facts state (Some bytes) before after Broken output → ⊥
+never_broken bytes facts state before after output (inl first) = whole _ Broken output tt first.0
+never_broken bytes facts state before after output (inr first) = first.2
+
+one_asked_status : ((bytes : List ℕ) → HaveOneAnswer script_answers bytes) → (bytes : List ℕ) (facts more : SeasonFacts) (state then : State) (before after later : Tables) (status other : Status)
+    (output again : List ℕ) → IsAnswered status → IsAnswered other → EndsAsked facts state (Some bytes) before after status output → EndsAsked more then (Some bytes) before later other again
+    → status ≡ other
+one_asked_status one bytes facts more state then before after later status other output again answered answered' =
+    by_answer (λ s. Same s other)
+    (by_answer (Same Done) (λ first second. refl) (λ first second. absurd (never_usage bytes more then before later again second))
+    (λ first second. absurd ((one bytes).apart (asked_done bytes facts state before after output first) (asked_bad one bytes more then before later again second)))
+    (λ first second. absurd (never_differs bytes more then before later again second)) (λ first second. absurd (never_broken bytes more then before later again second)) other answered')
+    (λ first second. absurd (never_usage bytes facts state before after output first))
+    (by_answer (Same BadInput) (λ first second. absurd ((one bytes).apart (asked_done bytes more then before later again second) (asked_bad one bytes facts state before after output first)))
+    (λ first second. absurd (never_usage bytes more then before later again second)) (λ first second. refl) (λ first second. absurd (never_differs bytes more then before later again second))
+    (λ first second. absurd (never_broken bytes more then before later again second)) other answered')
+    (λ first second. absurd (never_differs bytes facts state before after output first)) (λ first second. absurd (never_broken bytes facts state before after output first)) status answered
   where
-    differs : EndsAsked facts state (Some bytes) before after Differs again → ⊥
-    differs (inl ends) = whole _ Differs again tt ends.0
-    differs (inr ends) = ends.2
+    Same : Status → Status → Type 0
+    Same s t = EndsAsked facts state (Some bytes) before after s output → EndsAsked more then (Some bytes) before later t again → s ≡ t
 
 -- ---- the command
 
 pub resumes_are_one : ReadingsAreOne → ((bytes : List ℕ) → HaveOneAnswer script_answers bytes) → AreKept → ((facts : SeasonFacts) → HistoryGrows facts)
     → ((facts : SeasonFacts) → OneRun facts) → ResumesAreOne
-resumes_are_one readings one laws grows run bytes output again before after later status answered told seen first second =
-    by first (subst (λ (t : Tables). EndsOver t later again) (same_tables before after later told seen) second)
+resumes_are_one readings one laws grows run bytes output again before after later status other answered answered' told seen first second =
+    let over = subst (λ (t : Tables). EndsOver t later other again) (same_tables before after later told seen) second in
+    let same = by_status first over in
+    (same, by first (subst (λ (s : Status). EndsOver tables later s again) (sym same) over))
   where
     tables : Tables
     tables = still before after
 
-    EndsOver : Tables → Tables → List ℕ → Type 0
-    EndsOver those left text = (Writes (IsUnresumedText those) status text × AreTold before left)
-        ⊎ ((facts : SeasonFacts) × (start : State) × IsResumed those facts start × EndsAsked facts start (Some bytes) before left status text)
+    EndsOver : Tables → Tables → Status → List ℕ → Type 0
+    EndsOver those left end text = (Writes (IsUnresumedText those) end text × AreTold before left)
+        ⊎ ((facts : SeasonFacts) × (start : State) × IsResumed those facts start × EndsAsked facts start (Some bytes) before left end text)
 
-    text_of : (text : List ℕ) → Writes (IsUnresumedText tables) status text → IsUnresumedText tables status text
-    text_of text writes = whole (IsUnresumedText tables) status text answered writes
+    text_of : (end : Status) (text : List ℕ) → IsAnswered end → Writes (IsUnresumedText tables) end text → IsUnresumedText tables end text
+    text_of end text is writes = whole (IsUnresumedText tables) end text is writes
 
-    by : EndsOver tables after output → EndsOver tables later again → output ≡ again
-    by (inl a) (inl b) = one_unresumed readings laws tables told status output again answered (text_of output a.0) (text_of again b.0)
-    by (inl a) (inr b) = absurd (not_both readings tables told bytes b.0 b.1 before later status output again answered b.2 (text_of output a.0) b.3)
-    by (inr a) (inl b) = absurd (not_both readings tables told bytes a.0 a.1 before after status again output answered a.2 (text_of again b.0) a.3)
+    none : (facts : SeasonFacts) (start : State) (end : Status) (text : List ℕ) → IsAnswered end → IsResumed tables facts start → Writes (IsUnresumedText tables) end text → ⊥
+    none facts start end text is resumed writes = no_unresumed readings laws tables told facts start end text is resumed (text_of end text is writes)
+
+    by_status : EndsOver tables after status output → EndsOver tables later other again → status ≡ other
+    by_status (inl a) (inl b) = one_unresumed_status readings tables told status other output again answered answered' (text_of status output answered a.0) (text_of other again answered' b.0)
+    by_status (inl a) (inr b) = absurd (none b.0 b.1 status output answered b.2 a.0)
+    by_status (inr a) (inl b) = absurd (none a.0 a.1 other again answered' a.2 b.0)
+    by_status (inr a) (inr b) = one_asked_status one bytes a.0 b.0 a.1 b.1 before after later status other output again answered answered' a.3 b.3
+
+    by : EndsOver tables after status output → EndsOver tables later status again → output ≡ again
+    by (inl a) (inl b) = one_unresumed readings laws tables told status output again answered (text_of status output answered a.0) (text_of status again answered b.0)
+    by (inl a) (inr b) = absurd (none b.0 b.1 status output answered b.2 a.0)
+    by (inr a) (inl b) = absurd (none a.0 a.1 status again answered a.2 b.0)
     by (inr a) (inr b) =
         let alike = resumed_alike laws tables told a.0 b.0 a.1 b.1 a.2 b.2 in
         one_asked one grows run bytes a.0 b.0 a.1 b.1 alike.0 before after later status output again answered alike.1 a.3 b.3

@@ -9,7 +9,7 @@ use Rattle.season_file.specs.declared.fault.SeasonFault.{SeasonFault}
 use Rattle.season_file.specs.declared.season.Season.{Season}
 use Rattle.season_texts.specs.Texts.{fault_line}
 use Rattle.office_moves.specs.Facts.{IsSound, SeasonFacts}
-use Rattle.office_moves.specs.Season.{facts_of}
+use Rattle.season_facts.specs.Season.{facts_of}
 use Rattle.office_moves.specs.State.{State}
 use Rattle.replays.specs.Faults.{IsReplayFault}
 use Rattle.replays.specs.Laws.{HaveOneEnd}
@@ -18,7 +18,7 @@ use Rattle.replays.specs.declared.fault.ReplayFault.{ReplayFault}
 use Rattle.round_cut.specs.Resume.{IsResumed, LeadTo}
 use Rattle.command_answers.specs.Status.{IsAnswered}
 use Rattle.command_answers.specs.declared.status.Status.{Status}
-use Rattle.command_answers.specs.declared.status.Status.TheVariants.{Differs}
+use Rattle.command_answers.specs.declared.status.Status.TheVariants.{BadInput, Differs}
 use Rattle.command_answers.proofs.Answered.{by_answer}
 use Rattle.season_commands.specs.Resume.{IsKeptFaultLine, IsReplayFaultLine, IsUnresumedText}
 use Rattle.season_commands.specs.Stray.{replay_line}
@@ -140,3 +140,51 @@ no_kept_line readings (Records kept) told facts state line resumed (inr is) =
     let lead = subst (λ (k : Kept). LeadTo k facts state) (sym resumed.1) resumed.2 in
     let fault = subst (λ (k : Kept). HasFault false k.season is.2.0) (sym is.1) is.2.1 in
     (readings false kept.season).apart (content_of lead.season lead.read.row) [] is.2.0 lead.read.given fault
+
+-- nor do their records stop a replay
+no_replay_line : AreKept → (kept : Kept) (facts : SeasonFacts) (state : State) (line : List ℕ) → LeadTo kept facts state → IsReplayFaultLine kept line → ⊥
+no_replay_line laws kept facts state line lead is =
+    let sound = subst IsSound (sym lead.same) (kept_sound laws kept.season lead.season lead.read) in
+    let said = laws.seasons kept.season lead.season is.0 lead.read is.2 in
+    let by_lead : SayTheSame facts (facts_of is.0) = subst (λ (f : SeasonFacts). SayTheSame f (facts_of is.0)) (sym lead.same) said in
+    let by_season = subst (λ (f : SeasonFacts). IsReplayFault f kept is.1) (sym (same_season facts (facts_of is.0) by_lead)) is.3 in
+    is.4 ((laws.records facts kept sound).apart state is.1 lead.replayed (fault_too facts (facts_of is.0).holders kept is.1 by_season))
+
+no_difference : AreKept → (tables : Tables) → IsTold tables → (facts : SeasonFacts) (state : State) (line : List ℕ) → IsResumed tables facts state → IsUnresumedText tables Differs line → ⊥
+no_difference laws Untold told facts state line resumed is = told
+no_difference laws NoSeason told facts state line resumed is = resumed.1
+no_difference laws (Records kept) told facts state line resumed is =
+    no_replay_line laws kept facts state line (subst (λ (k : Kept). LeadTo k facts state) (sym resumed.1) resumed.2) (subst (λ (k : Kept). IsReplayFaultLine k line) (sym is.1) is.2)
+
+-- Tables that lead to a state have no text of an office that does not resume.
+pub no_unresumed : ReadingsAreOne → AreKept → (tables : Tables) → IsTold tables → (facts : SeasonFacts) (state : State) (status : Status) (text : List ℕ) → IsAnswered status
+    → IsResumed tables facts state → IsUnresumedText tables status text → ⊥
+no_unresumed readings laws tables told facts state status text answered resumed =
+    by_answer (λ s. IsUnresumedText tables s text → ⊥) (λ is. is) (λ is. is) (no_kept_line readings tables told facts state text resumed)
+    (no_difference laws tables told facts state text resumed) (λ is. is) status answered
+
+-- ---- one status
+
+-- a text that is no bundle is not replayed
+text_or_rows : ReadingsAreOne → (tables : Tables) → IsTold tables → (line again : List ℕ) → IsKeptFaultLine tables line → IsUnresumedText tables Differs again → ⊥
+text_or_rows readings Untold told line again first second = told
+text_or_rows readings NoSeason told line again first second = second.1
+text_or_rows readings (Records kept) told line again (inl first) second = absurd (let e = first.0 in cc e)
+text_or_rows readings (Records kept) told line again (inr first) second =
+    let fault = subst (λ (k : Kept). HasFault false k.season first.2.0) (sym first.1) first.2.1 in
+    let read = subst (λ (k : Kept). IsSeason k.season second.2.0) (sym second.1) second.2.2 in
+    (readings false kept.season).apart (content_of second.2.0 read.row) [] first.2.0 read.given fault
+
+-- The same tables have one status.
+pub one_unresumed_status : ReadingsAreOne → (tables : Tables) → IsTold tables → (status other : Status) (output again : List ℕ) → IsAnswered status → IsAnswered other
+    → IsUnresumedText tables status output → IsUnresumedText tables other again → status ≡ other
+one_unresumed_status readings tables told status other output again answered answered' =
+    by_answer (λ s. Same s other) (λ first second. absurd first) (λ first second. absurd first)
+    (by_answer (Same BadInput) (λ first second. absurd second) (λ first second. absurd second) (λ first second. refl)
+    (λ first second. absurd (text_or_rows readings tables told output again first second)) (λ first second. absurd second) other answered')
+    (by_answer (Same Differs) (λ first second. absurd second) (λ first second. absurd second) (λ first second. absurd (text_or_rows readings tables told again output second first))
+    (λ first second. refl) (λ first second. absurd second) other answered')
+    (λ first second. absurd first) status answered
+  where
+    Same : Status → Status → Type 0
+    Same s t = IsUnresumedText tables s output → IsUnresumedText tables t again → s ≡ t

@@ -9,7 +9,7 @@ use Rattle.season_commands.specs.Resume.{EndsResume}
 abbrev pub IsVisible : Tables → Tables → Type 0
 IsVisible before after = IsTold (still before after)
 
--- Two runs over the same bytes and the same visible tables that end with the same status write the same.
+-- Two runs over the same bytes and the same visible tables that both end with an answer end with the same status and write the same.
 abbrev pub ResumesAreOne : Type 0
-ResumesAreOne = (bytes output again : List ℕ) (before after later : Tables) (status : Status) → IsAnswered status → IsVisible before after → IsVisible before later
-    → EndsResume (Some bytes) before after status output → EndsResume (Some bytes) before later status again → output ≡ again
+ResumesAreOne = (bytes output again : List ℕ) (before after later : Tables) (status other : Status) → IsAnswered status → IsAnswered other → IsVisible before after → IsVisible before later
+    → EndsResume (Some bytes) before after status output → EndsResume (Some bytes) before later other again → (status ≡ other) × (output ≡ again)

@@ -1,7 +1,8 @@
 // The law that `resume` writes the same for the same input. It is the contract of a function that does nothing.
 ghost use Rattle.kept_outputs.specs.Laws.{ResumesAreOne};
 
-/// Two runs of `resume` over the same bytes and the same visible records write the same.
+/// Two runs of `resume` over the same bytes and the same visible records, both with an answer, end with the same status
+/// and write the same.
 pub fn resumes_are_one()
     ensures { ResumesAreOne }
 {

@@ -8,7 +8,7 @@ use Rattle.season_commands.specs.Check.{bundle_answers, check_answers}
 use Rattle.generate_command.specs.Generated.{IsCountedText, IsGeneratedText}
 use Rattle.season_commands.specs.Resume.{EndsResume, IsUnresumedText, script_answers}
 use Rattle.season_commands.specs.Run.{EndsSeason, IsUnbegunText}
-use Rattle.office_moves.specs.Season.{facts_of}
+use Rattle.season_facts.specs.Season.{facts_of}
 use Rattle.special_command.specs.Special.{EndsSpecial, IsSpecialText}
 use Rattle.units_command.specs.Units.{units_answers}
 use Rattle.step_command.specs.Step.{step_answers}

@@ -3,7 +3,7 @@ use Rattle.std.proofs.Common.{◌≡◌, ℕ, List, [], ◌∷◌, refl, sym, �
 use Rattle.office_base.specs.declared.asks.Request.{Request}
 use Rattle.office_base.specs.declared.person.CandId.{CandId}
 use Rattle.office_moves.specs.Facts.{SeasonFacts}
-use Rattle.office_moves.specs.Season.{facts_of}
+use Rattle.season_facts.specs.Season.{facts_of}
 use Rattle.office_moves.specs.State.{State, opening}
 use Rattle.script_runs.specs.Laws.{OneRun}
 use Rattle.script_runs.specs.Laws as runs

@@ -14,8 +14,8 @@ use Rattle.season_file.specs.declared.season.Season.{Season}
 use Rattle.round_laws.specs.Laws.{lists_in}
 use Rattle.round_laws.proofs.People.{there_is}
 use Rattle.round_laws.proofs.Season.{aligned_length, length_lists, list_at_place}
-use Rattle.office_moves.specs.Season.{facts_of}
-use Rattle.office_moves.proofs.Sound.{given_sound}
+use Rattle.season_facts.specs.Season.{facts_of}
+use Rattle.season_facts.proofs.Sound.{given_sound}
 use Rattle.one_output.specs.Laws.{GiveOneSeason, OneKeptSeason, OneSeason, SayTheSame}
 use Rattle.round_laws.proofs.OneRound.{same_places as at_each}
 

@@ -5,7 +5,7 @@ use Rattle.rank_lists.specs.Register.{find_holder}
 use Rattle.season_file.specs.Season.{BundleGives, IsSeason, IsSeasonWith, content_of}
 use Rattle.season_file.specs.declared.season.Season.{Season}
 use Rattle.office_moves.specs.Facts.{IsSound, SeasonFacts}
-use Rattle.office_moves.specs.Season.{facts_of}
+use Rattle.season_facts.specs.Season.{facts_of}
 use Rattle.office_moves.specs.State.{State, opening}
 use Rattle.script_runs.specs.Runs.{Answers}
 use Rattle.script_runs.specs.Tally.{AreHandled, Handled, requests_of}

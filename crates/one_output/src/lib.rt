@@ -1,6 +1,7 @@
 // That the same input gives the same output.
 //
-// Nothing uses it yet. It has no code but its laws, and knows of no source, no sink and no keeper.
+// The laws of whole commands, of verdicts and of two runs build on it. It has no code but its laws, and knows of no
+// source, no sink and no keeper.
 #![tactic(auto)]
 
 pub mod laws;

@@ -5,7 +5,7 @@ use Rattle.office_base.specs.declared.asks.Request.{Request}
 use Rattle.season_file.specs.declared.season.Season.{Season}
 use Rattle.kept_rows.specs.Tables.{Tables, AreTold, IsFound, IsTold as IsTablesTold, still}
 use Rattle.office_moves.specs.Facts.{SeasonFacts}
-use Rattle.office_moves.specs.Season.{facts_of}
+use Rattle.season_facts.specs.Season.{facts_of}
 use Rattle.office_moves.specs.State.{State, opening}
 use Rattle.season_commands.specs.Office.{EndsOffice}
 use Rattle.round_cut.specs.declared.fault.BeginFault.{BeginFault}

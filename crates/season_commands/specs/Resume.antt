@@ -18,7 +18,7 @@ use Rattle.season_texts.specs.Texts.{fault_line}
 use Rattle.kept_rows.specs.Tables.{Tables, Records, AreTold, IsFound, IsLoaded, still}
 use Rattle.kept_rows.specs.declared.rows.Kept.{Kept}
 use Rattle.office_moves.specs.Facts.{SeasonFacts}
-use Rattle.office_moves.specs.Season.{facts_of}
+use Rattle.season_facts.specs.Season.{facts_of}
 use Rattle.office_moves.specs.State.{State}
 use Rattle.replays.specs.Faults.{IsReplayFault}
 use Rattle.replays.specs.declared.fault.ReplayFault.{ReplayFault}

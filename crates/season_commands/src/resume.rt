@@ -20,10 +20,10 @@ use command_answers::{
 };
 use keeper_mem::Keeper;
 use office_base::{OutOfMemory, Sink, Source, Text};
-use office_moves::says_what_is_sound;
 use replays::laws::one_end;
 use request_rows::Script;
 use round_cut::{Office, Unresumed};
+use season_facts::says_what_is_sound;
 use season_file::laws::one_reading;
 use season_file::read_script;
 use season_texts::fault_text;

@@ -11,7 +11,7 @@ use Rattle.kept_rows.specs.Tables.{Tables, AreTold, IsFound, still}
 use Rattle.office_moves.specs.Facts.{SeasonFacts}
 use Rattle.office_moves.specs.History.{IsHistory}
 use Rattle.office_moves.specs.Promise.{KeepsItsWord}
-use Rattle.office_moves.specs.Season.{facts_of}
+use Rattle.season_facts.specs.Season.{facts_of}
 use Rattle.office_moves.specs.Stands.{Stand}
 use Rattle.office_moves.specs.State.{State}
 use Rattle.office_moves.specs.declared.moves.Entry.{Entry}

@@ -1,5 +1,5 @@
 -- `special` writes the same for the same input.
-use Rattle.std.proofs.Common.{◌≡◌, ◌⊎◌, inl, inr, ℕ, List, Option, Some, sym, ◌∙◌, subst}
+use Rattle.std.proofs.Common.{◌≡◌, ◌⊎◌, inl, inr, ℕ, List, Option, Some, refl, sym, ◌∙◌, subst}
 use Rattle.office_base.specs.declared.person.CandId.{CandId}
 use Rattle.section_rows.specs.Rows.{Row}
 use Rattle.slot_cert.specs.Laws.{OneCertificate}
@@ -25,12 +25,13 @@ use Rattle.command_answers.specs.Answers.{HasLeft}
 use Rattle.command_answers.specs.Status.{IsAnswered}
 use Rattle.command_answers.specs.Writes.{Writes}
 use Rattle.command_answers.specs.declared.status.Status.{Status}
+use Rattle.command_answers.specs.declared.status.Status.TheVariants.{Ok as Done, BadInput}
 use Rattle.command_answers.proofs.Answered.{by_answer}
 use Rattle.season_commands.specs.Resume.{IsUnresumedText}
 use Rattle.special_command.specs.Special.{HaveOneSpecial, IsListsFaultLine, IsSpecialOutput, IsSpecialText}
 use Rattle.command_outputs.proofs.Written.{left_has, whole}
 use Rattle.kept_outputs.proofs.Replayed.{history_replayed}
-use Rattle.kept_outputs.proofs.Resumed.{AreAlike, AreKept, ReadingsAreOne, no_kept_line, one_unresumed, resumed_alike, same_tables}
+use Rattle.kept_outputs.proofs.Resumed.{AreAlike, AreKept, ReadingsAreOne, no_unresumed, one_unresumed, one_unresumed_status, resumed_alike, same_tables}
 use Rattle.kept_outputs.proofs.Tokens.{kept_so, same_season}
 use Rattle.special_outputs.specs.Laws.{SpecialsAreOne}
 use Rattle.special_outputs.proofs.Rounds.{fault_too, made, made_too, one_text}
@@ -98,38 +99,76 @@ one_resumed laws bytes facts other state then kept status output again answered 
     let by_state = subst (λ (s : State). IsSpecialText (kept_so facts other.holders) s (Some bytes) status again) (sym alike.states) by_season in
     one_special laws bytes facts other.holders state kept status output again answered alike.sound (subst IsSound same alike.other_sound) alike.replayed first by_state
 
--- ---- no office resumes, or one does
+-- ---- one status
 
--- an office that resumed ends with no text of one that did not
-not_both : Laws → (tables : Tables) → IsTold tables → (bytes : List ℕ) (facts : SeasonFacts) (state : State) (status : Status) (output again : List ℕ) → IsAnswered status
-    → IsResumed tables facts state → IsUnresumedText tables status output → IsSpecialText facts state (Some bytes) status again → ⊥
-not_both laws tables told bytes facts state status output again answered resumed =
-    by_answer (λ s. IsUnresumedText tables s output → IsSpecialText facts state (Some bytes) s again → ⊥) (λ text ends. text) (λ text ends. text)
-    (λ text ends. no_kept_line laws.readings tables told facts state output resumed text) (λ text ends. ends) (λ text ends. text) status answered
+-- lists with a line of a fault have no special round, whatever the order in which the register keeps its tokens
+line_or_round : Laws → (bytes : List ℕ) (facts : SeasonFacts) (holders : List (List ℕ × CandId)) (state : State) (output line : List ℕ)
+    → HasLeft (IsSpecialOutput facts state) (Some bytes) output → HasLeft (IsListsFaultLine (kept_so facts holders) state) (Some bytes) line → ⊥
+line_or_round laws bytes facts holders state output line made faulty =
+    let one = laws.answer facts state bytes in
+    one.apart (one.of_input output (left_has (IsSpecialOutput facts state) bytes output made))
+    (one.of_fault line (line_too laws facts holders state bytes line (left_has (IsListsFaultLine (kept_so facts holders) state) bytes line faulty)))
+
+one_special_status : Laws → (bytes : List ℕ) (facts : SeasonFacts) (holders : List (List ℕ × CandId)) (state : State) (status other : Status) (output again : List ℕ) → IsAnswered status → IsAnswered other
+    → IsSpecialText facts state (Some bytes) status output → IsSpecialText (kept_so facts holders) state (Some bytes) other again → status ≡ other
+one_special_status laws bytes facts holders state status other output again answered answered' =
+    by_answer (λ s. Same s other)
+    (by_answer (Same Done) (λ first second. refl) (λ first second. absurd second) (λ first second. absurd (line_or_round laws bytes facts holders state output again first second))
+    (λ first second. absurd second) (λ first second. absurd second) other answered')
+    (λ first second. absurd first)
+    (by_answer (Same BadInput) (λ first second. absurd (line_or_round laws bytes (kept_so facts holders) facts.holders state again output second first)) (λ first second. absurd second)
+    (λ first second. refl) (λ first second. absurd second) (λ first second. absurd second) other answered')
+    (λ first second. absurd first) (λ first second. absurd first) status answered
+  where
+    Same : Status → Status → Type 0
+    Same s t = IsSpecialText facts state (Some bytes) s output → IsSpecialText (kept_so facts holders) state (Some bytes) t again → s ≡ t
+
+one_resumed_status : Laws → (bytes : List ℕ) (facts other : SeasonFacts) (state then : State) (kept : Kept) (status end : Status) (output again : List ℕ) → IsAnswered status → IsAnswered end
+    → AreAlike facts other state then kept → IsSpecialText facts state (Some bytes) status output → IsSpecialText other then (Some bytes) end again → status ≡ end
+one_resumed_status laws bytes facts other state then kept status end output again answered answered' alike first second =
+    let by_season = subst (λ (f : SeasonFacts). IsSpecialText f then (Some bytes) end again) (sym (same_season facts other alike.seasons)) second in
+    let by_state = subst (λ (s : State). IsSpecialText (kept_so facts other.holders) s (Some bytes) end again) (sym alike.states) by_season in
+    one_special_status laws bytes facts other.holders state status end output again answered answered' first by_state
 
 -- ---- the command
 
 pub specials_are_one : Laws → SpecialsAreOne
-specials_are_one laws bytes output again before after later status answered told seen first second =
-    by first (subst (λ (t : Tables). EndsOver t later again) (same_tables before after later told seen) second)
+specials_are_one laws bytes output again before after later status other answered answered' told seen first second =
+    let over = subst (λ (t : Tables). EndsOver t later other again) (same_tables before after later told seen) second in
+    let same = by_status first over in
+    (same, by first (subst (λ (s : Status). EndsOver tables later s again) (sym same) over))
   where
     tables : Tables
     tables = still before after
 
-    EndsOver : Tables → Tables → List ℕ → Type 0
-    EndsOver those left text = (Writes (IsUnresumedText those) status text × AreTold before left)
-        ⊎ ((facts : SeasonFacts) × (state : State) × IsResumed those facts state × Writes (IsSpecialText facts state (Some bytes)) status text × AreTold before left)
+    EndsOver : Tables → Tables → Status → List ℕ → Type 0
+    EndsOver those left end text = (Writes (IsUnresumedText those) end text × AreTold before left)
+        ⊎ ((facts : SeasonFacts) × (state : State) × IsResumed those facts state × Writes (IsSpecialText facts state (Some bytes)) end text × AreTold before left)
 
-    text_of : (text : List ℕ) → Writes (IsUnresumedText tables) status text → IsUnresumedText tables status text
-    text_of text writes = whole (IsUnresumedText tables) status text answered writes
+    text_of : (end : Status) (text : List ℕ) → IsAnswered end → Writes (IsUnresumedText tables) end text → IsUnresumedText tables end text
+    text_of end text is writes = whole (IsUnresumedText tables) end text is writes
 
-    special_of : (facts : SeasonFacts) (state : State) (text : List ℕ) → Writes (IsSpecialText facts state (Some bytes)) status text → IsSpecialText facts state (Some bytes) status text
-    special_of facts state text writes = whole (IsSpecialText facts state (Some bytes)) status text answered writes
+    special_of : (facts : SeasonFacts) (state : State) (end : Status) (text : List ℕ) → IsAnswered end → Writes (IsSpecialText facts state (Some bytes)) end text
+        → IsSpecialText facts state (Some bytes) end text
+    special_of facts state end text is writes = whole (IsSpecialText facts state (Some bytes)) end text is writes
 
-    by : EndsOver tables after output → EndsOver tables later again → output ≡ again
-    by (inl a) (inl b) = one_unresumed laws.readings laws.kept tables told status output again answered (text_of output a.0) (text_of again b.0)
-    by (inl a) (inr b) = absurd (not_both laws tables told bytes b.0 b.1 status output again answered b.2 (text_of output a.0) (special_of b.0 b.1 again b.3))
-    by (inr a) (inl b) = absurd (not_both laws tables told bytes a.0 a.1 status again output answered a.2 (text_of again b.0) (special_of a.0 a.1 output a.3))
+    none : (facts : SeasonFacts) (start : State) (end : Status) (text : List ℕ) → IsAnswered end → IsResumed tables facts start → Writes (IsUnresumedText tables) end text → ⊥
+    none facts start end text is resumed writes = no_unresumed laws.readings laws.kept tables told facts start end text is resumed (text_of end text is writes)
+
+    by_status : EndsOver tables after status output → EndsOver tables later other again → status ≡ other
+    by_status (inl a) (inl b) =
+        one_unresumed_status laws.readings tables told status other output again answered answered' (text_of status output answered a.0) (text_of other again answered' b.0)
+    by_status (inl a) (inr b) = absurd (none b.0 b.1 status output answered b.2 a.0)
+    by_status (inr a) (inl b) = absurd (none a.0 a.1 other again answered' a.2 b.0)
+    by_status (inr a) (inr b) =
+        let alike = resumed_alike laws.kept tables told a.0 b.0 a.1 b.1 a.2 b.2 in
+        one_resumed_status laws bytes a.0 b.0 a.1 b.1 alike.0 status other output again answered answered' alike.1 (special_of a.0 a.1 status output answered a.3)
+        (special_of b.0 b.1 other again answered' b.3)
+
+    by : EndsOver tables after status output → EndsOver tables later status again → output ≡ again
+    by (inl a) (inl b) = one_unresumed laws.readings laws.kept tables told status output again answered (text_of status output answered a.0) (text_of status again answered b.0)
+    by (inl a) (inr b) = absurd (none b.0 b.1 status output answered b.2 a.0)
+    by (inr a) (inl b) = absurd (none a.0 a.1 status again answered a.2 b.0)
     by (inr a) (inr b) =
         let alike = resumed_alike laws.kept tables told a.0 b.0 a.1 b.1 a.2 b.2 in
-        one_resumed laws bytes a.0 b.0 a.1 b.1 alike.0 status output again answered alike.1 (special_of a.0 a.1 output a.3) (special_of b.0 b.1 again b.3)
+        one_resumed laws bytes a.0 b.0 a.1 b.1 alike.0 status output again answered alike.1 (special_of a.0 a.1 status output answered a.3) (special_of b.0 b.1 status again answered b.3)

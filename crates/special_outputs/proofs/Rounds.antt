@@ -1,7 +1,6 @@
 -- The text of the special round over the same final rows and the same lists is one.
 use Rattle.std.proofs.Common.{◌≡◌, ◌<◌, ◌-◌, ◌++◌, ℕ, List, length, map, arith, refl, sym, ap, ◌∙◌, subst}
 use Rattle.std.proofs.lemmas.Option.{slice_get_within}
-use Rattle.office_base.proofs.Options.{none_from}
 use Rattle.office_base.specs.Lists.{Pairwise}
 use Rattle.office_base.specs.declared.person.CandId.{CandId}
 use Rattle.office_base.specs.declared.person.Person.{Person}
@@ -10,7 +9,7 @@ use Rattle.section_rows.specs.Rows.{Row, rows_of}
 use Rattle.section_rows.specs.declared.fault.TableFault.TheVariants.{Bad, OutOfMemory as NoMemory}
 use Rattle.slot_cert.specs.Laws.{OneCertificate}
 use Rattle.kept_rows.specs.declared.rows.AllotRow.{AllotRow}
-use Rattle.rank_lists.specs.Register.{AreRanks, Ranks}
+use Rattle.rank_lists.specs.Register.{Ranks}
 use Rattle.seat_matrix.specs.Matrix.{SeatTable}
 use Rattle.choice_lists.specs.Choices.{IsRead, Lists, list_of}
 use Rattle.choice_lists.specs.Laws.{CarryOver, DependOnPeopleAndProgrammes, HaveOneReading}
@@ -23,17 +22,18 @@ use Rattle.round_laws.proofs.People.{there_is}
 use Rattle.round_laws.proofs.Season.{aligned_length, length_lists, list_at_place}
 use Rattle.office_moves.specs.Facts.{IsSound, SeasonFacts, register_of}
 use Rattle.office_moves.specs.Raised.{total_seats}
-use Rattle.office_moves.specs.Season.{facts_of}
+use Rattle.season_facts.specs.Season.{facts_of}
 use Rattle.office_moves.specs.State.{State}
 use Rattle.published_texts.specs.Texts.{round_text}
 use Rattle.special_round.specs.Remaining.{IsRemaining}
-use Rattle.special_round.specs.Season.{IsLeftSeason, IsSpecialFault}
+use Rattle.special_round.specs.Season.{IsSpecialFault}
 use Rattle.special_round.specs.Special.{IsSpecialOver, all_whole}
 use Rattle.special_round.specs.declared.fault.SpecialFault.{SpecialFault}
 use Rattle.special_round.specs.declared.fault.SpecialFault.TheVariants.{Admitted, Lists as BadLists, NotFinal, OutOfMemory}
 use Rattle.special_round.specs.declared.round_over.Special.{Special}
 use Rattle.special_texts.specs.Texts.{special_line, special_text}
 use Rattle.kept_outputs.proofs.Tokens.{kept_so}
+use Rattle.court_laws.proofs.Special.{left_sound}
 use Rattle.special_outputs.proofs.Remaining.{Rising, one_remaining}
 use Rattle.round_laws.proofs.OneRound.{same_places as at_each}
 
@@ -47,18 +47,6 @@ pub record IsMade (facts : SeasonFacts) (table : SeatTable) (rows : List AllotRo
   pub vacant : special.vacant ≡ total_seats table - length rows
   pub round : IsRound facts.version special.season.matrix facts.people (lists_in special.season.choices) 1 (all_whole facts.people) special.round
   pub sound : IsSound (facts_of special.season)
-
--- the season that final rows leave of a sound one is sound
-left_sound : (facts : SeasonFacts) (table : SeatTable) (rows : List AllotRow) (body : List ℕ) (season : Season) → IsSound facts → IsLeftSeason facts table rows body season → IsSound (facts_of season)
-left_sound facts table rows body season sound left = record {
-  version = season.known_version;
-  rounds = (season.some_rounds, season.few_rounds);
-  ranks = subst AreRanks (sym left.register) sound.ranks;
-  seats = left.seats;
-  choices = season.sound;
-  aligned = season.aligned;
-  clerk = none_from _ season.clerk_apart;
-}
 
 pub made : (facts : SeasonFacts) (table : SeatTable) (rows : List AllotRow) (body : List ℕ) (special : Special) → IsSound facts → IsSpecialOver facts table rows body special
     → IsMade facts table rows body special

@@ -6,7 +6,7 @@ use Rattle.command_answers.specs.declared.status.Status.{Status}
 use Rattle.special_command.specs.Special.{EndsSpecial}
 use Rattle.kept_outputs.specs.Laws.{IsVisible}
 
--- Two runs over the same bytes and the same visible tables that end with the same status write the same.
+-- Two runs over the same bytes and the same visible tables that both end with an answer end with the same status and write the same.
 abbrev pub SpecialsAreOne : Type 0
-SpecialsAreOne = (bytes output again : List ℕ) (before after later : Tables) (status : Status) → IsAnswered status → IsVisible before after → IsVisible before later
-    → EndsSpecial (Some bytes) before after status output → EndsSpecial (Some bytes) before later status again → output ≡ again
+SpecialsAreOne = (bytes output again : List ℕ) (before after later : Tables) (status other : Status) → IsAnswered status → IsAnswered other → IsVisible before after → IsVisible before later
+    → EndsSpecial (Some bytes) before after status output → EndsSpecial (Some bytes) before later other again → (status ≡ other) × (output ≡ again)

@@ -1,7 +1,8 @@
 // The law that `special` writes the same for the same input. It is the contract of a function that does nothing.
 ghost use Rattle.special_outputs.specs.Laws.{SpecialsAreOne};
 
-/// Two runs of `special` over the same bytes and the same visible records write the same.
+/// Two runs of `special` over the same bytes and the same visible records, both with an answer, end with the same status
+/// and write the same.
 pub fn specials_are_one()
     ensures { SpecialsAreOne }
 {

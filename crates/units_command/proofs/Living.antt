@@ -16,10 +16,10 @@ use Rattle.office_moves.specs.Facts.{IsSound, SeasonFacts, code_in}
 use Rattle.office_moves.specs.History.{Reaches}
 use Rattle.office_moves.specs.Moves.{row_before, rows_along}
 use Rattle.office_moves.specs.Promise.{kept_to_the_end, standing_then}
-use Rattle.office_moves.specs.Season.{facts_of}
+use Rattle.season_facts.specs.Season.{facts_of}
 use Rattle.office_moves.specs.State.{State, opening, seat_in}
 use Rattle.office_moves.specs.declared.moves.Entry.{Entry}
-use Rattle.office_moves.proofs.Sound.{given_sound}
+use Rattle.season_facts.proofs.Sound.{given_sound}
 use Rattle.round_options.specs.Options.{holds}
 use Rattle.histories.specs.Course.{IsCourse}
 use Rattle.histories.proofs.Fits.{seat_is}

@@ -10,7 +10,7 @@ use Rattle.kept_rows.specs.Tables.{Tables}
 use Rattle.kept_rows.specs.declared.rows.AllotRow.{AllotRow}
 use Rattle.office_moves.specs.Facts.{SeasonFacts, code_in}
 use Rattle.office_moves.specs.History.{Reaches}
-use Rattle.office_moves.specs.Season.{facts_of}
+use Rattle.season_facts.specs.Season.{facts_of}
 use Rattle.office_moves.specs.State.{State, opening, seat_in}
 use Rattle.office_moves.specs.declared.moves.Entry.{Entry}
 use Rattle.quota_units.specs.Expansion.{IsExpansion}

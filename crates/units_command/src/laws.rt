@@ -3,7 +3,7 @@ ghost use Rattle.std.specs.Prelude.{◌≡◌, ℕ, true, List};
 ghost use Rattle.office_base.specs.declared.asks.Request.{Request};
 ghost use Rattle.season_file.specs.Season.{IsSeasonWith};
 ghost use Rattle.season_file.specs.declared.season.Season.{Season};
-ghost use Rattle.office_moves.specs.Season.{facts_of};
+ghost use Rattle.season_facts.specs.Season.{facts_of};
 ghost use Rattle.quota_units.specs.Expansion.{IsExpansion};
 ghost use Rattle.command_answers.specs.Answers.{HaveOneAnswer};
 ghost use Rattle.units_command.specs.Units.{AlwaysLiveRight, units_answers};
