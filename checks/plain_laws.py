@@ -1,10 +1,9 @@
 #!/usr/bin/env python3
-"""What the rule is worth to the people under it, tried on drawn markets: the program held against laws, and not against another program.
+"""What the rule is worth to the people under it, tried on drawn markets: the program held against laws and theorems, and not against another program.
 
     checks/plain_laws.py PROGRAM [SHARE [SEED]]     all of the drawing, or a share of it as 0.1, from this seed on; else from seed 1
 
-checks/repository --try draws a tenth. A market has 2 to 6 candidates of all categories, with traits, relaxed places and up to 3 merit lists, and
-1 to 3 programmes with protections, under both versions. The program gets it as a bundle under `run memory`. The laws:
+checks/repository --try draws a tenth. checks/plain_markets.py draws the markets, and the program gets each as a bundle under `run memory`. The laws:
 
 - rural hospitals: all fair allocations of a round seat the same people and fill as many seats of each programme, and the published round is one of them;
 - one round is strategy-proof: no other list gives a candidate a seat in round 1 that is earlier on the true list;
@@ -13,7 +12,25 @@ checks/repository --try draws a tenth. A market has 2 to 6 candidates of all cat
 - de-reservation comes last: no seat of a category stays empty while the programme refuses one of that category, and only seats that categories left are
   given to others;
 - the order within a window does not matter: the same answers of each candidate and the same raises, in another order, give the same replies, rounds and
-  final admissions."""
+  final admissions.
+
+The theorems of a round (checks/plain_theorems.py):
+
+- closing places decide: your seat is of the first programme that you sought in which a seat that you may have is of somebody who is no better than you and
+  holds no trait that you lack;
+- only the round is safe: if your list ends with your seat, every fair allocation gives you that seat, so a rule that gives you less rewards the shorter list;
+- no seat is wasted: if a step has an empty seat, everybody who sought it and may have it has a seat there, or one that they sought more;
+- de-reservation hurts nobody: version 2 gives nobody less than version 1, and version 1 nobody less than the rule without de-reservation;
+- only the order counts: other places in the same order, other ids and another order of the register change no seat;
+- no group gains: no lists that some candidates hand in together give each of them a better seat.
+
+And those of the rounds of a season, with answers and raises:
+
+- no vacancy fills by itself: no programme has more holders than in the round before, but for as many as its seats were raised by;
+- cutoffs decide a programme: one candidate more is admitted by the first step whose cutoff they are within, and else by none; at each step,
+  checks/plain_cutoffs.py tries one candidate more at every place;
+- cutoffs decide a round: your seat is that of the first programme that you sought whose cutoffs you are within;
+- cutoffs only widen: no cutoff of a later round is stricter."""
 import collections
 import concurrent.futures
 import functools
@@ -22,115 +39,17 @@ import os
 import re
 import sys
 
-from cases import called, first_difference
+from cases import first_difference
+import plain_theorems
+from plain_markets import Market, Wrong, drawn_window, lists_in, may_have, rank, replies_of, seats_in
 from plain_office import STEPS, Office, Season
-from plain_trials import Draw, fair_ones, in_order
+from plain_trials import Draw, fair_ones
 
 # how many markets and seasons are drawn, and how many orders of each season are tried
 Drawn = collections.namedtuple("Drawn", "markets seasons orders")
 ALL = Drawn(2000, 600, 4)
-CATEGORIES = ("GEN", "EWS", "OBC", "SC", "ST")
 # which categories leave their empty seats to others, by the version of the bundle
 LEAVING = {1: ("OBC",), 2: ("EWS", "OBC")}
-
-# ---- markets
-
-
-def register_of(draw, people, lists):
-    """The rows of candidates, each with a place in most of the merit lists."""
-    merit = [in_order(tuple(range(1, people + 1)), draw.below(720)) for _ in range(lists)]
-    for number, places in enumerate(zip(*merit), 1):
-        category = CATEGORIES[draw.of(10, (4, 0), (6, 2), (8, 1), (9, 3), (10, 4))]
-        traits = draw.of(8, (2, "W"), (3, "D"), (4, "WD"), (8, "-"))
-        fields = [f"{place}{'R' if category != 'GEN' and draw.below(3) == 0 else ''}" if draw.below(9) else "" for place in places]
-        yield f"{number},{category},{traits},tok0000{number},{','.join(fields)}".rstrip(",")
-
-
-def matrix_of(draw, codes, lists):
-    """The rows of programmes: most have a merit list of their own and few open seats, and some have steps of categories."""
-    for at, code in enumerate(codes):
-        merit = at % lists + 1 if draw.below(6) else draw.below(lists) + 1
-        institute = draw.below(2) + 1
-        for step in CATEGORIES:
-            seats = draw.of(8, (1, 0), (6, 1), (8, 2)) if step == "GEN" else draw.of(8, (5, 0), (7, 1), (8, 2))
-            women = min(draw.below(2), seats)
-            disabled = min(draw.of(3, (2, 0), (3, 1)), seats - women)
-            if step == "GEN" or seats:
-                yield f"{code},I{institute},{merit},{'OPEN' if step == 'GEN' else step},{seats},{women or ''},{disabled or ''}".rstrip(",")
-
-
-def spelled(rounds, version, register, matrix, choices):
-    text = f"office bundle {version}\n[season]\nrounds,{rounds}\nclerk,clerk0001\n[register]\nid,category,traits,token,m1,m2,m3,m4\n"
-    text += "".join(f"{it}\n" for it in register) + "[matrix]\nprogramme,institute,list,step,seats,W,D,X,S,F,L\n"
-    text += "".join(f"{it}\n" for it in matrix) + "[choices]\ncandidate,programmes\n"
-    return text + "".join(f"{cand},{','.join(own)}\n" for cand, own in sorted(choices.items()) if own)
-
-
-class Market:
-    """A drawn bundle up to its requests, in its parts, so that a list can be replaced."""
-
-    def __init__(self, draw, rounds=1):
-        people, lists = draw.of(12, (1, 2), (2, 3), (5, 4), (8, 5), (12, 6)), draw.of(6, (1, 1), (3, 2), (6, 3))
-        codes, plain = "ABC"[: draw.of(8, (1, 1), (3, 2), (8, 3))], draw.below(3) == 0
-        self.rounds, self.version = rounds, draw.below(2) + 1
-        lists = len(codes) if plain else lists
-        self.register, self.matrix = [*register_of(draw, people, lists)], [*matrix_of(draw, codes, lists)]
-        if plain:
-            # open seats alone, one of each programme, in merit lists of their own: several allocations are fair more often
-            self.matrix = [",".join([code, f"I{at % 2 + 1}", f"{at % lists + 1}", "OPEN,1"]) for at, code in enumerate(codes)]
-            self.register = [row.replace("R", "") for row in self.register]
-        bare = Season(self.text({}))
-        self.listable = {it.id: [code for code in codes if it.place(bare.merit(code))] for it in bare.people}
-        self.choices = {cand: in_order(own, draw.below(6))[: draw.of(8, (1, 1), (2, 2), (8, 3))] for cand, own in self.listable.items()}
-        if draw.below(2):
-            # everybody likes best where the others are better
-            place = {(it.id, code): it.place(bare.merit(code)) for it in bare.people for code in self.listable[it.id]}
-            self.choices = {cand: sorted(own, key=lambda code: -place[cand, code]) for cand, own in self.choices.items()}
-        self.candidate = draw.below(people) + 1
-
-    def text(self, choices):
-        return spelled(self.rounds, self.version, self.register, self.matrix, choices)
-
-    def other_lists(self):
-        """All other lists of the drawn candidate."""
-        own = self.listable[self.candidate]
-        every = itertools.chain.from_iterable(itertools.permutations(own, count) for count in range(len(own) + 1))
-        return [[*it] for it in every if [*it] != self.choices[self.candidate]]
-
-
-# ---- what the program publishes
-
-
-class Wrong(Exception):
-    """What the program does against a law."""
-
-
-def replies_of(program, text, rows):
-    given = f"{text}[requests]\n" + "".join(f"{it}\n" for it in rows)
-    wrote, status = called(program, ["run", "memory"], given.encode(), "/")
-    if status:
-        raise Wrong(f"it ended with status {status} after {wrote!r:.80}")
-    return wrote.decode()
-
-
-def seats_in(replies):
-    """The seat of each candidate in a published round: programme and step."""
-    return {int(cand): (code, step) for cand, code, step in re.findall(r"^allot (\d+) (\S+) (\S+)$", replies, re.M)}
-
-
-def lists_in(replies):
-    """For each programme whose lists were asked for, its steps with their seats and who is admitted."""
-    found = {}
-    for code, body in re.findall(r"^list 1 (\S+)\n(.*?)^end list$", replies, re.M | re.S):
-        steps = re.findall(r"^step (\w+) seats (\d+) candidates \d+ admitted \d+\nhonoured \d+\n((?:\d+ \S\n)*)", body, re.M)
-        found[code] = {step: (int(seats), [int(it.split()[0]) for it in people.splitlines()]) for step, seats, people in steps}
-    return found
-
-
-def rank(own, seat):
-    """The place of a seat on a list: the smaller the better, and none is last."""
-    return own.index(seat[0]) if seat and seat[0] in own else len(own)
-
 
 # ---- the laws of a round
 
@@ -155,12 +74,6 @@ def strategy_proof(program, market, seats, found):
         found["other lists that lose a seat"] += rank(own, given.get(cand)) > rank(own, seats.get(cand))
         if rank(own, given.get(cand)) < rank(own, seats.get(cand)):
             raise Wrong(f"candidate {cand} gets {given[cand]} by the list {other}, and {seats.get(cand)} by the true one, {own}")
-
-
-def may_have(person, season, code, step):
-    """Whether a person may have a seat of a step of a programme."""
-    merit = season.merit(code)
-    return person.place(merit) is not None and (person.is_common(merit) if step in ("OPEN", "D") else person.category == step)
 
 
 def no_envy(season, seats, found):
@@ -188,8 +101,8 @@ def dereserved_last(season, seats, lists, found):
             raise Wrong(f"{code} gives {given} seats to others, and its categories left {left}")
 
 
-def fault_of_market(program, label, market, found):
-    """Why the first round of a market is against a law, or None. What was seen is counted."""
+def fault_of_market(program, label, market, draw, found):
+    """Why the first round of a market is against a law, or None. What was seen is counted. The other numbers and the group are drawn."""
     try:
         text = market.text(market.choices)
         season = Season(text)
@@ -201,29 +114,16 @@ def fault_of_market(program, label, market, found):
         no_envy(season, seats, found)
         dereserved_last(season, seats, lists, found)
         strategy_proof(program, market, seats, found)
+        plain_theorems.only_the_round_is_safe(season, seats, found)
+        plain_theorems.dereservation_hurts_nobody(program, market, found)
+        plain_theorems.only_the_order_counts(program, draw, market, seats, found)
+        plain_theorems.no_group_gains(program, draw, market, season, seats, found)
     except Wrong as why:
         return f"{label}: {why}"
     return None
 
 
 # ---- the law of a season
-
-
-def drawn_window(draw, office):
-    """The rows of a window by who asks: the answers of each candidate, and the raises. Some are refused."""
-    season, window, rows = office.season, office.cuts, {}
-    for person in season.people:
-        for _ in range(draw.of(6, (1, 0), (4, 1), (6, 2))):
-            choice = draw.of(12, (5, "float"), (8, "slide"), (10, "freeze"), (12, "withdraw" if draw.below(3) == 0 else "float"))
-            row = f"answer,{person.id},{person.id},{window},{office.last_turn(person.id, window) + 1},{choice}"
-            rows.setdefault(person.id, []).append(row)
-            office.reply(row)
-    for code in season.programmes:
-        if draw.below(3) == 0:
-            row = f"raise,clerk,{window},{code},{draw.of(3, (2, 'OPEN'), (3, 'OBC'))},{draw.below(3) + 1}"
-            rows.setdefault("raises", []).append(row)
-            office.reply(row)
-    return rows
 
 
 def merged(draw, rows):
@@ -273,6 +173,15 @@ def fault_of_orders(program, label, text, orders, found):
     return None
 
 
+def fault_of_rounds(program, label, text, draw, found):
+    """Why the rounds of a season, with drawn answers and raises, are against a theorem, or None."""
+    try:
+        plain_theorems.hold_rounds(program, draw, text, found)
+    except Wrong as why:
+        return f"{label}: {why}"
+    return None
+
+
 # ---- all of it
 
 # what has to come at least, of all that is drawn
@@ -283,6 +192,18 @@ LEAST = {
     "seats of the de-reserved step": 400,
     "other orders": 1200,
     "accepted answers and raises": 3000,
+    "seats that closing places tell": 2500,
+    "fair allocations that reward a shorter list": 100,
+    "empty seats that somebody sought": 2500,
+    "markets that de-reservation changes": 600,
+    "seats after other numbers": 4000,
+    "groups of whom some gain": 100,
+    "programmes with fewer holders than before": 150,
+    "programmes with more holders after a raise": 20,
+    "newcomers whom a programme admits": 6000,
+    "newcomers whom a programme refuses": 4000,
+    "seats that cutoffs tell": 2500,
+    "cutoffs that widen": 1500,
 }
 
 
@@ -292,12 +213,18 @@ class Laws:
     def __init__(self, program, share, seed=1):
         self.share, self.tried, self.seen, draw = share, [], collections.Counter(), Draw(seed)
         for number in range(round(ALL.markets * share)):
-            self.tried.append(functools.partial(fault_of_market, program, f"laws, market {number} of seed {seed}", Market(draw), self.seen))
+            own = Draw(seed * 65537 + number)
+            self.tried.append(functools.partial(fault_of_market, program, f"laws, market {number} of seed {seed}", Market(draw), own, self.seen))
         for number in range(round(ALL.seasons * share)):
             market = Market(draw, draw.below(3) + 1)
             text = market.text(market.choices)
             orders = [*drawn_orders(draw, Season(text), ALL.orders)]
             self.tried.append(functools.partial(fault_of_orders, program, f"laws, season {number} of seed {seed}", text, orders, self.seen))
+
+        for number in range(round(ALL.seasons * share)):
+            own = Draw(seed * 257 + number)
+            market = Market(own, own.below(3) + 1)
+            self.tried.append(functools.partial(fault_of_rounds, program, f"laws, rounds {number} of seed {seed}", market.text(market.choices), own, self.seen))
 
     def lacking(self):
         """Of what too little was seen, so that a law would hold of nothing; to be asked when all was tried. A share may have less by chance."""
