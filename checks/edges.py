@@ -4,9 +4,11 @@ import contextlib
 import functools
 import os
 import resource
+import shutil
 import signal
 import sqlite3
 import subprocess
+import sys
 import tempfile
 import time
 
@@ -167,6 +169,56 @@ def open_elsewhere(room, program, bundle):
     return is_so("resume of a store that is being written", came, NO_STORE) or is_so("resume after that", ended(words, room, **asks), told)
 
 
+def crashed_store(room, program):
+    """The bytes of a store and of its log, which a killed run left, with frames in the log."""
+    bundle, path = ended([program, "generate", "200", "7", "text"], room)[0], f"{room}/season.db"
+    with tempfile.TemporaryFile() as source:
+        source.write(bundle)
+        source.seek(0)
+        office = subprocess.Popen([program, "run", "season.db"], cwd=room, stdin=source, stdout=subprocess.DEVNULL)
+    while office.poll() is None and (not os.path.exists(f"{path}-wal") or os.path.getsize(f"{path}-wal") < 300_000):
+        time.sleep(0.002)
+    office.kill()
+    office.wait()
+    return bytes_of(path)
+
+
+def bytes_of(path):
+    """The bytes of a store and of its log."""
+    found = []
+    for name in (path, f"{path}-wal"):
+        with open(name, "rb") as it:
+            found.append(it.read())
+    return found
+
+
+def with_files(path, files):
+    """Makes a store and its log of these bytes."""
+    for name, content in zip((path, f"{path}-wal"), files):
+        with open(name, "wb") as it:
+            it.write(content)
+
+
+@in_a_room
+def damaged_head(room, program, _bundle):
+    """The log of a killed run with one damaged bit in each byte of its head, with zeros there, or cut within it: the store is refused and neither file changes.
+    Undamaged it resumes, and so does the store with all that the log held, next to that log with a first byte of 0: a checkpoint that was cut short leaves it so."""
+    path, (store, log) = f"{room}/season.db", crashed_store(room, program)
+    heads = [log[:at] + bytes([log[at] ^ 1 << at % 8]) + log[at + 1:] for at in range(32)]
+    for head in [*heads, bytes(512) + log[512:], log[:20]]:
+        with_files(path, (store, head))
+        came = ended([program, "resume", "season.db"], room, input=b"")
+        fault = is_so("resume of a store whose log has a damaged head", came, NO_STORE)
+        if fault or bytes_of(path) != [store, head]:
+            return fault or "resume of a store whose log has a damaged head: a file was changed"
+    with_files(path, (store, log))
+    asks = {"input": b"state,nobody\n"}
+    told = ended([program, "resume", "season.db"], room, **asks)
+    with_files(path, (bytes_of(path)[0], b"\0" + log[1:]))
+    again = ended([program, "resume", "season.db"], room, **asks)
+    return is_so("resume of a store that a killed run left", told, (told[0], b"", 0)) or is_so("resume of one whose checkpoint was cut short", again, told)
+
+
 # ---- memory and disk
 
 
@@ -223,11 +275,57 @@ def full_disk(room, program):
 
 
 @in_a_room
-def launcher_forms(room, words):
-    """Words of no command: the launcher prints the forms, without any proof."""
+def launcher_forms(room, words, lacks):
+    """Words of no command: the launcher says what they lack and prints the forms, without any proof."""
     _, said, status = ended([f"{TOP}/office", *words], room)
-    wants = [b"    ./office run STORE ", b"    ./office try WORDS.. "]
+    wants = [lacks, b"    ./office run STORE ", b"    ./office try WORDS.. "]
     return None if status == 2 and all(it in said for it in wants) else f"./office {' '.join(words)}: ended with status {status} and printed {said!r:.200}"
+
+
+@in_a_room
+def launcher_help(room, word):
+    """The forms, when they are asked for."""
+    wrote, said, status = ended([f"{TOP}/office", word], room)
+    return None if (status, said) == (0, b"") and b"    ./office run STORE " in wrote else f"./office {word}: ended with status {status} and printed {wrote!r:.200}"
+
+
+def launcher_of(room, program):
+    """A launcher of its own, for which the program is the built one, and the season program too; none has sources."""
+    for name in ("allocation_cli", "season_program") if program else ():
+        os.makedirs(f"{room}/crates/{name}/out")
+        os.symlink(program, f"{room}/crates/{name}/out/{name}")
+    os.makedirs(f"{room}/crates", exist_ok=True)
+    with open(f"{room}/crates.txt", "w", encoding="ascii"):
+        pass
+    os.utime(f"{room}/crates.txt", (0, 0))
+    shutil.copytree(f"{TOP}/tools", f"{room}/tools")
+    shutil.copy(f"{TOP}/office", f"{room}/office")
+    return f"{room}/office"
+
+
+@in_a_room
+def launcher_without_kit(room, words):
+    """Neither a program nor the kit: the launcher says what is missing first, and advises nothing that cannot work."""
+    office = launcher_of(room, None)
+    os.makedirs(f"{room}/bin")
+    _, said, status = ended([sys.executable, office, *words], room, env={"PATH": f"{room}/bin"})
+    return None if status == 1 and b"the kit is missing" in said and b"office try" not in said else f"./office {' '.join(words)} without the kit: ended with status {status} and printed {said!r:.300}"
+
+
+@in_a_room
+def launcher_explains(room, program, bundle, words):
+    """An input with a fault: the output is the program's, and the launcher shows the row and the field; a store is left as it is."""
+    office, wrong = launcher_of(room, program), bundle.replace(b"2,GEN,-,", b"2,general,-,", 1)
+    with open(f"{room}/bundle.txt", "wb") as it:
+        it.write(wrong)
+    with open(f"{room}/bundle.txt", "rb") as it:
+        wrote, said, status = ended([sys.executable, office, *words], room, stdin=it)
+    if (wrote, status) != (b"fault: register row 3 BadCategory\n", 3):
+        return f"./office {' '.join(words)}: ended with status {status} and wrote {wrote!r:.100}"
+    if b"category is `general`: a category is GEN" not in said or b"tok00002" in said:
+        return f"./office {' '.join(words)}: it explains a fault by {said!r:.300}"
+    piped = ended([sys.executable, office, *words], room, input=wrong)
+    return None if piped[2] == 3 and b"tools/explain" in piped[1] else f"./office {' '.join(words)}: of a pipe it says {piped[1]!r:.300}"
 
 
 def trials(program, bundle, sheet):
@@ -236,8 +334,28 @@ def trials(program, bundle, sheet):
         yield functools.partial(closed_input, program, bundle, words)
     for given, words in ((sheet, ["step"]), (bundle, ["check"]), (bundle, ["run", "memory"]), (b"", ["generate", "2", "1", "text"]), (b"", ["generate", "2", "1", "run"]), (b"", ["nothing"])):
         yield functools.partial(full_output, program, given, words)
-    for trial in (lost_replies, not_a_store, only_read, open_elsewhere, little_memory):
+    for trial in (lost_replies, not_a_store, only_read, open_elsewhere, damaged_head, little_memory):
         yield functools.partial(trial, program, bundle)
     yield functools.partial(full_disk, program)
-    for words in ([], ["nothing"], ["run"], ["try"], ["try", "step", "now"]):
-        yield functools.partial(launcher_forms, words)
+    yield from launcher_trials(program, bundle)
+
+
+def launcher_trials(program, bundle):
+    """What is tried of the launcher."""
+    for words, lacks in (
+        ([], b"no command was given"),
+        (["nothing"], b"there is no command `nothing`"),
+        (["run"], b"`run` needs STORE: `memory` or a file"),
+        (["serve", "9", "2", "new", "80"], b"needs STORE: `memory` or a file"),
+        (["generate", "9"], b"needs SEED (0 to 4,294,967,295), `text` or `run`"),
+        (["check", "it"], b"but as `check`"),
+        (["try"], b"no command was given"),
+        (["try", "step", "now"], b"but as `step`"),
+    ):
+        yield functools.partial(launcher_forms, words, lacks)
+    for word in ("--help", "help"):
+        yield functools.partial(launcher_help, word)
+    for words in (["check"], ["try", "check"], ["serve", "9", "2", "new", "80", "memory"]):
+        yield functools.partial(launcher_without_kit, words)
+    for words in (["check"], ["run", "memory"], ["run", "season.db"]):
+        yield functools.partial(launcher_explains, os.path.abspath(program), bundle, words)

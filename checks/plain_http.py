@@ -88,8 +88,11 @@ def replied(row, text):
         "final": lambda _, admitted: {"admitted": int(admitted)},
         "seat": seat_told,
         "choices": lambda cand, *codes: {"cand": int(cand), "programmes": codes},
+        "register": register_told,
+        "answers": lambda cand, *_: {"answers": [answer_told(it) for it in text.splitlines()[1:-1]], "cand": int(cand)},
         "why": lambda cand, code, *_: {"cand": int(cand), "programme": code, "text": text},
         "list": lambda number, code: {"programme": code, "round": int(number), "text": text},
+        "cutoffs": lambda number, code: {"programme": code, "round": int(number), "text": text},
         "state": lambda _, now, __, rounds, ___, published: {"now": int(now), "published": int(published), "rounds": int(rounds)},
     }[word](*rest)
     return 200, compact({**told, "reply": word}).encode()
@@ -98,6 +101,17 @@ def replied(row, text):
 def seat_told(cand, _, number, standing, code, step=None):
     """A seat; without one there is no step, and the word `none` is its code."""
     return {"cand": int(cand), "programme": code if step else None, "round": int(number), "standing": standing, "step": step}
+
+
+def register_told(cand, category, traits, *places):
+    """An entry of the register; the word for no place is a dash."""
+    return {"cand": int(cand), "category": category, "places": [None if it == "-" else it for it in places], "traits": traits}
+
+
+def answer_told(receipt):
+    """An answer, from its receipt."""
+    _, _, _, window, _, turn, choice = receipt.split(" ")
+    return {"choice": choice, "turn": int(turn), "window": int(window)}
 
 
 def refused(number, name, *detail):

@@ -5,6 +5,7 @@ their lists, each programme choosing anew from all who applied; a step chooses b
 every placement. So it serves for a handful of candidates. It reads the forms of docs/FORMATS.md by itself, and knows of no fault in them."""
 import functools
 import itertools
+import math
 
 STEPS = ("OPEN", "EWS", "OBC", "SC", "ST", "D")
 TRAITS = "WDXSFL"
@@ -123,7 +124,7 @@ class StepList:
 
     def __init__(self, step, seats, protections, people):
         traits = tuple(it.traits for it in people)
-        self.step, self.seats, self.candidates = step, seats, len(people)
+        self.step, self.seats, self.protections, self.people, self.candidates = step, seats, protections, people, len(people)
         self.admitted = [people[at] for at in chosen(traits, seats, protections)]
         self.letters = certificate(tuple(it.traits for it in self.admitted), protections)
 
@@ -141,6 +142,24 @@ def lists_of(season, seats, code, applicants):
         taken |= {it.id for it in found.admitted}
         lists.append(found)
     return lists
+
+
+def cutoff_of(found, merit, traits):
+    """The last place with which a step admits one candidate more of these traits: 0 for none, infinity for every place. The candidate is tried before each who stood for the step, and behind all."""
+    people = tuple(it.traits for it in found.people)
+    tried = range(len(people), -1, -1)
+    last = next((at for at in tried if at in chosen((*people[:at], traits, *people[at:]), found.seats, found.protections)), None)
+    if last is None:
+        return 0
+    return math.inf if last == len(people) else found.people[last].place(merit)
+
+
+def cutoffs_of(found, merit):
+    """The lines of a step: each set of protected traits whose place is worse than that of each smaller set, with that place."""
+    letters = [letter for letter, count in zip(TRAITS, found.protections) if count]
+    sets = sorted(("".join(it) for size in range(len(letters) + 1) for it in itertools.combinations(letters, size)), key=lambda it: sum(1 << TRAITS.index(letter) for letter in it))
+    last = {it: cutoff_of(found, merit, it) for it in sets}
+    return [(it, last[it]) for it in sets if all(last[it] > last[other] for other in sets if set(other) < set(it)) and last[it]]
 
 
 class Round:
@@ -314,6 +333,19 @@ class Office:
     def reply_to_choices(self, by, cand):
         return self.refused_own(by, cand) or " ".join(["choices", str(cand), *self.season.choices.get(cand, [])]) + "\n"
 
+    def reply_to_register(self, by, cand):
+        if self.refused_own(by, cand):
+            return self.refused_own(by, cand)
+        person = self.season.person(cand)
+        return " ".join(["register", str(cand), person.category, person.traits or "-", *(it or "-" for it in person.places[:4])]) + "\n"
+
+    def reply_to_answers(self, by, cand):
+        if self.refused_own(by, cand):
+            return self.refused_own(by, cand)
+        kept = sorted((window, turn, choice) for window, who, turn, choice in self.answers if who == cand)
+        receipts = (f"noted {cand} window {window} turn {turn} {choice}\n" for window, turn, choice in kept)
+        return f"answers {cand} noted {len(kept)}\n{''.join(receipts)}end answers\n"
+
     def reply_to_why(self, by, cand, code):
         person, own = self.season.person(cand), self.season.choices.get(cand, [])
         if not person:
@@ -343,11 +375,23 @@ class Office:
                 worse = any(it.place(merit) > person.place(merit) for it in found.admitted)
                 yield f"{found.step} seats {found.seats} worse {'yes' if worse else 'no'}\n"
 
-    def reply_to_list(self, _, number, code):
+    def refused_shown(self, number, code):
+        """Why a question about a programme in a round is refused, or None."""
         if code not in self.season.programmes:
             return "refused 2 UnknownProgramme\n"
-        if not 1 <= number <= len(self.rounds):
-            return f"refused 14 NoSuchRound published {len(self.rounds)}\n"
+        return None if 1 <= number <= len(self.rounds) else f"refused 14 NoSuchRound published {len(self.rounds)}\n"
+
+    def reply_to_cutoffs(self, _, number, code):
+        if self.refused_shown(number, code):
+            return self.refused_shown(number, code)
+        merit = self.season.merit(code)
+        lines = ((found.step, *line) for found in self.rounds[number - 1].lists[code] for line in cutoffs_of(found, merit))
+        told = "".join(f"{step} {traits or '-'} {'any' if last == math.inf else last}\n" for step, traits, last in lines)
+        return f"cutoffs {number} {code}\n{told}end cutoffs\n"
+
+    def reply_to_list(self, _, number, code):
+        if self.refused_shown(number, code):
+            return self.refused_shown(number, code)
         text = f"list {number} {code}\n"
         for it in self.rounds[number - 1].lists[code]:
             text += step_lines(f"{it.step} ", it.seats, it.candidates, [person.id for person in it.admitted], it.letters)

@@ -12,6 +12,9 @@ answer,2,2,1,1,slide,,
 ,,
 seat,clerk,2
 choices,4,4
+register,4,4
+answers,2,2
+cutoffs,3,1,B
 why,3,3,A
 list,nobody,1,B
 round,5,1
@@ -71,8 +74,11 @@ FIELDS = {
     "cut": (is_short,),
     "seat": (is_candidate,),
     "choices": (is_candidate,),
+    "register": (is_candidate,),
+    "answers": (is_candidate,),
     "why": (is_candidate, is_code),
     "list": (is_short, is_code),
+    "cutoffs": (is_short, is_code),
     "round": (is_short,),
     "state": (),
     "raise": (is_short, is_code, is_step, is_raised),

@@ -61,16 +61,16 @@ class Draw:
         """A request to an office that is as far as this one, as a row of a script."""
         window, cand = self.near(office.cuts), self.candidate()
         code = self.of(16, (1, "Z"), (6, "A"), (11, "B"), (16, "C"))
-        kinds = ((2, "cut"), (3, "seat"), (4, "choices"), (6, "why"), (7, "list"), (8, "round"), (9, "state"), (11, "raise"), (22, "answer"))
-        kind = self.of(22, *kinds)
+        kinds = ((2, "cut"), (3, "seat"), (4, "choices"), (5, "register"), (6, "answers"), (8, "why"), (9, "list"), (10, "cutoffs"), (11, "round"), (12, "state"), (14, "raise"), (25, "answer"))
+        kind = self.of(25, *kinds)
         usual, fields = str(cand), []
         if kind == "cut":
             usual, fields = "clerk", [window]
-        elif kind in ("seat", "choices"):
+        elif kind in ("seat", "choices", "register", "answers"):
             fields = [cand]
         elif kind == "why":
             fields = [cand, code]
-        elif kind == "list":
+        elif kind in ("list", "cutoffs"):
             usual, fields = "nobody", [window, code]
         elif kind == "round":
             usual, fields = "nobody", [window]
@@ -107,7 +107,7 @@ def drawn_script(season, draw, count):
 
 
 # What each reply begins with that comes on drawn scripts. The final admissions begin otherwise where they are asked for than where a cut makes them.
-REPLIES = ["noted", "raised", "published", "final admitted", "seat", "choices", "why", "list", "round", "final", "state"]
+REPLIES = ["noted", "raised", "published", "final admitted", "seat", "choices", "register", "answers", "why", "list", "cutoffs", "round", "final", "state"]
 REPLIES += [f"refused {it}" for it in (1, 2, 3, 5, 6, 7, 8, 9, 10, 11, 13, 14, 15, 17)]
 
 
@@ -338,9 +338,14 @@ def fault_of_damaged(program, label, season, script):
     return fault_of_output(program, label, ["check"], given, counts, status) or fault_of_output(program, label, ["run", "memory"], given, replies, status)
 
 
+def text_of(count, seed):
+    """The text of a generated season by the plain recipe."""
+    return "".join(f"{line}\n" for line in generated.generated(count, seed))
+
+
 def fault_of_text(program, count, seed):
     """Why a generated season is not the text of the plain recipe, or None."""
-    told = "".join(f"{line}\n" for line in generated.generated(count, seed))
+    told = text_of(count, seed)
     return fault_of_output(program, f"generate {count} {seed} text", ["generate", str(count), str(seed), "text"], "", told)
 
 

@@ -276,6 +276,7 @@ LEAVE = b'{"cand":2,"window":0,"turn":1,"choice":"withdraw"}'
 STATE = reply_bytes(200, b'{"now":0,"published":0,"reply":"state","rounds":2}')
 STATE_CLOSED = reply_bytes(200, b'{"now":0,"published":0,"reply":"state","rounds":2}', closes=True)
 LEFT = reply_bytes(200, b'{"cand":2,"choice":"withdraw","reply":"noted","turn":1,"window":0}')
+LEFT_LATER = LEFT.replace(b'"window":0', b'"window":1')
 CUTS = [
     reply_bytes(200, b'{"reply":"published","round":1,"seated":4}'),
     reply_bytes(200, b'{"reply":"published","round":2,"seated":1}'),
@@ -306,6 +307,20 @@ def as_choices(cand, *codes):
     return reply_bytes(200, b'{"cand":%d,"programmes":[%s],"reply":"choices"}' % (cand, ",".join(f'"{it}"' for it in codes).encode()))
 
 
+def as_entry(cand):
+    return reply_bytes(200, b'{"cand":%d,"category":"GEN","places":["%d",null,null,null],"reply":"register","traits":"-"}' % (cand, cand))
+
+
+def as_answers(cand, *answers):
+    told = ",".join(f'{{"choice":"{choice}","turn":{turn},"window":{window}}}' for window, turn, choice in answers)
+    return reply_bytes(200, b'{"answers":[%s],"cand":%d,"reply":"answers"}' % (told.encode(), cand))
+
+
+def as_cutoffs(number, code, *lines):
+    text = "".join(f"{it}\\n" for it in (f"cutoffs {number} {code}", *lines, "end cutoffs"))
+    return reply_bytes(200, b'{"programme":"%s","reply":"cutoffs","round":%d,"text":"%s"}' % (code.encode(), number, text.encode()))
+
+
 def not_published(count):
     return reply_bytes(404, b'{"name":"NoSuchRound","published":%d,"refused":14,"reply":"refused"}' % count)
 
@@ -313,6 +328,7 @@ def not_published(count):
 FIRST = as_round(1, "round 1 seated 4", "allot 1 A OPEN", "allot 2 B OPEN", "allot 3 C OPEN", "allot 4 E OPEN", "end round")
 NO_PAGES = ("nothing", "state/", "seat/0", "seat/01", "seat/+1", "seat/1000000000", "why/1", "list/65536/A", "list/1/A.B")
 NO_PAGES += ("round", "round/", "round/01", "round/65536", "round/1/A", "rounds/1", "choices/0", "choices/02", "choices/1000000000", "choices/2/A")
+NO_PAGES += ("cutoffs/1", "cutoffs/01/A", "cutoffs/65536/A", "cutoffs/1/A/", "cutoff/1/A", "register/0", "register/2/A", "answers/0", "answers/1000000000")
 
 # what is sent over one connection to the season of five candidates, and what comes back
 EXCHANGES = {
@@ -351,8 +367,8 @@ EXCHANGES = {
     "no page": (b"".join(get(target=f"/v1/{it}") for it in NO_PAGES), NONE * len(NO_PAGES)),
     "no page, nor a path": (get(target="http://127.0.0.1/v1/state") + get(target="/v1/%73tate") + get(target="*"), NONE * 3),
     "another method": (
-        get(target="/v1/cut") + b"".join(post(it, b"{}", length(2)) for it in ("state", "round/1", "choices/2")) + get().replace(b"GET", b"HEAD") + get().replace(b"GET", b"get"),
-        reply_bytes(405, allow="POST") + reply_bytes(405, allow="GET") * 5,
+        get(target="/v1/cut") + b"".join(post(it, b"{}", length(2)) for it in ("state", "round/1", "choices/2", "cutoffs/1/A", "register/2", "answers/2")) + get().replace(b"GET", b"HEAD") + get().replace(b"GET", b"get"),
+        reply_bytes(405, allow="POST") + reply_bytes(405, allow="GET") * 8,
     ),
     "rounds before the first cut and after it": (
         get(target="/v1/round/0") + get(target="/v1/round/1") + as_cut(0) + get(target="/v1/round/1") + get(SECOND, target="/v1/round/1?x=2") + get(target="/v1/round/2"),
@@ -365,6 +381,15 @@ EXCHANGES = {
     "choice lists, by the candidate, the clerk, another one and nobody": (
         get(SECOND, target="/v1/choices/2") + get(CLERK, target="/v1/choices/3") + get(SECOND, target="/v1/choices/3") + get(target="/v1/choices/2") + get(CLERK, target="/v1/choices/9"),
         as_choices(2, "A", "B") + as_choices(3, "B", "C") + NOT_ASKED * 2 + reply_bytes(404, b'{"name":"UnknownCandidate","refused":1,"reply":"refused"}'),
+    ),
+    "entries of the register and answers, by the candidate, the clerk, another one and nobody": (
+        get(SECOND, target="/v1/register/2") + get(CLERK, target="/v1/register/3?x") + get(SECOND, target="/v1/register/3") + get(SECOND, target="/v1/answers/2") + as_cut(0)
+        + as_answer(LEAVE.replace(b'"window":0', b'"window":1')) + get(SECOND, target="/v1/answers/2") + get(CLERK, target="/v1/answers/3") + get(target="/v1/answers/2"),
+        as_entry(2) + as_entry(3) + NOT_ASKED + as_answers(2) + CUTS[0] + LEFT_LATER + as_answers(2, (1, 1, "withdraw")) + as_answers(3) + NOT_ASKED,
+    ),
+    "cutoffs before the first cut and after it": (
+        get(target="/v1/cutoffs/1/A") + as_cut(0) + get(target="/v1/cutoffs/1/A") + get(SECOND, target="/v1/cutoffs/1/C?x=2") + get(target="/v1/cutoffs/2/A") + get(target="/v1/cutoffs/1/Z"),
+        not_published(0) + CUTS[0] + as_cutoffs(1, "A", "OPEN - 1") + as_cutoffs(1, "C", "OPEN - 3") + not_published(1) + reply_bytes(404, b'{"name":"UnknownProgramme","refused":2,"reply":"refused"}'),
     ),
     "another method, and the end": (get("Connection: close", target="/v1/cut"), reply_bytes(405, allow="POST", closes=True)),
     "bodies that are not what the page needs": (
@@ -394,7 +419,7 @@ def exchanges(room, program, bundle, cuts):
         with Server(program, room, label, 1, bundle=bundle) as server:
             same(label, server.talk([given[at : at + (cuts or len(given))] for at in range(0, len(given), cuts or len(given) or 1)]), told)
             wrote, _, status = server.ended()
-            entries = sum(it in told for it in (LEFT, *CUTS))
+            entries = sum(it in told for it in (LEFT, LEFT_LATER, *CUTS))
             want(status == 0 and wrote.endswith(f"entries {entries}\n"), label, f"it ended with status {status} and wrote {wrote!r}")
 
 
@@ -793,12 +818,12 @@ def one_connection(room, program, bundle):
             raise Wrong("one connection: another one is taken after the end")
 
 
-# ---- the tour of the README
+# ---- the tour of docs/HTTP.md
 
 
 def tour_of(text):
-    """The calls of `curl` in the part of the README that serves an office, each with the reply below it."""
-    part = text.partition("\n## The office over HTTP\n")[2].partition("\n## ")[0]
+    """The calls of `curl` in the part of the page that serves an office, each with the reply below it."""
+    part = text.partition("\n## A season with curl\n")[2].partition("\n## ")[0]
     blocks = [it.strip() for it in re.findall(r"(?:^ {4}.*\n)+", part, re.M)]
     return [(one, other) for one, other in zip(blocks, blocks[1:]) if one.startswith("curl ")], part
 
@@ -806,18 +831,18 @@ def tour_of(text):
 @trial
 def tour(room, program, bundle):
     """Each call of the tour is replied as it says there, and so is the end."""
-    with open(f"{TOP}/README.md", encoding="utf-8") as it:
+    with open(f"{TOP}/docs/HTTP.md", encoding="utf-8") as it:
         calls, part = tour_of(it.read())
-    want(len(calls) >= 7, "the tour of the README", f"it has {len(calls)} calls")
+    want(len(calls) >= 7, "the tour of docs/HTTP.md", f"it has {len(calls)} calls")
     if not shutil.which("curl"):
         return
-    with Server(program, room, "the tour of the README", len(calls), store="season.db", bundle=bundle) as server:
+    with Server(program, room, "the tour of docs/HTTP.md", len(calls), store="season.db", bundle=bundle) as server:
         for call, told in calls:
             said = subprocess.run(["sh", "-c", call.replace(":8080/", f":{server.port}/")], cwd=room, capture_output=True, text=True, timeout=SECONDS).stdout
-            want(said == told, "the tour of the README", f"{call} is replied by {said!r:.200}")
+            want(said == told, "the tour of docs/HTTP.md", f"{call} is replied by {said!r:.200}")
         wrote, _, status = server.ended()
         lacking = [it for it in wrote.splitlines() if f"`{it}`" not in part]
-        want(status == 0 and wrote and not lacking, "the tour of the README", f"it ended with status {status} and wrote {wrote!r}")
+        want(status == 0 and wrote and not lacking, "the tour of docs/HTTP.md", f"it ended with status {status} and wrote {wrote!r}")
 
 
 def has_serve(program):

@@ -1,4 +1,4 @@
-"""The calls that README, TUTORIAL and CHECKING show, as a reader makes them: one after another in a folder with the examples, each with the output below it.
+"""The calls that README, TUTORIAL, CHECKING, CLERK and COURT show, as a reader makes them: one after another in a folder with the examples, each with the output below it.
 What is asked over HTTP is held by the tour of checks/served.py."""
 import functools
 import os
@@ -10,8 +10,8 @@ import tempfile
 from cases import SECONDS, first_difference
 
 TOP = os.path.dirname(os.path.dirname(os.path.realpath(__file__)))
-DOCUMENTS = ("README.md", "docs/TUTORIAL.md", "docs/CHECKING.md")
-BEGINS = ("./office ", "echo ", "cat ", "sed ", "tools/", "rm ")
+DOCUMENTS = ("README.md", "docs/TUTORIAL.md", "docs/CHECKING.md", "docs/CLERK.md", "docs/COURT.md")
+BEGINS = ("./office ", "echo ", "cat ", "sed ", "tools/", "rm ", "mkdir ")
 # what ends by itself only after its connections, and forms with words behind them
 SKIPPED = re.compile(r"^\./office (serve|WORDS|try|--version)|^curl |^deploy/| {4}", re.M)
 
@@ -51,6 +51,41 @@ def fault_of(program, name):
     return None if len(calls) > 1 else f"{name}: it shows {len(calls)} calls"
 
 
+# ---- the refusals that CHECKING compares with a cutoff
+
+FIRST_CUT = "cut,clerk,0\n"
+COMPARED = re.compile(r"^\| `([\w-]+)` \| (\d+) \| (\d+) \| ([\w-]+) \| (\d+) \| (.*?) \| .*\|$", re.M)
+
+
+def script_of(example, number):
+    """The words that run an example, and its input as far as the cut that publishes the round of this number."""
+    folder = f"{TOP}/examples/{example}"
+    name = next(it for it in ("bundle.txt", "divided.txt", "dossier.txt") if os.path.exists(f"{folder}/{it}"))
+    with open(f"{folder}/{name}", encoding="utf-8") as it:
+        season, _, requests = it.read().partition("[published]")[0].partition("[requests]\n")
+    kept = re.match(rf"(?:(?:.*\n)*?cut,.*\n){{{number}}}", requests)
+    return ["units" if name == "divided.txt" else "run", "memory"], f"{season}[requests]\n{kept[0] if kept else FIRST_CUT}"
+
+
+def comparison(program, example, number, cand, code, place, lines):
+    """Why the program does not show the place and the cutoffs that a row of the table compares, or None."""
+    words, script = script_of(example, int(number))
+    asked = f"{script}register,clerk,{cand}\ncutoffs,nobody,{number},{code}\n"
+    wrote = subprocess.run([program, *words], input=asked, stdout=subprocess.PIPE, stderr=subprocess.DEVNULL, text=True, timeout=SECONDS).stdout
+    entry, found = re.search(rf"^register {cand} \S+ \S+ (\S+) ", wrote, re.M), re.search(rf"^cutoffs {number} {code}\n((?:.*\n)*?)end cutoffs\n", wrote, re.M)
+    shown = re.findall(r"`([^`]+)`", lines)
+    if entry and found and entry[1].rstrip("R") == place and found[1].splitlines() == shown:
+        return None
+    return f"docs/CHECKING.md: {example}, round {number}, candidate {cand}, {code}: the program shows otherwise: {wrote[-200:]!r}"
+
+
+def comparisons(program):
+    with open(f"{TOP}/docs/CHECKING.md", encoding="utf-8") as it:
+        rows = COMPARED.findall(it.read())
+    return [functools.partial(comparison, program, *row) for row in rows] or [lambda: "docs/CHECKING.md: no refusal is compared with a cutoff"]
+
+
 def trials(program):
     for name in DOCUMENTS:
         yield functools.partial(fault_of, program, name)
+    yield from comparisons(program)
