@@ -8,6 +8,8 @@ import subprocess
 
 MOST_ANSWERS = 14
 SPAN = re.compile(r"`([^`\n]+)`")
+# what is called a clause, or several
+CLAUSES = re.compile(r"\b[Cc]lauses? (`[^`]+`(?:(?:, | and |, and )`[^`]+`)*)")
 # the documents in which every span is a name of the code or a word of docs/FORMATS.md
 OF_NAMES = tuple(f"docs/{it}.md" for it in ("PROMISES", "HEADLINE", "TRUST", "MAP", "DEFINITIONS"))
 # in the other documents a span that looks so is a name of the code: a word with two capitals, a path, a word with underscores
@@ -79,6 +81,12 @@ def names_in(crate):
     return found
 
 
+@functools.lru_cache(maxsize=None)
+def clauses_of(crate):
+    """The labels of the clauses of a crate's functions."""
+    return {label for path in files_below(f"crates/{crate}/src") for label in re.findall(r"\b(?:ensures|requires)\*? (\w+) \{", text_of(path))}
+
+
 def names_of_definitions(text):
     """The definitions of a file of specs/, and the fields of its records, each also after the name of its record."""
     found, record = set(), None
@@ -101,9 +109,17 @@ def edits_in(folder):
     return sorted(os.listdir(folder)) if os.path.isdir(folder) else []
 
 
+@functools.lru_cache(maxsize=None)
 def edits_of(crate):
     """The edits that each gate tries, and the wrong bodies that checks/wrong-bodies tries."""
     return edits_in(f"crates/{crate}/must-fail") + edits_in(f"crates/{crate}/wrong-bodies")
+
+
+@functools.lru_cache(maxsize=None)
+def proofs_of(crate):
+    """The modules of a crate's proofs/, by their paths below it."""
+    folder = f"crates/{crate}/proofs"
+    return {os.path.splitext(it.removeprefix(f"{folder}/"))[0] for it in files_below(folder) if it.endswith(".antt")}
 
 
 def is_file(name, within):
@@ -122,7 +138,7 @@ def is_there(name, within, edits_too=True):
         return is_file(name, within)
     if edits_too and any(f"{name}.edit" in edits_of(it) for it in within):
         return True
-    return any(name in names_in(it) or os.path.exists(f"crates/{it}/proofs/{name}.antt") for it in within)
+    return any(name in names_in(it) or name in proofs_of(it) for it in within)
 
 
 @functools.lru_cache(maxsize=None)
@@ -162,6 +178,16 @@ def names_like_code(path):
         for name, crate in re.findall(r"`([^`]+)` of `(\w+)`", line):
             if crate in crates() and name not in spoken() and not is_there(name, [crate]):
                 faults.append(f"{path}:{number}: nothing is called {name} in {crate}")
+    return faults
+
+
+def no_clauses(path):
+    """What a document calls a clause, and is the label of no clause of the crates that its line names: a definition, say, or a field of a record."""
+    faults = []
+    for number, line in enumerate(prose(path), 1):
+        within = [it for it in SPAN.findall(line) if it in crates()] or list(crates())
+        for listed in CLAUSES.findall(line):
+            faults += [f"{path}:{number}: no clause is labelled {it}" for it in SPAN.findall(listed) if not any(it in clauses_of(crate) for crate in within)]
     return faults
 
 
@@ -260,9 +286,80 @@ def layers():
     return faults if faults or not first else [f"docs/MAP.md: {first} is not at its place of crates.txt: the order is {' '.join(wanted)}"]
 
 
+# ---- figures
+
+
+# how much sooner a crate of the longest chain is proved with the jobs that the launcher gives it, by the number of processors
+GAIN_OF_CHAIN = {4: 2.3, 2: 1.6}
+
+
+def likely_minutes(program, processors):
+    """How long the first proof of a program takes by what the launcher tells: by its share of the processors, or by its longest chain of crates."""
+    seconds, chain, needed = seconds_of_proofs(), {}, {program}
+    for it in reversed([*crates()]):
+        needed |= {dep for dep in crates()[it] if it in needed}
+    for it in (it for it in crates() if it in needed):
+        chain[it] = seconds[it] + max([chain[dep] for dep in crates()[it] if dep in chain], default=0)
+    return 1.1 * max(sum(seconds[it] for it in chain) / processors, chain[program] / GAIN_OF_CHAIN[processors]) / 60
+
+
+def minutes():
+    """The README says in how many minutes each program is proved, on four and on two processors, no more than a third away from checks/proof-seconds.txt."""
+    rows = re.findall(r"^\| .* \| (\d+) once, then none \| (\d+) \| yes \|$", text_of("README.md"), re.M)
+    wanted = ("step_program", "season_program", "allocation_cli")
+    if len(rows) != len(wanted):
+        return [f"README.md: {len(rows)} rows say how long a first proof takes, and not {len(wanted)}"]
+    found = [(program, processors, int(it), likely_minutes(program, processors)) for program, row in zip(wanted, rows) for processors, it in zip((4, 2), row)]
+    return [f"README.md: {program} on {processors} processors takes {likely:.0f} minutes by checks/proof-seconds.txt, and not {told}"
+            for program, processors, told, likely in found if abs(told - likely) > likely / 3]
+
+
+def above(name):
+    """The crates that depend on this one, at once or through others."""
+    found = {name}
+    for it, deps in crates().items():
+        found |= {it} if found & set(deps) else set()
+    return found - {name}
+
+
+def seconds_of_proofs():
+    """How long the proof of each crate takes. One that was not measured yet takes as long as the others on average."""
+    measured = {name: int(seconds) for name, seconds in map(str.split, text_of("checks/proof-seconds.txt").splitlines())}
+    return {it: measured.get(it, sum(measured.values()) / len(measured)) for it in crates()}
+
+
+def minutes_of_change(name, processors):
+    """How long a crate takes with all above it: no less than their share of the processors, nor than their longest chain."""
+    seconds, chain, proved_again = seconds_of_proofs(), {}, above(name) | {name}
+    for it in (it for it in crates() if it in proved_again):
+        chain[it] = seconds[it] + max([chain[dep] for dep in crates()[it] if dep in chain], default=0)
+    return max(sum(seconds[it] for it in chain) / processors, max(chain.values())) / 60
+
+
+def longest_chain():
+    """DECISIONS says how many crates the longest chain has."""
+    length = {}
+    for it, deps in crates().items():
+        length[it] = 1 + max([length[dep] for dep in deps if dep in length], default=0)
+    said = re.search(r"The longest chain of crates has (\d+)", text_of("docs/DECISIONS.md"))
+    return [] if said and int(said[1]) == max(length.values()) else [f"docs/DECISIONS.md: the longest chain of crates has {max(length.values())}"]
+
+
+def costs():
+    """CONTRIBUTING says how many crates a change proves again and in how many minutes, no more than a third away from what checks/proof-seconds.txt gives."""
+    rows = re.findall(r"^\| [^|]+ \| `(\w+)` \| (\d+) \| (\d+) \| (\d+) \|$", text_of("CONTRIBUTING.md"), re.M)
+    if not rows:
+        return ["CONTRIBUTING.md: no row says what a change costs"]
+    faults = []
+    for name, *figures in rows:
+        likely = (len(above(name)) + 1, minutes_of_change(name, 4), minutes_of_change(name, 2)) if name in crates() else (0, 0, 0)
+        faults += [f"CONTRIBUTING.md: a change of {name} has a figure {figure}, and {found:.0f} is so" for figure, found in zip(map(int, figures), likely) if abs(figure - found) > max(found / 3, 1)]
+    return faults
+
+
 def faults():
-    """What the documents name or link to and is not there."""
+    """What the documents name or link to and is not there, and figures that are not so."""
     found = [it for path in OF_NAMES for it in names_of(path)] + promises()
     found += [it for path in markdown() if path not in OF_NAMES and not path.startswith("docs/promises/") for it in names_like_code(path)]
-    found += [it for path in markdown() for it in paths_of(path)]
-    return found + layers()
+    found += [it for path in markdown() for it in [*paths_of(path), *no_clauses(path)]]
+    return found + layers() + longest_chain() + minutes() + costs()

@@ -4,8 +4,10 @@
     checks/form.py [FOLDER]      the findings of the checkout at FOLDER, or of this one, with the names and links of checks/documents.py
 
 - No line of prose is longer than 160 characters. Headings, tables and code are no prose.
-- No sentence of README, RULES, CHECKING and TUTORIAL has more than 40 words, and on average a sentence of each has at most 18.
+- On a page for people no sentence has more than 40 words, and on average a sentence has at least 13 and at most 18.
+  No three sentences in a row of a paragraph have at most 6 words each: such a text is correct and choppy.
 - Some words are in no document outside of code: each has a plainer one.
+- A page for people that shows the step D says in bold that it is de-reserved, because D is also the trait of persons with disabilities.
 
 A span of code counts as one word, and so does a number. Cells of tables have to have short sentences too, and are left out of the averages."""
 import os
@@ -17,15 +19,22 @@ from documents import SPAN, text_of
 
 WIDEST_LINE = 160
 MOST_WORDS = 40
-MOST_ON_AVERAGE = 18
-COUNTED = ("README.md", "docs/RULES.md", "docs/CHECKING.md", "docs/TUTORIAL.md")
+LEAST_ON_AVERAGE, MOST_ON_AVERAGE = 13, 18
+# a sentence of at most so many words is very short, and so many in a row are choppy
+VERY_SHORT, IN_A_ROW = 6, 3
+# the pages for people who are not inside yet
+COUNTED = ("README.md", "SECURITY.md", "CHANGELOG.md", "examples/README.md", *(f"docs/{it}.md" for it in
+           ("CANDIDATE", "CLERK", "COURT", "HTTP", "LAW", "JOSAA", "NOT", "RULES", "CHECKING", "TUTORIAL")))
+# the letter D in the place of a step, and the words that say so
+STEP_D = re.compile(r"\bstep D\b|(?:^ *|\\n)D seats \d|`D - ", re.M)
+SAYS_STEP_D = re.compile(r"\*\*[^*]*\bde-reserved\b[^*]*\*\*")
 HARD_WORDS = re.compile(r"\b(told|whoever|the own|stands|beside|for want of)\b", re.I)
 ITEM = re.compile(r"( *)(?:[-*+]|\d{1,9}[.)]) +(?=\S)")
 SENTENCE_ENDS = re.compile(r"[.!?][\"')\]*_]*\s+(?=[\"'(\[*_]*[A-Z0-9])")
 
 
 def of_plain_words(path):
-    return path in ("README.md", "CONTRIBUTING.md", "cases/README.md") or path.startswith("docs/")
+    return path in ("README.md", "SECURITY.md", "CONTRIBUTING.md", "cases/README.md") or path.startswith("docs/")
 
 
 # ---- lines by their kind
@@ -83,6 +92,11 @@ def hard_words(path):
     return [f"{path}:{number}: '{it[0]}' has a plainer word" for number, kind, line in kinds(path) if kind != "code" for it in HARD_WORDS.finditer(without_code(line))]
 
 
+def unclear_letters(path):
+    text = text_of(path)
+    return [f"{path}: it shows the step D, and does not say in bold that it is de-reserved"] if STEP_D.search(text) and not SAYS_STEP_D.search(text) else []
+
+
 # ---- sentences
 
 
@@ -122,20 +136,38 @@ def average(path):
 
 
 def long_sentences(path):
-    found = [f"{path}:{number}: a sentence has {len(words)} words, and {MOST_WORDS} are the most: {' '.join(words[:8])} .."
-             for number, words, _ in sentences(path) if len(words) > MOST_WORDS]
+    return [f"{path}:{number}: a sentence has {len(words)} words, and {MOST_WORDS} are the most: {' '.join(words[:8])} .."
+            for number, words, _ in sentences(path) if len(words) > MOST_WORDS]
+
+
+def choppy(path):
+    """The paragraphs of a document with several very short sentences in a row."""
+    of_paragraph = {}
+    for number, words, is_cell in sentences(path):
+        if not is_cell:
+            of_paragraph.setdefault(number, []).append(words)
+    return [f"{path}:{number}: {IN_A_ROW} sentences in a row have at most {VERY_SHORT} words: {' '.join(lines[at][:6])} .."
+            for number, lines in of_paragraph.items()
+            for at in range(len(lines) - IN_A_ROW + 1) if all(len(it) <= VERY_SHORT for it in lines[at : at + IN_A_ROW])]
+
+
+def out_of_rhythm(path):
     mean = average(path)
-    return found + ([f"{path}: a sentence has {mean:.1f} words on average, and {MOST_ON_AVERAGE} are the most"] if mean > MOST_ON_AVERAGE else [])
+    if LEAST_ON_AVERAGE <= mean <= MOST_ON_AVERAGE:
+        return []
+    limit = f"{LEAST_ON_AVERAGE} are the least" if mean < LEAST_ON_AVERAGE else f"{MOST_ON_AVERAGE} are the most"
+    return [f"{path}: a sentence has {mean:.1f} words on average, and {limit}"]
 
 
 def averages():
     """A line with the average of each document that is counted."""
-    return "words of a sentence on average: " + ", ".join(f"{os.path.basename(it)} {average(it):.1f}" for it in COUNTED if os.path.exists(it))
+    return "words of a sentence on average: " + ", ".join(f"{it} {average(it):.1f}" for it in COUNTED if os.path.exists(it))
 
 
 def faults():
     found = [it for path in documents.markdown() for it in long_lines(path)]
-    found += [it for path in COUNTED if os.path.exists(path) for it in long_sentences(path)]
+    found += [it for path in COUNTED if os.path.exists(path) for it in [*long_sentences(path), *choppy(path), *out_of_rhythm(path)]]
+    found += [it for path in (*COUNTED, "docs/FORMATS.md", "docs/promises/candidates.md") if os.path.exists(path) for it in unclear_letters(path)]
     return found + [it for path in documents.markdown() if of_plain_words(path) for it in hard_words(path)]
 
 
