@@ -1,0 +1,131 @@
+"""Cuts bundles, dossiers and step sheets into their parts, and asks the office; the tools share it."""
+import csv
+import io
+import os
+import re
+import subprocess
+import sys
+from typing import NamedTuple
+
+from formats import FIRST_LINES, SECTIONS
+
+TOP = os.path.dirname(os.path.dirname(os.path.realpath(__file__)))
+MARK = "\ufeff"
+
+
+class Refused(Exception):
+    """What the office wrote instead, and its status."""
+
+    def __init__(self, wrote, status):
+        super().__init__(wrote)
+        self.wrote, self.status = wrote, status
+
+
+def office(words, given):
+    """Returns what the office writes on these words and this input, and its status."""
+    ran = subprocess.run([os.environ.get("OFFICE", f"{TOP}/office"), *words], input=given, stdout=subprocess.PIPE)
+    return ran.stdout, ran.returncode
+
+
+def told(call, words, given):
+    """Returns what a call of the office writes if it exits with status 0."""
+    wrote, status = call(words, given)
+    if status:
+        raise Refused(wrote, status)
+    return wrote
+
+
+def ended(text):
+    return text if not text or text.endswith(b"\n") else text + b"\n"
+
+
+# ---- lines and sections
+
+
+def lines_of(data):
+    """Returns the lines of bytes, each with its end."""
+    return re.findall(rb"[^\n]*\n|[^\n]+", data)
+
+
+def title(line):
+    """Returns a line without its end and its commas."""
+    return line.removesuffix(b"\n").removesuffix(b"\r").rstrip(b",")
+
+
+class Section(NamedTuple):
+    """The body of a section, and the number of its first line in the input."""
+
+    body: bytes
+    line: int
+
+
+def sections(data, first=1):
+    """Returns the sections of a bundle by their names; what comes before the first is the section None."""
+    found, name = {None: [[], first]}, None
+    for number, line in enumerate(lines_of(data), first):
+        if line.startswith(b"["):
+            name = title(line).decode(errors="replace").strip("[]")
+            found.setdefault(name, [[], number + 1])
+        else:
+            found[name][0].append(line)
+    return {name: Section(b"".join(lines), number) for name, (lines, number) in found.items()}
+
+
+def split_at(data, name):
+    """Returns the bytes before and after the first line that is the title of this section, and the number of the line after it; the second part is None if there is no such line."""
+    at = 0
+    for number, line in enumerate(lines_of(data), 1):
+        if title(line) == f"[{name}]".encode():
+            return data[:at], data[at + len(line) :], number + 1
+        at += len(line)
+    return data, None, 0
+
+
+# ---- rows
+
+
+class Row(NamedTuple):
+    """A record of a section: its number as the office counts, the line of its section where it begins, counted from 0, and its fields."""
+
+    number: int
+    line: int
+    fields: list
+
+
+def numbered_rows(body):
+    """Returns the records of a section. Empty fields at an end are left out, and records without fields are not counted."""
+    csv.field_size_limit(sys.maxsize)
+    text = body.decode(errors="replace").removeprefix(MARK)
+    reader, found, before = csv.reader(io.StringIO(text, newline="")), [], 0
+    for fields in reader:
+        line, before = before, reader.line_num
+        while fields and not fields[-1]:
+            fields.pop()
+        if fields:
+            found.append(Row(len(found) + 1, line, fields))
+    return found
+
+
+def rows(body):
+    """Returns the fields of the records of a section."""
+    return [it.fields for it in numbered_rows(body)]
+
+
+def table(body):
+    """Returns the rows of a section below its header."""
+    return rows(body)[1:]
+
+
+def season_of(bundle):
+    """Returns the values of the season's rows, by their keys."""
+    return dict(row[:2] for row in rows(sections(bundle)["season"].body))
+
+
+def is_bundle(data):
+    return title(lines_of(data.removeprefix(MARK.encode()))[:1][0] if data else b"").decode(errors="replace") in FIRST_LINES
+
+
+def missing_sections(data):
+    """Returns the names of the sections that a bundle lacks."""
+    found = sections(data)
+    return [it for it in SECTIONS[:-1] if it not in found]
