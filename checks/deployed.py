@@ -40,7 +40,22 @@ class Tally:
         print(f"SKIPPED {what}: it needs {lacking}", flush=True)
 
 
-tally = Tally()
+class Bars:
+    """What results day asks of the service, and what was seen of each."""
+
+    def __init__(self):
+        self.rows = []
+
+    def add(self, bar, figure, is_held, what=""):
+        self.rows.append((bar, figure, "held" if is_held else "NOT HELD"))
+        tally.holds(is_held, bar, f"{figure} {what}")
+
+    def table(self):
+        wide = [max((len(row[at]) for row in self.rows), default=0) for at in range(2)]
+        return [f"{bar:{wide[0]}}  {figure:{wide[1]}}  {held}" for bar, figure, held in self.rows]
+
+
+tally, bars = Tally(), Bars()
 PARTS = []
 
 

@@ -1,5 +1,7 @@
 """The parts of checks/deploy that call the scripts, install into a folder, and start the units and the look."""
 import contextlib
+import datetime
+import gzip
 import hashlib
 import json
 import os
@@ -11,10 +13,9 @@ import sqlite3
 import ssl
 import subprocess
 
-import front
 from cases import READS_STORES
 from deployed import CLERK, CUT, body, bundle_of, directly, part, tally, tokens_of
-from front import DEPLOY, HOST, SYSTEM, Front, Office, called, found, read_reply, request, text_of, until
+from front import DEPLOY, HOST, SYSTEM, Front, Office, called, certificate, found, read_reply, request, text_of, until
 from plain_office import Office as PlainOffice
 from plain_office import Season
 from served import TOP, free_port, kept_rows, listeners
@@ -36,20 +37,29 @@ def strong(bundle, clerk="Qm4xTz81vKpL"):
     return bundle.replace(b"clerk0001", clerk.encode()), tokens
 
 
-@part("begin")
-def begin(room, program):
-    given, tokens = strong(bundle_of())
+def weak_bundles(given, tokens):
+    """Bundles with a token that `begin` refuses, each with what is weak about it."""
     first = tokens[0].encode()
-    for label, bundle in [
+    return [
         ("the example's", bundle_of()),
         ("a short one", given.replace(first, b"aB3dE5fG7hJ")),
         ("the candidate's number", given.replace(b"\n1,GEN,-," + first, b"\n4711,GEN,-,aB4711dE5fG7").replace(b"\n1,A", b"\n4711,A")),
         ("the candidate's number with zeros", given.replace(first, b"aBcDeFgH0001")),
         ("a long beginning in common", given.replace(first, tokens[1][:7].encode() + b"WxYzQ")),
         ("a long end in common", given.replace(first, b"WxYzQ" + tokens[1][5:].encode())),
+        ("the MD5 of the number", given.replace(first, hashlib.md5(b"1").hexdigest()[:16].encode())),
+        ("the SHA-256 of the number with zeros", given.replace(first, hashlib.sha256(b"000001").hexdigest()[:32].encode())),
+        ("a telephone number", given.replace(first, b"919876543210")),
+        ("one letter", given.replace(first, b"aaaaaaaaaaaa")),
         ("the clerk's", given.replace(b"Qm4xTz81vKpL", b"clerk0001x")),
         ("the beginning of the clerk's", given.replace(first, b"Qm4xTz8AbCdE")),
-    ]:
+    ]
+
+
+@part("begin refuses")
+def begin_refuses(room, program):
+    given, tokens = strong(bundle_of())
+    for label, bundle in weak_bundles(given, tokens):
         status, wrote = script("begin", [f"{room}/weak.db"], program, bundle)
         tally.holds(status == 3 and "easy to guess" in wrote, f"begin refuses weak tokens: {label}", f"{status} {wrote}")
     tally.holds(not any(it in wrote for it in tokens), "begin writes no token")
@@ -61,8 +71,15 @@ def begin(room, program):
         status, wrote = script("begin", [f"{room}/weak.db"], program, bundle)
         tally.holds(status == 3 and told in wrote, f"begin refuses {label}", f"{status} {wrote}")
     tally.holds(not [it for it in os.listdir(room) if it.startswith("weak")], "begin makes nothing where it refuses", f"{os.listdir(room)}")
-    status, wrote = script("begin", ["--help"], program)
+
+
+@part("begin begins")
+def begin(room, program):
+    given, _ = strong(bundle_of())
+    status, wrote = script("begin", ["a", "b"], program)
     tally.holds(status == 2, "begin with wrong words", f"{status}")
+    status, wrote = script("begin", ["--help"], program)
+    tally.holds(status == 0 and "It cannot see whether a token was made by chance" in wrote, "begin says what it checks, and no more", f"{status} {wrote}")
 
     store = f"{room}/season.db"
     status, wrote = script("begin", [store], program, given)
@@ -86,99 +103,224 @@ def begin(room, program):
 def keep_copy(room, program):
     """Over the store of an office that was killed after 40 answers."""
     bundle = bundle_of()
-    folder = f"{room}/copies"
+    folder, store = f"{room}/copies", f"{room}/season.db"
     status, wrote = script("keep-copy", [f"{room}/none.db", folder], program)
-    tally.holds(status == 0 and not os.path.exists(folder), "keep-copy without a store does nothing", f"{status} {wrote}")
-    called([program, "run", f"{room}/season.db"], bundle)
+    tally.holds(status == 0 and "no store" in wrote and not os.path.exists(folder), "keep-copy without a store does nothing", f"{status} {wrote}")
+    called([program, "run", store], bundle)
     with Office(program, room) as office:
         office.start("kept")
         directly(office, "POST", "/v1/cut", CLERK, CUT)
         for turn in range(1, 17):
             for cand in (1, 2, 3, 4):
-                came = directly(office, "POST", "/v1/answer", f"tok{cand:05}", body(cand=cand, window=1, turn=turn, choice="float"))
+                directly(office, "POST", "/v1/answer", f"tok{cand:05}", body(cand=cand, window=1, turn=turn, choice="float"))
         directly(office, "POST", "/v1/cut", CLERK, body(window=1))
         came = directly(office, "POST", "/v1/answer", "tok00001", body(cand=1, window=2, turn=1, choice="freeze"))
         tally.status(came, 200, "the last answer before the kill")
+        status, wrote = script("keep-copy", [store, folder], program)
+        tally.holds(status == 0 and "has" in wrote and "open" in wrote and not os.path.exists(folder), "no copy of a store that is open", f"{status} {wrote}")
+        came = directly(office, "GET", "/v1/state", None, None)
+        tally.status(came, 200, "the office goes on meanwhile")
         office.kill()
-    store = f"{room}/season.db"
-    tally.holds(os.path.getsize(f"{store}-wal") > 0, "the killed office leaves its log")
-    before = [open(f"{store}{end}", "rb").read() for end in ("", "-wal")]
-    for number in range(35):
-        os.makedirs(f"{folder}/2020010{number // 10}T00000{number % 10}.0Z")
-    os.makedirs(f"{folder}/left.part")
-    status, wrote = script("keep-copy", [store, folder], program)
-    kept = sorted(os.listdir(folder))
-    tally.holds(status == 0 and "window 2" in wrote, "keep-copy over a killed office", f"{status} {wrote}")
-    tally.holds(len(kept) == 30 and not kept[-1].startswith("2020"), "the newest 30 copies stay", f"{len(kept)} {kept[-2:]}")
-    newest = f"{folder}/{kept[-1]}"
-    tally.holds([open(f"{newest}/season.db{end}", "rb").read() for end in ("", "-wal")] == before, "the copy is byte by byte the store and its log")
-    tally.holds([open(f"{store}{end}", "rb").read() for end in ("", "-wal")] == before, "the store is unchanged")
-    modes = {oct(os.stat(f"{newest}/{it}").st_mode & 0o077) for it in os.listdir(newest)} | {oct(os.stat(folder).st_mode & 0o077)} - {oct(0o055)}
-    tally.holds(oct(os.stat(newest).st_mode & 0o777) == "0o700", "only the caller may enter a copy", f"{modes}")
-    tally.holds(text_of(f"{newest}/state.txt") == "state window 2 rounds 2 published 2\n", "the copy says how far it is")
-    shutil.copytree(newest, f"{room}/again")
-    told = called([program, "resume", f"{room}/again/season.db"], b"answer,1,1,2,1,freeze\nanswer,2,2,1,16,float\n")
-    tally.holds(told == b"noted 1 window 2 turn 1 freeze\nnoted 2 window 1 turn 16 float\n", "the copy has the last answer", f"{told}")
+    copied(room, program)
     if READS_STORES:
-        rows = kept_rows(f"{room}/again/season.db")
-        tally.holds(len(rows["answer"]) == 65 and rows["phase"] == [(1, 2)], "the copy has all answers", f"{len(rows['answer'])} {rows['phase']}")
-        shutil.copy(f"{newest}/season.db", f"{room}/alone.db")
-        called([program, "resume", f"{room}/alone.db"], b"state,nobody\n")
-        rows = kept_rows(f"{room}/alone.db")
-        tally.holds(len(rows["answer"]) < 65, "a copy without its log lacks answers, and nothing says so, as RUNNING.md warns", f"{len(rows['answer'])}")
-        base = sqlite3.connect(f"{room}/again/season.db")
-        base.execute("DELETE FROM allot WHERE rnd = 1 AND cand = 1")
-        base.commit()
-        base.close()
-        status, wrote = script("keep-copy", [f"{room}/again/season.db", folder], program)
-        tally.holds(status == 9 and "differs round 1 candidate 1" in wrote, "keep-copy refuses records that do not agree", f"{status} {wrote}")
-        tally.holds(sorted(os.listdir(folder)) == kept, "and keeps no copy of them")
+        disagreeing(room, program)
     else:
         tally.skips("keep-copy over wrong records", "SQLite 3.37 in Python")
 
 
+def bytes_of(store):
+    return [open(f"{store}{end}", "rb").read() for end in ("", "-wal")]
+
+
+def copied(room, program):
+    folder, store = f"{room}/copies", f"{room}/season.db"
+    tally.holds(os.path.getsize(f"{store}-wal") > 0, "the killed office leaves its log")
+    before = bytes_of(store)
+    os.makedirs(f"{folder}/left.part")
+    status, wrote = script("keep-copy", [store, folder], program)
+    kept = sorted(os.listdir(folder))
+    tally.holds(status == 0 and len(kept) == 1 and "not yet checked" in wrote, "keep-copy over a killed office", f"{status} {wrote} {kept}")
+    newest = f"{folder}/{kept[-1]}"
+    tally.holds(bytes_of(f"{newest}/season.db") == before, "the copy is byte by byte the store and its log")
+    tally.holds(bytes_of(store) == before, "the store is unchanged")
+    tally.holds(oct(os.stat(newest).st_mode & 0o777) == "0o700", "only the caller may enter a copy")
+    for _ in range(31):
+        status, wrote = script("keep-copy", [store, folder], program)
+    tally.holds(status == 0 and "nothing changed" in wrote and sorted(os.listdir(folder)) == kept, "31 failing starts make no copy more", f"{status} {wrote}")
+    with open(f"{store}-wal", "ab") as it:
+        it.write(b"x")
+    status, wrote = script("keep-copy", [store, folder], program)
+    tally.holds(status == 0 and "younger than ten minutes" in wrote, "no copy within ten minutes of the last", f"{status} {wrote}")
+    os.truncate(f"{store}-wal", len(before[1]))
+    status, wrote = script("keep-copy", ["--check", folder, f"{room}/second"], program)
+    tally.holds(status == 0 and "window 2" in wrote, "the office checks the copy", f"{status} {wrote}")
+    tally.holds(text_of(f"{newest}/state.txt") == "state window 2 rounds 2 published 2\n", "the copy says how far it is")
+    tally.holds(bytes_of(f"{newest}/season.db") == before, "the check leaves the copy as it is")
+    tally.holds(bytes_of(f"{room}/second/{kept[-1]}/season.db") == before, "a second folder gets the checked copy")
+    shutil.copytree(newest, f"{room}/again")
+    told = called([program, "resume", f"{room}/again/season.db"], b"answer,1,1,2,1,freeze\nanswer,2,2,1,16,float\n")
+    tally.holds(told == b"noted 1 window 2 turn 1 freeze\nnoted 2 window 1 turn 16 float\n", "the copy has the last answer", f"{told}")
+    staying(room, program, newest)
+    script_counts(program, folder)
+
+
+def made_copies(folder, newest):
+    """Copies of many days and cuts, as they would be after months."""
+    names = [f"2020{month:02}01T{hour:02}0000.0Z" for month in range(1, 13) for hour in range(4)]
+    for at, name in enumerate(names):
+        os.makedirs(f"{folder}/{name}")
+        for it in ("season.db", "of.txt"):
+            shutil.copy(f"{newest}/{it}", f"{folder}/{name}/{it}")
+        with open(f"{folder}/{name}/state.txt", "w", encoding="utf-8") as it:
+            it.write(f"state window {at // 8} rounds 6 published {at // 8}\n")
+    return names
+
+
+def staying(room, program, newest):
+    folder = f"{room}/copies"
+    names = made_copies(folder, newest)
+    status, wrote = script("keep-copy", ["--check", folder, f"{room}/second"], program)
+    kept = sorted(it for it in os.listdir(folder) if it != os.path.basename(newest))
+    # with the newest copy, 29 of these are among the newest 30
+    wanted = {*names[-29:], *names[3::4], *names[::8]}
+    tally.holds(status == 0 and kept == sorted(wanted), "the newest 30 copies stay, one of each day, and one after each cut", f"{status} {wrote[:200]} {kept}")
+    tally.same(len(os.listdir(f"{room}/second")), len(kept) + 1, "the second folder has the same copies")
+    if os.geteuid() == 0 and found("mount"):
+        os.makedirs(f"{room}/small")
+        if subprocess.run([found("mount"), "-t", "tmpfs", "-o", "size=128k", "none", f"{room}/small"], stderr=subprocess.DEVNULL).returncode == 0:
+            status, wrote = script("keep-copy", [f"{room}/season.db", f"{room}/small"], program)
+            tally.holds(status == 1 and "3 copies need" in wrote and os.listdir(f"{room}/small") == [], "no copy where the room is below three", f"{status} {wrote}")
+            subprocess.run([found("umount"), f"{room}/small"], check=True)
+
+
+def script_counts(program, folder):
+    status, wrote = script("counts", [folder], program)
+    tally.holds(status == 0 and "window 2: 4 seats are offered" in wrote, "counts of the newest copy", f"{status} {wrote}")
+    tally.holds("1 answered in this window: freeze 1, float 0" in wrote and "3 answered in an earlier" in wrote and "0 have no answer" in wrote, "counts of answers", wrote)
+    status, wrote = script("counts", [f"{folder}/none"], program)
+    tally.holds(status == 1, "counts without a copy", f"{status} {wrote}")
+
+
+def disagreeing(room, program):
+    """Copies whose records the office refuses."""
+    folder = f"{room}/copies"
+    kept = sorted(os.listdir(folder))
+    newest = f"{folder}/{kept[-1]}"
+    rows = kept_rows(f"{room}/again/season.db")
+    tally.holds(len(rows["answer"]) == 65 and rows["phase"] == [(1, 2)], "the copy has all answers", f"{len(rows['answer'])} {rows['phase']}")
+    shutil.copy(f"{newest}/season.db", f"{room}/alone.db")
+    called([program, "resume", f"{room}/alone.db"], b"state,nobody\n")
+    rows = kept_rows(f"{room}/alone.db")
+    tally.holds(len(rows["answer"]) < 65, "a copy without its log lacks answers, and nothing says so, as RUNNING.md warns", f"{len(rows['answer'])}")
+    base = sqlite3.connect(f"{room}/again/season.db")
+    base.execute("DELETE FROM allot WHERE rnd = 1 AND cand = 1")
+    base.commit()
+    base.close()
+    status, wrote = script("keep-copy", [f"{room}/again/season.db", folder], program)
+    tally.holds(status == 0, "a store with wrong records is copied too", f"{status} {wrote}")
+    status, wrote = script("keep-copy", ["--check", folder, f"{room}/second"], program)
+    tally.holds(status == 1 and "differs round 1 candidate 1" in wrote, "the check says that the records do not agree", f"{status} {wrote}")
+    more = sorted(set(os.listdir(folder)) - set(kept))
+    tally.holds(len(more) == 1 and os.path.exists(f"{folder}/{more[0]}/refused.txt"), "the copy is marked as refused", f"{more}")
+    tally.holds(more[0] not in os.listdir(f"{room}/second"), "the second folder does not get it")
+    status, wrote = script("keep-copy", ["--check", folder, f"{room}/second"], program)
+    tally.holds(status == 0, "a refused copy is reported once", f"{status} {wrote}")
+
+
+def served_season(room, program, name, bundle, rows=""):
+    """A served office over a new store after these rows."""
+    os.makedirs(f"{room}/{name}")
+    called([program, "run", f"{room}/{name}/season.db"], bundle)
+    if rows:
+        called([program, "resume", f"{room}/{name}/season.db"], rows.encode())
+    return Office(program, f"{room}/{name}")
+
+
 @part("papers")
 def papers(room, program):
+    """From a running office, without a restart after a cut."""
     with open(f"{TOP}/examples/three-windows/replies.txt", encoding="ascii") as it:
         replies = it.read()
     bundle = bundle_of("three-windows")
-    called([program, "run", f"{room}/three.db"], bundle)
-    script("keep-copy", [f"{room}/three.db", f"{room}/copies"], program)
-    copy = f"{room}/copies/{os.listdir(f'{room}/copies')[0]}"
-    before = {it: open(f"{copy}/{it}", "rb").read() for it in os.listdir(copy)}
-    status, wrote = script("papers", [copy, f"{room}/three"], program)
-    tally.holds(status == 0 and "8 files" in wrote, "papers of the season of three windows", f"{status} {wrote}")
-    tally.holds({it: open(f"{copy}/{it}", "rb").read() for it in os.listdir(copy)} == before, "the copy is unchanged")
     text, rows = bundle.decode().split("[requests]\n")
     plain = PlainOffice(Season(text))
     for row in rows.splitlines():
         plain.reply(row)
     lists = {number: "".join(plain.reply(f"list,nobody,{number},{code}") for code in plain.season.programmes) for number in (1, 2, 3)}
-    agree(f"{room}/three", replies, bundle, lists)
-    matrix = json.loads(text_of(f"{room}/three/programmes.json"))
+    with served_season(room, program, "three", bundle) as office:
+        office.start("kept")
+        at = ["--office", f"127.0.0.1:{office.port}"]
+        status, wrote = script("papers", [*at, f"{room}/p3"], program)
+        tally.holds(status == 1 and "name the season" in wrote, "papers without a seat matrix", f"{status} {wrote}")
+        with open(f"{room}/three.txt", "wb") as it:
+            it.write(bundle)
+        status, wrote = script("papers", [*at, "--season", f"{room}/three.txt", f"{room}/p3"], program)
+        tally.holds(status == 0 and "3 rounds published" in wrote, "papers of the season of three windows", f"{status} {wrote}")
+        has_cutoffs = directly(office, "GET", "/v1/cutoffs/1/A", None, None).status == 200
+        agree(f"{room}/p3", replies, bundle, lists)
+        status, wrote = script("papers", [*at, f"{room}/p3"], program)
+        tally.holds(status == 0, "papers again, from their own seat matrix", f"{status} {wrote}")
+        told = (office.program, f"{room}/three/season.db")
+    matrix = json.loads(text_of(f"{room}/p3/programmes.json"))
     tally.same((matrix["version"], matrix["rounds"], matrix["published"]), (1, 3, 3), "programmes.json: how far the season is")
     first = {"code": "A", "institute": "I1", "list": 1, "steps": {"OPEN": {"seats": 1, "protect": {}}}}
     tally.same(matrix["programmes"][0], first, "programmes.json: the first programme")
+    cutoff_files(f"{room}/p3", has_cutoffs)
+    status, wrote = script("papers", ["--office", "127.0.0.1:1", f"{room}/p3"], program)
+    tally.holds(status == 1 and "127.0.0.1:1" in wrote, "papers without an office", f"{status} {wrote}")
+    followed(room, program, told)
+    mocked(room, program)
 
+
+def cutoff_files(folder, has_cutoffs):
+    if not has_cutoffs:
+        tally.skips("the papers of cutoffs", "a program with the route /v1/cutoffs")
+        return
+    lines = text_of(f"{folder}/cutoffs-1.csv").splitlines()
+    tally.same(lines[:2], ["programme,institute,step,traits,place", "A,I1,OPEN,-,1"], "cutoffs-1.csv")
+    lines = text_of(f"{folder}/closing-1.csv").splitlines()
+    tally.same(lines[:2], ["programme,institute,step,seats,candidates,admitted,anybody,W,D,X,S,F,L", "A,I1,OPEN,1,4,1,1,1,1,1,1,1,1"], "closing-1.csv")
+
+
+def followed(room, program, told):
+    """The papers come by themselves after a cut, and go when the season goes back."""
+    folder = f"{room}/p5"
+    with Office(program, f"{room}") as office:
+        office.start("new", bundle=bundle_of())
+        with open(f"{room}/five.txt", "wb") as it:
+            it.write(bundle_of())
+        words = [f"{DEPLOY}/papers", "--follow", "0.2", "--office", f"127.0.0.1:{office.port}", "--season", f"{room}/five.txt", folder]
+        child = subprocess.Popen(words, stdout=subprocess.DEVNULL, stderr=subprocess.DEVNULL)
+        try:
+            until(lambda: os.path.exists(f"{folder}/programmes.json"), "the papers before the first cut")
+            tally.same(sorted(os.listdir(folder)), ["programmes.json", "programmes.json.gz"], "papers before the first cut")
+            directly(office, "POST", "/v1/cut", CLERK, CUT)
+            until(lambda: '"published": 1' in text_of(f"{folder}/programmes.json"), "the papers after a cut")
+            tally.same(text_of(f"{folder}/round-1.txt").splitlines()[0], "round 1 seated 4", "the papers follow a cut without a restart")
+            office.kill()
+            for end in ("", "-wal"):
+                os.remove(f"{room}/season.db{end}")
+            office.start("new", bundle=bundle_of())
+            until(lambda: '"published": 0' in text_of(f"{folder}/programmes.json"), "the papers of the season begun anew")
+            tally.holds(not os.path.exists(f"{folder}/round-1.txt"), "what is not published any more is removed", f"{os.listdir(folder)}")
+        finally:
+            child.kill()
+            child.wait()
+
+
+def mocked(room, program):
+    """A mock round before the first one, from no store."""
     bundle = called([program, "generate", "800", "7", "text"])
-    replies = called([program, "run", f"{room}/made.db"], bundle).decode()
-    status, wrote = script("papers", [f"{room}/made.db", f"{room}/made"], program)
-    tally.holds(status == 0 and "14 files" in wrote, "papers of a generated season", f"{status} {wrote}")
-    agree(f"{room}/made", replies, bundle, {})
-    matrix = json.loads(text_of(f"{room}/made/programmes.json"))
-    tally.same(len(matrix["programmes"]), 100, "programmes.json of a generated season")
-    tally.same(matrix["programmes"][0]["steps"]["OPEN"], {"seats": 4, "protect": {"W": 1}}, "programmes.json: protected seats")
-
-    given, _ = strong(bundle_of())
-    script("begin", [f"{room}/new.db"], program, given)
-    status, wrote = script("papers", [f"{room}/new.db", f"{room}/new"], program)
-    tally.holds(status == 0 and os.listdir(f"{room}/new") == ["programmes.json"], "papers before the first cut", f"{status} {wrote}")
-    status, wrote = script("papers", [f"{room}/none.db", f"{room}/no"], program)
-    tally.holds(status == 1 and not os.path.exists(f"{room}/no"), "papers without a copy", f"{status} {wrote}")
-    with open(f"{room}/empty.db", "wb"):
-        pass
-    status, wrote = script("papers", [f"{room}/empty.db", f"{room}/no"], program)
-    tally.holds(status == 3 and "keeper holds no season" in wrote, "papers of a store without a season", f"{status} {wrote}")
+    with open(f"{room}/made.txt", "wb") as it:
+        it.write(bundle)
+    status, wrote = script("papers", ["--mock", f"{room}/made.txt", f"{room}/mock"], program)
+    replies = called([program, "run", "memory"], bundle.partition(b"[requests]")[0] + b"[requests]\ncut,clerk,0\n").decode()
+    tally.holds(status == 0 and "mock round" in wrote, "a mock round", f"{status} {wrote}")
+    tally.same(text_of(f"{room}/mock/mock-round.txt"), replies.partition("\n")[2], "the mock round is the text of run")
+    there = sorted(os.listdir(f"{room}/mock"))
+    tally.holds({"mock-lists.txt", "mock-institute-I0.txt", "mock-round.txt.gz"} <= set(there) and all(it.startswith("mock-") for it in there), "files of a mock round", f"{there[:8]}")
+    all_of_it = "".join(text_of(f"{room}/mock/{it}") for it in there if not it.endswith(".gz"))
+    tally.holds(not any(it in all_of_it for it in tokens_of(bundle)), "no token in the papers of a mock round")
 
 
 def agree(folder, replies, bundle, lists):
@@ -191,30 +333,111 @@ def agree(folder, replies, bundle, lists):
     tally.holds(len(final) == 1 and text_of(f"{folder}/final.txt") == final[0], f"{label}: final.txt is the text of run")
     for number, text in lists.items():
         tally.holds(text_of(f"{folder}/lists-{number}.txt") == text, f"{label}: lists-{number}.txt is as the plain office has it")
-    all_of_it = "".join(text_of(f"{folder}/{it}") for it in os.listdir(folder))
+        parts = "".join(text_of(f"{folder}/institute-{number}-{it}.txt") for it in ("I1", "I2", "I3"))
+        tally.holds(sorted(parts.split("end list")) == sorted(text.split("end list")), f"{label}: the institutes share out the lists of round {number}")
+    there = sorted(os.listdir(folder))
+    plain = [it for it in there if not it.endswith(".gz")]
+    tally.holds(there == sorted([*plain, *(f"{it}.gz" for it in plain)]), f"{label}: each paper has a packed one", f"{there}")
+    tally.holds(all(gzip.open(f"{folder}/{it}.gz").read().decode() == text_of(f"{folder}/{it}") for it in plain), f"{label}: the packed ones are the same")
+    all_of_it = "".join(text_of(f"{folder}/{it}") for it in plain)
     tally.holds(not any(it in all_of_it for it in tokens_of(bundle)), f"{label}: no token in the papers")
-    tally.holds(all(os.stat(f"{folder}/{it}").st_mode & 0o777 == 0o644 for it in os.listdir(folder)), f"{label}: everybody may read the papers")
+    tally.holds(all(os.stat(f"{folder}/{it}").st_mode & 0o777 == 0o644 for it in there), f"{label}: everybody may read the papers")
+
+
+@part("what the clerk announces")
+def announced(room, program):
+    later = (datetime.datetime.now(datetime.timezone.utc) + datetime.timedelta(days=1)).isoformat(timespec="minutes")
+    status, wrote = script("announce", [room, "window", "1", later], program)
+    told = json.loads(text_of(f"{room}/window.json"))
+    tally.holds(status == 0 and told["window"] == 1 and datetime.datetime.fromisoformat(told["closes"]).tzinfo, "the end of a window", f"{status} {wrote}")
+    with open(f"{room}/names.csv", "w", encoding="utf-8") as it:
+        it.write("programme,A,Computer Science\n\ninstitute,I1,\"Indian Institute, Roorkee\"\nprogramme,B,भौतिकी\nboard,,The Board\n")
+    status, wrote = script("announce", [room, "names", f"{room}/names.csv"], program)
+    wanted = {"programmes": {"A": "Computer Science", "B": "भौतिकी"}, "institutes": {"I1": "Indian Institute, Roorkee"}, "board": "The Board"}
+    tally.holds(status == 0 and json.loads(text_of(f"{room}/names.json")) == wanted, "names of codes", f"{status} {wrote}")
+    before = {it: text_of(f"{room}/{it}") for it in os.listdir(room)}
+    for label, words in [
+        ("a time without a zone", ["window", "1", "2999-01-01T10:00"]),
+        ("a time that is past", ["window", "1", "2020-01-01T10:00+05:30"]),
+        ("no time", ["window", "1", "tomorrow"]),
+        ("no window", ["window", "-1", later]),
+        ("a code twice", ["names", f"{room}/twice.csv"]),
+        ("a row of another kind", ["names", f"{room}/kind.csv"]),
+    ]:
+        for name, text in (("twice", "programme,A,x\nprogramme,A,y\n"), ("kind", "course,A,x\n")):
+            with open(f"{room}/{name}.csv", "w", encoding="utf-8") as it:
+                it.write(text)
+        status, wrote = script("announce", [room, *words], program)
+        tally.holds(status == 3 and "nothing was written" in wrote, f"announce refuses {label}", f"{status} {wrote}")
+    tally.holds(all(text_of(f"{room}/{it}") == text for it, text in before.items()), "announce leaves what is there where it refuses")
+    status, wrote = script("announce", [room, "remove", "window.json"], program)
+    tally.holds(status == 0 and not os.path.exists(f"{room}/window.json"), "announce removes a paper", f"{status} {wrote}")
+    tally.same(script("announce", [room, "remove", "names.csv"], program)[0], 2, "announce removes only papers")
+
+
+@part("what is watched")
+def watched(room, program):
+    log, store = f"{room}/nachodune.log", f"{room}/season.db"
+    with open(store, "wb") as it:
+        it.write(b"x" * 4096)
+
+    def seen(statuses, age=0):
+        at = (datetime.datetime.now(datetime.timezone.utc) - datetime.timedelta(seconds=age)).isoformat(timespec="seconds")
+        with open(log, "w", encoding="utf-8") as it:
+            it.writelines(json.dumps({"time": at, "status": status}) + "\n" for status in statuses)
+            it.write('{"time":"20')
+        return script("watch", [log, store], program)
+
+    status, wrote = seen([200] * 50 + [502] * 3)
+    tally.holds(status == 0 and wrote.startswith("502: 3, 503: 0, 429: 0 of 53 requests in 1 min; ") and wrote.count("\n") == 1, "watch writes one line", f"{status} {wrote}")
+    status, wrote = seen([200] * 50 + [502] * 21)
+    tally.holds(status == 1 and wrote.startswith("LOOK: 502: 21"), "watch says that the office is away", f"{status} {wrote}")
+    status, wrote = seen([200, 503])
+    tally.holds(status == 1 and "503: 1" in wrote, "watch says that the store failed", f"{status} {wrote}")
+    status, wrote = seen([503] * 9, age=90)
+    tally.holds(status == 0, "watch leaves out what is older", f"{status} {wrote}")
+    os.truncate(store, 1 << 40)
+    status, wrote = seen([200])
+    tally.holds(status == 1 and ", 0 copies of the store" in wrote, "watch says that the room ends", f"{status} {wrote}")
+    for result, failures in (("exit-code", "1"), ("signal", "2"), ("success", "0")):
+        script("pause", ["before", room], program, PATH=f"{quick_sleep(room)}:{SYSTEM['PATH']}")
+        script("pause", ["after", room], program, SERVICE_RESULT=result)
+        tally.same(text_of(f"{room}/failures").strip(), failures, f"pause counts after {result}")
+    waits = []
+    for _ in range(8):
+        _, wrote = script("pause", ["before", room], program, PATH=f"{quick_sleep(room)}:{SYSTEM['PATH']}")
+        waits.append(int(re.search(r"slept (\d+)", wrote)[1]))
+        script("pause", ["after", room], program, SERVICE_RESULT="exit-code")
+    tally.same(waits, [0, 1, 2, 5, 15, 30, 60, 60], "each start after a failure waits longer, up to a minute")
+
+
+def quick_sleep(room):
+    """A folder with a `sleep` that only says how long."""
+    os.makedirs(f"{room}/bin", exist_ok=True)
+    with open(f"{room}/bin/sleep", "w", encoding="utf-8") as it:
+        it.write('#!/bin/sh\necho "slept $1"\n')
+    subprocess.run(["chmod", "755", f"{room}/bin/sleep"], check=True)
+    return f"{room}/bin"
 
 
 # ---- what is installed
 
-UNITS = ("nachodune.service", "nachodune-network.service", "nachodune-door.service", "nachodune-door.socket")
+UNITS = tuple(sorted(it for it in os.listdir(DEPLOY) if it.startswith("nachodune") and it.endswith((".service", ".socket", ".timer"))))
+SCRIPTS = ("alert", "announce", "begin", "counts", "empty-texts", "go-back", "keep-copy", "papers", "pause", "watch")
 
 
 def checkout(room, program):
-    """A checkout with what install needs, and a stand-in for the page where there is none."""
-    os.makedirs(f"{room}/top/docs")
-    shutil.copytree(DEPLOY, f"{room}/top/deploy")
-    shutil.copy(f"{TOP}/docs/RUNNING.md", f"{room}/top/docs")
-    os.rename(front.page(room), f"{room}/top/web")
-    shutil.copytree(f"{TOP}/examples/five-candidates", f"{room}/top/examples/five-candidates")
+    """A checkout with what install needs."""
+    os.makedirs(f"{room}/top")
+    for name in ("deploy", "docs", "examples", "tools", "web"):
+        shutil.copytree(f"{TOP}/{name}", f"{room}/top/{name}")
     return f"{room}/top"
 
 
 def installed(room, program):
     top = checkout(room, program)
     words = [f"TO={room}/to", f"PROGRAM={program}", f"HOST={HOST}", "CERT=/etc/ssl/office.pem", "KEY=/etc/ssl/office.key"]
-    called([f"{top}/deploy/install", *words, "CLERKS=10.1.0.0/16,10.2.0.1"])
+    called([f"{top}/deploy/install", *words, "CLERKS=10.1.0.0/16,10.2.0.1", "SECOND=/srv/copies"])
     return f"{room}/to"
 
 
@@ -223,11 +446,15 @@ def install(room, program):
     to = installed(room, program)
     there = [os.path.relpath(f"{at}/{it}", to) for at, _, names in os.walk(to) for it in names]
     wanted = {
-        *(f"etc/nginx/nachodune/{it}.conf" for it in ("nachodune", "headers", "office", "page", "clerks")),
+        *(f"etc/nginx/nachodune/{it}.conf" for it in ("nachodune", "headers", "way", "office", "texts", "page", "clerks", "clerks-geo")),
+        *(f"etc/nginx/nachodune/pages/{it}.html" for it in (403, 404, 429)),
         "etc/nginx/conf.d/nachodune.conf",
         *(f"etc/systemd/system/{it}" for it in UNITS),
-        *(f"usr/lib/nachodune/{it}" for it in ("office", "begin", "keep-copy", "papers")),
+        *(f"usr/lib/nachodune/{it}" for it in ("office", "stores.py", *SCRIPTS)),
+        "etc/systemd/system/nachodune-check.service.d/second.conf",
         "usr/share/doc/nachodune/RUNNING.md",
+        *(f"usr/share/doc/nachodune/docs/{it}.md" for it in ("RULES", "FORMATS", "CHECKING")),
+        *(f"usr/lib/nachodune/tools/{it}" for it in os.listdir(f"{TOP}/tools") if it != "README.md" and it != "__pycache__"),
         "usr/share/nachodune/web/index.html",
     }
     tally.holds(wanted <= set(there), "install puts everything at its place", f"{sorted(wanted - set(there))}")
@@ -258,10 +485,10 @@ def units(room, program):
         text = text_of(f"{to}/etc/systemd/system/{name}")
         with open(f"{room}/units/{name}", "w", encoding="utf-8") as it:
             it.write(text.replace("/usr/lib/nachodune", f"{to}/usr/lib/nachodune"))
-    for name in UNITS:
+    for name in (it for it in UNITS if "@" not in it):
         ran = subprocess.run([found("systemd-analyze"), "verify", f"{room}/units/{name}"], capture_output=True, text=True, env=SYSTEM)
         tally.holds((ran.returncode, ran.stderr) == (0, ""), f"systemd-analyze verify {name}", ran.stderr)
-    for name, most in (("nachodune.service", 1.0), ("nachodune-door.service", 2.5)):
+    for name, most in (("nachodune.service", 1.0), ("nachodune-door.service", 2.5), ("nachodune-papers.service", 1.5), ("nachodune-check.service", 1.5), ("nachodune-watch.service", 2.5)):
         words = ["security", "--offline=true", "--no-pager", f"{room}/units/{name}"]
         ran = subprocess.run([found("systemd-analyze"), *words], capture_output=True, text=True, env=SYSTEM)
         exposure = re.search(r"Overall exposure level for \S+: ([\d.]+)", ran.stdout)
@@ -271,19 +498,28 @@ def units(room, program):
 # What runs in the container: each line of its output is a name and what was seen. The tokens are those of strong().
 TRIAL = r"""
 say() { echo "$1=$2" >> /trial.out; }
-ask() { curl -sk -m 10 --resolve office.example:443:127.0.0.1 -w ' %{http_code}' "$@"; }
+ask() { curl -sk -m 20 --resolve office.example:443:127.0.0.1 -w ' %{http_code}' "$@"; }
 state() { ask https://office.example/v1/state; }
+comes() { n=0; until [ "$(eval "$2")" = "$1" ] || [ $n -ge "${3:-150}" ]; do n=$((n + 1)); sleep 0.2; done; eval "$2"; }
+up() { n=0; until case "$(state)" in *' 200') ;; *) false ;; esac || [ $n -ge 300 ]; do n=$((n + 1)); sleep 0.1; done; }
 copies() { find /var/lib/nachodune/copies -name '*Z' 2> /dev/null | wc -l; }
-kept=/var/lib/nachodune/season.db
-/top/deploy/install PROGRAM=/program HOST=office.example CERT=/etc/office.pem KEY=/etc/office.key CLERKS=127.0.0.1
+age() { find /var/lib/nachodune/copies -name of.txt -exec touch -d '1 hour ago' {} +; }
+as() { setpriv --reuid=nachodune --regid=nachodune --clear-groups "$@"; }
+kept=/var/lib/nachodune/season.db lib=/usr/lib/nachodune
+mkdir -p /etc/nachodune; printf '#!/bin/sh\necho "$1: $2" >> /alerted\n' > /etc/nachodune/alert; chmod 755 /etc/nachodune/alert
+/top/deploy/install PROGRAM=/program HOST=office.example CERT=/etc/office.pem KEY=/etc/office.key CLERKS=127.0.0.1 SECOND=/second > /install.out 2>&1
 say installed $?
+say connections "$(grep -c worker_connections /install.out)"
 systemctl daemon-reload
-setpriv --reuid=nachodune --regid=nachodune --clear-groups /usr/lib/nachodune/begin $kept < /bundle.txt
+as $lib/begin $kept < /bundle.txt
 say begun $?
-systemctl start nachodune nachodune-door.socket nginx
-sleep 2
+systemctl start nachodune nachodune-door.socket nginx nachodune-papers nachodune-night.timer nachodune-watch.timer
+up
 say first "$(state)"
 say copies "$(copies)"
+say checked "$(comes 'state window 0 rounds 2 published 0' 'cat /var/lib/nachodune/copies/*Z/state.txt 2> /dev/null')"
+say counts "$(comes '{"window": 0, "open": false, "seats": 0' 'ask https://office.example/clerk/counts.json | cut -d , -f 1-3')"
+say second "$(comes 1 'ls /second | wc -l')"
 say mode "$(stat -c %a /var/lib/nachodune /var/lib/nachodune/copies $kept | tr '\n' ' ')"
 curl -s -m 5 http://127.0.0.1:8080/v1/state
 say direct $?
@@ -291,57 +527,149 @@ setpriv --reuid=12345 --regid=12345 --clear-groups curl -s -m 5 --unix-socket /r
 say door $?
 say cut "$(ask -H 'X-Office-Token: Qm4xTz81vKpL' -d '{"window":0}' https://office.example/v1/cut)"
 say seat "$(ask -H 'X-Office-Token: kL2mN4pQ6rS8' https://office.example/v1/seat/2)"
+say papers "$(comes 'round 1 seated 4' 'ask https://office.example/season/round-1.txt | head -n 1')"
+say packed "$(ask -o /packed -H 'Accept-Encoding: gzip' https://office.example/season/round-1.txt) $(gunzip < /packed | head -n 1)"
 say sandbox "$(grep -hE 'CapEff|NoNewPrivs|Seccomp:' /proc/$(systemctl show -p MainPID --value nachodune)/status | tr -d '\t' | tr '\n' ' ')"
-systemctl kill -s KILL nachodune; sleep 2
+say files "$(grep 'open files' /proc/$(systemctl show -p MainPID --value nachodune-door)/limits | tr -s ' ' | cut -d ' ' -f 4)"
+say words "$(tr '\0' ' ' < /proc/$(systemctl show -p MainPID --value nachodune-door)/cmdline | cut -d ' ' -f 2-)"
+python3 /limits.py
+ask https://office.example/v1/round/1 > /dev/null; say text "$(ask https://office.example/v1/round/1 | cut -c 1-39)"; sleep 1.2
+say hits "$(grep /v1/round/1 /var/log/nginx/nachodune.log | tail -n 1 | grep -c '"kept":"HIT"')"
+age; systemctl kill -s KILL nachodune; up
 say killed "$(state)"
 say again "$(copies)"
+systemctl kill -s KILL nachodune; up
+say young "$(copies)"
 systemctl stop nachodune
 say stopped "$(state)"
 systemctl stop nachodune-door.service
 say early "$(state)"
-systemctl start nachodune; sleep 1
+systemctl start nachodune; up
 say late "$(state)"
 say doored "$(systemctl is-active nachodune-door.service)"
-systemctl restart nachodune; sleep 1
-say restarted "$(state)"
+systemctl start nachodune-night.service; up
+say night "$(state)"
+say timers "$(systemctl is-active nachodune-night.timer nachodune-watch.timer | tr '\n' ' ')"
+say limit "$(systemctl show -p TimeoutStartUSec -p RuntimeMaxUSec --value nachodune | tr '\n' ' ')"
+# a start that takes longer than systemd waits by default, which is 5 seconds here
+mkdir -p /run/systemd/system/nachodune.service.d
+printf '[Service]\nExecStartPre=/bin/sleep 9\n' > /run/systemd/system/nachodune.service.d/slow.conf
+systemctl daemon-reload; systemctl restart nachodune; up
+say slow "$(state) $(systemctl show -p NRestarts --value nachodune)"
+rm /run/systemd/system/nachodune.service.d/slow.conf; systemctl daemon-reload
+# somebody has the store open: starts fail, ever less often, and no copy is lost
+systemctl stop nachodune; before=$(copies)
+setpriv --reuid=nachodune --regid=nachodune --clear-groups $lib/office serve 1000 1 kept 8099 $kept 2> /dev/null & holder=$!
+comes 0 'curl -s -o /dev/null http://127.0.0.1:8099/v1/state; echo $?' > /dev/null
+systemctl start nachodune; sleep 12
+say held "$(systemctl is-active nachodune | sed s/deactivating/activating/)"
+restarts=$(systemctl show -p NRestarts --value nachodune)
+say restarts "$([ "$restarts" -ge 2 ] && [ "$restarts" -le 6 ] && echo few || echo "$restarts")"
+say lost $(($(copies) - before))
+kill $holder; wait $holder; comes active 'systemctl is-active nachodune' 400 > /dev/null; up
+say freed "$(state)"
+# the watch, and the command that it calls
+systemctl stop nachodune-watch.timer; systemctl reset-failed; systemctl restart nachodune; up
+rm -f /run/nachodune-alert/* /alerted; sleep 1.2; : > /var/log/nginx/nachodune.log
+systemctl start nachodune-watch.service
+say watched "$? $(journalctl --no-pager -q -o cat -u nachodune-watch.service | tail -n 40 | grep -c '^502: 0, 503: 0' | sed 's/[1-9].*/1/')"
+systemctl stop nachodune
+for it in $(seq 25); do state; done > /dev/null; sleep 1.2
+systemctl start nachodune-watch.service
+say away "$? $(comes 1 'grep -c "^nachodune-watch: LOOK: 502: " /alerted')"
 systemctl stop nachodune
 cp $kept /season.kept
 python3 -c 'import sqlite3; it = sqlite3.connect("/var/lib/nachodune/season.db"); it.execute("DELETE FROM allot WHERE cand = 1"); it.commit()'
 chown nachodune:nachodune $kept*
-before=$(copies)
-systemctl start nachodune; sleep 2
-say refused "$(systemctl is-active nachodune) $(systemctl show -p ExecMainStatus --value nachodune) $(($(copies) - before)) $(state)"
-rm -f $kept $kept-*
-newest=$(ls -d /var/lib/nachodune/copies/*Z | tail -n 1)
-cp -p "$newest"/season.db* /var/lib/nachodune/
-systemctl reset-failed nachodune; systemctl start nachodune; sleep 1
+systemctl start nachodune
+say refused "$(comes 'failed 9' 'echo "$(systemctl is-active nachodune) $(systemctl show -p ExecMainStatus --value nachodune)"') $(state)"
+say alerted "$(comes 1 'grep -c "^nachodune: .*differs round 1 candidate 1" /alerted')"
+good=$(for it in /var/lib/nachodune/copies/*Z; do grep -l 'window 1' "$it/state.txt" 2> /dev/null; done | tail -n 1)
+bad=$(ls -d /var/lib/nachodune/copies/*Z | tail -n 1)
+systemctl reset-failed nachodune
+cp -r "$(dirname "$good")" /wrong; echo x > /wrong/season.db; rm -f /wrong/season.db-wal
+$lib/go-back /wrong > /back.out 2>&1
+say wrong "$? $(grep -c 'the office refuses the copy' /back.out)"
+$lib/go-back "$(dirname "$good")" > /back.out 2>&1
+say returned "$? $(grep -c '^back to: state window 1 rounds 2 published 1' /back.out) $(find /var/lib/nachodune/replaced-*/ -name season.db | wc -l)"
+up
 say back "$(ask -H 'X-Office-Token: kL2mN4pQ6rS8' https://office.example/v1/seat/2)"
-setpriv --reuid=nachodune --regid=nachodune --clear-groups /usr/lib/nachodune/papers "$newest" /var/lib/nachodune-papers
-say papers "$(ask https://office.example/season/round-1.txt | head -n 1)"
-say logs "$(journalctl --no-pager | cat - /var/log/nginx/* | grep -c -e Qm4xTz81vKpL -e kL2mN4pQ6rS8)"
+say emptied "$(find /var/lib/nginx/nachodune-texts -type f | wc -l) $(comes 'round 1 seated 4' 'ask https://office.example/season/round-1.txt | head -n 1')"
+say logs "$(journalctl --no-pager | cat - /var/log/nginx/* /alerted | grep -c -e Qm4xTz81vKpL -e kL2mN4pQ6rS8)"
 say end 0
+"""
+# In the container: addresses of two networks of 64 bits, and what each gets after one address spent its limit.
+LIMITS = r"""
+import socket, ssl, subprocess
+for it in ("fd00:0:0:1::1", "fd00:0:0:1::2", "fd00:0:0:2::1"):
+    subprocess.run(["ip", "-6", "addr", "add", f"{it}/128", "dev", "lo", "nodad"], check=True)
+context = ssl.create_default_context()
+context.check_hostname, context.verify_mode = False, ssl.CERT_NONE
+END = b"\r\n\r\n"
+def statuses(source, times):
+    link = context.wrap_socket(socket.create_connection(("::1", 443), source_address=(source, 0)), server_hostname="office.example")
+    held = b""
+    for _ in range(times):
+        link.sendall(b"GET /v1/nothing HTTP/1.1\r\nHost: office.example" + END)
+        while END not in held:
+            held += link.recv(65536)
+        head, _, held = held.partition(END)
+        length = int(next((it.split(b":")[1] for it in head.split(b"\r\n") if it.lower().startswith(b"content-length")), 0))
+        while len(held) < length:
+            held += link.recv(65536)
+        held, last = held[length:], int(head.split()[1])
+        if last == 429:
+            break
+    return last
+with open("/trial.out", "a") as it:
+    first = statuses("fd00:0:0:1::1", 4000)
+    print(f"ipv6={first} {statuses('fd00:0:0:1::2', 200)} {statuses('fd00:0:0:2::1', 200)}", file=it)
 """
 SEEN = {
     "installed": "0",
+    "connections": "1",
     "begun": "0",
     "first": '{"now":0,"published":0,"reply":"state","rounds":2} 200',
     "copies": "1",
+    "checked": "state window 0 rounds 2 published 0",
+    "counts": '{"window": 0, "open": false, "seats": 0',
+    "second": "1",
     "mode": "700 700 600 ",
     "direct": "7",
     "door": "7",
     "cut": '{"reply":"published","round":1,"seated":4} 200',
     "seat": '{"cand":2,"programme":"B","reply":"seat","round":1,"standing":"offered","step":"OPEN"} 200',
+    "papers": "round 1 seated 4",
+    "packed": " 200 round 1 seated 4",
     "sandbox": "CapEff:0000000000000000 NoNewPrivs:1 Seccomp:2 ",
+    "files": "16384",
+    "words": "--connections-max=2048 127.0.0.1:8080 ",
+    "ipv6": "429 429 404",
+    "text": '{"reply":"round","round":1,"text":"roun',
+    "hits": "1",
     "killed": '{"now":1,"published":1,"reply":"state","rounds":2} 200',
     "again": "2",
+    "young": "2",
     "stopped": '{"front":"away"} 502',
     "early": '{"front":"away"} 502',
     "late": '{"now":1,"published":1,"reply":"state","rounds":2} 200',
     "doored": "active",
-    "restarted": '{"now":1,"published":1,"reply":"state","rounds":2} 200',
-    "refused": 'failed 9 0 {"front":"away"} 502',
+    "night": '{"now":1,"published":1,"reply":"state","rounds":2} 200',
+    "timers": "active active ",
+    "limit": "infinity infinity ",
+    "slow": '{"now":1,"published":1,"reply":"state","rounds":2} 200 0',
+    "held": "activating",
+    "restarts": "few",
+    "lost": "0",
+    "freed": '{"now":1,"published":1,"reply":"state","rounds":2} 200',
+    "watched": "0 1",
+    "away": "1 1",
+    "refused": 'failed 9 {"front":"away"} 502',
+    "alerted": "1",
+    "wrong": "1 1",
+    "returned": "0 1 1",
     "back": '{"cand":2,"programme":"B","reply":"seat","round":1,"standing":"offered","step":"OPEN"} 200',
-    "papers": "round 1 seated 4",
+    "emptied": "0 round 1 seated 4",
     "logs": "0",
     "end": "0",
 }
@@ -351,6 +679,7 @@ Requires=basic.target
 After=basic.target
 [Service]
 Type=oneshot
+TimeoutStartSec=infinity
 ExecStart=/bin/sh /trial
 ExecStopPost=/bin/systemctl --no-block poweroff
 StandardOutput=append:/trial.log
@@ -362,7 +691,7 @@ HOST_FILES = ("passwd", "group", "login.defs", "nsswitch.conf", "ld.so.cache", "
 def made_root(room, program):
     """A folder that systemd can boot from, with the programs of this machine, a checkout at /top, and nothing installed of it yet."""
     root = f"{room}/root"
-    for name in ("etc/ssl", "etc/systemd/system", "usr", "var/lib/nginx", "var/log/nginx", "var/tmp", "run", "tmp", "proc", "sys", "dev", "root", "home"):
+    for name in ("etc/ssl", "etc/systemd/system", "etc/systemd/system.conf.d", "second", "usr", "var/lib/nginx", "var/log/nginx", "var/tmp", "run", "tmp", "proc", "sys", "dev", "root", "home"):
         os.makedirs(f"{root}/{name}")
     for name in HOST_FILES:
         path = f"/etc/{name}"
@@ -377,12 +706,14 @@ def made_root(room, program):
     for path, name in (
         ("/usr/lib/os-release", "etc/os-release"),
         (program, "program"),
-        (front.certificate(room), "etc/office.pem"),
+        (certificate(room), "etc/office.pem"),
         (f"{room}/key.pem", "etc/office.key"),
     ):
         shutil.copy(path, f"{root}/{name}")
     for name, text in (
         ("trial", TRIAL),
+        ("limits.py", LIMITS),
+        ("etc/systemd/system.conf.d/short.conf", "[Manager]\nDefaultTimeoutStartSec=5s\n"),
         ("bundle.txt", strong(bundle_of())[0].decode()),
         ("etc/machine-id", ""),
         ("etc/shadow", ""),
@@ -404,10 +735,10 @@ def booted(room, program):
     with open(f"{room}/boot.log", "wb") as log:
         child = subprocess.Popen(words, stdin=subprocess.DEVNULL, stdout=log, stderr=log)
     try:
-        child.wait(90)
+        child.wait(400)
     except subprocess.TimeoutExpired:
         child.terminate()
-        child.wait(30)
+        child.wait(60)
     for folder in (at for it in groups for at, *_ in os.walk(it, topdown=False)):
         with contextlib.suppress(OSError):
             os.rmdir(folder)

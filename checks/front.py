@@ -114,23 +114,41 @@ def request_bytes(link):
 # ---- clients
 
 
-def read_reply(link, held=b"", empty=False):
-    """The next reply of a connection, and what came after it."""
-    while b"\r\n\r\n" not in held:
+def more_of(link, held, holds):
+    """What is held once it holds this."""
+    while not holds(held):
         piece = link.recv(1 << 16)
         if not piece:
             raise EOFError(f"the connection ends after {held!r:.80}")
         held += piece
-    head, _, held = held.partition(b"\r\n\r\n")
+    return held
+
+
+def read_chunks(link, held):
+    """The body of a reply in chunks, and what came after it."""
+    body = b""
+    while True:
+        held = more_of(link, held, lambda it: b"\r\n" in it)
+        size, _, held = held.partition(b"\r\n")
+        length = int(size, 16)
+        held = more_of(link, held, lambda it: len(it) >= length + 2)
+        body, held = body + held[:length], held[length + 2 :]
+        if not length:
+            return body, held
+
+
+def read_reply(link, held=b"", empty=False):
+    """The next reply of a connection, and what came after it."""
+    head, _, held = more_of(link, held, lambda it: b"\r\n\r\n" in it).partition(b"\r\n\r\n")
     first, *lines = head.decode("latin-1").split("\r\n")
     fields = {name.lower(): value.strip() for name, _, value in (it.partition(":") for it in lines)}
+    status = int(first.split()[1])
+    if not empty and fields.get("transfer-encoding") == "chunked":
+        body, held = read_chunks(link, held)
+        return Reply(status, fields, body), held
     length = 0 if empty else int(fields.get("content-length", 0))
-    while len(held) < length:
-        piece = link.recv(1 << 16)
-        if not piece:
-            raise EOFError("the connection ends within a body")
-        held += piece
-    return Reply(int(first.split()[1]), fields, held[:length]), held[length:]
+    held = more_of(link, held, lambda it: len(it) >= length)
+    return Reply(status, fields, held[:length]), held[length:]
 
 
 def request(method, path, token=None, body=None, fields=(), host=HOST):
@@ -163,6 +181,7 @@ class Front:
             "CLERKS": clerks,
             "WEB": web or page(room),
             "PAPERS": f"{room}/season",
+            "CACHE": f"{room}/temp/texts",
             "LOG": f"{room}/logs",
         }
         called([f"{DEPLOY}/fill", f"{room}/conf", *(f"{name}={value}" for name, value in values.items())])
@@ -213,7 +232,8 @@ class Front:
         return self.raw(request(method, path, token, body, fields, f"{HOST}:{self.port}"), source)
 
     def logged(self):
-        """The lines of the log of requests."""
+        """The lines of the log of requests, which nginx writes each second."""
+        time.sleep(1.2)
         with open(f"{self.room}/logs/nachodune.log", encoding="utf-8") as it:
             return [json.loads(line) for line in it]
 
@@ -237,22 +257,13 @@ def called(words, given=b"", **how):
     return ran.stdout
 
 
-def certificate(room):
-    words = ["req", "-x509", "-newkey", "ec", "-pkeyopt", "ec_paramgen_curve:P-256", "-nodes", "-days", "2", "-subj", f"/CN={HOST}"]
+def certificate(room, key="ec"):
+    words = ["req", "-x509", "-newkey", key, *(["-pkeyopt", "ec_paramgen_curve:P-256"] if key == "ec" else []), "-nodes", "-days", "2", "-subj", f"/CN={HOST}"]
     called([found("openssl"), *words, "-addext", f"subjectAltName=DNS:{HOST}", "-keyout", f"{room}/key.pem", "-out", f"{room}/cert.pem"])
     return f"{room}/cert.pem"
 
 
-PAGES = {**{f"{it}index.html": "<!doctype html>" for it in ("", "candidate/", "clerk/")}, "ask.js": "export {}"}
-
-
 def page(room):
-    """The page of web/ where this checkout has it, or else a few files in its place."""
-    if os.path.isfile(f"{TOP}/web/index.html"):
-        shutil.copytree(f"{TOP}/web", f"{room}/web", dirs_exist_ok=True)
-    else:
-        for name, text in PAGES.items():
-            os.makedirs(os.path.dirname(f"{room}/web/{name}"), exist_ok=True)
-            with open(f"{room}/web/{name}", "w", encoding="utf-8") as it:
-                it.write(text)
+    """The pages that web/build makes."""
+    called([f"{TOP}/web/build", f"{room}/web"])
     return f"{room}/web"

@@ -1,0 +1,245 @@
+"""The bars that the service has to clear on results day, with the limits as they are shipped: each part puts what it saw into one table, which checks/deploy prints."""
+import contextlib
+import functools
+import os
+import re
+import shutil
+import signal
+import subprocess
+import time
+
+import browser
+import front
+from deployed import CLERK, bars, body, bundle_of, directly, fronted, in_threads, part, tally, timed
+from deployed_front import PROXYD, in_network_of, in_new_network, worker_group
+from front import CLERK_AT, HOST, Front, Office, called, found, read_reply, request, until
+
+SCHOOL = "127.0.0.20"
+PAPERS = ("window.json", "names.json", "programmes.json", "notice.txt", "round-1.txt")
+OWN = ("state", "seat/{}", "register/{}", "choices/{}", "answers/{}", "list/1/P00", "cutoffs/1/P00")
+
+
+def season_of(program):
+    """A generated season whose first round has many seats: as many candidates as the program makes in a moment."""
+    _, secs = timed(lambda: called([program, "generate", "2000", "7", "text"]))
+    many = 50_000 if secs < 0.5 else 400
+    return many, called([program, "generate", str(many), "7", "text"]).partition(b"[requests]")[0]
+
+
+@contextlib.contextmanager
+def after_a_cut(room, program, **how):
+    many, season = season_of(program)
+    with fronted(room, program, season, workers=64, **how) as (nginx, office):
+        came, secs = timed(lambda: nginx.ask("POST", "/v1/cut", CLERK, body(window=0), source=CLERK_AT))
+        tally.status(came, 200, f"a cut over {many} candidates, {secs:.1f} s")
+        yield nginx, office, many
+
+
+def token_of(cand):
+    return f"g{cand:08}"
+
+
+# ---- visitors
+
+
+def visit(nginx, cand, source):
+    """The statuses of a visit, each with its path, and the seconds until the seat is there."""
+    begun, told, seat = time.monotonic(), {}, None
+    with nginx.connected(source) as link:
+        held = b""
+
+        def ask(path, token=None):
+            nonlocal held
+            link.sendall(request("GET", path, token, fields=["Accept-Encoding: gzip"], host=f"{HOST}:{nginx.port}"))
+            came, held = read_reply(link, held)
+            told[path] = came.status
+            return came
+
+        page = ask("/candidate/").body
+        for it in dict.fromkeys(re.findall(rb'(?:src|href)="(/[^"]+\.(?:js|css|svg))"', page)):
+            ask(it.decode())
+        for it in OWN:
+            came = ask("/v1/" + it.format(cand), token_of(cand))
+            seat = seat or (time.monotonic() - begun if it.startswith("seat") and came.status == 200 else None)
+        for it in PAPERS:
+            ask(f"/season/{it}")
+    return told, seat
+
+
+def visits(nginx, many, seconds):
+    """So many visitors of one address within these seconds: what went wrong with them, and the longest wait for a seat."""
+
+    def visitor(number):
+        time.sleep(seconds * number / many)
+        return visit(nginx, number + 1, SCHOOL)
+
+    came = in_threads([functools.partial(visitor, it) for it in range(many)])
+    fine = [it for it in came if isinstance(it, tuple)]
+    # a program from before there were these questions knows no such page, and papers are optional
+    bad = [(path, status) for told, _ in fine for path, status in told.items() if status != 200 and not (status == 404 and re.search("/season/|/register/|/answers/|/cutoffs/", path))]
+    seats = [seat for _, seat in fine if seat is not None]
+    return len(seats), bad[:3], [it for it in came if not isinstance(it, tuple)][:3], max(seats, default=99)
+
+
+@part("bar: visitors of one address", ["nginx", "openssl"])
+def visitors(room, program):
+    with after_a_cut(room, program) as (nginx, _, _):
+        for many, seconds in ((40, 1), (300, 60)):
+            seats, bad, broken, longest = visits(nginx, many, seconds)
+            what = f"{many} visitors of one address within {seconds} s get the page and their seat"
+            bars.add(what, f"{seats} of {many}, the slowest seat after {longest:.1f} s", seats == many and not bad and not broken, f"{bad} {broken}")
+
+
+# ---- a crowd
+
+
+@contextlib.contextmanager
+def crowd(url, addresses, at_once, most=10_000_000, words=()):
+    """From each address a curl that asks for a page as fast as it can, until the end of the block or so many times."""
+    given = [found("curl"), "-s", "-o", "/dev/null", "--no-progress-meter", "-Z", "--parallel-max", str(at_once), *words]
+    children = [subprocess.Popen([*given, "--interface", it, f"{url}?[1-{most}]"], stdout=subprocess.DEVNULL, stderr=subprocess.DEVNULL) for it in addresses]
+    try:
+        time.sleep(0.5)
+        yield children
+    finally:
+        for it in children:
+            it.kill()
+            it.wait()
+
+
+def over_tls(nginx, token):
+    """The words by which curl reaches nginx with a token."""
+    return ["--cacert", nginx.cert, "--resolve", f"{HOST}:{nginx.port}:127.0.0.1", "-H", f"X-Office-Token: {token}"]
+
+
+def through(nginx):
+    """How somebody at an address of their own asks for a seat by way of nginx."""
+    return lambda cand: nginx.ask("GET", f"/v1/seat/{cand}", token_of(cand), source=f"127.0.{10 + cand // 200}.{cand % 200 + 1}")
+
+
+def others(ask, many, seconds):
+    """So many clients, one after another within these seconds: the statuses that came, and the longest wait."""
+
+    def client(number):
+        time.sleep(seconds * number / many)
+        return timed(lambda: ask(number + 1))
+
+    came = in_threads([functools.partial(client, it) for it in range(many)])
+    statuses = [it[0].status if isinstance(it, tuple) else repr(it) for it in came]
+    return statuses, max((it[1] for it in came if isinstance(it, tuple)), default=99)
+
+
+@part("bar: ten addresses at full speed", ["nginx", "openssl", "curl"])
+def ten_addresses(room, program):
+    with after_a_cut(room, program) as (nginx, _, _):
+        with crowd(f"{nginx.origin}/v1/seat/1", [f"127.0.9.{it}" for it in range(1, 11)], 50, words=over_tls(nginx, token_of(1))):
+            statuses, longest = others(through(nginx), 100, 4)
+            clerk = [timed(lambda: nginx.ask("POST", "/v1/cut", CLERK, body(window=0), source=CLERK_AT)) for _ in range(5)]
+        asked = len(nginx.logged())
+        fine = statuses.count(200)
+        slowest = max(secs for _, secs in clerk)
+        told = f"{fine} of 100, the slowest after {longest:.2f} s; the clerk after {slowest:.2f} s, next to {asked} requests"
+        held = fine == 100 and longest <= 2 and slowest <= 2 and all(came.status == 200 for came, _ in clerk)
+        bars.add("10 addresses at full speed: 100 others and the clerk are answered within 2 s", told, held, f"{[it for it in statuses if it != 200][:5]} {[came.status for came, _ in clerk]}")
+
+
+@part("bar: 500 requests for the text of a round", ["nginx", "openssl", "curl"])
+def round_texts(room, program):
+    with after_a_cut(room, program) as (nginx, _, many):
+        with crowd(f"{nginx.origin}/v1/round/1", ["127.0.9.1"], 300, 500, over_tls(nginx, token_of(1))):
+            statuses, longest = others(through(nginx), 60, 3)
+        size = len(nginx.ask("GET", "/v1/round/1").body)
+        told = f"{statuses.count(200)} of 60, the slowest after {longest:.2f} s; the text has {size / 1e6:.1f} MB"
+        bars.add("one address asks 500 times for a round's text: others wait at most 1 s", told, statuses.count(200) == 60 and longest <= 1, f"{[it for it in statuses if it != 200][:5]}")
+
+
+@part("bar: the office itself and its longest text", ["curl"])
+def office_texts(room, program):
+    """Without nginx: the office copies the bytes of a text."""
+    many, season = season_of(program)
+    with Office(program, room) as office:
+        office.start("new", workers=64, bundle=season)
+        directly(office, "POST", "/v1/cut", CLERK, body(window=0))
+
+        def asks(cand):
+            return directly(office, "GET", f"/v1/seat/{cand}", token_of(cand), None)
+
+        with crowd(f"http://127.0.0.1:{office.port}/v1/round/1", ["127.0.9.1"], 300, 500, ["-H", "Connection: close"]):
+            statuses, longest = others(asks, 60, 3)
+        told = f"{statuses.count(200)} of 60, the slowest after {longest:.2f} s, {many} candidates"
+        bars.add("one client asks the office itself 500 times for a round's text: others wait at most 0.3 s", told, statuses.count(200) == 60 and longest <= 0.3)
+
+
+# ---- an office that does not answer for a while
+
+
+@contextlib.contextmanager
+def behind_the_door(room, program):
+    """The office in a network of its own, the door of the units, with the descriptors that they give it, and nginx."""
+    text = front.text_of(f"{front.DEPLOY}/nachodune-door.service")
+    most = re.search(r"--connections-max=\d+", text)[0]
+    files = re.search(r"^LimitNOFILE=(\d+)", text, re.M)
+    files = files[1] if files else "1024"
+    os.makedirs(f"{room}/office")
+    with Office(program, f"{room}/office", 8080) as office:
+        office.start("new", workers=64, bundle=bundle_of(), wait=False, preexec_fn=in_new_network)
+        sock = f"{room}/door.sock"
+        words = ["prlimit", f"--nofile={files}", found("systemd-socket-activate"), "-l", sock, PROXYD, most, "127.0.0.1:8080"]
+        with open(f"{room}/door.log", "wb") as log:
+            time.sleep(0.3)
+            proxy = subprocess.Popen(words, stdout=log, stderr=log, preexec_fn=functools.partial(in_network_of, office.child.pid))
+        try:
+            until(lambda: os.path.exists(sock), "the door")
+            os.chmod(sock, 0o660)
+            shutil.chown(sock, "root", worker_group())
+            with Front(room, f"unix:{sock}") as nginx:
+                until(lambda: nginx.ask("GET", "/v1/state").status == 200, "the office behind the door", 60)
+                yield nginx, office
+        finally:
+            proxy.terminate()
+            proxy.wait()
+
+
+@part("bar: 500 requests wait while the office stalls", ["nginx", "openssl", "root", "prlimit", "systemd-socket-activate", PROXYD])
+def stalled(room, program):
+    with behind_the_door(room, program) as (nginx, office):
+        office.child.send_signal(signal.SIGSTOP)
+
+        def client(number):
+            return nginx.ask("GET", "/v1/state", source=f"127.0.{20 + number // 100}.{number % 100 + 1}")
+
+        def going_on():
+            time.sleep(4)
+            office.child.send_signal(signal.SIGCONT)
+
+        came, secs = timed(lambda: in_threads([*(functools.partial(client, it) for it in range(500)), going_on])[:-1])
+        statuses = [getattr(it, "status", repr(it)) for it in came]
+        told = f"{statuses.count(200)} of 500 are answered, all within {secs:.1f} s"
+        bars.add("500 requests wait while the office stalls for 4 s: none is reset", told, statuses.count(200) == 500, f"{[it for it in statuses if it != 200][:5]}")
+
+
+# ---- a slow phone
+
+SLOW_3G = {"offline": False, "latency": 400, "downloadThroughput": 50_000, "uploadThroughput": 50_000}
+
+
+@part("bar: a slow phone", ["nginx", "openssl"] + ([] if browser.program() else ["chromium"]))
+def slow_phone(room, program):
+    with fronted(room, program) as (nginx, _):
+        nginx.ask("POST", "/v1/cut", CLERK, body(window=0), source=CLERK_AT)
+        many = [f'{{"code":"X{it}","institute":"I{it % 100}","list":1,"steps":{{"OPEN":{{"seats":{it % 50},"protect":{{"W":{it % 9},"D":{it % 3}}}}}}}}}' for it in range(8000)]
+        with open(f"{room}/season/programmes.json", "w", encoding="utf-8") as it:
+            it.write(f'{{"version":1,"rounds":2,"published":1,"programmes":[{",".join(many)}]}}')
+        with browser.Browser(f"{room}/browser", HOST, nginx.cert) as page:
+            page.call("Network.enable")
+            page.call("Network.emulateNetworkConditions", **SLOW_3G)
+            begun = time.monotonic()
+            page.go(f"{nginx.origin}/candidate/")
+            page.until("document.querySelector('#sign-in button') && document.getElementById('number').checkVisibility()")
+            page.fill("number", "2")
+            page.fill("token", "tok00002")
+            page.click("#sign-in button:not([type=button])")
+            page.until("document.getElementById('seat').innerText.includes('B')", 60)
+            secs = time.monotonic() - begun
+        bars.add("over slow 3G (400 kbit/s, 400 ms) the seat is there within 4 s of the first request", f"{secs:.1f} s", secs <= 4)
+
