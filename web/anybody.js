@@ -1,13 +1,16 @@
-/** The page for anybody: how far the season is, the seats of a programme, the text of a round, and the two questions of a refusal. */
-import { askList, askRound } from "./ask.js";
-import { $, busy, clear, details, dropLinks, el, fillWords, onPress, onSend, ready, saveLink, say, table, valueOf, verbatim } from "./dom.js";
+/** The page for anybody: how far the season is, the cutoffs, the seats of a programme, the text of a round, and the two questions of a refusal. */
+import { askList, askRound, askState, hasPaper } from "./ask.js";
+import { $, busy, clear, details, dropLinks, el, onPress, onSend, ready, saveLink, say, table, textBox, valueOf, verbatim } from "./dom.js";
+import { fillLike, showCutoffs, showLike } from "./finder.js";
 import { listPicture } from "./picture.js";
-import { isCandidate, isCode, readList, readRound, readSheet, twoQuestions, Unreadable } from "./rule.js";
-import { programmeOf, showPapers, showState } from "./season.js";
-import { ASKING, EXAMPLE, FAULTS, OWN_WORDS, QUESTIONS, ROUND, SEATS, trouble } from "./words.js";
+import { isCandidate, isCode, lineOf, readList, readRound, readSheet, twoQuestions, Unreadable } from "./rule.js";
+import { announcedEnd, instituteName, instituteOf, lookAgain, papersCome, programmeName, programmeOf, showEnd, showNotice, showState } from "./season.js";
+import { ARRIVING, ASKING, EXAMPLE, FAULTS, MOCK, NOT_DISABILITY, OWN_WORDS, QUESTIONS, ROUND, SEATS, trouble } from "./words.js";
 
 const MOST_LINES = 400;
 const MOST_ROWS = 200;
+// from so many bytes on, the page says how much has arrived
+const LONG = 200_000;
 let season = null;
 
 // ---- the season
@@ -16,16 +19,29 @@ async function look() {
   const found = await showState($("state"));
   if (!found) return;
   season = found;
-  options($("list-round"), season.published);
+  announcedEnd(found).then((end) => showEnd($("closes"), found, end));
+  // before round 1 the office may have published a mock round, as papers alone
+  const mock = season.now === 0 && (await hasPaper("mock-round.txt")) ? [MOCK] : [];
+  $("mock").textContent = mock.length ? ROUND.mock : "";
+  options($("list-round"), rounds(season.published));
+  for (const it of ["cutoffs-round", "like-round"]) options($(it), [...mock, ...rounds(season.published)]);
   // each cut published a text; the last one is of the final admissions
-  options($("round"), season.now);
+  options($("round"), [...mock, ...rounds(season.now)]);
 }
 
-/** Offers the rounds up to a number, and keeps what was chosen. */
-function options(select, most) {
-  const had = Number(select.value);
-  select.replaceChildren(...Array.from({ length: most }, (_, at) => el("option", { value: at + 1 }, ROUND.option(at + 1, season.rounds))));
-  if (most) select.value = String(had >= 1 && had <= most ? had : most);
+const rounds = (most) => Array.from({ length: most }, (_, at) => at + 1);
+
+/** Looks by itself, and shows the state if it has changed. */
+async function lookWhile() {
+  const got = await askState();
+  if (got.body?.reply === "state" && (!season || lineOf(got.body) !== lineOf(season))) await look();
+}
+
+/** Offers rounds, and keeps what was chosen, or else chooses the last one. */
+function options(select, all) {
+  const had = select.value;
+  select.replaceChildren(...all.map((it) => el("option", { value: it }, ROUND.option(it, season.rounds))));
+  if (all.length) select.value = all.some((it) => String(it) === had) ? had : String(all.at(-1));
 }
 
 // ---- the seats of a programme
@@ -33,21 +49,30 @@ function options(select, most) {
 async function showList() {
   const said = $("list-said");
   clear($("list"));
+  say(said, "plain");
   const code = valueOf($("programme"), isCode, "code");
   if (!code) return;
   const round = Number($("list-round").value);
   if (!round) return say(said, "bad", FAULTS.round);
   say(said, "plain", ASKING);
-  const [got, programme] = await Promise.all([askList(round, code), programmeOf(code)]);
+  const [got] = await Promise.all([askList(round, code), papersCome()]);
   if (got.body?.reply !== "list") return say(said, "bad", trouble(got));
   say(said, "plain");
   const { text } = got.body;
   try {
     const list = readList(text);
-    $("list").replaceChildren(el("h3", {}, SEATS.title(list)), listPicture(list, text, programme));
+    const note = list.steps.some((it) => it.name === "D" && it.seats > 0) ? [el("p", {}, el("strong", {}, NOT_DISABILITY))] : [];
+    $("list").replaceChildren(el("h3", {}, SEATS.title(list.round, programmeName(list.code))), ...note, listPicture(list, text, programmeOf(code)), ...instituteLink(round, code));
   } catch {
     $("list").replaceChildren(el("p", {}, SEATS.unread), details(OWN_WORDS, verbatim(text)));
   }
+}
+
+/** A link to the paper with all lists of the programme's institute, where the programmes are published. */
+function instituteLink(round, code) {
+  const institute = instituteOf(code);
+  if (!institute) return [];
+  return [el("p", {}, el("a", { href: `/season/institute-${round}-${institute}.txt`, download: true, class: "button" }, SEATS.institute(instituteName(institute))))];
 }
 
 // ---- the text of a round
@@ -56,29 +81,42 @@ async function showRound() {
   const [said, shown] = [$("round-said"), $("round-text")];
   clear(shown);
   dropLinks();
-  const round = Number($("round").value);
-  if (!round) return say(said, "bad", FAULTS.round);
+  say(said, "plain");
+  const chosen = $("round").value;
+  if (!chosen) return say(said, "bad", FAULTS.round);
+  const wanted = $("find").value.trim() === "" ? "" : valueOf($("find"), isCandidate, "candidate");
+  if (wanted === null) return;
   say(said, "plain", ASKING);
-  const got = await askRound(round);
-  if (got.body?.reply !== "round") return say(said, "bad", trouble(got));
+  const [round, isFinal] = [chosen === MOCK ? MOCK : Number(chosen), Number(chosen) > season.rounds];
+  const name = isFinal ? "final.txt" : round === MOCK ? "mock-round.txt" : `round-${round}.txt`;
+  const got = await askRound(name, round === MOCK ? null : round, { came: (bytes) => bytes > LONG && say(said, "plain", ARRIVING(bytes)) });
+  if (got.body?.reply !== "round") return say(said, "bad", got.trouble === "broken" ? ROUND.missing : trouble(got));
+  await papersCome();
   const { text } = got.body;
+  say(said, "plain", ...summary(round, isFinal, text, Number(wanted)));
   const lines = text.split("\n");
-  say(said, "plain", summary(round, text));
   shown.replaceChildren(
-    el("p", {}, saveLink(ROUND.save, round > season.rounds ? "final.txt" : `round-${round}.txt`, text)),
+    el("p", {}, saveLink(ROUND.save, name, text)),
     ...(lines.length > MOST_LINES ? [el("p", {}, ROUND.cut(MOST_LINES, lines.length - 1))] : []),
     el("h3", {}, ROUND.word),
-    verbatim(lines.slice(0, MOST_LINES).join("\n")),
+    textBox(lines.slice(0, MOST_LINES).join("\n"), ROUND.word),
   );
 }
 
-/** Says how many candidates have a seat, where the text can be read. */
-function summary(round, text) {
+/** Says how many candidates have a seat, and the seat of the one who was asked for, where the text can be read. */
+function summary(round, isFinal, text, wanted) {
+  let rows;
   try {
-    return ROUND.summary(round, season.rounds, readRound(text).length);
+    rows = readRound(text);
   } catch {
-    return null;
+    return [];
   }
+  const all = ROUND.summary(round, season.rounds, rows.length);
+  if (!wanted) return [all];
+  const row = rows.find((it) => it.id === wanted);
+  if (!row) return [all, ROUND.notFound(wanted)];
+  const line = `${isFinal ? "admit" : "allot"} ${row.id} ${row.code} ${row.step}`;
+  return [all, ROUND.found(row.id, programmeName(row.code), row.step, isFinal), row.step === "D" && el("p", {}, el("strong", {}, NOT_DISABILITY)), verbatim(line)];
 }
 
 // ---- the two questions
@@ -87,10 +125,10 @@ function checkRefusal() {
   const shown = $("answer");
   clear(shown);
   const candidate = valueOf($("candidate"), isCandidate, "candidate");
+  if (!candidate) return;
   try {
     const sheet = readSheet($("sheet").value);
     const id = Number(candidate);
-    if (!id) return;
     const answers = twoQuestions(sheet, id);
     shown.replaceChildren(...(answers ? answered(sheet, id, answers) : [el("p", { class: "say bad" }, QUESTIONS.unknown(id))]));
   } catch (fault) {
@@ -98,7 +136,6 @@ function checkRefusal() {
     shown.replaceChildren(el("p", { class: "say bad" }, QUESTIONS.unread(fault.line, fault.kind)));
   }
 }
-
 function answered(sheet, id, it) {
   const lines = it.lines.slice(-MOST_ROWS);
   const second = [
@@ -123,7 +160,9 @@ function cells({ person, before, filled, placement, needed }) {
   return [person.id, holds, kept, QUESTIONS.filled(filled, placement), needed ? QUESTIONS.yes : QUESTIONS.no];
 }
 
-fillWords();
+fillLike();
+onSend($("like-form"), showLike);
+onSend($("cutoffs-form"), showCutoffs);
 onSend($("list-form"), showList);
 onSend($("round-form"), showRound);
 onSend($("check-form"), checkRefusal);
@@ -133,6 +172,7 @@ onPress($("example"), () => {
   $("candidate").value = EXAMPLE.candidate;
   checkRefusal();
 });
+lookAgain(lookWhile);
 ready();
-showPapers($("notice"));
-busy(look);
+showNotice($("notice"));
+busy(look).then(papersCome);

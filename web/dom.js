@@ -1,5 +1,8 @@
 /** Small helpers over the document. No markup is made from text here or anywhere else. */
-import { FAULTS, LABELS, LANGUAGE, NO } from "./words.js";
+import { FAULTS, HIDE_TOKEN, NO, OWN_WORDS, SHOW_TOKEN, SWITCH } from "./words.js";
+
+// a text of more lines has a box of its own
+const SHORT = 40;
 
 export const $ = (id) => document.getElementById(id);
 
@@ -47,14 +50,6 @@ export function say(region, kind, ...parts) {
 
 export const clear = (...regions) => regions.forEach((it) => it.replaceChildren());
 
-/** Fills the fixed texts of the page from words.js: contents by `data-word`, accessible names by `data-label`. */
-export function fillWords() {
-  document.documentElement.lang = LANGUAGE;
-  for (const it of document.querySelectorAll("[data-word]")) it.textContent = LABELS[it.dataset.word];
-  for (const it of document.querySelectorAll("[data-label]")) it.setAttribute("aria-label", LABELS[it.dataset.label]);
-  document.title = `${document.querySelector("h1").textContent} - ${LABELS.site}`;
-}
-
 /** Opens the page once its listeners are in place: forms may be sent from now on. */
 export function ready() {
   $("starting").remove();
@@ -70,31 +65,78 @@ export function onSend(form, then) {
   });
 }
 
-/** Returns what a field holds, without blanks at its ends, or null after saying at the field what is wrong. */
-export function valueOf(field, holds, fault) {
-  const value = field.value.trim();
+// ---- fields
+
+/** Returns what was typed without blanks at its ends. */
+const trimmed = (text) => text.trim();
+
+/** Returns a token as it is known to the office, however it was grouped for reading. */
+export const ungrouped = (text) => text.replace(/[\s-]/g, "");
+
+/** Takes from a field what was said to be wrong with it. */
+function clearFault(field) {
   const id = `${field.id}-fault`;
   $(id)?.remove();
-  const others = (field.getAttribute("aria-describedby") ?? "").split(" ").filter((it) => it && it !== id);
-  const right = holds(value);
   field.removeAttribute("aria-invalid");
-  if (!right) {
-    field.setAttribute("aria-invalid", "true");
-    field.after(el("span", { id, class: "fault" }, FAULTS[fault]));
-    field.focus();
-  }
-  const described = right ? others : [...others, id];
-  if (described.length) field.setAttribute("aria-describedby", described.join(" "));
+  const others = (field.getAttribute("aria-describedby") ?? "").split(" ").filter((it) => it && it !== id);
+  if (others.length) field.setAttribute("aria-describedby", others.join(" "));
   else field.removeAttribute("aria-describedby");
-  return right ? value : null;
 }
+
+function sayFault(field, fault) {
+  const id = `${field.id}-fault`;
+  field.setAttribute("aria-invalid", "true");
+  field.setAttribute("aria-describedby", `${field.getAttribute("aria-describedby") ?? ""} ${id}`.trim());
+  field.after(el("span", { id, class: "fault" }, FAULTS[fault]));
+  field.addEventListener("input", () => clearFault(field), { once: true });
+}
+
+/** Returns what fields hold, each of them a field with what it must satisfy, the name of the fault, and how it is cleaned. Returns null after
+ * saying at each wrong field what is wrong; the first of them has the focus then. */
+export function valuesOf(...fields) {
+  const read = fields.map(([field, holds, fault, clean = trimmed]) => {
+    const value = clean(field.value);
+    clearFault(field);
+    if (holds(value)) return { field, value };
+    sayFault(field, fault);
+    return { field, value: null };
+  });
+  const wrong = read.find((it) => it.value === null);
+  wrong?.field.focus();
+  return wrong ? null : read.map((it) => it.value);
+}
+
+/** Returns what one field holds, or null after saying at it what is wrong. */
+export const valueOf = (...field) => valuesOf(field)?.[0] ?? null;
+
+/** Lets a button show what is typed into a field for a token, and hide it again. */
+export function canBeShown(field, press) {
+  press.addEventListener("click", () => {
+    const isHidden = field.type === "password";
+    field.type = isHidden ? "text" : "password";
+    press.setAttribute("aria-pressed", String(isHidden));
+    press.textContent = isHidden ? HIDE_TOKEN : SHOW_TOKEN;
+  });
+}
+
+/** Hides and empties a field for a token. */
+export function emptyToken(field, press) {
+  field.value = "";
+  field.type = "password";
+  press.setAttribute("aria-pressed", "false");
+  press.textContent = SHOW_TOKEN;
+}
+
+// ---- questions
+
+const spaced = (text) => text.trim().replace(/\s+/g, " ").toLowerCase();
 
 /** Asks whether to go on, and returns the answer. The first button is No, so that Enter and Escape mean No. With `type` the button Yes opens
  * only when its text is typed. Call it from what `busy` waits for: meanwhile the page waits for a person and is not busy. */
 export function confirmed({ title, lines, yes, grave = false, type = null }) {
   const confirm = el("button", { value: "yes", class: grave ? "grave" : "main", disabled: type !== null }, yes);
-  const look = () => (confirm.disabled = field.value.trim() !== type.text);
-  const field = type && el("input", { id: "typed", inputmode: "numeric", autocomplete: "off", on: { input: look } });
+  const look = () => (confirm.disabled = spaced(field.value) !== spaced(type.text));
+  const field = type && el("input", { id: "typed", inputmode: type.mode ?? "text", autocomplete: "off", autocapitalize: "off", spellcheck: "false", on: { input: look } });
   const ask = el(
     "dialog",
     { "aria-labelledby": "sure-title", "aria-describedby": "sure-text" },
@@ -123,15 +165,61 @@ export function confirmed({ title, lines, yes, grave = false, type = null }) {
 /** Answers every open question with No. */
 export const closeQuestions = () => document.querySelectorAll("dialog[open]").forEach((it) => it.close("no"));
 
+/** Asks before a page in another language is opened, if `isIn` says that somebody is signed in: that page does not know the token. */
+export function askBeforeSwitch(isIn) {
+  for (const it of document.querySelectorAll(".languages a")) {
+    it.addEventListener("click", (event) => {
+      if (!isIn()) return;
+      event.preventDefault();
+      busy(async () => (await confirmed(SWITCH)) && location.assign(it.href));
+    });
+  }
+}
+
+/** Asks whether somebody is there, and calls `then` if a person says so. Any touch of the page closes it too. */
+export function askPerson({ title, lines, stay }, then) {
+  closeWarning();
+  const press = el("button", { type: "button", class: "main", autofocus: true, on: { click: then } }, stay);
+  const warning = el(
+    "dialog",
+    { id: "idle", role: "alertdialog", "aria-labelledby": "idle-title", "aria-describedby": "idle-text" },
+    el("h2", { id: "idle-title" }, title),
+    el("div", { id: "idle-text" }, lines.map((it) => el("p", {}, it))),
+    el("p", { class: "row" }, press),
+  );
+  document.body.append(warning);
+  warning.showModal();
+}
+
+export function closeWarning() {
+  $("idle")?.close();
+  $("idle")?.remove();
+}
+
+// ---- texts and tables
+
 export const details = (summary, ...inside) => el("details", {}, el("summary", {}, summary), ...inside);
-export const verbatim = (text) => el("pre", { tabindex: "0" }, text);
+
+/** Shows a text of the office as it is, which is in English; a long one in a box. */
+export const verbatim = (text) => (text.split("\n").length > SHORT ? textBox(text) : el("pre", { lang: "en" }, text));
+
+/** Makes something that is fetched when it is opened for the first time. */
+export function lazyDetails(summary, bring) {
+  const inside = el("div");
+  const made = details(summary, inside);
+  made.addEventListener("toggle", () => made.open && busy(async () => show(inside, ...(await bring()))), { once: true });
+  return made;
+}
+
+/** Shows a long text in a box of its own, which can be scrolled by keyboard too. */
+export const textBox = (text, label = OWN_WORDS) => el("pre", { class: "long", lang: "en", tabindex: "0", role: "region", "aria-label": label }, text);
 
 /** Makes a table that can be scrolled by itself where it is wider than the page. Its cells are texts or elements, its first column heads the rows. */
 export function table(caption, columns, rows) {
   const line = ([first, ...others]) => el("tr", {}, el("th", { scope: "row" }, first), others.map((it) => el("td", {}, it)));
   return el(
     "div",
-    { class: "scroll", tabindex: "0", role: "group", "aria-label": caption },
+    { class: "scroll", tabindex: "0", role: "region", "aria-label": caption },
     el(
       "table",
       {},
@@ -140,6 +228,25 @@ export function table(caption, columns, rows) {
       el("tbody", {}, rows.map(line)),
     ),
   );
+}
+
+/** Shows the first of many things, and more of them at a button, which gives the first of those the focus. */
+export function inParts(all, most, moreWords, make) {
+  const part = (from) => {
+    const some = all.slice(from, from + most);
+    const left = all.length - from - some.length;
+    const made = make(some, from);
+    if (from) made.tabIndex = -1;
+    if (left <= 0) return [made];
+    const more = el("button", { type: "button" }, moreWords(Math.min(most, left), left));
+    more.addEventListener("click", () => {
+      const next = part(from + most);
+      more.replaceWith(...next);
+      next[0].focus();
+    });
+    return [made, more];
+  };
+  return part(0);
 }
 
 const links = new Set();
@@ -156,7 +263,7 @@ export function dropLinks() {
   links.clear();
 }
 
-/** Offers programme codes at the fields that ask for one. */
+/** Offers programme codes with their names at the fields that ask for one. */
 export function offerCodes(codes) {
-  $("codes").replaceChildren(...codes.map((value) => el("option", { value })));
+  $("codes").replaceChildren(...codes.map(([value, label]) => el("option", { value, label })));
 }

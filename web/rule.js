@@ -1,5 +1,5 @@
-/** What can be said about published texts: their readers, the two questions of a refusal, and what a list alone settles. No part of this
- * makes an allocation, and none of it knows the page. Forms and names of faults are those of docs/FORMATS.md. */
+/** What can be said about published texts: their readers, the answers that are open, the two questions of a refusal, and what a list alone settles.
+ * No part of this makes an allocation, and none of it knows the page. Forms and names of faults are those of docs/FORMATS.md. */
 
 export const TRAITS = [..."WDXSFL"];
 export const STEPS = ["OPEN", "EWS", "OBC", "SC", "ST", "D"];
@@ -30,7 +30,7 @@ export const isCode = (text) => /^[A-Za-z0-9-]{1,16}$/.test(text);
 export const isToken = (text) => /^[A-Za-z0-9]{8,32}$/.test(text);
 
 /** Returns the lines of a text: one carriage return before each end is dropped, and one byte order mark at the start. */
-function linesOf(text) {
+export function linesOf(text) {
   const lines = text.replace(/^\uFEFF/, "").split("\n").map((line) => line.replace(/\r$/, ""));
   if (lines.at(-1) === "") lines.pop();
   return lines;
@@ -84,7 +84,7 @@ export function readWhy(text) {
   return { cand: Number(cand), code, kind, detail: detail ?? null, steps };
 }
 
-function matched(lines, at, form) {
+export function matched(lines, at, form) {
   const found = form.exec(lines[at] ?? "");
   if (!found) throw new Unreadable(at + 1, "BadLine");
   return found;
@@ -98,6 +98,8 @@ const LINES = {
   seat: (b) => `seat ${b.cand} round ${b.round} ${b.standing} ${b.programme ? `${b.programme} ${b.step}` : "none"}`,
   state: (b) => `state window ${b.now} rounds ${b.rounds} published ${b.published}`,
   choices: (b) => `choices ${b.cand} ${b.programmes.join(" ")}`.trimEnd(),
+  register: (b) => `register ${b.cand} ${b.category} ${b.traits || "-"} ${b.places.map((it) => it ?? "-").join(" ")}`,
+  answers: (b) => [`answers ${b.cand} noted ${b.answers.length}`, ...receiptsOf(b).map(LINES.noted), "end answers"].join("\n"),
   refused: (b) => ["refused", b.refused, b.name, ...carried(b)].join(" "),
 };
 const CARRIED = ["rule", "kept", "now", "last", "standing", "published", "seats", "total"];
@@ -107,6 +109,9 @@ function carried(body) {
   return CARRIED.filter((key) => body[key] !== undefined).flatMap((key) => [key, body[key]]);
 }
 
+/** Returns the receipts of a reply that has all answers of a candidate. */
+export const receiptsOf = (b) => b.answers.map((it) => ({ reply: "noted", cand: b.cand, ...it }));
+
 /** Returns a reply as the line or text that the office writes for it outside of HTTP, and that a court compares. */
 export const lineOf = (body) => body.text ?? LINES[body.reply]?.(body) ?? JSON.stringify(body);
 
@@ -114,12 +119,23 @@ export const lineOf = (body) => body.text ?? LINES[body.reply]?.(body) ?? JSON.s
 
 /** Returns the answers that the office takes now from a candidate with this seat. `left` is how the last cut left the candidate, and
  * `turns` how many answers of the open window the office has. */
-export function openAnswers(seat, left, turns) {
+function openAnswers(seat, left, turns) {
   if (seat.standing === "withdrawn" || seat.standing === "noshow") return [];
   if (!seat.programme || turns >= MOST_TURNS) return ["withdraw"];
   if (left === "freeze") return ["freeze", "withdraw"];
   if (left === "slide") return ["freeze", "slide", "withdraw"];
   return CHOICES;
+}
+
+/** Returns what the office takes now from a candidate, how the last cut left the candidate, and how many answers of the open window it has.
+ * `answers` are all answers of the candidate, in their order. */
+export function openNow(seat, state, answers) {
+  if (state.now > state.rounds) return { open: [], left: seat.standing, turns: 0 };
+  const turns = answers.filter((it) => it.window === state.now).at(-1)?.turn ?? 0;
+  const before = answers.filter((it) => it.window < state.now).at(-1)?.choice;
+  // without an answer in this window, the candidate is as the cut left it; a seat without any answer is a first offer
+  const left = turns && seat.programme ? (before ?? "offered") : seat.standing;
+  return { open: openAnswers(seat, left, turns), left, turns };
 }
 
 // ---- the sheet of a step and its two questions

@@ -1,21 +1,47 @@
-/** What all three pages show of the season: how far it is, the office's notice, and the programmes where they are published. */
-import { askState, paper, programmes } from "./ask.js";
+/** What all pages show of the season: how far it is, when its window closes, the office's notice, and its programmes where they are published. */
+import { askState, freshPaper, jsonPaper, serverTime } from "./ask.js";
 import { details, el, offerCodes, say, verbatim } from "./dom.js";
 import { lineOf } from "./rule.js";
-import { ASKING, NOTICE, OWN_WORDS, phase, trouble, WAITING } from "./words.js";
+import { ASKING, CLOSES, NOTICE, OWN_WORDS, named, phase, trouble, WAITING } from "./words.js";
 
-const known = programmes();
+const HALF_MINUTE = 30_000;
+// how often an open page looks whether the season has moved on: seldom, since many pages are open
+const EVERY = 5 * 60_000;
+const AT_LEAST = 60_000;
 
-/** Returns the published programme with a code, or undefined. */
-export const programmeOf = async (code) => (await known).find((it) => it.code === code);
+let coming = null;
+let known = new Map();
+let names = { programmes: new Map(), institutes: new Map(), titles: [] };
 
-/** Returns the institutes of the published programmes by code: none where the programmes are not published. */
-export const institutes = async () => Object.fromEntries((await known).map((it) => [it.code, it.institute]));
+async function fetchPapers() {
+  const [season, found] = await Promise.all([jsonPaper("programmes.json"), jsonPaper("names.json")]);
+  if (Array.isArray(season?.programmes)) known = new Map(season.programmes.map((it) => [it.code, it]));
+  if (found) names = { programmes: textsOf(found.programmes), institutes: textsOf(found.institutes), titles: [found.board, found.season] };
+  // what is not published yet, or did not arrive, may come later
+  if (known.size === 0) coming = null;
+  offerCodes([...known.keys()].map((code) => [code, names.programmes.get(code)]));
+}
 
-/** Offers the codes of the published programmes at fields, and shows the notice where there is one. */
-export async function showPapers(region) {
-  offerCodes((await known).map((it) => it.code));
-  const notice = region && (await paper("notice.txt"));
+/** The texts of a part of a paper by their codes. A code may be any word, so they are in a map. */
+const textsOf = (part) => new Map(Object.entries(part ?? {}).filter(([, text]) => typeof text === "string"));
+
+/** Fetches the papers about programmes and their names, until they are here. They can be large, so a page asks when it has shown what matters more. */
+export const papersCome = () => (coming ??= fetchPapers());
+
+/** Returns the published programme with a code, or undefined where it is not known, or not yet. */
+export const programmeOf = (code) => known.get(code);
+export const instituteOf = (code) => known.get(code)?.institute;
+
+/** Returns a programme or an institute as people know it: by name and code where the name is published, and else by its code. */
+export const programmeName = (code) => named(names.programmes.get(code), code);
+export const instituteName = (code) => named(names.institutes.get(code), code);
+
+/** Returns who holds the season and what it is called, each undefined where the papers do not say it. */
+export const seasonTitles = () => names.titles.map((it) => (typeof it === "string" ? it : undefined));
+
+/** Shows the notice of the office where there is one. */
+export async function showNotice(region) {
+  const notice = await freshPaper("notice.txt");
   if (notice?.trim()) region.replaceChildren(el("aside", { class: "box", "aria-label": NOTICE }, el("p", {}, el("strong", {}, NOTICE)), el("p", { class: "lines" }, notice.trim())));
 }
 
@@ -29,4 +55,41 @@ export async function showState(region) {
   }
   say(region, "plain", phase(got.body).join(" "), details(OWN_WORDS, verbatim(lineOf(got.body))));
   return got.body;
+}
+
+// ---- the announced end of the window
+
+let shown = null;
+
+/** Returns the announced end of the open window in milliseconds, or null where the papers do not say it. */
+export async function announcedEnd(state) {
+  const found = await jsonPaper("window.json", freshPaper);
+  const end = Date.parse(found?.closes ?? "");
+  return found?.window === state.now && state.now <= state.rounds && !Number.isNaN(end) ? end : null;
+}
+
+/** Shows when the open window closes, and what is left until then. What is left is counted down, and not read out. */
+export function showEnd(region, state, end) {
+  clearInterval(shown);
+  region.textContent = "";
+  if (end === null) return;
+  const write = () => (region.textContent = CLOSES(state.now, end, end - serverTime()));
+  write();
+  // it ends where the page has cleared it
+  shown = setInterval(() => (region.textContent ? write() : clearInterval(shown)), HALF_MINUTE);
+}
+
+// ---- looking again
+
+/** Calls `then` now and then while the page is seen, and when it is seen again after a while. */
+export function lookAgain(then) {
+  let looked = Date.now();
+  const look = (least) => {
+    if (document.visibilityState !== "visible" || Date.now() - looked < least) return;
+    looked = Date.now();
+    then();
+  };
+  document.addEventListener("visibilitychange", () => look(AT_LEAST));
+  // pages that were opened at the same moment do not all ask at the same moment
+  setInterval(() => look(EVERY * (0.8 + 0.4 * Math.random())), AT_LEAST);
 }

@@ -1,7 +1,11 @@
 /** Who is signed in. Number and token are in the memory of this page alone, and in no address, log or storage. They are forgotten when
  * somebody signs out, leaves the page, or does not touch it for a quarter of an hour. */
+import { askPerson, closeWarning } from "./dom.js";
+import { IDLE_WORDS } from "./words.js";
 
 const IDLE = 15 * 60 * 1000;
+// two minutes before, the page asks whether somebody is there
+const WARNING = 13 * 60 * 1000;
 const TOUCHES = ["keydown", "input", "pointerdown", "wheel", "touchstart"];
 
 /** A sign-in. `signal` ends the requests that are under way when it is forgotten. */
@@ -10,7 +14,6 @@ export class SignIn {
 
   constructor(token, known = {}) {
     this.token = token;
-    this.closed = {};
     Object.assign(this, known);
   }
 
@@ -28,19 +31,27 @@ export class SignIn {
   }
 }
 
-/** Calls `leave` with the cause when the page is left, so that Back shows nothing, and after the idle time. A timer may sleep with the
- * machine, so the clock is looked at too when the page is seen again. */
-export function leaveInTime(leave) {
+/** Calls `leave` with the cause when the page is left, so that Back shows nothing, and after the idle time. Before that it asks whether somebody
+ * is there, if `isIn` says that somebody is signed in. Timers may sleep with the machine, so the clock is looked at too when the page is seen again. */
+export function leaveInTime(leave, isIn) {
   let touched = Date.now();
-  let timer;
+  let timers = [];
+  const idle = () => {
+    closeWarning();
+    leave("idle");
+  };
   const look = () => {
-    if (Date.now() - touched >= IDLE) leave("idle");
+    if (Date.now() - touched >= IDLE) idle();
+  };
+  const warn = () => {
+    if (isIn()) askPerson(IDLE_WORDS, touch);
   };
   const touch = () => {
     look();
+    closeWarning();
     touched = Date.now();
-    clearTimeout(timer);
-    timer = setTimeout(() => leave("idle"), IDLE);
+    timers.forEach(clearTimeout);
+    timers = [setTimeout(warn, WARNING), setTimeout(idle, IDLE)];
   };
   for (const it of TOUCHES) addEventListener(it, touch, { passive: true, capture: true });
   document.addEventListener("visibilitychange", look);

@@ -1,12 +1,12 @@
-/** Every sentence of the pages, in one place. A translation changes this file alone. The words of choices, steps and refusals follow
- * docs/RULES.md and docs/FORMATS.md; where they and the office's own words differ, the office's words count. */
+/** Every sentence of the pages in English, in one place. A translation is another file with the same names, as words.hi.js is. The words of choices,
+ * steps and refusals follow docs/RULES.md and docs/FORMATS.md; where they and the office's own words differ, the office's words count. */
 
-export const LANGUAGE = "en";
+// 2,50,000 and not 250,000, as candidates write it
+const figure = (number) => number.toLocaleString("en-IN");
+const count = (number, one, many = `${one}s`) => `${figure(number)} ${number === 1 ? one : many}`;
+const listed = (words, last = "and") => (words.length < 2 ? words.join("") : `${words.slice(0, -1).join(", ")} ${last} ${words.at(-1)}`);
 
-const count = (number, one, many = `${one}s`) => `${number.toLocaleString("en")} ${number === 1 ? one : many}`;
-const listed = (words) => (words.length < 2 ? words.join("") : `${words.slice(0, -1).join(", ")} and ${words.at(-1)}`);
-
-/** The fixed texts of the pages, by the names that the pages use in `data-word` and `data-label`. */
+/** The fixed texts of the pages, by the names that the pages use in `data-word` and `data-label`. web/build puts them into the pages. */
 export const LABELS = {
   site: "Seat allocation office",
   skip: "Skip to the content",
@@ -14,24 +14,46 @@ export const LABELS = {
   navAnybody: "Lists and checks",
   navCandidate: "Candidates",
   navClerk: "Clerk",
+  noScript: "These pages need JavaScript, and it is off in this browser.",
+  starting: "The page is loading. If nothing else appears, load it again, or use a newer browser: Chrome 92, Firefox 98, Safari 15.4 or later.",
+  tooOld: "This browser is too old for these pages. Use a newer one: Chrome 92, Firefox 98, Safari 15.4 or later.",
   footer: "The office's program is proved. These pages, the web server and your browser are not. So each page shows the office's own words next to its explanation, and the office's words count.",
   refresh: "Look again",
   round: "Round",
   programme: "Programme",
   programmeHint: "its code, as in the choice list",
-  step: "Step",
+  step: "Kind of seat",
   candidate: "Candidate's number",
 
+  anybodyHead: "Lists and checks - Seat allocation office",
   anybodyTitle: "Lists and checks",
-  anybodyIntro: "Anyone may read who has which seat, and check a refusal. You need no token.",
+  anybodyIntro: "Anyone may read who has which seat, see the cutoffs, and check a refusal. You need no token.",
   stateTitle: "How far the season is",
+  likeTitle: "Which programmes would admit a place like mine?",
+  likeIntro: "Fill in what the register has of you. The page compares it with the published cutoffs of a round on this computer, and sends it to nobody.",
+  category: "Category",
+  holds: "What you hold",
+  places: "Your places in the merit lists",
+  placesHint: "Leave a list empty if you have no place in it. Write a relaxed place with an R, such as 40R.",
+  list1: "List 1",
+  list2: "List 2",
+  list3: "List 3",
+  list4: "List 4",
+  showLike: "Show the programmes",
+  cutoffsTitle: "Cutoffs of all programmes",
+  cutoffsIntro: "A cutoff is the worst place that a kind of seat would still admit in this round. Candidates know it as the closing rank.",
+  search: "Search",
+  searchHint: "a name, an institute or a code; leave it empty for all",
+  showCutoffs: "Show the cutoffs",
   listTitle: "Who has the seats of a programme",
   showList: "Show the seats",
   roundTitle: "The text of a round",
   roundIntro: "The seats of all candidates in a round, or the final admissions, as the office published them.",
+  findNumber: "Find a candidate",
+  findHint: "a candidate number, if you want one row",
   showRound: "Show the text",
-  checkTitle: "Check a refusal",
-  checkIntro: "A refusal is right if and only if the answer to both questions is no:",
+  checkTitle: "Check a refusal with the sheet of a step",
+  checkIntro: "This check is for the clerk and for courts, because a sheet names all candidates and what they hold. A refusal is right if and only if the answer to both questions is no:",
   question1: "Do the protected seats need the candidate?",
   question2: "If not, is a free seat left for the candidate?",
   checkSheet: "To answer them, this page needs the sheet of the step: its seats, its protected seats, and all its candidates in merit order. The page works on this computer and sends the sheet to nobody.",
@@ -40,24 +62,27 @@ export const LABELS = {
   answerQuestions: "Answer the two questions",
   example: "Fill in an example",
 
+  candidateHead: "Your seat and your answers - Seat allocation office",
   candidateTitle: "Your seat and your answers",
   signInTitle: "Sign in",
   number: "Your number",
   numberHint: "your candidate number, digits only",
   token: "Your token",
-  tokenHint: "The token stays in the memory of this page. It is not stored on this computer. The page forgets it when you leave.",
+  tokenForm: "letters and digits; blanks do not matter",
+  tokenHint: "The token stays in the memory of this page. It is not stored on this computer. The page forgets it when you leave the page or sign out.",
+  showToken: "Show token",
   signIn: "Show my seat",
-  signOut: "Leave",
+  signOut: "Sign out",
+  letter: "Print a letter of allotment",
+  entryTitle: "Your entry in the register",
   seatTitle: "Your seat",
   answerTitle: "Your answer",
   receiptsTitle: "Your receipts",
-  receiptsIntro: "The office can repeat the receipt of each answer that it has taken from you.",
-  showReceipts: "Show my receipts",
+  receiptsIntro: "These are all the answers that the office has taken from you.",
   whyTitle: "Why not another programme?",
-  traits: "What you hold",
-  traitsHint: "Tick what applies, and the page checks the published lists with it. It stays on this page.",
   explain: "Explain each programme",
 
+  clerkHead: "The clerk's desk - Seat allocation office",
   clerkTitle: "The clerk's desk",
   clerkToken: "The clerk's token",
   clerkSignIn: "Sign in",
@@ -79,11 +104,27 @@ export const FAULTS = {
   code: "A programme code has 1 to 16 letters, digits and hyphens.",
   seats: "The new number is a whole number from 1 to 4,000.",
   round: "No round is published yet.",
+  place: "A place is a number, with an R after it if it is relaxed.",
 };
 
 export const NO = "No, go back";
+export const SHOW_TOKEN = LABELS.showToken;
+export const HIDE_TOKEN = "Hide token";
+export const SWITCH = {
+  title: "Change the language?",
+  lines: ["The page in the other language does not know your token. You have to sign in there again."],
+  yes: "Change the language",
+};
+export const IDLE_WORDS = {
+  title: "Are you still there?",
+  lines: ["Nobody has touched this page for 13 minutes. In 2 minutes it signs you out and forgets your token."],
+  stay: "Stay signed in",
+};
 
 // ---- the season
+
+/** A programme or an institute with its name, where it has one that is published. */
+export const named = (name, code) => (name ? `${name} (${code})` : code);
 
 export const TRAITS = {
   W: "women",
@@ -96,27 +137,42 @@ export const TRAITS = {
 
 /** What a candidate holds, as the person would say it. */
 export const HOLDS = {
-  W: "woman",
-  D: "person with a disability",
-  X: "ex-serviceman",
-  S: "sports",
-  F: "dependant of a freedom fighter",
-  L: "local area",
+  W: "woman (W)",
+  D: "disability (D)",
+  X: "ex-serviceman (X)",
+  S: "sports (S)",
+  F: "dependant of a freedom fighter (F)",
+  L: "local area (L)",
 };
-export const HOLDS_NOTHING = "none of these";
+export const HOLDS_NOTHING = "none";
+
+export const CATEGORIES = {
+  GEN: "General (GEN)",
+  EWS: "Economically Weaker Sections (EWS)",
+  OBC: "Other Backward Classes, non-creamy layer (OBC)",
+  SC: "Scheduled Castes (SC)",
+  ST: "Scheduled Tribes (ST)",
+};
 
 const STEPS = {
-  OPEN: "open seats",
+  OPEN: "open seats (OPEN)",
   EWS: "EWS seats",
   OBC: "OBC seats",
   SC: "SC seats",
   ST: "ST seats",
-  D: "de-reserved seats",
+  D: "de-reserved (D) seats",
 };
-const stepName = (step) => `${STEPS[step] ?? "seats"} (${step})`;
+const stepName = (step) => STEPS[step] ?? `seats (${step})`;
 
 /** The name of a step at the head of a sentence or a field. */
 export const kindOfSeat = (step) => stepName(step).replace(/^[a-z]/, (letter) => letter.toUpperCase());
+
+/** What the letter D means, wherever a page shows it in the place of a step. */
+export const NOT_DISABILITY = "In the place of a kind of seat, D means de-reserved and not disability.";
+
+/** What stands for the mock round, which the office may publish before round 1. */
+export const MOCK = "mock";
+const roundName = (round) => (round === MOCK ? "the mock round" : `round ${round}`);
 
 /** How far the season is, sentence by sentence. */
 export function phase({ now, rounds, published }) {
@@ -129,10 +185,67 @@ export function phase({ now, rounds, published }) {
       : `When the clerk closes the window, round ${now + 1} is published.`,
   ];
 }
+
+const WHEN = { day: "numeric", month: "long", year: "numeric", hour: "numeric", minute: "2-digit", timeZone: "Asia/Kolkata" };
+
+/** How much is left, in its two largest units. */
+function left(ms) {
+  const minutes = Math.max(1, Math.ceil(ms / 60_000));
+  const [days, hours] = [Math.floor(minutes / 1440), Math.floor(minutes / 60) % 24];
+  if (days) return `${count(days, "day")}${hours ? ` and ${count(hours, "hour")}` : ""}`;
+  return hours ? `${count(hours, "hour")}${minutes % 60 ? ` and ${count(minutes % 60, "minute")}` : ""}` : count(minutes, "minute");
+}
+
+/** When the open window closes, as the office has announced it, and what is left of it. */
+export const CLOSES = (window, end, ms) =>
+  ms > 0
+    ? `Window ${window} is announced to close on ${new Date(end).toLocaleString("en-IN", WHEN)}, Indian time. ${left(ms)} left.`
+    : `The announced end of window ${window} has passed. The clerk may close it at any moment.`;
+
 export const ASKING = "Asking the office …";
 export const WAITING = "The office does not answer yet. The page asks again by itself.";
+export const ARRIVING = (bytes) => `${figure(Math.ceil(bytes / 100_000) / 10)} MB have arrived …`;
 export const NOTICE = "Notice of the office";
 export const OWN_WORDS = "The office's own words";
+
+// ---- cutoffs
+
+const letters = (traits) => listed([...traits]);
+const upTo = (place) => (place === Infinity ? "any place" : `places up to ${figure(place)}`);
+
+/** What the lines of a step admit: `places up to 41, or up to 57 with W`. */
+function admitted(lines) {
+  const one = ({ traits, place }) => `${upTo(place)}${traits ? ` with ${letters(traits)}` : ""}`;
+  const [first, ...others] = lines.map(one);
+  return [first, ...others.map((it) => it.replace("places up to", "up to"))].join(", or ");
+}
+
+export const CUTOFFS = {
+  columns: ["Programme", "Institute", "Kind of seat", "Admits"],
+  caption: (round, number) => `Cutoffs of ${roundName(round)}: ${count(number, "programme")}`,
+  admitted,
+  more: (some, all) => `Show ${some} more of ${figure(all)}`,
+  noneFound: "No programme is found for this.",
+  noPaper: "The table of all cutoffs is not published here. Type the code of one programme, and the page asks the office.",
+  nobody: "This programme admits nobody more.",
+  caveats: (round) => [
+    `These numbers are about ${roundName(round)} and one person more. Two newcomers within a cutoff may not both be admitted.`,
+    "A cutoff means this place or a better one. Holding more letters never makes it stricter.",
+    "Open and de-reserved seats are for common places, and the seats of a category are for its members.",
+    "A candidate who chose slide or freeze may be within the cutoff of a programme that they no longer sought.",
+  ],
+  save: "Save the table",
+  saveClosing: "Save it as a table of closing places",
+};
+
+export const LIKE = {
+  columns: ["Programme", "Institute", "Kind of seat", "Admits", "Your place"],
+  caption: (round, number) => `In ${roundName(round)}, ${count(number, "programme")} would admit one person more like this`,
+  none: (round) => `In ${roundName(round)}, no programme would admit one person more like this.`,
+  noPlace: "Fill in at least one place.",
+  noPaper: "The cutoffs of all programmes, or the programmes themselves, are not published here. So the page cannot compare them.",
+  first: "The kind of seat is the first, in the office's order, within whose cutoff you are. It is the one whose seat it would be.",
+};
 
 // ---- lists and rounds
 
@@ -146,19 +259,20 @@ export const SEATS = {
         : `${count(honoured, "protected seat is", "protected seats are")} filled.`
       : all === 0
         ? "No seat is protected."
-        : `${honoured} of ${count(all, "protected seat")} ${all === 1 ? "is" : "are"} filled.`,
+        : `${figure(honoured)} of ${count(all, "protected seat")} ${all === 1 ? "is" : "are"} filled.`,
   unfilled: (trait, left, all) =>
     `${all === 1 ? "The seat" : `${left} of ${count(all, "seat")}`} protected for ${TRAITS[trait]} ${left === 1 ? "is" : "are"} not filled, because the candidates considered cannot fill more protected seats in all. ${left === 1 ? "It counts as an ordinary seat" : "They count as ordinary seats"}.`,
   list: (step, seats) => `${kindOfSeat(step)}: ${count(seats, "seat")}`,
   protectedFor: (trait) => `protected: ${TRAITS[trait]} (${trait})`,
   byMerit: "by merit",
-  rank: (rank) => `no. ${rank} on this list`,
+  rank: (rank) => `no. ${figure(rank)} on this list`,
   you: "this is you",
   empty: "empty",
   moreEmpty: (left) => `${count(left, "more seat is", "more seats are")} empty.`,
   more: (left) => `Show ${count(left, "more seat")}`,
-  without: (steps) => `No seats here: ${listed(steps.map(([name, candidates]) => `${STEPS[name]} (${count(candidates, "candidate")})`))}.`,
-  title: (list) => `Programme ${list.code}, round ${list.round}`,
+  without: (steps) => `No seats here: ${listed(steps.map(([name, candidates]) => `${stepName(name)}, ${count(candidates, "candidate")}`))}.`,
+  title: (round, programme) => `${programme}, round ${round}`,
+  institute: (institute) => `Save all lists of ${institute}`,
   nothing: "This programme has no seats.",
   wrong: (fault) => `Something is wrong with this list: ${LIST_FAULTS[fault.key](fault)} Show it to the office.`,
   unread: "This page cannot read the list. These are the office's own words.",
@@ -181,17 +295,21 @@ export const SETTLED = {
   by: {
     notrait: "no protected seat here is for what you hold, and everyone admitted has a better place.",
     allfilled: "by its letters every protected seat is filled, and everyone admitted has a better place.",
-    sheet: "the sheet of the step is needed, because it says what the admitted candidates hold.",
+    sheet: "the cutoff settles it, or the sheet of the step, which says what the admitted candidates hold.",
   },
 };
 
 export const ROUND = {
-  option: (round, rounds) => (round > rounds ? "Final admissions" : `Round ${round}`),
+  option: (round, rounds) => (round === MOCK ? "Mock round" : round > rounds ? "Final admissions" : `Round ${round}`),
   summary: (round, rounds, rows) =>
-    round > rounds ? `${count(rows, "candidate is", "candidates are")} admitted.` : `${count(rows, "candidate has", "candidates have")} a seat in round ${round}.`,
-  cut: (shown, all) => `Here are the first ${count(shown, "line")} of ${all.toLocaleString("en")}. Save the text to read all of it.`,
+    round > rounds ? `${count(rows, "candidate is", "candidates are")} admitted.` : `${count(rows, "candidate has", "candidates have")} a seat in ${roundName(round)}.`,
+  mock: "The mock round is a trial with the lists of today. Nobody has a seat by it, and round 1 may differ.",
+  cut: (shown, all) => `The box has the first ${count(shown, "line")} of ${figure(all)}. Save the text to read all of it.`,
   save: "Save the text",
   word: "The text word for word",
+  found: (id, programme, step, isFinal) => `Candidate ${id} ${isFinal ? "is admitted to" : "has a seat in"} ${programme}, under ${stepName(step)}.`,
+  notFound: (id) => `Candidate ${id} has no seat in this text.`,
+  missing: "The text broke off while it was on its way. It is long, so the page does not ask for it again by itself. Press the button to ask again.",
 };
 
 // ---- the two questions
@@ -200,10 +318,7 @@ const GOING_DOWN = "Go down the merit order, and keep each candidate who, with t
 export const QUESTIONS = {
   columns: ["Candidate", "Holds", "Kept so far", "With this candidate they can fill", "Needed, so kept?"],
   title1: (id) => `1. Do the protected seats need candidate ${id}?`,
-  caption: (shown, all) =>
-    shown < all
-      ? `${GOING_DOWN} These are the last ${shown} of ${all.toLocaleString("en")} lines.`
-      : GOING_DOWN,
+  caption: (shown, all) => (shown < all ? `${GOING_DOWN} These are the last ${shown} of ${figure(all)} lines.` : GOING_DOWN),
   nobody: "nobody",
   nothing: "nothing",
   people: (number) => count(number, "candidate"),
@@ -237,12 +352,21 @@ const SHEET_FAULTS = {
   RepeatedProtect: "an earlier line protects seats for the same letter.",
   RepeatedCandidate: "an earlier line has the same candidate.",
   ProtectionsExceedSeats: "more seats are protected than there are.",
-  TooMany: "a sheet has at most 250,000 candidates.",
+  TooMany: "a sheet has at most 2,50,000 candidates.",
 };
 
 export const EXAMPLE = { sheet: "step sheet 1\nseats,2\nprotect,W,1\nprotect,D,1\ncand,1,-\ncand,2,WD\ncand,3,W\ncand,4,D\n", candidate: "4" };
 
 // ---- a candidate
+
+/** The candidate's own entry in the register. */
+export const ENTRY = {
+  check: "Check this now. An error is mended before round 1 is published, and not after it. Tell the board if anything is wrong.",
+  later: "The office works with this entry for the whole season.",
+  fields: { category: "Category", traits: "You hold", place: (list) => `Place in merit list ${list}` },
+  place: (place, isCommon) => (isCommon ? `${figure(place)}, a common place` : `${figure(place)}, a relaxed place: it counts for the seats of your category alone`),
+  noPlace: "none",
+};
 
 export const CHOICES = {
   freeze: {
@@ -259,7 +383,7 @@ export const CHOICES = {
       last
         ? [`Keep your seat in ${seat}. It becomes your final admission: no round follows in which you could move up.`]
         : [
-            `Keep your seat in ${seat}, and seek every programme higher on your list${named(higher)}.`,
+            `Keep your seat in ${seat}, and seek every programme higher on your list${these(higher)}.`,
             ...noneHigher(higher, seat),
             `You get ${seat} or a higher one, never a lower one. If you move up, you give up the seat in ${seat}.`,
           ],
@@ -271,7 +395,7 @@ export const CHOICES = {
       last
         ? [`Keep your seat in ${seat}. It becomes your final admission: no round follows in which you could move up.`]
         : [
-            `Keep your seat in ${seat}, and seek only the programmes higher on your list at the same institute${named(same)}.`,
+            `Keep your seat in ${seat}, and seek only the programmes higher on your list at the same institute${these(same)}.`,
             ...noneHigher(same, seat),
             "When this window closes, you can no longer choose float.",
           ],
@@ -280,20 +404,20 @@ export const CHOICES = {
   withdraw: {
     name: "Withdraw",
     does: ({ seat }) => [
-      seat ? `Give up your seat in ${seat} and leave the season.` : "Leave the season. You will not be offered a seat in it.",
-      "You get no seat in any later round. A withdrawal is final: you cannot take it back, not even while this window is open.",
+      seat ? `Give up your seat in ${seat} and leave the season.` : "Leave the season. You will not be offered a seat in any of its rounds.",
+      "A withdrawal is final: you cannot take it back, not even while this window is open. If the board holds a special round for vacant seats afterwards, you may hand in a list for it.",
     ],
     yes: "Yes, withdraw for good",
   },
 };
 
 /** The programmes that an answer seeks, where they are known. */
-function named(codes) {
-  return codes?.length ? `: ${listed(codes)}` : "";
+function these(programmes) {
+  return programmes?.length ? `: ${listed(programmes)}` : "";
 }
 
-function noneHigher(codes, seat) {
-  return codes?.length === 0 ? [`Your list has none, so you stay in ${seat}.`] : [];
+function noneHigher(programmes, seat) {
+  return programmes?.length === 0 ? [`Your list has none, so you stay in ${seat}.`] : [];
 }
 
 /** How a candidate is while the season goes on. */
@@ -316,30 +440,32 @@ export const SEAT = {
   special: "If the board holds a special round for vacant seats, you may hand in a new list for it.",
   lastKept: "You keep this seat. It becomes your final admission when the clerk closes this window.",
   left: { idle: "The page signed you out, because nobody touched it for 15 minutes.", asked: "You are signed out. The page has forgotten your token." },
+  changed: "Your seat or your answer has changed since this page showed it. Look again.",
 };
 
 export const ANSWER = {
   over: "The season is over. There is nothing left to answer.",
   out: "You are out of this season. There is nothing left to answer.",
-  mustAnswer: (window) => [
-    `Answer before window ${window} closes. If you do not answer, you lose this seat and leave the season.`,
-    "The clerk closes the window. This page cannot know when: look for the time in the notices of the office.",
-  ],
+  mustAnswer: (window) => `Answer before window ${window} closes. If you do not answer, you lose this seat and leave the season.`,
+  noEnd: "The clerk closes the window. No end is announced on this page: look for the time in the notices of the office.",
   answered: "You have answered, and you need not do anything more. Your answer holds until you change it, in later windows too.",
   waiting: "You have no seat, so you need not answer. You can only withdraw.",
   narrow: (window) =>
-    `Compared with the last cut, an answer may narrow what you seek, and never widen it. While window ${window} is open, you may change your answer, except for a withdrawal.`,
+    `You can change your mind until window ${window} closes, except for a withdrawal. After that, slide rules out float, and freeze leaves only withdraw.`,
+  first: (seat) => `${seat} is the first programme on your list, so no answer can bring you another one. Freeze, float and slide all keep it. One of them is enough.`,
+  keeps: (seat) => [`Keep your seat in ${seat}.`],
   now: "Your answer now",
   closed: (choice, left) => `${CHOICES[choice].name} is not open to you: your answer when the last window closed was ${left}.`,
   full: "The office has 16 answers from you in this window. It takes only a withdrawal now.",
   used: (turns) => `The office has ${count(turns, "answer")} from you in this window. It takes up to 16, and a withdrawal after them.`,
   sure: (choice) => `${CHOICES[choice].name}?`,
+  sureType: { text: "withdraw", label: "To confirm, type the word: withdraw" },
   sending: "Sending your answer …",
   taken: "The office has taken your answer and keeps it. Keep this receipt: a court compares it with the papers of the office.",
+  earlier: (choice) => `This is the receipt of an earlier answer. Your answer now is ${CHOICES[choice]?.name ?? choice}.`,
   unknown: "The page does not know whether your answer arrived. Send it again: the office takes the same answer only once, and then repeats its receipt.",
   again: "Send the same answer again",
   other: "Perhaps you answered in another window or on another device. Look at your answer below, and answer again if you still want to.",
-  moved: "The season has moved on. Look at your seat above before you answer.",
   save: "Save the receipt",
   print: "Print",
   file: (receipt, seat, origin, time) => `${receipt}\n\n${seat}\noffice ${origin}\nclock of this computer ${time}\n`,
@@ -348,7 +474,7 @@ export const ANSWER = {
 
 export const RECEIPTS = {
   columns: ["Window", "Turn", "Answer", "Receipt"],
-  caption: "Read from the office just now",
+  caption: "Your answers, in the order in which the office took them",
   none: "The office has no answer from you.",
   save: "Save all receipts",
   fileName: (cand) => `receipts-${cand}.txt`,
@@ -356,27 +482,65 @@ export const RECEIPTS = {
 
 export const WHY = {
   tooEarly: "Reasons come with round 1, and no round is published yet.",
-  list: (codes) => (codes.length ? `Your choice list: ${codes.join(", ")}.` : "Your choice list is empty."),
-  heading: (place, code) => `${place}. ${code}`,
-  asking: (code) => `Asking about ${code} …`,
+  list: "Your choice list:",
+  emptyList: "Your choice list is empty.",
+  first: (seat) => `You have ${seat}, the first programme on your list. So there is nothing to explain.`,
+  heading: (place, programme) => `${place}. ${programme}`,
+  asking: (programme) => `Asking about ${programme} …`,
   admitted: (round, step) => `Round ${round} admits you here, under ${stepName(step)}.`,
-  better: (code) => `You have a seat in ${code}, which is higher on your list.`,
+  better: (programme) => `You have a seat in ${programme}, which is higher on your list.`,
   notsought: (round) => [
     `You did not seek this programme in round ${round}, so it was not considered for you.`,
     "That is so after freeze, after slide if the programme is at another institute, and for everyone who has left the season.",
   ],
   refused: "You were refused here. You were considered for these seats:",
   noSeats: "there are no such seats.",
-  worseNo: (seats) => `${seats === 1 ? "the one seat is" : `all ${seats.toLocaleString("en")} seats are`} taken. Everyone admitted has a better place than yours.`,
+  worseNo: (seats) => `${seats === 1 ? "the one seat is" : `all ${figure(seats)} seats are`} taken. Everyone admitted has a better place than yours.`,
   worseYes: (seats) =>
-    `${seats === 1 ? "the one seat is" : `all ${seats.toLocaleString("en")} seats are`} taken. Someone with a worse place than yours is admitted. With you in the place of any such candidate, fewer protected seats would be filled.`,
+    `${seats === 1 ? "the one seat is" : `all ${figure(seats)} seats are`} taken. Someone with a worse place than yours is admitted. With you in the place of any such candidate, fewer protected seats would be filled.`,
   nowhere: "No kind of seat here was open to you.",
+  comparison: "You can check this refusal by one comparison. These are the published cutoffs, and your place:",
+  // what a step admits, and what that means for the place of the candidate
+  compare: ({ lines, best, place, isWithin }) =>
+    lines.length === 0
+      ? `they admit nobody more. Your place is ${figure(place)}.`
+      : `they admit ${admitted(lines)}; your place is ${figure(place)}. ${isWithin ? WITHIN : best === null ? NO_LINE : WORSE(best)}`,
+  within: "By its cutoffs this programme would admit you. Something is wrong: show the cutoffs and the reason to the office.",
+  whichPlace: "This page does not know which of your places counts at this programme. Compare yours with its published cutoffs:",
+  cutoffsAre: "A cutoff means this place or a better one, for one person more.",
   checked: "What this page finds from the published list:",
-  seats: (code) => `Who has the seats of ${code}`,
+  seats: (programme) => `Who has the seats of ${programme}`,
   next: (number) => `Explain the next ${number}`,
-  below: (code) => `You have ${code}. The programmes below it on your list do not matter while you have it.`,
+  below: (programme) => `You have ${programme}. The programmes below it on your list do not matter while you have it.`,
   noList: "This page cannot read the published list.",
   unread: "This page cannot read the reason. These are the office's own words.",
+  noCutoffs: "This page cannot read the cutoffs of this programme.",
+};
+
+const WITHIN = "That is within the cutoff.";
+const NO_LINE = "That is only for candidates with these letters, and you do not hold them.";
+const WORSE = ({ traits, place }) => `${traits ? `With ${letters(traits)}, which you hold, the cutoff is ${figure(place)}. ` : ""}Your place is worse, so these seats do not admit you.`;
+
+/** A letter of allotment for paper. */
+export const LETTER = {
+  title: (isFinal) => (isFinal ? "Letter of final admission" : "Letter of allotment"),
+  fields: {
+    season: "Season",
+    board: "Board",
+    candidate: "Candidate",
+    programme: "Programme",
+    institute: "Institute",
+    kind: "Kind of seat",
+    place: (list) => `Place in merit list ${list}`,
+    round: "Round",
+    standing: "Status",
+    receipt: "Receipt of the last answer",
+    end: "End of the window",
+  },
+  noReceipt: "none yet",
+  own: "The office's own words",
+  foot: (origin, time) => `Printed from ${origin} on ${time}. The records of the office count. This sheet repeats them and proves nothing by itself.`,
+  time: (ms) => new Date(ms).toLocaleString("en-IN", WHEN),
 };
 
 // ---- the clerk
@@ -390,11 +554,15 @@ export const CLERK = {
     "The office refuses answers that arrive later.",
     ...(now > 0 ? ["A candidate who has not answered the first offer leaves the season."] : []),
   ],
+  counts: ({ seats, unanswered }, at) =>
+    `Of ${count(seats, "seat")} offered, ${count(unanswered, "has", "have")} no answer yet. These candidates leave the season if the window closes now. Counted on ${new Date(at).toLocaleString("en-IN", WHEN)}.`,
+  early: (end) => `The announced end is ${new Date(end).toLocaleString("en-IN", WHEN)}, and it has not come yet. Candidates rely on it.`,
   over: "All windows are closed. The season is over.",
   close: (window) => `Close window ${window}`,
   sureTitle: (window) => `Close window ${window}?`,
   sure: ({ now, rounds }) => [now < rounds ? `Round ${now + 1} is published at once.` : "The final admissions are made, and the season ends.", "You cannot undo this."],
-  sureType: (window) => `To confirm, type the number of the window: ${window}`,
+  sureType: (window) => ({ text: String(window), label: `To confirm, type the number of the window: ${window}`, mode: "numeric" }),
+  sureEarly: (window) => ({ text: `I close window ${window} before its announced end`, label: `To confirm, type this sentence: I close window ${window} before its announced end` }),
   sureYes: "Close the window",
   cutting: "The office is closing the window. With many candidates this takes a while.",
   published: ({ round, seated }) => `Round ${round} is published. ${count(seated, "candidate has", "candidates have")} a seat.`,
@@ -406,14 +574,14 @@ export const CLERK = {
   noRaise: "No round follows, so no seats can be added.",
   raiseTitle: ({ programme, step, seats }) => `${kindOfSeat(step)} of ${programme}: ${count(seats, "seat")}?`,
   raiseLines: ({ window, seats }, before) => [
-    ...(before === null ? [] : [`The step had ${count(before, "seat")} in round ${window}.`]),
-    `It will have ${count(seats, "seat")} from round ${window + 1} on.`,
+    ...(before === null ? [] : [`There were ${count(before, "such seat")} in round ${window}.`]),
+    `There will be ${count(seats, "such seat")} from round ${window + 1} on.`,
     "You cannot undo this.",
   ],
   raiseYes: "Add the seats",
   raising: "Asking the office to add the seats …",
   raised: ({ programme, step, seats, window }) => `${kindOfSeat(step)} of ${programme}: ${count(seats, "seat")} from round ${window + 1} on.`,
-  seat: (b) => `Candidate ${b.cand} ${b.programme ? `has a seat in ${b.programme}, under ${stepName(b.step)}` : "has no seat"}.`,
+  seat: (b, programme) => `Candidate ${b.cand} ${b.programme ? `has a seat in ${programme}, under ${stepName(b.step)}` : "has no seat"}.`,
   standing: {
     waiting: "The candidate waits for a first offer.",
     offered: "It is a first offer without an answer.",
@@ -445,8 +613,8 @@ const REFUSALS = {
   14: ({ published }) => (published === 0 ? "No round is published yet." : `There is no such round. ${count(published, "round is", "rounds are")} published.`),
   15: () => "This is the last window. No round follows, so no seats can be added.",
   16: () => "De-reserved seats cannot be added: they are the seats that a category leaves empty.",
-  17: ({ seats }) => `The step has ${count(seats, "seat")} already. Seats can only be added. Nothing was changed.`,
-  18: ({ total }) => `A step has at most 4,000 seats, and all steps together at most 1,000,000. Now they have ${total.toLocaleString("en")}. Nothing was changed.`,
+  17: ({ seats }) => `There are ${count(seats, "such seat")} already. Seats can only be added. Nothing was changed.`,
+  18: ({ total }) => `A kind of seat has at most 4,000 seats at a programme, and all programmes together at most 10,00,000. Now they have ${figure(total)}. Nothing was changed.`,
 };
 
 /** What a refusal means, with its number and name. */
@@ -454,8 +622,9 @@ export const refusal = (body) => `${REFUSALS[body.refused]?.(body) ?? "The offic
 
 const TROUBLES = {
   lost: "No reply came. Your connection may be down.",
+  broken: "The reply broke off while it was on its way. Your connection may be slow or down.",
   away: "The office does not answer just now.",
-  busy: "Too many requests came from your address. Wait a moment.",
+  busy: "Too many people are asking just now. Wait a moment.",
   keeper: "The office could not keep the record, so it did not take the request.",
   memory: "The office ran out of memory.",
   closed: "The web server does not allow this computer to ask for this.",

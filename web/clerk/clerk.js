@@ -1,10 +1,10 @@
 /** The page of the clerk: the state, closing a window, adding seats, and a candidate's seat. */
-import { ask, askList } from "../ask.js";
-import { $, busy, button, clear, closeQuestions, confirmed, details, dropLinks, el, fillWords, onPress, onSend, ready, saveLink, say, show, valueOf, verbatim } from "../dom.js";
+import { ask, askCounts, askList, serverTime } from "../ask.js";
+import { $, askBeforeSwitch, busy, button, canBeShown, clear, closeQuestions, confirmed, details, dropLinks, el, emptyToken, onPress, onSend, ready, saveLink, say, show, ungrouped, valueOf, valuesOf, verbatim } from "../dom.js";
 import { isCandidate, isCode, isToken, lineOf, readList, STEPS as ALL_STEPS } from "../rule.js";
-import { showPapers, showState } from "../season.js";
+import { announcedEnd, papersCome, programmeName, showEnd, showState } from "../season.js";
 import { leaveInTime, SignIn } from "../session.js";
-import { ANSWER, ASKING, CLERK, kindOfSeat, LATER, OWN_WORDS, trouble, WAITING } from "../words.js";
+import { ANSWER, ASKING, CATEGORIES, CLERK, kindOfSeat, LATER, NOT_DISABILITY, OWN_WORDS, trouble, WAITING } from "../words.js";
 
 // No season has this window. The office refuses its cut: by 7 for the clerk, and by 3 for everybody else. So nothing is cut.
 const NO_WINDOW = 65535;
@@ -20,7 +20,8 @@ const how = (who, more = {}) => ({ token: who.token, signal: who.signal, ...more
 // ---- signing in and out
 
 async function signIn() {
-  const token = valueOf($("token"), isToken, "token");
+  say($("said"), "plain");
+  const token = valueOf($("token"), isToken, "token", ungrouped);
   if (!token) return;
   forget();
   const who = (me = new SignIn(token, { receipts: [] }));
@@ -28,7 +29,7 @@ async function signIn() {
   const got = await ask("cut", how(who, { body: { window: NO_WINDOW } }));
   if (who !== me) return;
   if (got.body?.refused !== AHEAD) return stopped(got);
-  $("token").value = "";
+  emptyToken($("token"), $("show-token"));
   say($("said"), "plain");
   $("signed-in").textContent = CLERK.signedIn;
   $("door").hidden = true;
@@ -44,7 +45,7 @@ function forget() {
   dropLinks();
   for (const it of ["cut-said", "raise-said", "seat-said"]) say($(it), "plain");
   for (const it of ["programme", "seats", "candidate"]) $(it).value = "";
-  clear($("receipts"), $("keep"));
+  clear($("counts"), $("receipts"), $("keep"));
   $("kept").hidden = true;
   $("desk").hidden = true;
   $("door").hidden = false;
@@ -53,7 +54,7 @@ function forget() {
 function leave(cause) {
   const was = me !== null;
   forget();
-  $("token").value = "";
+  emptyToken($("token"), $("show-token"));
   say($("said"), "plain", was && CLERK.left[cause]);
   if (cause === "asked") $("token").focus();
 }
@@ -62,7 +63,7 @@ function leave(cause) {
 function stopped(got) {
   const denied = got.body?.refused === DENIED;
   forget();
-  if (denied) $("token").value = "";
+  if (denied) emptyToken($("token"), $("show-token"));
   say($("said"), "bad", denied ? CLERK.denied : trouble(got), got.passing && LATER);
   $("said").focus();
 }
@@ -72,12 +73,22 @@ function stopped(got) {
 async function look() {
   season = (await showState($("state"))) ?? season;
   if (!season) return;
+  showEnd($("closes"), season, await announcedEnd(season));
   const over = season.now > season.rounds;
   const last = season.now >= season.rounds;
   show($("cut"), ...(over ? [CLERK.over] : [...CLERK.closes(season), el("p", {}, button(CLERK.close(season.now), cut, { class: "grave", id: "do-cut" }))]));
   $("raise").hidden = last;
   $("no-raise").hidden = !last;
   $("no-raise").textContent = CLERK.noRaise;
+  if (me) await showCounts(me);
+}
+
+/** Shows how many seats of the open window are without any answer, where the web server tells it. */
+async function showCounts(who) {
+  const counts = await askCounts({ signal: who.signal });
+  if (who !== me) return;
+  const isNow = counts?.window === season.now && [counts.seats, counts.unanswered].every(Number.isSafeInteger);
+  show($("counts"), isNow && el("p", { class: "say" }, CLERK.counts(counts, counts.at)));
 }
 
 // ---- closing the window
@@ -85,8 +96,10 @@ async function look() {
 async function cut() {
   const who = me;
   const { now } = season;
-  const type = { text: String(now), label: CLERK.sureType(now) };
-  const yes = await confirmed({ title: CLERK.sureTitle(now), lines: CLERK.sure(season), yes: CLERK.sureYes, grave: true, type });
+  const end = await announcedEnd(season);
+  const isEarly = end !== null && serverTime() < end;
+  const lines = [...(isEarly ? [CLERK.early(end)] : []), ...CLERK.sure(season)];
+  const yes = await confirmed({ title: CLERK.sureTitle(now), lines, yes: CLERK.sureYes, grave: true, type: isEarly ? CLERK.sureEarly(now) : CLERK.sureType(now) });
   if (yes && who === me) await sendCut(who, { window: now });
 }
 
@@ -109,13 +122,14 @@ async function sendCut(who, body) {
 
 async function raise() {
   const who = me;
-  const programme = valueOf($("programme"), isCode, "code");
-  const seats = valueOf($("seats"), (it) => /^[1-9][0-9]{0,3}$/.test(it) && Number(it) <= MOST_SEATS, "seats");
-  if (!programme || !seats) return;
+  const isSeats = (it) => /^[1-9][0-9]{0,3}$/.test(it) && Number(it) <= MOST_SEATS;
+  const [programme, seats] = valuesOf([$("programme"), isCode, "code"], [$("seats"), isSeats, "seats"]) ?? [];
+  if (!programme) return;
   const body = { window: season.now, programme, step: $("step").value, seats: Number(seats) };
   const before = await seatsBefore(who, body);
   if (who !== me) return;
-  const yes = await confirmed({ title: CLERK.raiseTitle(body), lines: CLERK.raiseLines(body, before), yes: CLERK.raiseYes });
+  const shown = { ...body, programme: programmeName(programme) };
+  const yes = await confirmed({ title: CLERK.raiseTitle(shown), lines: CLERK.raiseLines(shown, before), yes: CLERK.raiseYes });
   if (yes && who === me) await sendRaise(who, body);
 }
 
@@ -137,7 +151,7 @@ async function sendRaise(who, body) {
   if (who !== me) return;
   if (got.body?.reply === "raised") {
     keep(who, got.body);
-    say(out, "good", CLERK.raised(got.body), verbatim(lineOf(got.body)));
+    say(out, "good", CLERK.raised({ ...got.body, programme: programmeName(got.body.programme) }), verbatim(lineOf(got.body)));
   } else if (got.passing) say(out, "bad", trouble(got), CLERK.unknownRaise, el("p", {}, button(CLERK.again, () => sendRaise(who, body), { class: "main" })));
   else say(out, "bad", trouble(got));
   out.focus();
@@ -149,13 +163,15 @@ async function sendRaise(who, body) {
 async function showSeat() {
   const who = me;
   const out = $("seat-said");
+  say(out, "plain");
   const candidate = valueOf($("candidate"), isCandidate, "candidate");
   if (!candidate) return;
   say(out, "plain", ASKING);
   const got = await ask(`seat/${candidate}`, how(who));
   if (who !== me) return;
   if (got.body?.reply !== "seat") return say(out, "bad", trouble(got));
-  say(out, "plain", CLERK.seat(got.body), CLERK.standing[got.body.standing], details(OWN_WORDS, verbatim(lineOf(got.body))));
+  const { body } = got;
+  say(out, "plain", CLERK.seat(body, programmeName(body.programme)), body.step === "D" && el("p", {}, el("strong", {}, NOT_DISABILITY)), CLERK.standing[body.standing], details(OWN_WORDS, verbatim(lineOf(body))));
 }
 
 // ---- receipts
@@ -171,14 +187,15 @@ function keep(who, body) {
   $("kept").hidden = false;
 }
 
-fillWords();
-$("step").append(...ALL_STEPS.filter((it) => it !== "D").map((it) => el("option", { value: it }, kindOfSeat(it))));
+$("step").append(...ALL_STEPS.filter((it) => it !== "D").map((it) => el("option", { value: it }, CATEGORIES[it] ?? kindOfSeat(it))));
 onSend($("sign-in"), signIn);
 onSend($("raise"), raise);
 onSend($("seat"), showSeat);
 onPress($("refresh"), look);
 onPress($("sign-out"), () => leave("asked"));
-leaveInTime(leave);
+canBeShown($("token"), $("show-token"));
+askBeforeSwitch(() => !$("desk").hidden);
+leaveInTime(leave, () => !$("desk").hidden);
 ready();
-showPapers(null);
+papersCome();
 busy(look);

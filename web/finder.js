@@ -1,0 +1,106 @@
+/** The cutoffs of all programmes on the page for anybody: a table with a search, and the programmes that would admit a place. */
+import { askCutoffs, paper } from "./ask.js";
+import { compared, firstWithin, bySteps, readCutoffs, readCutoffTable, readPlace } from "./cutoffs.js";
+import { $, clear, el, inParts, say, show, table, valuesOf } from "./dom.js";
+import { isCode, TRAITS } from "./rule.js";
+import { instituteName, instituteOf, papersCome, programmeName, programmeOf } from "./season.js";
+import { ASKING, CATEGORIES, CUTOFFS, FAULTS, HOLDS, kindOfSeat, LIKE, MOCK, NOT_DISABILITY, trouble } from "./words.js";
+
+const AT_ONCE = 50;
+const LISTS = [1, 2, 3, 4];
+const tables = new Map();
+
+/** Returns the published cutoffs of all programmes of a round, or null where they are not published or cannot be read. A round is never
+ * published twice, so each is fetched once. */
+async function tableOf(round) {
+  if (tables.has(round)) return tables.get(round);
+  const text = await paper(paperName("cutoffs", round));
+  if (text === null) return null;
+  try {
+    tables.set(round, readCutoffTable(text));
+  } catch {
+    return null;
+  }
+  return tables.get(round);
+}
+
+const paperName = (kind, round) => (round === MOCK ? `mock-${kind}.csv` : `${kind}-${round}.csv`);
+const roundOf = (select) => (select.value === MOCK ? MOCK : Number(select.value));
+
+const caveats = (round) => el("ul", { class: "hint" }, CUTOFFS.caveats(round).map((it) => el("li", {}, it)), el("li", {}, el("strong", {}, NOT_DISABILITY)));
+
+// ---- all cutoffs, with a search
+
+/** Shows the programmes of a round for which a text is found in name, institute or code. Without the published table it asks the office for the
+ * programme whose code was typed. */
+export async function showCutoffs() {
+  const [said, out] = [$("cutoffs-said"), $("cutoffs")];
+  clear(out);
+  const round = roundOf($("cutoffs-round"));
+  if (!round) return say(said, "bad", FAULTS.round);
+  say(said, "plain", ASKING);
+  const [all] = await Promise.all([tableOf(round), papersCome()]);
+  const wanted = $("search").value.trim();
+  if (!all) return showOne(said, out, round, wanted);
+  const found = all.filter((it) => isFound(it, wanted.toLowerCase()));
+  if (!found.length) return say(said, "plain", CUTOFFS.noneFound);
+  say(said, "plain", CUTOFFS.caption(round, found.length));
+  showTable(out, round, found);
+  const link = (kind, words) => el("a", { href: `/season/${paperName(kind, round)}`, download: true, class: "button" }, words);
+  out.append(el("p", { class: "row" }, link("cutoffs", CUTOFFS.save), link("closing", CUTOFFS.saveClosing)));
+}
+
+const isFound = ({ code, institute }, wanted) => `${programmeName(code)} ${instituteName(institute)}`.toLowerCase().includes(wanted);
+
+async function showOne(said, out, round, code) {
+  if (!isCode(code) || round === MOCK) return say(said, "plain", CUTOFFS.noPaper);
+  const got = await askCutoffs(round, code);
+  if (got.body?.reply !== "cutoffs") return say(said, "bad", trouble(got));
+  const { lines } = readCutoffs(got.body.text);
+  if (!lines.length) return say(said, "plain", CUTOFFS.nobody);
+  say(said, "plain");
+  showTable(out, round, [{ code, institute: instituteOf(code) ?? "", lines }]);
+}
+
+function showTable(out, round, programmes) {
+  const rows = ({ code, institute, lines }) => bySteps(lines).map((it) => [programmeName(code), instituteName(institute), kindOfSeat(it.step), CUTOFFS.admitted(it.lines)]);
+  const part = (some) => table(CUTOFFS.caption(round, programmes.length), CUTOFFS.columns, some.flatMap(rows));
+  show(out, caveats(round), ...inParts(programmes, AT_ONCE, CUTOFFS.more, part));
+}
+
+// ---- which programmes would admit a place
+
+export function fillLike() {
+  $("category").append(...Object.entries(CATEGORIES).map(([value, words]) => el("option", { value }, words)));
+  $("trait-boxes").append(...TRAITS.map((it) => el("label", { class: "check" }, el("input", { type: "checkbox", "data-trait": it }), ` ${HOLDS[it]}`)));
+}
+
+/** Shows the programmes that would admit one person more with the category, the traits and the places that were typed. */
+export async function showLike() {
+  const [said, out] = [$("like-said"), $("like")];
+  clear(out);
+  say(said, "plain");
+  const texts = valuesOf(...LISTS.map((it) => [$(`place-${it}`), isPlaceOrNone, "place", (text) => text.trim().toUpperCase()]));
+  if (!texts) return;
+  const places = texts.map(readPlace);
+  const round = roundOf($("like-round"));
+  if (!round) return say(said, "bad", FAULTS.round);
+  if (!places.some(Boolean)) return say(said, "bad", LIKE.noPlace);
+  say(said, "plain", ASKING);
+  const [all] = await Promise.all([tableOf(round), papersCome()]);
+  if (!all?.some((it) => programmeOf(it.code))) return say(said, "bad", LIKE.noPaper);
+  const entry = { category: $("category").value, traits: [...document.querySelectorAll("[data-trait]:checked")].map((it) => it.dataset.trait).join("") };
+  const found = all.map((it) => wouldAdmit(it, entry, places)).filter(Boolean);
+  say(said, "plain", found.length ? LIKE.caption(round, found.length) : LIKE.none(round));
+  if (found.length) show(out, LIKE.first, caveats(round), ...inParts(found, AT_ONCE, CUTOFFS.more, (some) => table(LIKE.caption(round, found.length), LIKE.columns, some)));
+}
+
+const isPlaceOrNone = (text) => text === "" || readPlace(text) !== null;
+
+/** Returns the row for a programme that would admit somebody, or null. */
+function wouldAdmit({ code, institute, lines }, entry, places) {
+  const place = places[(programmeOf(code)?.list ?? 0) - 1];
+  const step = place && firstWithin(compared(lines, entry, place));
+  if (!step) return null;
+  return [programmeName(code), instituteName(institute), kindOfSeat(step.step), CUTOFFS.admitted([step.best]), place.place];
+}

@@ -1,0 +1,55 @@
+/** A letter of allotment for paper. It is on the page while it is printed, and seen nowhere else. */
+import { serverTime } from "./ask.js";
+import { readPlace } from "./cutoffs.js";
+import { el, show, verbatim } from "./dom.js";
+import { lineOf, receiptsOf } from "./rule.js";
+import { instituteName, instituteOf, programmeName, programmeOf, seasonTitles } from "./season.js";
+import { ENTRY, kindOfSeat, LETTER, NOT_DISABILITY } from "./words.js";
+
+const TOUCHES = ["pointerdown", "keydown"];
+
+/** The rows of a letter. Those of which the papers say nothing are left out. */
+function rowsOf({ cand, seat, entry, answers, end }, standing) {
+  const { fields } = LETTER;
+  const [board, season] = seasonTitles();
+  const programme = programmeOf(seat.programme);
+  const place = programme && readPlace(entry.places[programme.list - 1]);
+  const last = receiptsOf(answers).at(-1);
+  return [
+    [fields.board, board],
+    [fields.season, season],
+    [fields.candidate, cand],
+    [fields.programme, programmeName(seat.programme)],
+    [fields.institute, instituteOf(seat.programme) && instituteName(instituteOf(seat.programme))],
+    [fields.kind, kindOfSeat(seat.step)],
+    [fields.place(programme?.list), place && ENTRY.place(place.place, place.isCommon)],
+    [fields.round, seat.round],
+    [fields.standing, standing],
+    [fields.end, end && LETTER.time(end)],
+    [fields.receipt, last ? el("code", { lang: "en" }, lineOf(last)) : LETTER.noReceipt],
+  ].filter(([, fact]) => fact);
+}
+
+/** Fills a region with the letter and prints it alone. */
+export function printLetter(region, who, standing, isFinal) {
+  const rows = rowsOf(who, standing).map(([name, fact]) => el("tr", {}, el("th", { scope: "row" }, name), el("td", {}, fact)));
+  const own = [who.seat, who.state, who.entry, who.answers].map(lineOf).join("\n");
+  show(
+    region,
+    el("h1", {}, LETTER.title(isFinal)),
+    el("table", {}, el("tbody", {}, rows)),
+    who.seat.step === "D" && el("p", {}, el("strong", {}, NOT_DISABILITY)),
+    el("h2", {}, LETTER.own),
+    verbatim(own),
+    LETTER.foot(location.origin, LETTER.time(serverTime())),
+  );
+  document.documentElement.dataset.prints = "letter";
+  print();
+  // some browsers go on at once, so the letter stays until somebody touches the page again
+  const end = () => {
+    delete document.documentElement.dataset.prints;
+    region.replaceChildren();
+    for (const it of TOUCHES) removeEventListener(it, end, { capture: true });
+  };
+  for (const it of TOUCHES) addEventListener(it, end, { capture: true });
+}
