@@ -1,4 +1,5 @@
-"""An office behind nginx, for checks of the pages: with the files of deploy/ where this checkout has them, and otherwise with a small configuration of its own."""
+"""An office behind nginx, for checks of the pages: with the files of deploy/ where this checkout has them, and otherwise with a small configuration of its own.
+The pages are those that web/build makes. Next to them are the modules of web/ under /modules/, so that a check can call one of them alone."""
 import os
 import shutil
 import subprocess
@@ -114,15 +115,8 @@ def certificate(room):
     return f"{room}/cert.pem"
 
 
-def replaced(path, old, new):
-    with open(path, encoding="utf-8") as it:
-        text = it.read()
-    with open(path, "w", encoding="utf-8") as it:
-        it.write(text.replace(old, new))
-
-
 class Front:
-    """nginx in front of the office at a port, with a copy of web/. `origin` is where the pages are."""
+    """nginx in front of the office at a port, with the pages of web/. `origin` is where the pages are."""
 
     def __init__(self, room, office_port):
         self.room, self.port = room, free_port()
@@ -130,7 +124,8 @@ class Front:
         self.certificate, self.host = None, None
         for name in ("temp", "season", "logs"):
             os.makedirs(f"{room}/{name}", exist_ok=True)
-        shutil.copytree(f"{TOP}/web", f"{room}/web")
+        subprocess.run([f"{TOP}/web/build", f"{room}/web"], stdout=subprocess.DEVNULL, check=True)
+        shutil.copytree(f"{TOP}/web", f"{room}/web/modules")
         self.season = f"{room}/season"
         if self.deployed:
             self.configure_deployed(office_port)
@@ -171,8 +166,6 @@ class Front:
             "HSTS": "0",
         }
         subprocess.run([f"{DEPLOY}/fill", f"{self.room}/conf", *(f"{name}={value}" for name, value in values.items())], check=True)
-        # the limits by address are tried elsewhere, and here one address is all candidates
-        replaced(f"{self.room}/conf/nachodune.conf", "rate=50r/s", "rate=5000r/s")
         with open(f"{DEPLOY}/alone.conf", encoding="utf-8") as it, open(f"{self.room}/nginx.conf", "w", encoding="utf-8") as to:
             to.write(it.read().replace("@ROOM@", self.room))
 
