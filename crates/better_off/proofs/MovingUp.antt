@@ -1,6 +1,6 @@
 -- Two registers in the same order have the same seats, and a person who moves up has no worse seat.
 use Rattle.std.proofs.Common.{◌≡◌, ◌≢◌, ◌-◌, ◌<◌, ◌≤◌, ◌⊎◌, inl, inr, ℕ, List, [], Option, Some, None, length, map, arith, refl, sym, ap, ◌∙◌, subst}
-use Rattle.std.specs.Prelude.{IsSome, option_map, slice_get, slice_set}
+use Rattle.std.specs.Prelude.{◌↔◌, IsSome, option_map, slice_get, slice_set}
 use Rattle.std.proofs.lemmas.Bool.{cases_eq, cases_lt}
 use Rattle.std.proofs.lemmas.List.{length-map}
 use Rattle.std.proofs.lemmas.Option.{slice_get_past}
@@ -24,7 +24,7 @@ use Rattle.histories.proofs.Fits.{map_at}
 use Rattle.better_off.specs.Laws.{BetterOffIsNoWorse, OneIsBetterOff}
 use Rattle.better_off.specs.Numbers.{with_numbers}
 use Rattle.better_off.specs.Order.{OnlyTheOrderCounts}
-use Rattle.better_off.specs.Registers.{AreInTheSameOrder, MovingUpNeverHurts, OneMovesUp, TheSameOrderGivesTheSameSeats}
+use Rattle.better_off.specs.Registers.{MovingUpNeverHurts, OneMovesUp, without_numbers}
 use Rattle.better_off.proofs.Numbered.{entrants_with, map_back, number_is, one_person}
 use Rattle.better_off.proofs.Numbers.{rising_numbers_keep_order}
 use Rattle.better_off.proofs.Reach.{better_from, better_to, list_at, number_at, reach_least, reach_there, rises, sum_at, with_reach}
@@ -40,7 +40,14 @@ not_greater k p q a b x y m n e e' f f' back le = elim (cases_lt y n) [
 
 -- ---- the same order
 
-module _ (people others : List Person) (alike : AreInTheSameOrder people others) where
+-- Two registers have the same people with the same ids, apart from the numbers, in the same order.
+pub record AreRenumbered (people others : List Person) : Type 0 where
+  pub full : length others ≡ length people
+  pub same : (i : ℕ) (a b : Person) → slice_get people i ≡ Some a → slice_get others i ≡ Some b → without_numbers b ≡ without_numbers a
+  pub order : (list : ListId) (i j : ℕ) (a b c d : Person) → slice_get people i ≡ Some a → slice_get people j ≡ Some b → slice_get others i ≡ Some c → slice_get others j ≡ Some d
+      → IsBetter list c d ↔ IsBetter list a b
+
+module _ (people others : List Person) (alike : AreRenumbered people others) where
   one_number_there : (i k : ℕ) (p q : Person) (x y : ℕ) → slice_get people i ≡ Some p → slice_get others i ≡ Some q → number_at k p ≡ Some x → number_at k q ≡ Some y
       → with_reach people others k x ≡ with_reach others people k y
   one_number_there i k p q x y at at' e e' =
@@ -60,8 +67,12 @@ module _ (people others : List Person) (alike : AreInTheSameOrder people others)
       p.2 ∙ (one_person (with_reach people others) (with_reach others people) p.0 q.0 (alike.same i p.0 q.0 p.1 q.1)
       (λ k x y e e'. one_number_there i k p.0 q.0 x y p.1 q.1 e e') ∙ sym q.2))
 
-pub the_same_order_gives_the_same_seats : OnlyTheOrderCounts → TheSameOrderGivesTheSameSeats
-the_same_order_gives_the_same_seats order version table people others lists seeks seats ok enter enter' alike =
+-- Renumbered registers have the same best fair seats.
+pub renumbered_give_the_same : OnlyTheOrderCounts → (version : ℕ) (table : SeatTable) (people others : List Person) (lists : List (List ProgId)) (seeks : List Seek) (seats : List (Option Seat))
+    → AreSeats table → AreEntrants table people lists → AreEntrants table others lists → AreRenumbered people others
+    → IsBest (rule_of version table) (length table.programmes) (seekers_of table people lists seeks) seats
+    ↔ IsBest (rule_of version table) (length table.programmes) (seekers_of table others lists seeks) seats
+renumbered_give_the_same order version table people others lists seeks seats ok enter enter' alike =
     let u = with_reach people others in
     let v = with_reach others people in
     let one = order version table people (λ id. id) (with_numbers u) lists seeks seats ok (rising_numbers_keep_order u (rises people others)) enter (entrants_with u (rises people others) table people lists enter) in

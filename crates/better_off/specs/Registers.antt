@@ -26,15 +26,15 @@ without_numbers = with_numbers (λ list number. 0)
 
 -- ---- the same order
 
--- Two registers have the same people, apart from the numbers. In each merit list the same one of two people is better.
+-- Two registers have the same people, candidate by candidate, apart from the ids and the numbers. In each merit list the same one of two people is better.
 pub record AreInTheSameOrder (people others : List Person) : Type 0 where
   pub full : length others ≡ length people
-  pub same : (i : ℕ) (a b : Person) → slice_get people i ≡ Some a → slice_get others i ≡ Some b → without_numbers b ≡ without_numbers a
+  pub same : (i : ℕ) (a b : Person) → slice_get people i ≡ Some a → slice_get others i ≡ Some b → without_numbers b ≡ without_numbers (record a { id = b.id })
   pub order : (list : ListId) (i j : ℕ) (a b c d : Person) → slice_get people i ≡ Some a → slice_get people j ≡ Some b → slice_get others i ≡ Some c → slice_get others j ≡ Some d
       → IsBetter list c d ↔ IsBetter list a b
 
 -- Two registers in the same order have the same seats. With the same choice lists and seeks, their best fair seats are the same, under the same steps, whatever the
--- numbers are. So neither the numbers nor the gaps between them matter.
+-- numbers and the ids are. So neither the numbers, nor the gaps between them, nor the ids matter.
 abbrev pub TheSameOrderGivesTheSameSeats : Type 0
 TheSameOrderGivesTheSameSeats = (version : ℕ) (table : SeatTable) (people others : List Person) (lists : List (List ProgId)) (seeks : List Seek) (seats : List (Option Seat)) → AreSeats table
     → AreEntrants table people lists → AreEntrants table others lists → AreInTheSameOrder people others

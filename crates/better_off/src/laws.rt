@@ -37,7 +37,7 @@ pub fn rising_numbers_keep_order()
     ensures { RisingNumbersKeepOrder }
 {}
 
-/// Two registers of the same people in the same order have the same best fair seats, whatever their numbers are.
+/// Two registers of the same people in the same order have the same best fair seats, whatever their numbers and ids are.
 pub fn the_same_order_gives_the_same_seats()
     ensures { TheSameOrderGivesTheSameSeats }
 {
