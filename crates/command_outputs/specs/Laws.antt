@@ -22,3 +22,9 @@ RunsAreOne = (bytes output again : List ℕ) (before after others later : Tables
 abbrev pub GeneratedRunsAreOne : Type 0
 GeneratedRunsAreOne = (n seed : ℕ) (output again : List ℕ) (before after others later : Tables) (status : Status) → IsAnswered status
     → EndsGeneratedRun n seed before after status output → EndsGeneratedRun n seed others later status again → output ≡ again
+
+-- So it is of each of these commands.
+pub record CommandsAreOne : Type 0 where
+  pub checks : ChecksAreOne
+  pub runs : RunsAreOne
+  pub generated : GeneratedRunsAreOne

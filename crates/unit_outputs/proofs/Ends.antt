@@ -17,13 +17,13 @@ pub record IsPlain (bytes text : List ℕ) (season : Season) (script : List Requ
   pub made : expansion bytes ≡ Ok text
   pub give : IsSeasonWith true text season script
 
-plain_of : (bytes : List ℕ) (season : Season) (script : List Request) → IsLeftExpansion (Some bytes) season script → (text : List ℕ) × IsPlain bytes text season script
+pub plain_of : (bytes : List ℕ) (season : Season) (script : List Request) → IsLeftExpansion (Some bytes) season script → (text : List ℕ) × IsPlain bytes text season script
 plain_of bytes season script left = (left.1, record { made = ap (λ (b : List ℕ). expansion b) (sym left.2) ∙ left.3.0.made; give = left.3.1 })
 
-one_plain : (bytes text other : List ℕ) → expansion bytes ≡ Ok text → expansion bytes ≡ Ok other → other ≡ text
+pub one_plain : (bytes text other : List ℕ) → expansion bytes ≡ Ok text → expansion bytes ≡ Ok other → other ≡ text
 one_plain bytes text other first second = cc (first, second)
 
-input_of : (bytes : List ℕ) (season : Season) (script : List Request) → IsLeftExpansion (Some bytes) season script → IsUnitsInput bytes
+pub input_of : (bytes : List ℕ) (season : Season) (script : List Request) → IsLeftExpansion (Some bytes) season script → IsUnitsInput bytes
 input_of bytes season script left =
     let (text, plain) = plain_of bytes season script left in
     (text, plain.made, (content_of season plain.give.row, script, plain.give.given))

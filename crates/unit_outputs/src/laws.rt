@@ -6,5 +6,5 @@ pub fn units_are_one()
     ensures { UnitsAreOne }
 {
     units_command::laws::one_units_answer();
-    command_outputs::laws::runs_are_one();
+    command_outputs::laws::commands_are_one();
 }

@@ -1,5 +1,0 @@
-use Rattle.command_outputs.proofs.Ends as ends
-use Rattle.command_outputs.proofs.laws.checks_are_one.Goals as goal
-
-pub returns : goal.returns
-returns c = ends.checks_are_one c.one_answer.ensures
