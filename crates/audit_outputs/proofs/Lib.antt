@@ -1,2 +1,9 @@
+mod Answered
 mod Dossiers
+mod DuePapers
 mod Ends
+mod OwnAudit
+mod OwnDossier
+mod OwnPapers
+mod SeasonDossiers
+mod ShownLists

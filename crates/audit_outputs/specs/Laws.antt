@@ -15,3 +15,8 @@ AuditsAreOne = (bytes output again : List ℕ) (status other : Status) → IsAns
 abbrev pub BestAuditsAreOne : Type 0
 BestAuditsAreOne = (bytes output again : List ℕ) (status other : Status) → IsAnswered status → IsAnswered other → Writes (IsBestText (Some bytes)) status output
     → Writes (IsBestText (Some bytes)) other again → (status ≡ other) × (output ≡ again)
+
+-- Both are one.
+pub record EachAuditIsOne : Type 0 where
+  pub audits : AuditsAreOne
+  pub best : BestAuditsAreOne

@@ -1,21 +1,38 @@
-// The laws that an audit writes the same for the same bytes. Each is the contract of a function that does nothing.
-ghost use Rattle.audit_outputs.specs.Laws.{AuditsAreOne, BestAuditsAreOne};
+// The laws that an audit writes the same for the same bytes, and that each season has a dossier.
+// Each is the contract of a function that does nothing.
+ghost use Rattle.audit_outputs.specs.Laws.{EachAuditIsOne};
+ghost use Rattle.audit_outputs.specs.SeasonDossiers.{SeasonsHaveDossiers};
 
 /// Two runs of `audit` over the same bytes, both with an answer, end with the same status and write the same.
-pub fn audits_are_one()
-    ensures { AuditsAreOne }
-{
-    audit_command::laws::one_audit();
-    one_verdict::laws::one_verdict_of_bytes();
-}
-
 /// So do two of `audit best`.
-pub fn best_audits_are_one()
-    ensures { BestAuditsAreOne }
+pub fn audits_are_one()
+    ensures { EachAuditIsOne }
 {
     audit_command::laws::one_audit();
     one_verdict::laws::one_verdict_of_bytes();
     one_output::laws::one_season();
+    dossier_file::laws::one_dossier();
+    dossier_file::laws::texts_are_one();
+    best_rounds::laws::one_best_verdict();
+}
+
+/// Each season with its requests has a dossier: every text that is due exists, says what the office holds, and an audit finds no
+/// broken clause.
+pub fn seasons_have_dossiers()
+    ensures { SeasonsHaveDossiers }
+{
+    one_output::laws::one_season();
+    histories::laws::orderly();
+    histories::laws::history_grows();
+    season_laws::laws::every_request_is_answered();
+    season_laws::laws::published_is_read();
+    merit_choice::laws::choice_size();
+    merit_choice::laws::in_merit_ranks();
+    axiom_laws::laws::axioms_are_the_rule();
+    open_then_category::laws::one_programme_choice();
+    round_laws::laws::choose_well();
+    audit_command::laws::one_audit();
+    one_verdict::laws::one_verdict_of_bytes();
     dossier_file::laws::one_dossier();
     dossier_file::laws::texts_are_one();
     best_rounds::laws::one_best_verdict();
