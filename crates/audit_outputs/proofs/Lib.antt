@@ -1,4 +1,5 @@
 mod Answered
+mod Calls
 mod Dossiers
 mod DuePapers
 mod Ends
