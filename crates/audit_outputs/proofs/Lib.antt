@@ -3,6 +3,7 @@ mod Calls
 mod Dossiers
 mod DuePapers
 mod Ends
+mod Joined
 mod OwnAudit
 mod OwnDossier
 mod OwnPapers

@@ -19,6 +19,8 @@ use Rattle.dossier_file.specs.Due.{cuts_accepted, due}
 use Rattle.dossier_file.specs.Papers.{ArePapers}
 use Rattle.audit_outputs.specs.SeasonDossiers.{SeasonsHaveDossiers, papers_told, texts_told}
 use Rattle.audit_outputs.proofs.Dossiers as dossiers
+use Rattle.audit_outputs.specs.Joined.{joined_bytes}
+use Rattle.audit_outputs.proofs.Joined.{joined_are_cut}
 use Rattle.audit_outputs.proofs.OwnAudit.{audited_well}
 use Rattle.audit_outputs.proofs.OwnDossier.{own_dossier}
 use Rattle.audit_outputs.proofs.Answered.{answered, counts, ends_history}
@@ -56,6 +58,7 @@ seasons_have_dossiers laws audit one more sounds orderly grows every reads bundl
           record {
             due = papers;
             whole = is;
+            together = λ can short. is (joined_bytes bundle requests (texts_told facts state)) short (joined_are_cut bundle requests (texts_told facts state) can);
             sound = no_clause;
             best = all_best;
             audited = λ bytes short cut.

@@ -21,6 +21,7 @@ use Rattle.dossier_file.specs.Cut.{IsCut}
 use Rattle.dossier_file.specs.Dossier.{AreDossier, IsScript}
 use Rattle.dossier_file.specs.Papers.{AreDuePapers}
 use Rattle.dossier_file.specs.declared.papers.Papers.{Papers as Read}
+use Rattle.audit_outputs.specs.Joined.{CanBeJoined, joined_bytes}
 use Rattle.audit_rules.specs.Papers.{Papers}
 use Rattle.audit_rules.specs.Verdict.{IsVerdict}
 use Rattle.audit_rules.specs.declared.verdict.Verdict.TheVariants.{Sound}
@@ -100,6 +101,9 @@ pub record IsOwnDossier (bundle requests : List ℕ) (season : Season) (script :
   -- bytes that are cut into the bundle, the requests and these texts are a dossier
   pub whole : (bytes : List ℕ) → length bytes ≤ most_bundle_bytes → IsCut bytes bundle requests (texts_told (facts_of season) state)
       → AreDossier bytes season script (papers_told (facts_of season) state)
+  -- so are the three put together, unless these bytes are too many
+  pub together : CanBeJoined bundle requests → length (joined_bytes bundle requests (texts_told (facts_of season) state)) ≤ most_bundle_bytes
+      → AreDossier (joined_bytes bundle requests (texts_told (facts_of season) state)) season script (papers_told (facts_of season) state)
   -- an audit finds no broken clause in it, and each of its rounds is the best one
   pub sound : IsVerdict (facts_of season) script (audited_papers (papers_told (facts_of season) state)) (Sound (length state.rounds))
   pub best : IsBestVerdict (facts_of season) script (audited_papers (papers_told (facts_of season) state)) Best
