@@ -30,7 +30,7 @@ impl TablesBefore for Brand {
 /// An office whose keeper's tables are visible only if they were visible at the beginning.
 pub struct DeskOffice<K: Keeper, B: TablesBefore> {
     pub(crate) office: Office<K>,
-    // what was made before of the published rounds
+    // what was made before of the published rounds and the final admissions
     bodies: Bodies,
     of: PhantomData<B>,
 }

@@ -1,4 +1,4 @@
-// The bodies of replies. That of a published round is made once.
+// The bodies of replies. Those of a published round and of the final admissions are made once.
 ghost use Rattle.std.specs.Prelude.{◌≡◌, IfOk, IfSome, option_copied};
 ghost use Rattle.office_asks.specs.Bodies.{AreBodies, IsShownBy, shown_body};
 ghost use Rattle.office_moves.specs.Facts.{SeasonFacts};
@@ -13,15 +13,15 @@ use round_cut::Office;
 use shown_replies::{shown_round, shown_rows};
 use std::alloc::Global;
 
-/// The body of the question for a round, and the number of the round.
+/// The body of the question for a round or for the final admissions, and the number that was asked for.
 #[derive(Drop)]
 pub struct RoundBody {
     number: u16,
     body: Text,
 }
 
-/// The bodies of the rounds that were asked for. A body is made at the first question for its round and copied at the
-/// others, because a published round never changes.
+/// The bodies of the published rounds and of the final admissions that were asked for. A body is made at the first
+/// question for its number and copied at the others, because what is published under a number never changes.
 #[derive(Drop)]
 pub struct Bodies {
     made: Vec<RoundBody>,
@@ -37,7 +37,7 @@ impl Bodies {
         }
     }
 
-    /// Returns the body of the round of this number, if it was made.
+    /// Returns the body of the question for this number, if it was kept.
     fn body_of(&self, number: u16) -> Option<&Text>
         ensures { (facts : SeasonFacts) (state : State) → AreBodies facts state self.now
             → IfSome (option_copied result) (IsShownBy facts state number) }
@@ -50,7 +50,7 @@ impl Bodies {
         None
     }
 
-    /// Keeps the body of the round of this number. If memory runs out it is not kept, and made again at the next question.
+    /// Keeps the body of the question for this number. If memory runs out it is not kept, and made again at the next question.
     fn keep(&mut self, number: u16, body: Text)
         ensures { (facts : SeasonFacts) (state : State) → AreBodies facts state self.old
             → IsShownBy facts state number body → AreBodies facts state self.new }
@@ -76,7 +76,8 @@ fn made_body<K: Keeper>(
     reply_json(alloc, season, round, rows, reply)
 }
 
-/// Returns the body of the question for the round of this number: a copy, if it was made before.
+/// Returns the body of the question for this number: a copy, if it was kept before.
+/// It is kept once the round is published, or the last cut was made.
 fn round_body<K: Keeper>(
     alloc: Global,
     office: &Office<K>,
@@ -95,7 +96,7 @@ fn round_body<K: Keeper>(
         return body.copy(alloc);
     }
     let body = made_body(alloc, office, reply)?;
-    if office.round(number).is_none() {
+    if office.round(number).is_none() && office.now() <= office.season().rounds {
         return Ok(body);
     }
     if let Ok(copy) = body.copy(alloc) {

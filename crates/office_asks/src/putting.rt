@@ -34,7 +34,7 @@ pub fn token_parts(token: Option<&[u8]>) -> (bool, &[u8])
 /// The status and the body are those of the reply. If memory runs out for the body, what was asked is done all the same.
 /// It returns `Fault::Keeper` only if the keeper failed in this call, and `Fault::Memory` if it did not.
 /// Both leave the office and the visible tables of its keeper unchanged.
-/// The body of a published round is made once, and copied from then on.
+/// The bodies of a published round and of the final admissions are made once, and copied from then on.
 pub fn put_to_office<K: Keeper>(
     alloc: Global,
     office: &mut Office<K>,
