@@ -90,7 +90,7 @@ class Written:
     """A case of cases/tools/season.txt."""
 
     def __init__(self, name):
-        self.name, self.words, self.files, self.bundle, self.said, self.status = name, [], {}, [], [], 0
+        self.name, self.words, self.files, self.bundle, self.said, self.unsaid, self.status = name, [], {}, [], [], [], 0
 
 
 def written_cases():
@@ -111,7 +111,7 @@ def written_cases():
         elif mark == "?":
             case.status = int(rest)
         elif line:
-            {"<": case.bundle, "!": case.said}[mark].append(rest)
+            {"<": case.bundle, "!": case.said, "-": case.unsaid}[mark].append(rest)
     return found
 
 
@@ -132,6 +132,7 @@ def fault_of_case(case, every):
         wrote, said, status = called("season", [*case.words, room])
         lines = wrote.decode().split("\n")
         lacks = [f"the bundle lacks `{it}`" for it in case.bundle if it not in lines] + [f"it does not say `{it}`" for it in case.said if it not in said]
+        lacks += [f"it says `{it}`" for it in case.unsaid if it in said]
         if status != case.status:
             lacks.append(f"the status is {status} and not {case.status}: {said[-300:]}")
         if status and wrote:

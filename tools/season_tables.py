@@ -1,8 +1,8 @@
-"""What the four spreadsheets of a season say: tools/season reads them by this. Each reader reports everything that is wrong, and gives what is right."""
+"""What the three spreadsheets of a season and its settings say: tools/season reads them by this. Each reader reports everything that is wrong, and gives what is right."""
 import re
 
 from formats import ALL_CHOICES, ALL_SEATS, ALLOWED, CANDIDATES, CATEGORIES, CHOICES, CODE, HEADERS, LISTS, MERIT_LISTS, NUMBER, OTHER_WORDS
-from formats import PLACE, PROGRAMMES, ROUNDS, SEATS, TOKEN, TRAITS
+from formats import PLACE, PROGRAMMES, ROUNDS, SEATS, TOKEN, TRAITS, listed
 from spreadsheets import Cell, letters, read, stripped, table
 
 # how people write the words, without signs and in small letters
@@ -16,11 +16,17 @@ ASKS_F = "F means dependants of freedom fighters, never female (women are W): do
 ASKS_D = "is D meant, persons with disabilities?"
 ASKS_GEN = "OPEN is a step: is the category GEN meant?"
 ASKS_OPEN = "are the OPEN seats meant, for candidates of every category?"
-ASKS_GAPS = "a choice in the order is missing: do the later choices move up?"
+ASKS_GAPS = "a preference is missing in the order: do the later choices move up?"
 
 
 def bare(text):
     return re.sub("[^a-z0-9]", "", text.lower())
+
+
+def missing_of(ranks):
+    """Returns the preferences that are missing before the last one, in words such as 2 or 4 to 6."""
+    gaps = [(before + 1, rank - 1) for before, rank in zip([0, *ranks], ranks) if rank > before + 1]
+    return [str(first) if first == last else f"{first} to {last}" for first, last in gaps]
 
 
 # ---- single fields
@@ -216,7 +222,7 @@ class Register:
             for row, fields in self.table.rows if self.columns["id"] is not None else []:
                 self.take(row, {name: self.table.cell(row, fields, at, name) for name, at in self.columns.items()})
             if not self.table.rows:
-                findings.wrong_file(self.FILE, "there is no candidate")
+                findings.wrong_form(self.FILE, "there is no candidate")
             if len(self.table.rows) > CANDIDATES.most:
                 findings.wrong_file(self.FILE, f"{len(self.table.rows):,} candidates are too many: at most {CANDIDATES.most:,}")
 
@@ -273,11 +279,11 @@ class Matrix:
         for row, fields in self.table.rows if None not in [self.columns[it] for it in names[:5]] else []:
             self.take({name: self.table.cell(row, fields, at, name) for name, at in self.columns.items()})
         if not self.table.rows:
-            findings.wrong_file(self.FILE, "there is no programme")
+            findings.wrong_form(self.FILE, "there is no programme")
         self.looks_at_sums()
         for merit in sorted({it.merit for it in self.programmes.values() if it.merit}):
             if not register.has_list(merit):
-                findings.wrong_file(register.FILE, f"there is no column m{merit}, and {self.FILE} has programmes with merit list {merit}")
+                findings.wrong_form(register.FILE, f"there is no column m{merit}, and {self.FILE} has programmes with merit list {merit}")
 
     def take(self, cells):
         name, institute = code(cells["programme"], self.findings), code(cells["institute"], self.findings)
@@ -371,9 +377,9 @@ class Choices:
             cells = [self.table.cell(row, fields, at, "") for at in columns]
             while cells and not cells[-1].text:
                 cells.pop()
-            gap = next((it for it in cells if not it.text), None)
-            if gap:
-                self.findings.doubts("gaps", ASKS_GAPS, gap)
+            ranks = [rank for rank, it in enumerate(cells, 1) if it.text]
+            if len(ranks) < len(cells):
+                self.asks_of_gaps(id, ranks, next(it for it in cells if not it.text))
             self.take(id, [it for it in cells if it.text])
 
     def take_by_choice(self, of, preference, programme):
@@ -392,8 +398,12 @@ class Choices:
             ranks = sorted(cells)
             late = next((it for at, it in enumerate(ranks, 1) if it != at), None)
             if late:
-                self.findings.doubts("gaps", ASKS_GAPS, cells[late])
+                self.asks_of_gaps(id, ranks, cells[late])
             self.take(id, [cells[it] for it in ranks])
+
+    def asks_of_gaps(self, id, ranks, cell):
+        """Asks about the preferences that a candidate has not filled, and names the first ten gaps."""
+        self.findings.doubts("gaps", ASKS_GAPS, cell, f"candidate {id} has no preference {listed(missing_of(ranks)[:10])}")
 
     def take(self, id, cells):
         """Takes the list of a candidate, programme by programme."""

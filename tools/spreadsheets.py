@@ -6,6 +6,8 @@ import re
 import sys
 from typing import NamedTuple
 
+from formats import TOKEN, listed
+
 # blanks that people do not see: no-break space, zero-width signs, byte order mark
 UNSEEN = "\u00a0\u200b\u200c\u200d\u2060\ufeff"
 DELIMITERS = ",;\t"
@@ -48,7 +50,7 @@ class Findings:
     """What the files have: errors, questions that a person has to answer, spellings that were read as others, and remarks."""
 
     def __init__(self, answered):
-        self.errors, self.questions, self.spellings, self.remarks = [], {}, collections.OrderedDict(), []
+        self.causes, self.errors, self.questions, self.spellings, self.remarks = [], [], {}, collections.OrderedDict(), []
         self.answered, self.asked = answered, {}
 
     def wrong(self, cell, why, secret=False):
@@ -59,12 +61,16 @@ class Findings:
     def wrong_file(self, file, why):
         self.errors.append((f"{file} {why}", f"{file}: {why}"))
 
-    def doubts(self, name, question, cell):
+    def wrong_form(self, file, why):
+        """Takes an error of a whole file that other errors may follow from, such as a missing column. It is reported before these, and without them."""
+        self.causes.append(f"{file}: {why}")
+
+    def doubts(self, name, question, cell, note=""):
         """Takes a doubt that a question names; returns whether the words of the call answered it with yes."""
         self.asked[name] = question
         if name in self.answered or "all" in self.answered:
             return True
-        self.questions.setdefault(name, []).append(cell)
+        self.questions.setdefault(name, []).append(f"{cell.place()}: {cell.value()}{f': {note}' if note else ''}")
         return False
 
     def read_as(self, cell, value, kind=None):
@@ -75,7 +81,7 @@ class Findings:
         self.spellings[key] = (count + 1, first, example)
 
     def is_clean(self):
-        return not self.errors and not self.questions
+        return not self.causes and not self.errors and not self.questions
 
 
 class Table:
@@ -101,9 +107,15 @@ class Table:
         """Looks at the header: reports needed columns that are missing and repeated ones; the others are left out."""
         for name in names:
             if self.names.count(name) > 1:
-                self.findings.wrong_file(self.file, f"two columns are called `{name}`")
-            elif name in needed and name not in self.names:
-                self.findings.wrong_file(self.file, f"row {self.header[0]}: there is no column `{name}`; needed are {', '.join(needed)}")
+                self.findings.wrong_form(self.file, f"two columns are called `{name}`")
+        missing = [it for it in needed if it not in self.names]
+        if not set(names) & set(self.names):
+            # this row may be a person's, so nothing of it is shown
+            self.findings.wrong_form(self.file, f"row {self.header[0]}: this row is the header, and names none of the columns; needed are {', '.join(needed)}")
+            return
+        if missing:
+            there = "there is no column" if len(missing) == 1 else "there are no columns"
+            self.findings.wrong_form(self.file, f"row {self.header[0]}: {there} {listed((f'`{it}`' for it in missing), 'and')}; needed are {', '.join(needed)}")
         for at, name in enumerate(self.names):
             written = stripped(self.header[1][at])
             if name in names and written not in (name, name.upper() if len(name) == 1 else name):
@@ -122,8 +134,10 @@ class Table:
         """Reports fields in columns without a name."""
         for number, fields in self.rows:
             for at, field in enumerate(fields):
-                if stripped(field) and (at >= last or not self.names[at]):
-                    self.findings.wrong(Cell(self.file, number, "", at, stripped(field)), "this column has no name in the header")
+                text = stripped(field)
+                if text and (at >= last or not self.names[at]):
+                    may_be_token = TOKEN.has(len(text)) and text.isalnum()
+                    self.findings.wrong(Cell(self.file, number, "", at, text), "this column has no name in the header", secret=may_be_token)
 
 
 # ---- from bytes to rows
@@ -133,7 +147,7 @@ def text_of(file, data, findings):
     """Returns the text of a file, or None if it is none: UTF-8, UTF-16 with or without its mark, or letters of one byte."""
     book = next((name for mark, name in BOOKS.items() if data.startswith(mark)), None)
     if book:
-        findings.wrong_file(file, f"this is {book} and no CSV: save it as CSV UTF-8 in the spreadsheet program")
+        findings.wrong_form(file, f"this is {book} and no CSV: save it as CSV UTF-8 in the spreadsheet program")
         return None
     sides = data[:2000][::2].count(0), data[:2000][1::2].count(0)
     wide = "utf-16" if data[:2] in (b"\xff\xfe", b"\xfe\xff") else "utf-16-be" if sides[0] > len(data[:2000]) // 4 else "utf-16-le" if sides[1] > len(data[:2000]) // 4 else None
@@ -144,7 +158,7 @@ def text_of(file, data, findings):
         return text.removeprefix("\ufeff")
     except UnicodeDecodeError:
         if wide:
-            findings.wrong_file(file, "it begins as UTF-16 and has no whole letters: save it anew as CSV UTF-8")
+            findings.wrong_form(file, "it begins as UTF-16 and has no whole letters: save it anew as CSV UTF-8")
             return None
     findings.remarks.append(f"{file}: it is not UTF-8; letters outside of ASCII are read one byte a letter, and only columns that are left out may have them")
     return data.decode("latin-1")
@@ -181,7 +195,7 @@ def read(folder, file, known, findings):
         with open(f"{folder}/{file}", "rb") as it:
             text = text_of(file, it.read(), findings)
     except OSError as why:
-        findings.wrong_file(file, f"it cannot be read: {why.strerror}")
+        findings.wrong_form(file, f"it cannot be read: {why.strerror}")
         return None
     if text is None:
         return None
@@ -190,7 +204,7 @@ def read(folder, file, known, findings):
         findings.remarks.append(f"{file}: its fields are between {NAMES.get(delimiter, f'signs {delimiter}')}")
     found, bad = records(text, delimiter)
     if bad:
-        findings.wrong_file(file, f"row {bad}: a quote is not closed, or something follows a closing quote; the rows after it were not read")
+        findings.wrong_form(file, f"row {bad}: a quote is not closed, or something follows a closing quote; the rows after it were not read")
     return [(number, fields) for number, fields in enumerate(found, 1) if any(map(stripped, fields))]
 
 
@@ -200,6 +214,6 @@ def table(folder, file, known, findings):
     if rows is None:
         return None
     if not rows:
-        findings.wrong_file(file, "it is empty")
+        findings.wrong_form(file, "it is empty")
         return None
     return Table(file, findings, rows[0], rows[1:])
