@@ -205,7 +205,7 @@ def spoken(bundle):
 
 
 def put_drawn(draw, room, said):
-    """Writes a season as four spreadsheets: its choices long or wide."""
+    """Writes a season as three spreadsheets and its settings, the choices long or wide."""
     first, season, register, matrix, lists = said
     files = {
         "season.csv": "".join(f"{','.join(row)}\n" for row in [*season, ["version", first[0][0][-1]]]).encode(),
@@ -350,6 +350,36 @@ def changed_list(program):
     return None if absent[2] == 3 else f"tools/sheet of a round that is not there: status {absent[2]}"
 
 
+# changes of what examples/audited/dossier.txt publishes, each with the step that is asked for and what the tool says of it
+BROKEN_LISTS = (
+    (r"^(list 1 P1\nstep OPEN .*\nhonoured .*\n\d+) .$", r"\1", "OPEN", "a line of a list is `step` with its numbers"),
+    (r"^step OPEN seats 2", "step OPEN seats 3", "OPEN", "`step` writes `step OPEN seats 2 candidates 5 admitted 2` here"),
+    (r"^step OPEN seats 2 .*\n", "", "OPEN", "a line of a list is `step` with its numbers"),
+    (r"^step SC .*\n", "", "SC", "this list has no line `step SC ..`"),
+    (r"^end list\n", "", "OPEN", "this text has no line `end list`"),
+    (r"^allot 1 P1 OPEN$", "allot 1 P1", "OPEN", "a line of a round is `allot`"),
+    (r"^(step OPEN .*\nhonoured .*\n(?:\d+ .\n)*)\d+ .\n", r"\1", "OPEN", "after it"),
+    (r"^(step OPEN .*\nhonoured .*\n(?:\d+ .\n)*)", r"\g<1>9 -\n", "OPEN", "`step` does not write this line"),
+    (r"^(step OBC .*) admitted \d+$", r"\1 admitted 9", "D", "a step admits no more than its seats"),
+)
+
+
+def broken_lists(program):
+    """Why a sheet is written of a list that is broken, or the line and the reason are not said, or None."""
+    dossier = text_of("examples/audited/dossier.txt")
+    for form, instead, step, why in BROKEN_LISTS:
+        changed, count = re.subn(form, instead, dossier, count=1, flags=re.M)
+        with tempfile.TemporaryDirectory(prefix="sheet-", dir=cases.ROOMS) as room:
+            with open(f"{room}/dossier.txt", "w", encoding="utf-8") as it:
+                it.write(changed)
+            wrote, said, status = called("sheet", [f"{room}/dossier.txt", "1", "P1", step], OFFICE=program)
+        line = re.match(r"sheet: line (\d+) of the dossier: `(.*)`: (?=\S)", said)
+        named = line and changed.split("\n")[int(line[1]) - 1] == line[2]
+        if not count or wrote or status != 10 or why not in said or not named:
+            return f"tools/sheet of a list with {form!r} changed: status {status}, {said.strip()[-300:]}"
+    return None
+
+
 def without_tokens(program, bundle):
     """Why a dossier without its tokens has one of them, or another verdict, or None."""
     dossier, _, _ = dossier_of(program, bundle)
@@ -371,6 +401,7 @@ def trials(program, long):
         if not case.status and (long or case.name == EVERY):
             yield functools.partial(made_by_season, program, case.name, case.words)
     yield functools.partial(changed_list, program)
+    yield functools.partial(broken_lists, program)
     bundles = [f"examples/{it}/bundle.txt" for it in ("three-windows", "everybody-moves-up")]
     for name in bundles:
         with open(f"{TOP}/{name}", "rb") as it:
