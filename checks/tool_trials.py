@@ -85,6 +85,9 @@ def requests():
 
 # ---- written spreadsheets
 
+# what clerks get wrong most often: words of the name of at least one case each
+MISTAKES = ("semicolons", "quote", "UTF-16", "F for female", "DW", "PwD", "numbers of 12 digits", "repeated places", "unknown codes", "long choices")
+
 
 class Written:
     """A case of cases/tools/season.txt."""
@@ -285,6 +288,7 @@ def faults(count):
     every, *others = written_cases()
     with concurrent.futures.ThreadPoolExecutor(os.cpu_count()) as lanes:
         found = [*limits(), *requests(), *kinds(), *tokens(), *drawn(count), *explaining(), *explained(lanes)]
+        found += [f"cases/tools/season.txt: no case is named after {it}" for it in MISTAKES if not any(it in case.name for case in others)]
         return found + [it for it in lanes.map(lambda case: fault_of_case(case, every), [every, *others]) if it]
 
 
