@@ -127,7 +127,8 @@ class Table:
         named = [stripped(self.header[1][at]) for at in self.left_out]
         lines = [f"{self.file}: left out: {', '.join(named)}"] if named else []
         if any(re.fullmatch("gender|sex", it.lower()) for it in named):
-            lines.append(f"{self.file}: the office reads no gender: women have the trait W in the column traits")
+            is_of_seats = "seats" in self.names
+            lines.append(f"{self.file}: the office reads no gender: {'seats for women are in the column W of their step' if is_of_seats else 'women have the trait W in the column traits'}")
         return lines
 
     def looks_beyond(self, last):
