@@ -276,6 +276,14 @@ def explaining():
         yield f"tools/explain: it writes {came[0][0]!r:.200}, and the statuses of other calls are {others}"
 
 
+def without_program():
+    """Why tools/dossier and tools/sheet do not say that the program of OFFICE is not there, or None."""
+    for tool, words in (("dossier", ["examples/audited/dossier.txt"]), ("sheet", ["examples/audited/dossier.txt", "1", "P1", "OPEN"])):
+        wrote, said, status = called(tool, [f"{TOP}/{words[0]}", *words[1:]], OFFICE="/nowhere/office")
+        if wrote or status != 1 or said != "office: /nowhere/office cannot be called: No such file or directory\n":
+            yield f"tools/{tool} without a program: status {status}, {said[-200:]}"
+
+
 def explained(lanes):
     given = [*faults_of_cases()]
     met = {re.sub("[0-9]+", "N", line.removeprefix("fault: ")) for _, _, line in given}
@@ -287,7 +295,7 @@ def faults(count):
     """All that is looked at without a program, with that many drawn seasons."""
     every, *others = written_cases()
     with concurrent.futures.ThreadPoolExecutor(os.cpu_count()) as lanes:
-        found = [*limits(), *requests(), *kinds(), *tokens(), *drawn(count), *explaining(), *explained(lanes)]
+        found = [*limits(), *requests(), *kinds(), *tokens(), *drawn(count), *explaining(), *without_program(), *explained(lanes)]
         found += [f"cases/tools/season.txt: no case is named after {it}" for it in MISTAKES if not any(it in case.name for case in others)]
         return found + [it for it in lanes.map(lambda case: fault_of_case(case, every), [every, *others]) if it]
 

@@ -11,6 +11,7 @@ from formats import FIRST_LINES, SECTIONS
 
 TOP = os.path.dirname(os.path.dirname(os.path.realpath(__file__)))
 MARK = "\ufeff"
+NO_PROGRAM = 1
 
 
 class Refused(Exception):
@@ -23,7 +24,11 @@ class Refused(Exception):
 
 def office(words, given):
     """Returns what the office writes on these words and this input, and its status."""
-    ran = subprocess.run([os.environ.get("OFFICE", f"{TOP}/office"), *words], input=given, stdout=subprocess.PIPE)
+    program = os.environ.get("OFFICE") or f"{TOP}/office"
+    try:
+        ran = subprocess.run([program, *words], input=given, stdout=subprocess.PIPE)
+    except OSError as why:
+        raise Refused(f"office: {program} cannot be called: {why.strerror}\n".encode(), NO_PROGRAM) from why
     return ran.stdout, ran.returncode
 
 
