@@ -111,7 +111,7 @@ class Table:
         missing = [it for it in needed if it not in self.names]
         if not set(names) & set(self.names):
             # this row may be a person's, so nothing of it is shown
-            self.findings.wrong_form(self.file, f"row {self.header[0]}: this row is the header, and names none of the columns; needed are {', '.join(needed)}")
+            self.findings.wrong_form(self.file, f"row {self.header[0]}: this row is the header, and names none of the columns; needed are {', '.join(needed)}, with commas, semicolons or tabs between them")
             return
         if missing:
             there = "there is no column" if len(missing) == 1 else "there are no columns"
