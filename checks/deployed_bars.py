@@ -1,12 +1,14 @@
 """The bars that the service has to clear on results day, with the limits as they are shipped: each part puts what it saw into one table, which checks/deploy prints."""
 import contextlib
 import functools
+import gzip
 import os
 import re
 import shutil
 import signal
 import subprocess
 import time
+import urllib.parse
 
 import browser
 import front
@@ -42,6 +44,13 @@ def token_of(cand):
 # ---- visitors
 
 
+def files_in(body, page):
+    """What a browser asks for because of a page or a script."""
+    text = gzip.decompress(body) if body.startswith(b"\x1f\x8b") else body
+    named = re.findall(rb'(?:src|href)="([^"]+\.(?:js|css|svg))"|^(?:import|export)\b[^"\n]*"([^"]+\.js)"', text, re.M)
+    return [urllib.parse.urljoin(page, (one or other).decode()) for one, other in named]
+
+
 def visit(nginx, cand, source):
     """The statuses of a visit, each with its path, and the seconds until the seat is there."""
     begun, told, seat = time.monotonic(), {}, None
@@ -55,9 +64,10 @@ def visit(nginx, cand, source):
             told[path] = came.status
             return came
 
-        page = ask("/candidate/").body
-        for it in dict.fromkeys(re.findall(rb'(?:src|href)="(/[^"]+\.(?:js|css|svg))"', page)):
-            ask(it.decode())
+        page, left = "/candidate/", []
+        while page:
+            left += [it for it in files_in(ask(page).body, page) if it not in told and it not in left]
+            page = left.pop(0) if left else None
         for it in OWN:
             came = ask("/v1/" + it.format(cand), token_of(cand))
             seat = seat or (time.monotonic() - begun if it.startswith("seat") and came.status == 200 else None)

@@ -12,6 +12,7 @@ import socket
 import sqlite3
 import ssl
 import subprocess
+import threading
 
 from cases import READS_STORES
 from deployed import CLERK, CUT, body, bundle_of, directly, part, tally, tokens_of
@@ -227,6 +228,62 @@ def disagreeing(room, program):
     tally.holds(status == 0, "a refused copy is reported once", f"{status} {wrote}")
 
 
+@part("keep-copy while the office runs")
+def keep_copy_running(room, program):
+    """Eight clients answer while copies are made: the office takes each copy, and each has every answer whose receipt came before it was begun."""
+    if not READS_STORES:
+        tally.skips("keep-copy while the office runs", "SQLite 3.37 in Python")
+        return
+    many, store, folder = 800, f"{room}/season.db", f"{room}/copies"
+    bundle = called([program, "generate", str(many), "7", "text"]).partition(b"[requests]")[0]
+    with Office(program, room) as office:
+        office.start("new", workers=10, bundle=bundle)
+        directly(office, "POST", "/v1/cut", CLERK, CUT)
+        noted, heads = [], set()
+
+        def client(number):
+            for turn in range(1, 17):
+                for cand in range(number + 1, many + 1, 8):
+                    came = directly(office, "POST", "/v1/answer", f"g{cand:08}", body(cand=cand, window=1, turn=turn, choice="float"))
+                    if came.status == 200:
+                        noted.append((cand, turn))
+
+        clients = [threading.Thread(target=client, args=(it,), daemon=True) for it in range(8)]
+        for it in clients:
+            it.start()
+        befores = []
+        while any(it.is_alive() for it in clients):
+            with open(f"{store}-wal", "rb") as it:
+                heads.add(it.read(32))
+            before = set(noted)
+            status, wrote = script("keep-copy", ["--running", store, folder], program)
+            if status == 0 and wrote.startswith("kept "):
+                befores.append(before)
+            else:
+                tally.holds(status == 0 and "nothing changed" in wrote, "keep-copy --running makes a copy", f"{status} {wrote}")
+        status, wrote = script("keep-copy", ["--running", store, folder], program)
+        befores += [set(noted)] if wrote.startswith("kept ") else []
+        status, wrote = script("keep-copy", ["--running", store, folder], program)
+        tally.holds(status == 0 and "nothing changed" in wrote, "keep-copy --running over an office that nobody asks anything", f"{status} {wrote}")
+    tally.holds(len(befores) > 2 and len(heads) > 2, "the log is emptied while copies are made", f"{len(befores)} copies, {len(heads)} logs")
+    whole_copies(room, program, befores, set(noted))
+
+
+def whole_copies(room, program, befores, all_noted):
+    """The copies that were made while these and more answers had been given."""
+    names = sorted(os.listdir(f"{room}/copies"))
+    tally.same(len(names), len(befores), "as many copies as were made")
+    for name, before in zip(names, befores):
+        shutil.copytree(f"{room}/copies/{name}", f"{room}/look")
+        told = called([program, "resume", f"{room}/look/season.db"], b"state,nobody\n")
+        tally.holds(told.startswith(b"state window 1 "), "the office takes a copy that was made while it ran", f"{told}")
+        base = sqlite3.connect(f"{room}/look/season.db")
+        held = set(base.execute("SELECT cand, turn FROM answer"))
+        base.close()
+        shutil.rmtree(f"{room}/look")
+        tally.holds(before <= held <= all_noted, "a copy has each answer from before it, and no other", f"{len(before - held)} of {len(before)} are missing, {len(held - all_noted)} too many")
+
+
 def served_season(room, program, name, bundle, rows=""):
     """A served office over a new store after these rows."""
     os.makedirs(f"{room}/{name}")
@@ -316,6 +373,9 @@ def mocked(room, program):
     status, wrote = script("papers", ["--mock", f"{room}/made.txt", f"{room}/mock"], program)
     replies = called([program, "run", "memory"], bundle.partition(b"[requests]")[0] + b"[requests]\ncut,clerk,0\n").decode()
     tally.holds(status == 0 and "mock round" in wrote, "a mock round", f"{status} {wrote}")
+    status, wrote = script("papers", ["--mock", "-", f"{room}/again"], program, bundle)
+    same = all(text_of(f"{room}/again/{it}") == text_of(f"{room}/mock/{it}") for it in os.listdir(f"{room}/mock") if not it.endswith(".gz"))
+    tally.holds(status == 0 and same, "a mock round of a bundle from the standard input", f"{status} {wrote}")
     tally.same(text_of(f"{room}/mock/mock-round.txt"), replies.partition("\n")[2], "the mock round is the text of run")
     there = sorted(os.listdir(f"{room}/mock"))
     tally.holds({"mock-lists.txt", "mock-institute-I0.txt", "mock-round.txt.gz"} <= set(there) and all(it.startswith("mock-") for it in there), "files of a mock round", f"{there[:8]}")
@@ -422,7 +482,7 @@ def quick_sleep(room):
 
 # ---- what is installed
 
-UNITS = tuple(sorted(it for it in os.listdir(DEPLOY) if it.startswith("nachodune") and it.endswith((".service", ".socket", ".timer"))))
+UNITS = tuple(sorted(it for it in os.listdir(DEPLOY) if it.startswith("nachodune") and it.endswith((".service", ".socket", ".timer", ".path"))))
 SCRIPTS = ("alert", "announce", "begin", "counts", "empty-texts", "go-back", "keep-copy", "papers", "pause", "watch")
 
 
@@ -488,7 +548,7 @@ def units(room, program):
     for name in (it for it in UNITS if "@" not in it):
         ran = subprocess.run([found("systemd-analyze"), "verify", f"{room}/units/{name}"], capture_output=True, text=True, env=SYSTEM)
         tally.holds((ran.returncode, ran.stderr) == (0, ""), f"systemd-analyze verify {name}", ran.stderr)
-    for name, most in (("nachodune.service", 1.0), ("nachodune-door.service", 2.5), ("nachodune-papers.service", 1.5), ("nachodune-check.service", 1.5), ("nachodune-watch.service", 2.5)):
+    for name, most in (("nachodune.service", 1.0), ("nachodune-door.service", 2.5), ("nachodune-papers.service", 1.5), ("nachodune-check.service", 1.5), ("nachodune-copy.service", 1.5), ("nachodune-watch.service", 2.5)):
         words = ["security", "--offline=true", "--no-pager", f"{room}/units/{name}"]
         ran = subprocess.run([found("systemd-analyze"), *words], capture_output=True, text=True, env=SYSTEM)
         exposure = re.search(r"Overall exposure level for \S+: ([\d.]+)", ran.stdout)
@@ -503,6 +563,7 @@ state() { ask https://office.example/v1/state; }
 comes() { n=0; until [ "$(eval "$2")" = "$1" ] || [ $n -ge "${3:-150}" ]; do n=$((n + 1)); sleep 0.2; done; eval "$2"; }
 up() { n=0; until case "$(state)" in *' 200') ;; *) false ;; esac || [ $n -ge 300 ]; do n=$((n + 1)); sleep 0.1; done; }
 copies() { find /var/lib/nachodune/copies -name '*Z' 2> /dev/null | wc -l; }
+answer() { ask -H 'X-Office-Token: tU1vW3xY5zA7' -d "{\"cand\":3,\"window\":1,\"turn\":$1,\"choice\":\"float\"}" https://office.example/v1/answer; }
 age() { find /var/lib/nachodune/copies -name of.txt -exec touch -d '1 hour ago' {} +; }
 as() { setpriv --reuid=nachodune --regid=nachodune --clear-groups "$@"; }
 kept=/var/lib/nachodune/season.db lib=/usr/lib/nachodune
@@ -513,7 +574,7 @@ say connections "$(grep -c worker_connections /install.out)"
 systemctl daemon-reload
 as $lib/begin $kept < /bundle.txt
 say begun $?
-systemctl start nachodune nachodune-door.socket nginx nachodune-papers nachodune-night.timer nachodune-watch.timer
+systemctl start nachodune nachodune-door.socket nginx nachodune-papers nachodune-copy.path nachodune-night.timer nachodune-watch.timer
 up
 say first "$(state)"
 say copies "$(copies)"
@@ -528,6 +589,7 @@ say door $?
 say cut "$(ask -H 'X-Office-Token: Qm4xTz81vKpL' -d '{"window":0}' https://office.example/v1/cut)"
 say seat "$(ask -H 'X-Office-Token: kL2mN4pQ6rS8' https://office.example/v1/seat/2)"
 say papers "$(comes 'round 1 seated 4' 'ask https://office.example/season/round-1.txt | head -n 1')"
+say cutcopy "$(comes 2 copies)"
 say packed "$(ask -o /packed -H 'Accept-Encoding: gzip' https://office.example/season/round-1.txt) $(gunzip < /packed | head -n 1)"
 say sandbox "$(grep -hE 'CapEff|NoNewPrivs|Seccomp:' /proc/$(systemctl show -p MainPID --value nachodune)/status | tr -d '\t' | tr '\n' ' ')"
 say files "$(grep 'open files' /proc/$(systemctl show -p MainPID --value nachodune-door)/limits | tr -s ' ' | cut -d ' ' -f 4)"
@@ -535,11 +597,13 @@ say words "$(tr '\0' ' ' < /proc/$(systemctl show -p MainPID --value nachodune-d
 python3 /limits.py
 ask https://office.example/v1/round/1 > /dev/null; say text "$(ask https://office.example/v1/round/1 | cut -c 1-39)"; sleep 1.2
 say hits "$(grep /v1/round/1 /var/log/nginx/nachodune.log | tail -n 1 | grep -c '"kept":"HIT"')"
-age; systemctl kill -s KILL nachodune; up
+answer 1 > /dev/null; age; systemctl kill -s KILL nachodune; up
 say killed "$(state)"
 say again "$(copies)"
-systemctl kill -s KILL nachodune; up
+answer 2 > /dev/null; systemctl kill -s KILL nachodune; up
 say young "$(copies)"
+answer 3 > /dev/null; systemctl start nachodune-copy
+say copied "$? $(copies) $(state)"
 systemctl stop nachodune
 say stopped "$(state)"
 systemctl stop nachodune-door.service
@@ -549,7 +613,10 @@ say late "$(state)"
 say doored "$(systemctl is-active nachodune-door.service)"
 systemctl start nachodune-night.service; up
 say night "$(state)"
-say timers "$(systemctl is-active nachodune-night.timer nachodune-watch.timer | tr '\n' ' ')"
+# not before, so that no full hour makes a copy here
+systemctl start nachodune-copy.timer
+say timers "$(systemctl is-active nachodune-night.timer nachodune-watch.timer nachodune-copy.timer nachodune-copy.path | tr '\n' ' ')"
+systemctl stop nachodune-copy.timer
 say limit "$(systemctl show -p TimeoutStartUSec -p RuntimeMaxUSec --value nachodune | tr '\n' ' ')"
 # a start that takes longer than systemd waits by default, which is 5 seconds here
 mkdir -p /run/systemd/system/nachodune.service.d
@@ -640,6 +707,7 @@ SEEN = {
     "cut": '{"reply":"published","round":1,"seated":4} 200',
     "seat": '{"cand":2,"programme":"B","reply":"seat","round":1,"standing":"offered","step":"OPEN"} 200',
     "papers": "round 1 seated 4",
+    "cutcopy": "2",
     "packed": " 200 round 1 seated 4",
     "sandbox": "CapEff:0000000000000000 NoNewPrivs:1 Seccomp:2 ",
     "files": "16384",
@@ -648,14 +716,15 @@ SEEN = {
     "text": '{"reply":"round","round":1,"text":"roun',
     "hits": "1",
     "killed": '{"now":1,"published":1,"reply":"state","rounds":2} 200',
-    "again": "2",
-    "young": "2",
+    "again": "3",
+    "young": "3",
+    "copied": '0 4 {"now":1,"published":1,"reply":"state","rounds":2} 200',
     "stopped": '{"front":"away"} 502',
     "early": '{"front":"away"} 502',
     "late": '{"now":1,"published":1,"reply":"state","rounds":2} 200',
     "doored": "active",
     "night": '{"now":1,"published":1,"reply":"state","rounds":2} 200',
-    "timers": "active active ",
+    "timers": "active active active active ",
     "limit": "infinity infinity ",
     "slow": '{"now":1,"published":1,"reply":"state","rounds":2} 200 0',
     "held": "activating",
