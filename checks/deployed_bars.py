@@ -77,27 +77,31 @@ def visit(nginx, cand, source):
 
 
 def visits(nginx, many, seconds):
-    """So many visitors of one address within these seconds: what went wrong with them, and the longest wait for a seat."""
+    """So many visitors of one address within these seconds: how many got everything, what went wrong, and the longest wait for a seat."""
 
     def visitor(number):
         time.sleep(seconds * number / many)
         return visit(nginx, number + 1, SCHOOL)
 
     came = in_threads([functools.partial(visitor, it) for it in range(many)])
-    fine = [it for it in came if isinstance(it, tuple)]
-    # a program from before there were these questions knows no such page, and papers are optional
-    bad = [(path, status) for told, _ in fine for path, status in told.items() if status != 200 and not (status == 404 and re.search("/season/|/register/|/answers/|/cutoffs/", path))]
-    seats = [seat for _, seat in fine if seat is not None]
-    return len(seats), bad[:3], [it for it in came if not isinstance(it, tuple)][:3], max(seats, default=99)
+    fine = [(refused_of(it[0]), it[1]) for it in came if isinstance(it, tuple)]
+    whole = sum(not refused and seat is not None for refused, seat in fine)
+    odd = [*(it for refused, _ in fine for it in refused), *(it for it in came if not isinstance(it, tuple))]
+    return whole, odd[:3], max((seat for _, seat in fine if seat is not None), default=99)
+
+
+def refused_of(told):
+    """What a visitor did not get. A program from before there were these questions knows no such page, and papers are optional."""
+    return [(path, status) for path, status in told.items() if status != 200 and not (status == 404 and re.search("/season/|/register/|/answers/|/cutoffs/", path))]
 
 
 @part("bar: visitors of one address", ["nginx", "openssl"])
 def visitors(room, program):
     with after_a_cut(room, program) as (nginx, _, _):
         for many, seconds in ((40, 1), (300, 60)):
-            seats, bad, broken, longest = visits(nginx, many, seconds)
+            whole, odd, longest = visits(nginx, many, seconds)
             what = f"{many} visitors of one address within {seconds} s get the page and their seat"
-            bars.add(what, f"{seats} of {many}, the slowest seat after {longest:.1f} s", seats == many and not bad and not broken, f"{bad} {broken}")
+            bars.add(what, f"{whole} of {many}, the slowest seat after {longest:.1f} s", whole == many, f"{odd}")
 
 
 # ---- a crowd
