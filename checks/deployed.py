@@ -3,6 +3,7 @@ import contextlib
 import functools
 import json
 import os
+import re
 import socket
 import tempfile
 import threading
@@ -103,8 +104,12 @@ def fronted(room, program, bundle=None, **how):
 
 
 def no_tokens(text, bundle, label):
-    seen = [it for it in tokens_of(bundle) if it in text]
-    tally.holds(not seen, f"no token in a log ({label})", f"{seen[:3]}")
+    tokens = set(tokens_of(bundle))
+    lengths = {len(it) for it in tokens}
+    # a season has 50,000 tokens and a log 14 MB, so each word of the log is looked up, and not each token
+    words = set(re.findall(f"[A-Za-z0-9]{{{min(lengths)},}}", text))
+    seen = {it[at : at + length] for it in words for length in lengths for at in range(len(it) - length + 1)} & tokens
+    tally.holds(not seen and all(it.isalnum() for it in tokens), f"no token in a log ({label})", f"{sorted(seen)[:3]}")
 
 
 def tokens_of(bundle):
