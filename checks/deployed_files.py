@@ -13,6 +13,8 @@ import sqlite3
 import ssl
 import subprocess
 import threading
+import types
+from unittest import mock
 
 from cases import READS_STORES
 from deployed import CLERK, CUT, body, bundle_of, directly, part, tally, tokens_of
@@ -239,6 +241,7 @@ def keep_copy_running(room, program):
     with Office(program, room) as office:
         office.start("new", workers=10, bundle=bundle)
         directly(office, "POST", "/v1/cut", CLERK, CUT)
+        emptied_meanwhile(room, program, office, many)
         noted, heads = [], set()
 
         def client(number):
@@ -267,6 +270,36 @@ def keep_copy_running(room, program):
         tally.holds(status == 0 and "nothing changed" in wrote, "keep-copy --running over an office that nobody asks anything", f"{status} {wrote}")
     tally.holds(len(befores) > 2 and len(heads) > 2, "the log is emptied while copies are made", f"{len(befores)} copies, {len(heads)} logs")
     whole_copies(room, program, befores, set(noted))
+
+
+def emptied_meanwhile(room, program, office, many):
+    """The office empties its log after the store was copied and before the log is: keep-copy begins again, and the copy has every answer."""
+    module = types.ModuleType("keep_copy")
+    exec(compile(text_of(f"{DEPLOY}/keep-copy"), "keep-copy", "exec"), module.__dict__)
+    store, begun, copyfile = f"{room}/season.db", [], shutil.copyfile
+
+    def copied(one, to):
+        copyfile(one, to)
+        if one == store and not begun:
+            begun.append(module.head_of(f"{store}-wal"))
+            for turn in (1, 2, 3):
+                for cand in range(1, many + 1):
+                    if module.head_of(f"{store}-wal") == begun[0]:
+                        directly(office, "POST", "/v1/answer", f"g{cand:08}", body(cand=cand, window=1, turn=turn, choice="float"))
+
+    os.makedirs(f"{room}/torn")
+    with mock.patch.object(shutil, "copyfile", copied):
+        is_whole = module.copied_open(store, f"{room}/torn/season.db")
+    tally.holds(begun and begun[0] != module.head_of(f"{store}-wal") and is_whole, "the log is emptied while a copy is made")
+    # the office writes nothing now, so a copy of its files is what it has
+    os.makedirs(f"{room}/plain")
+    for end in ("", "-wal"):
+        copyfile(f"{store}{end}", f"{room}/plain/season.db{end}")
+    rows = []
+    for it in ("torn", "plain"):
+        called([program, "resume", f"{room}/{it}/season.db"], b"state,nobody\n")
+        rows.append(len(kept_rows(f"{room}/{it}/season.db")["answer"]))
+    tally.holds(rows[0] == rows[1] > 100, "a copy that was begun again has every answer", f"{rows}")
 
 
 def whole_copies(room, program, befores, all_noted):
