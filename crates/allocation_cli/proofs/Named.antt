@@ -6,7 +6,7 @@ use Rattle.command_words.specs.Words.{IsInRange, Spell, service_of}
 use Rattle.command_words.specs.declared.words.Command.{Command}
 use Rattle.command_words.specs.declared.words.Command.TheVariants.{Serve}
 use Rattle.command_words.specs.declared.words.Service.{Service}
-use Rattle.loopback_links.specs.Counts.{DoorCounts}
+use Rattle.system_edge.specs.Counts.{DoorCounts}
 use Rattle.office_commands.specs.Named.{doors_named}
 use Rattle.allocation_cli.specs.Named.{AreDoorsFor, AreNamed}
 use Rattle.allocation_cli.proofs.Rows.{none_suit, row_suits}

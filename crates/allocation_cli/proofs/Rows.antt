@@ -3,7 +3,7 @@ use Rattle.std.proofs.Common.{◌≡◌, ◌≤◌, ◌∙◌, ℕ, suc, zero, �
 use Rattle.std.specs.List.{AllByRecursion}
 use Rattle.std.proofs.lemmas.List.{map_push, replicate_more}
 use Rattle.office_base.specs.Limits.{most_connections}
-use Rattle.loopback_links.specs.Counts.{DoorCounts}
+use Rattle.system_edge.specs.Counts.{DoorCounts}
 
 -- That many doors are made, each with this number of connections to come.
 abbrev pub AreMade : {L : Type 0} → ℕ → ℕ → List (DoorCounts L) → Type 0

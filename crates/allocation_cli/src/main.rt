@@ -17,9 +17,7 @@ ghost use Rattle.office_commands.specs.Named.{doors_named};
 use command_answers::{Status, tell_no_memory};
 use command_words::laws::one_spelling;
 use command_words::{Service, WordsFault, read_words};
-use file_keepers::{Unknown, close_keeper, open_keeper};
 use keeper_mem::{Keeper, SureKeeper};
-use loopback_links::{Edge, LoopbackDoor, SystemListener, Watched};
 use office_base::{OutOfMemory, Sink, Text, Words};
 use office_commands::allocate;
 use standard_streams::{StandardInput, StandardOutput, tell_unheld};
@@ -31,6 +29,9 @@ use std::rt::Env;
 use std::sync::Wait;
 use std::thread::Threads;
 use std::{env, io};
+use system_edge::{
+    Edge, LoopbackDoor, SystemListener, Unknown, Watched, close_keeper, open_keeper,
+};
 
 // The exit status if the store that the words name cannot be opened, or the port cannot be bound.
 const NO_OPENING: u8 = 1;

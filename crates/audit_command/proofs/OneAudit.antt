@@ -5,7 +5,7 @@ use Rattle.dossier_file.specs.Dossier.{papers_of}
 use Rattle.dossier_file.specs.Laws.{HaveOneDossier}
 use Rattle.audit_rules.specs.declared.verdict.Verdict.{Verdict}
 use Rattle.audit_rules.specs.declared.verdict.Verdict.TheVariants.{Sound, Broken}
-use Rattle.one_verdict.specs.Laws.{OneVerdictOfBytes}
+use Rattle.one_output.specs.VerdictLaws.{OneVerdictOfBytes}
 use Rattle.audit_command.specs.Audit.{AreDossier, HaveOneAudit, IsAuditOutput, IsVerdictLine}
 use Rattle.audit_command.specs.Texts.{dossier_line, verdict_line}
 

@@ -9,11 +9,10 @@ ghost use Rattle.audit_command.specs.Best.{IsBestAnswerTo, IsBestOf, TellsBest, 
 use crate::answer::{Audited, dossier_failure};
 use crate::texts::{best_text, verdict_text};
 use audit_rules::Verdict;
-use best_rounds::{BestVerdict, best_rounds};
 use command_answers::Failure;
 use dossier_file::Dossier;
 use office_base::{OutOfMemory, Source, Text};
-use season_audit::audit;
+use season_audit::{BestVerdict, audit, best_rounds};
 use std::alloc::Global;
 
 /// Returns the verdict on the dossier that the source gives and, if no clause is broken, whether every published round is the best one.

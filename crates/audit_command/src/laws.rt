@@ -7,5 +7,5 @@ pub fn one_audit()
     ensures { (bytes : List ℕ) → HaveOneAudit bytes }
 {
     dossier_file::laws::one_dossier();
-    one_verdict::laws::one_verdict_of_bytes();
+    one_output::laws::one_verdict_of_bytes();
 }

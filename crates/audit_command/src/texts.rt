@@ -1,16 +1,16 @@
 // The lines of an audit.
 ghost use Rattle.std.specs.Prelude.{◌≡◌, ◌++◌, IfOk, OnOk, codes};
 ghost use Rattle.std.specs.Fmt.{decimal};
-ghost use Rattle.best_rounds.specs.declared.verdict.BestVerdict.TheVariants.{NotBest};
+ghost use Rattle.season_audit.specs.declared.verdict.BestVerdict.TheVariants.{NotBest};
 ghost use Rattle.audit_command.specs.Best.{best_line};
 ghost use Rattle.audit_command.specs.Texts.{broken_line, candidate_or_dash, code_or_dash, dossier_line, published_line, sound_line, verdict_line};
 
 use audit_rules::Verdict;
-use best_rounds::BestVerdict;
 use dossier_file::DossierFault;
 use list_audit::Clause;
 use office_base::{CandId, OutOfMemory, ProgId, Text};
 use office_text::push_number;
+use season_audit::BestVerdict;
 use season_texts::fault_text;
 use seat_matrix::Matrix;
 use std::alloc::Global;

@@ -5,3 +5,10 @@ pub mod Laws
 pub mod Papers
 pub mod Replay
 pub mod Verdict
+pub mod AtCut
+pub mod Comes
+pub mod Entries
+pub mod Finals
+pub mod Groups
+pub mod Raises
+pub mod Stands

@@ -1,1 +1,5 @@
+pub mod First
+pub mod ListOf
+pub mod StepChoice
+pub mod Sublists
 pub mod Candidates

@@ -2,9 +2,9 @@
 ghost use Rattle.office_base.specs.StepChoice.{IsStep};
 
 use crate::candidates::{applicant, are_people, candidates_of, matrix_of, step_without_seats};
+use crate::is_step;
 use dereserve::{commons, fill, unfilled};
 use office_base::{Category, ListId, OutOfMemory, ProgId, Step, StepKind};
-use plain_choice::is_step;
 use seat_matrix::Matrix;
 use std::alloc::Global;
 

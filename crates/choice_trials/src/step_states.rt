@@ -4,9 +4,9 @@ ghost use Rattle.office_base.specs.Person.{IsList};
 ghost use Rattle.office_base.specs.StepChoice.{IsStep};
 
 use crate::candidates::{D, W, in_order, is_new, step_of};
+use crate::is_step;
 use merit_choice::{Offered, StepState};
 use office_base::{CandId, OutOfMemory, Person, Step};
-use plain_choice::is_step;
 use std::alloc::Global;
 
 // Offers the people to the step one after another, and returns whether it answers as expected.

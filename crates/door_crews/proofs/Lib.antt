@@ -1,0 +1,4 @@
+mod Bits
+mod Counting
+pub mod Linked
+pub mod Rows

@@ -19,8 +19,8 @@ use Rattle.round_cut.specs.declared.fault.BeginFault.{BeginFault}
 use Rattle.round_cut.specs.declared.fault.BeginFault.TheVariants.{NotEmpty}
 use Rattle.round_cut.specs.declared.fault.OfficeFault.{OfficeFault}
 use Rattle.round_cut.specs.declared.fault.OfficeFault.TheVariants.{KeeperFault as NoKeeper, OutOfMemory as NoMemory}
-use Rattle.script_runs.specs.Tally.{CountsAll, StopsBefore}
-use Rattle.script_runs.specs.declared.tally.Tally.{Tally}
+use Rattle.season_commands.specs.Tally.{CountsAll, StopsBefore}
+use Rattle.season_commands.specs.declared.tally.Tally.{Tally}
 use Rattle.season_generator.specs.Bundle.{generated}
 use Rattle.season_generator.specs.Summary.{summary_text}
 use Rattle.command_answers.specs.Writes.{IsTextOut, IsWantText, Writes}

@@ -11,8 +11,8 @@ use Rattle.office_moves.specs.Facts.{SeasonFacts}
 use Rattle.season_facts.specs.Season.{facts_of}
 use Rattle.office_moves.specs.State.{State, opening}
 use Rattle.shown_replies.specs.Shown.{rows_shown}
-use Rattle.script_runs.specs.Tally.{CountsAll, StopsBefore}
-use Rattle.script_runs.specs.declared.tally.Tally.{Tally}
+use Rattle.season_commands.specs.Tally.{CountsAll, StopsBefore}
+use Rattle.season_commands.specs.declared.tally.Tally.{Tally}
 use Rattle.round_cut.specs.declared.fault.OfficeFault.{OfficeFault}
 use Rattle.round_cut.specs.declared.fault.OfficeFault.TheVariants.{KeeperFault as NoKeeper, OutOfMemory as NoMemory}
 use Rattle.season_generator.specs.Bundle.{generated}

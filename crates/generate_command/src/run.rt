@@ -18,15 +18,14 @@ ghost use Rattle.season_commands.specs.Run.{RunsScript};
 
 use crate::summed::{tallied_text, write_summary};
 use command_answers::{Status, tell_no_memory};
-use generated_season::laws::generated_has_no_fault;
 use keeper_mem::Keeper;
 use office_base::{OutOfMemory, Request, Sink, Text};
 use request_rows::Script;
 use round_cut::{Office, OfficeFault};
-use script_runs::count_all;
-use season_commands::tell_unbegun;
+use season_commands::{count_all, tell_unbegun};
 use season_file::{Season, SeasonFault};
 use season_generator::generate;
+use season_generator::laws::generated_has_no_fault;
 use std::alloc::Global;
 
 /// Runs the season of `n` candidates, from 1 to 100,000, that the seed gives over the keeper, and writes its summary.

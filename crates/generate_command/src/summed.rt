@@ -11,7 +11,7 @@ use command_answers::{Status, tell_keeper_fault, tell_no_memory, write_answer};
 use keeper_mem::Keeper;
 use office_base::{Listed, OutOfMemory, Sink, Text};
 use round_cut::{Office, OfficeFault};
-use script_runs::Tally;
+use season_commands::Tally;
 use season_generator::{Summary, summary_text};
 use std::alloc::Global;
 

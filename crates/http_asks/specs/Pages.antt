@@ -1,8 +1,8 @@
 -- Which page of the office a target names, by the pieces of its path.
 use Rattle.std.specs.Prelude.{ℕ, ◌&&◌, Bool, true, false, List, [], ◌∷◌, Option, None, bytes_eq, codes, if◌then◌else◌}
 use Rattle.office_text.specs.Lines.{cut_at}
-use Rattle.http_heads.specs.declared.methods.Method.{Method}
-use Rattle.http_heads.specs.declared.methods.Method.TheVariants.{Get, Post}
+use Rattle.http_wire.specs.declared.methods.Method.{Method}
+use Rattle.http_wire.specs.declared.methods.Method.TheVariants.{Get, Post}
 use Rattle.http_asks.specs.Roads.{all_roads, name_of, page_after, shape_of}
 use Rattle.http_asks.specs.declared.pages.Page.{Page}
 use Rattle.http_asks.specs.declared.pages.Page.TheVariants.{Answers, Cuts, Raises, Reads}

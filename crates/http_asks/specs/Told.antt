@@ -1,7 +1,7 @@
 -- What the values of the code mean.
 use Rattle.std.specs.Prelude.{option_map}
-use Rattle.http_heads.specs.Messages.{Message}
-use Rattle.http_heads.specs.Methods.{method_name}
+use Rattle.http_wire.specs.Messages.{Message}
+use Rattle.http_wire.specs.Methods.{method_name}
 use Rattle.http_asks.specs.Verdicts.{Verdict, refuses, asks, token_of}
 use Rattle.http_asks.specs.declared.judging.Judged.{Judged}
 use Rattle.http_asks.specs.declared.judging.Judged.TheVariants.{Refused, Asked}

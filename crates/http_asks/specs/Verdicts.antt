@@ -1,9 +1,9 @@
 -- The verdict on a message: something that it asks, or a status that refuses it.
 use Rattle.std.specs.Prelude.{ℕ, ◌&&◌, Bool, false, List, Option, Some, None, length, nat_lt, bytes_eq, codes, if◌then◌else◌}
 use Rattle.office_base.specs.declared.asks.Ask.{Ask}
-use Rattle.http_heads.specs.Fields.{Pair, first_value}
-use Rattle.http_heads.specs.Messages.{Message}
-use Rattle.http_heads.specs.Methods.{method_name}
+use Rattle.http_wire.specs.Fields.{Pair, first_value}
+use Rattle.http_wire.specs.Messages.{Message}
+use Rattle.http_wire.specs.Methods.{method_name}
 use Rattle.http_asks.specs.Bodies.{ask_of}
 use Rattle.http_asks.specs.Pages.{method_of, page_of, takes_body}
 use Rattle.http_asks.specs.declared.pages.Page.{Page}

@@ -1,6 +1,6 @@
 // The verdict on a message: something that it asks, or a status that refuses it.
 ghost use Rattle.std.specs.Prelude.{◌≡◌, true, IfOk, OnErr, option_copied};
-ghost use Rattle.http_heads.specs.Told.{told_fields, told_message};
+ghost use Rattle.http_wire.specs.Told.{told_fields, told_message};
 ghost use Rattle.http_asks.specs.Bodies.{ask_of};
 ghost use Rattle.http_asks.specs.Told.{told};
 ghost use Rattle.http_asks.specs.Verdicts.{needs_memory, reads_body, token_in, verdict_of};
@@ -9,7 +9,7 @@ ghost use Rattle.http_asks.specs.declared.judging.Judged.TheVariants.{Refused};
 use crate::bodies::{ask_in, read_body};
 use crate::pages::{Page, page_of};
 use crate::router::Routes;
-use http_heads::{Fields, HeldMessage, Method};
+use http_wire::{Fields, HeldMessage, Method};
 use office_base::{Ask, OutOfMemory};
 use std::alloc::Global;
 

@@ -3,7 +3,7 @@ ghost use Rattle.std.specs.Prelude.{◌≡◌};
 ghost use Rattle.http_asks.specs.Pages.{method_of, page_of, path_of, takes_body};
 
 use crate::router::Routes;
-use http_heads::Method;
+use http_wire::Method;
 use office_base::Ask;
 
 /// A page of the office.

@@ -9,7 +9,7 @@ use Rattle.office_base.specs.Outside.{Appends, AreLeft, IsAtEnd, Took}
 use Rattle.office_base.proofs.Streams.{Appends-none, Took-none}
 use Rattle.office_base.specs.declared.asks.Ask.{Ask}
 use Rattle.http_sessions.specs.Limits.{most_messages}
-use Rattle.http_heads.specs.Messages.{IsTorn, IsUnfinished}
+use Rattle.http_wire.specs.Messages.{IsTorn, IsUnfinished}
 use Rattle.http_sessions.specs.Exchange.{Item, Outcome, IsItem, Cuts, Goes, Runs, reply_to, replies, is_last, open_before, closes_last, but_last}
 use Rattle.http_sessions.specs.Sessions.{IsSession, IsEnd, IsTold, Talk, FailsReading, FailsWriting}
 use Rattle.http_sessions.specs.Steps.{IsAnswered, IsReplied, IsCutOff, IsStill, IsStep, end_of}

@@ -2,9 +2,9 @@
 use Rattle.std.proofs.Common.{◌≡◌, inl, inr, ℕ, Bool, true, false, List, Option, Some, None, Result, Ok, Err, if◌then◌else◌, arith, refl, sym, ap, subst, ◌∙◌, bytes_eq, codes}
 use Rattle.office_base.specs.declared.asks.Ask.{Ask}
 use Rattle.http.specs.StatusCode.{IsStatusCode}
-use Rattle.http_heads.specs.Fields.{Pair, body_len, length_for, shared_length, one_length, values, first_of}
-use Rattle.http_heads.specs.Messages.{Message, IsRefused, pairs}
-use Rattle.http_heads.specs.Methods.{method_name}
+use Rattle.http_wire.specs.Fields.{Pair, body_len, length_for, shared_length, one_length, values, first_of}
+use Rattle.http_wire.specs.Messages.{Message, IsRefused, pairs}
+use Rattle.http_wire.specs.Methods.{method_name}
 use Rattle.http_asks.specs.Bodies.{ask_of}
 use Rattle.http_asks.specs.Pages.{method_of, page_of}
 use Rattle.http_asks.specs.Verdicts.{Verdict, refuses, asks, has_method, token_of, verdict_asked, verdict_at, verdict_of}

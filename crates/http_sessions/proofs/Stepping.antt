@@ -3,7 +3,7 @@ use Rattle.std.proofs.Common.{◌≡◌, ◌<◌, ◌+◌, ℕ, Bool, true, fals
 use Rattle.std.proofs.lemmas.List.{append-nil, nil_from_length}
 use Rattle.office_base.specs.Outside.{Appends}
 use Rattle.office_base.specs.declared.asks.Ask.{Ask}
-use Rattle.http_heads.specs.Messages.{IsTorn, IsUnfinished}
+use Rattle.http_wire.specs.Messages.{IsTorn, IsUnfinished}
 use Rattle.http_sessions.specs.Exchange.{Item, Outcome, IsItem, Goes, reply_to}
 use Rattle.http_sessions.specs.Steps.{IsSent, IsStep, IsStill, step_of}
 use Rattle.http_sessions.specs.declared.counter.Answered.{Answered}

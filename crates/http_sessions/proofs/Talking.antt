@@ -6,7 +6,7 @@ use Rattle.std.specs.Option.{unwrap_or}
 use Rattle.std.proofs.lemmas.Bool.{or_parts}
 use Rattle.office_base.specs.Outside.{Appends, AreLeft, Took}
 use Rattle.office_base.specs.declared.asks.Ask.{Ask}
-use Rattle.http_heads.specs.Messages.{IsTorn, IsUnfinished}
+use Rattle.http_wire.specs.Messages.{IsTorn, IsUnfinished}
 use Rattle.http_sessions.specs.Exchange.{Item, Outcome, IsItem, Cuts, Goes, Runs, reply_to, replies, is_last, open_before, closes_last, but_last}
 use Rattle.http_sessions.specs.Steps.{IsAnswered, IsReplied, IsCutOff, IsStill, IsStep}
 use Rattle.http_sessions.specs.declared.counter.Answered.{Answered}

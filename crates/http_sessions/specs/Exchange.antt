@@ -4,8 +4,8 @@ use Rattle.std.specs.List.{list_any}
 use Rattle.office_base.specs.declared.asks.Ask.{Ask}
 use Rattle.office_base.specs.declared.errors.OutOfMemory.{OutOfMemory as Want}
 use Rattle.http_sessions.specs.Limits.{most_messages}
-use Rattle.http_heads.specs.Fields.{closes}
-use Rattle.http_heads.specs.Messages.{Message, IsWhole, IsRefused}
+use Rattle.http_wire.specs.Fields.{closes}
+use Rattle.http_wire.specs.Messages.{Message, IsWhole, IsRefused}
 use Rattle.http_asks.specs.Verdicts.{Verdict, refuses, asks, verdict_of, reads_body}
 use Rattle.http_wire.specs.Replies.{reply_text, fault_body}
 use Rattle.http_wire.specs.Statuses.{fault_status}

@@ -1,6 +1,6 @@
 -- What an inbox holds.
 use Rattle.std.specs.Prelude.{◌≡◌, ℕ, ◌-◌, ◌≤◌, List, take, drop, length}
-use Rattle.http_heads.specs.Limits.{most_message_bytes}
+use Rattle.http_wire.specs.Limits.{most_message_bytes}
 use Rattle.http_sessions.specs.declared.inbox.Inbox.TheInside.{Inside}
 
 abbrev pub held : Inside → List ℕ

@@ -5,7 +5,7 @@ use Rattle.office_base.specs.Outside.{Appends, Took}
 use Rattle.office_base.specs.declared.asks.Ask.{Ask}
 use Rattle.http_sessions.specs.Limits.{most_messages}
 use Rattle.office_links.specs.declared.outside.Link.{Ghosts as LinkGhosts}
-use Rattle.http_heads.specs.Messages.{IsTorn, IsUnfinished}
+use Rattle.http_wire.specs.Messages.{IsTorn, IsUnfinished}
 use Rattle.http_sessions.specs.Exchange.{Item, Outcome, Cuts, Runs, replies, open_before, closes_last, but_last, is_last}
 use Rattle.http_sessions.specs.declared.counter.Answered.{Answered}
 use Rattle.http_wire.specs.declared.faults.Fault.{Fault}

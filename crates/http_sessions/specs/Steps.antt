@@ -2,7 +2,7 @@
 use Rattle.std.specs.Prelude.{◌≡◌, ◌<◌, ◌==◌, ℕ, Bool, true, false, List, [], ◌∷◌, ◌++◌, Option, Result, length, take, drop, if◌then◌else◌}
 use Rattle.office_base.specs.Outside.{Appends}
 use Rattle.office_base.specs.declared.asks.Ask.{Ask}
-use Rattle.http_heads.specs.Messages.{IsTorn, IsUnfinished}
+use Rattle.http_wire.specs.Messages.{IsTorn, IsUnfinished}
 use Rattle.http_sessions.specs.Exchange.{Item, Outcome, IsItem, Goes, reply_to}
 use Rattle.http_sessions.specs.declared.counter.Answered.{Answered}
 use Rattle.http_wire.specs.declared.faults.Fault.{Fault}

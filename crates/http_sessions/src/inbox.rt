@@ -1,7 +1,7 @@
 // Bytes that came over a link and are not used up yet.
 ghost use Rattle.std.specs.Prelude.{◌≡◌, ℕ, ◌+◌, ◌-◌, ◌<◌, ◌≤◌, List, Option, [], ◌++◌, length, take, drop, IfOk, IsErr, OnErr};
 ghost use Rattle.office_base.specs.Outside.{Fails, IsAtEnd, TakesPrefix, Took};
-ghost use Rattle.http_heads.specs.Limits.{most_message_bytes};
+ghost use Rattle.http_wire.specs.Limits.{most_message_bytes};
 
 use office_base::{Failed, OutOfMemory};
 use office_links::Link;

@@ -8,8 +8,8 @@ use crate::answering::{At, Ready, Tools, answer_held, send};
 use crate::counter::Counter;
 use crate::gate::Gate;
 use crate::inbox::Inbox;
-use http_heads::laws::unfinished_bytes_are_few;
 use http_wire::Outbox;
+use http_wire::laws::unfinished_bytes_are_few;
 use office_links::Link;
 use std::alloc::Global;
 

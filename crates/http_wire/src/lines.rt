@@ -1,12 +1,12 @@
 // The lines of a head, each put after what is there. The room for them is there.
 ghost use Rattle.std.specs.Prelude.{◌≡◌, ◌≤◌, ◌+◌, ◌++◌, Option, Bool, length, option_map, vec_len, vec_capacity};
 ghost use Rattle.http.specs.StatusCode.{IsStatusCode};
-ghost use Rattle.http_heads.specs.Methods.{method_name};
+ghost use Rattle.http_wire.specs.Methods.{method_name};
 ghost use Rattle.http_wire.specs.Statuses.{phrase};
 ghost use Rattle.http_wire.specs.Replies.{line, status_line, type_line, length_line, allow_line, close_line, reply_head};
 
+use crate::Method;
 use http::StatusCode;
-use http_heads::Method;
 use itoa::Buffer;
 
 /// Puts bytes.

@@ -2,13 +2,12 @@
 ghost use Rattle.std.specs.Prelude.{◌≡◌, ◌≤◌, ◌↔◌, [], Some, None, length, option_map, IfOk, IsTrue};
 ghost use Rattle.std.specs.Bool.{OnTrue, OnFalse};
 ghost use Rattle.http.specs.StatusCode.{IsStatusCode};
-ghost use Rattle.http_heads.specs.Methods.{method_name};
+ghost use Rattle.http_wire.specs.Methods.{method_name};
 ghost use Rattle.http_wire.specs.Statuses.{fault_status};
 ghost use Rattle.http_wire.specs.Replies.{reply_head, reply_text, fault_body};
 
-use crate::Fault;
 use crate::lines::{put, put_head};
-use http_heads::Method;
+use crate::{Fault, Method};
 use office_base::OutOfMemory;
 use std::alloc::Global;
 use std::marker::Model;

@@ -14,8 +14,8 @@ use Rattle.units_command.specs.Units.{units_answers}
 use Rattle.step_command.specs.Step.{step_answers}
 use Rattle.audit_command.specs.Audit.{IsAuditText}
 use Rattle.audit_command.specs.Best.{IsBestText}
-use Rattle.door_histories.specs.Ending.{SomeRose}
-use Rattle.serve_command.specs.Doors.{Doors}
+use Rattle.door_crews.specs.Ending.{SomeRose}
+use Rattle.office_commands.specs.Doors.{Doors}
 use Rattle.office_commands.specs.Blames.{Blames, Counts}
 use Rattle.command_answers.specs.Writes.{IsTextOf, IsWantText, Writes}
 use Rattle.command_answers.specs.declared.status.Status.{Status}

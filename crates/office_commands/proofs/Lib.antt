@@ -1,3 +1,5 @@
+mod ServeEnds
+mod ServedEnds
 mod Blaming
 mod Coming
 mod Ended

@@ -1,7 +1,7 @@
 -- Which objects a status blames: each object of the outside that failed in a call, and no other.
 use Rattle.std.specs.Prelude.{◌≡◌, ◌≢◌, ◌≤◌, ◌⊎◌, ℕ, List}
 use Rattle.office_base.specs.Outside.{Rose}
-use Rattle.door_histories.specs.Ending.{SomeRose}
+use Rattle.door_crews.specs.Ending.{SomeRose}
 use Rattle.command_answers.specs.declared.status.Status.{Status}
 use Rattle.command_answers.specs.declared.status.Status.TheVariants.{BadInput, ReadFault, WriteFault, KeeperFault, OutOfMemory, DoorFault, Differs}
 

@@ -7,9 +7,9 @@ use Rattle.office_links.specs.declared.outside.Door.{Ghosts as DoorGhosts}
 use Rattle.office_links.specs.declared.outside.Link.{Ghosts as LinkGhosts}
 use Rattle.kept_rows.specs.Tables.{Tables, still}
 use Rattle.keeper_mem.specs.declared.keeper.Keeper.{Ghosts as KeeperGhosts}
-use Rattle.door_histories.specs.Ending.{SomeRose}
-use Rattle.door_histories.specs.Served.{telling}
-use Rattle.serve_command.specs.Doors.{Doors, doors_of}
+use Rattle.door_crews.specs.Ending.{SomeRose}
+use Rattle.door_crews.specs.Served.{telling}
+use Rattle.office_commands.specs.Doors.{Doors, doors_of}
 use Rattle.office_commands.specs.Blames.{Counts}
 
 -- A call: what it found of the outside, and what it left.

@@ -1,3 +1,7 @@
+pub mod ServeBlames
+pub mod Doors
+pub mod Ending
+pub mod Serve
 pub mod Blames
 pub mod Call
 pub mod Keeping

@@ -10,8 +10,8 @@ use Rattle.season_commands.specs.Resume.{EndsResume, IsScript, TellsSound}
 use Rattle.season_commands.specs.Run.{EndsRun, TellsNoSeason}
 use Rattle.special_command.specs.Special.{EndsSpecial}
 use Rattle.units_command.specs.Units.{EndsUnits, IsFaultyUnits, IsUnitsInput}
-use Rattle.serve_command.specs.Doors.{Doors}
-use Rattle.serve_command.specs.Serve.{EndsServe, EndsServeKept}
+use Rattle.office_commands.specs.Doors.{Doors}
+use Rattle.office_commands.specs.Serve.{EndsServe, EndsServeKept}
 use Rattle.step_command.specs.Step.{IsFaultySheet, IsSheet, step_answers}
 use Rattle.command_words.specs.Words.{Spell, SpellNothing}
 use Rattle.command_answers.specs.Writes.{IsTextOf, IsWantText, Writes}

@@ -7,6 +7,7 @@ ghost use Rattle.office_commands.specs.Keeping.{Runs, RunsWords};
 ghost use Rattle.command_words.specs.Words.{IsInRange};
 
 use crate::laws::one_answer;
+use crate::{serve_kept, serve_season};
 use audit_command::{audit_best, audit_season};
 use command_answers::{Status, finish, tell_no_memory, write_answer};
 use command_words::laws::one_spelling;
@@ -16,7 +17,6 @@ use keeper_mem::Keeper;
 use office_base::{Sink, Source, Words};
 use office_links::Door;
 use season_commands::{check_answer, resume_season, run_season};
-use serve_command::{serve_kept, serve_season};
 use special_command::special_season;
 use std::alloc::Global;
 use std::sync::Wait;

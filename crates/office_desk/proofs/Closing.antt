@@ -4,10 +4,10 @@ use mathlib.Core.Option.{some, some-injective}
 use lib.ListN.{get_elem?}
 use Rattle.atomic_table.specs.Table.{Final, Seen}
 use Rattle.std.specs.declared.snapshot.Snapshot.{Snapshot}
-use Rattle.desk_rule.specs.declared.view.View.{View}
-use Rattle.desk_rule.specs.declared.view.Stage.TheVariants.{Idle}
-use Rattle.desk_rule.specs.Turning.{InTurn}
-use Rattle.desk_rule.proofs.Ending.{ends, IsLeft}
+use Rattle.office_desk.specs.declared.view.View.{View}
+use Rattle.office_desk.specs.declared.view.Stage.TheVariants.{Idle}
+use Rattle.office_desk.specs.Turning.{InTurn}
+use Rattle.office_desk.proofs.Ending.{ends, IsLeft}
 
 module _ {V I B : Type 0} (basis : V → B) (entries : V → List I) (number : I → ℕ) (count : V → ℕ) (key : Snapshot V) where
   -- what was found in the slot is a value, and it is the one that is left

@@ -2,10 +2,10 @@
 use Rattle.std.specs.Prelude.{◌≡◌, ◌+◌, ◌≤◌, ◌⊎◌, ℕ, [], ◌++◌}
 use Rattle.office_base.specs.declared.booked.Booked.{Ghosts}
 use Rattle.office_desk.specs.declared.handles.Pass.{Pass}
-use Rattle.desk_rule.specs.declared.view.View.{View}
-use Rattle.desk_rule.specs.declared.view.Stage.TheVariants.{Idle}
-use Rattle.desk_rule.specs.Own.{Begins, AreMerged}
-use Rattle.desk_rule.specs.Turning.{both_of}
+use Rattle.office_desk.specs.declared.view.View.{View}
+use Rattle.office_desk.specs.declared.view.Stage.TheVariants.{Idle}
+use Rattle.office_desk.specs.Own.{Begins, AreMerged}
+use Rattle.office_desk.specs.Turning.{both_of}
 use Rattle.office_desk.specs.Words.{shares_of, left_of, tickets_of, seen_of, own_of, found_of, count_of}
 
 -- two views in one, after it was settled

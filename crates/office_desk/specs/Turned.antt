@@ -5,9 +5,9 @@ use Rattle.std.specs.Fn.{Once}
 use Rattle.std.specs.List.{AllByRecursion}
 use Rattle.std.specs.declared.snapshot.Snapshot.{Snapshot}
 use Rattle.office_base.specs.declared.booked.Booked.{Ghosts}
-use Rattle.desk_rule.specs.declared.view.View.{View}
-use Rattle.desk_rule.specs.declared.view.Stage.TheVariants.{Holds}
-use Rattle.desk_rule.specs.Own.{Begins, AppendsAtMost}
+use Rattle.office_desk.specs.declared.view.View.{View}
+use Rattle.office_desk.specs.declared.view.Stage.TheVariants.{Holds}
+use Rattle.office_desk.specs.Own.{Begins, AppendsAtMost}
 use Rattle.office_desk.specs.declared.handles.Desk.{Desk}
 use Rattle.office_desk.specs.declared.handles.Pass.{Pass}
 use Rattle.office_desk.specs.Words.{origin_of, shares_of, left_of, tickets_of, seen_of, own_of, found_of, count_of}

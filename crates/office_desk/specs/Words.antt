@@ -3,7 +3,7 @@ use Rattle.std.specs.Prelude.{◌≡◌, ℕ, List, Some}
 use Rattle.office_base.specs.declared.booked.Booked.{Ghosts}
 use Rattle.office_desk.specs.declared.handles.Desk.{Desk}
 use Rattle.office_desk.specs.declared.handles.Pass.{Pass}
-use Rattle.desk_rule.specs.Own.{among}
+use Rattle.office_desk.specs.Own.{among}
 
 -- the value with which the desk began
 abbrev pub origin_of : {V I : Type 0} → Desk V I → V

@@ -1,9 +1,9 @@
 // A desk, and the passes to it.
 ghost use Rattle.std.specs.Prelude.{◌≡◌, ◌≤◌, ◌^◌, []};
-ghost use Rattle.desk_rule.specs.declared.view.Stage.TheVariants.{Idle};
+ghost use Rattle.office_desk.specs.declared.view.Stage.TheVariants.{Idle};
 
+use crate::{Turns, View};
 use atomic_table::{Seat, Table};
-use desk_rule::{Turns, View};
 use office_base::Booked;
 use std::alloc::Global;
 use std::snapshot::Snapshot;

@@ -1,14 +1,14 @@
 // Passes are split and joined.
 ghost use Rattle.std.specs.Prelude.{◌≡◌, ◌+◌, ◌-◌, ◌^◌, ◌≤◌, [], ◌++◌, IfOk, IsOk, IsTrue, ◌↔◌};
-ghost use Rattle.desk_rule.specs.declared.view.Stage.TheVariants.{Idle};
-ghost use Rattle.desk_rule.specs.Told.{IsSettled};
-ghost use Rattle.desk_rule.specs.Turning.{left_part, right_part, both_of};
+ghost use Rattle.office_desk.specs.declared.view.Stage.TheVariants.{Idle};
+ghost use Rattle.office_desk.specs.Told.{IsSettled};
+ghost use Rattle.office_desk.specs.Turning.{left_part, right_part, both_of};
 ghost use Rattle.office_desk.specs.Words.{belongs, shares_of, left_of, tickets_of, seen_of, own_of, found_of, count_of};
 ghost use Rattle.office_desk.specs.Joined.{IsSplitOff, IsUnion, united};
 
 use crate::handles::{Desk, Pass};
+use crate::{Part, Portion, Settle, Union, View};
 use atomic_table::Seat;
-use desk_rule::{Part, Portion, Settle, Union, View};
 use office_base::{Booked, OutOfMemory};
 use std::marker::Brand;
 

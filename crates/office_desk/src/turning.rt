@@ -1,15 +1,15 @@
 // A turn at a desk.
 ghost use Rattle.std.specs.Prelude.{◌≡◌, ℕ, ◌+◌, ◌<◌, ◌≤◌, ◌^◌, [], ◌∷◌, Some, map};
 ghost use Rattle.office_base.specs.Numbered.{last_of_numbers};
-ghost use Rattle.desk_rule.specs.declared.view.Stage.TheVariants.{Idle, Waits};
-ghost use Rattle.desk_rule.specs.Own.{AppendsAtMost};
-ghost use Rattle.desk_rule.specs.Told.{IsTaken, holding, after_turn};
+ghost use Rattle.office_desk.specs.declared.view.Stage.TheVariants.{Idle, Waits};
+ghost use Rattle.office_desk.specs.Own.{AppendsAtMost};
+ghost use Rattle.office_desk.specs.Told.{IsTaken, holding, after_turn};
 ghost use Rattle.office_desk.specs.Words.{belongs, origin_of, left_of};
 ghost use Rattle.office_desk.specs.Turned.{Leaves, MayReturn, IsTurn};
 
 use crate::handles::{Desk, Pass};
+use crate::{Advance, Draw, Look, View};
 use atomic_table::Seat;
-use desk_rule::{Advance, Draw, Look, View};
 use office_base::Booked;
 use std::sync::{MutexGuard, Wait};
 use std::thread;

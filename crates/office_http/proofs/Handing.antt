@@ -7,10 +7,10 @@ use Rattle.office_desk.specs.Words.{origin_of}
 use Rattle.office_desk.specs.declared.handles.Desk.{Desk}
 use Rattle.round_cut.specs.Office.{Opened}
 use Rattle.http_wire.specs.declared.faults.Fault.{Fault}
-use Rattle.desk_rule.specs.Own.{among}
-use Rattle.door_histories.specs.Desk.{Known, AsksDesk}
-use Rattle.office_asks.specs.Asking.{AnswersAt, UnanswersAt}
-use Rattle.desk_counters.specs.Knowing.{AsksInTurn}
+use Rattle.office_desk.specs.Own.{among}
+use Rattle.door_crews.specs.Desk.{Known, AsksDesk}
+use Rattle.office_http.specs.Asking.{AnswersAt, UnanswersAt}
+use Rattle.office_http.specs.Knowing.{AsksInTurn}
 
 -- without a ticket no entry is its own
 pub none_among : {I : Type 0} (number : I → ℕ) (entries : List I) → among number [] entries ≡ []

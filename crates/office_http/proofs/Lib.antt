@@ -1,2 +1,5 @@
+mod Numbers
+mod Kept
+mod Turns
 mod Handing
 mod Sending

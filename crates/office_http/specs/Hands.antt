@@ -4,8 +4,8 @@ use Rattle.office_base.specs.Limits.{most_connections}
 use Rattle.office_base.specs.declared.booked.Booked.{Ghosts}
 use Rattle.http_sessions.specs.Limits.{most_messages}
 use Rattle.office_http.specs.declared.hands.DeskWorker.{DeskWorker}
-use Rattle.desk_counters.specs.Knowing.{known_of}
-use Rattle.door_histories.specs.Workers.{Worker}
+use Rattle.office_http.specs.Knowing.{known_of}
+use Rattle.door_crews.specs.Workers.{Worker}
 
 -- turns of a worker: one for each message of each connection of its door
 abbrev pub most_turns : ℕ

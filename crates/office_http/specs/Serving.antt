@@ -3,9 +3,9 @@ use Rattle.std.specs.Prelude.{◌≡◌, ℕ, Bool, true, false, List}
 use Rattle.keeper_mem.specs.Keeper.{Shelf}
 use Rattle.office_moves.specs.Facts.{SeasonFacts}
 use Rattle.office_moves.specs.declared.moves.Entry.{Entry}
-use Rattle.office_asks.specs.Asking.{AnswersAt, UnanswersAt}
-use Rattle.door_histories.specs.Ending.{AllEnded, SomeRose}
-use Rattle.door_histories.specs.Served.{DoorLooks, AllDoorsServed}
+use Rattle.office_http.specs.Asking.{AnswersAt, UnanswersAt}
+use Rattle.door_crews.specs.Ending.{AllEnded, SomeRose}
+use Rattle.door_crews.specs.Served.{DoorLooks, AllDoorsServed}
 use Rattle.round_cut.specs.Office.{Opened}
 
 -- All doors are served by the office of this season, over a keeper that holds room in advance or does not:

@@ -1,14 +1,14 @@
 // The workers behind the doors.
 ghost use Rattle.std.specs.Prelude.{◌≡◌, ◌≤◌, ◌+◌, ◌*◌, ◌<◌, ◌^◌, ℕ, length};
 ghost use Rattle.office_base.specs.Limits.{most_connections};
-ghost use Rattle.desk_counters.specs.Knowing.{known_of};
-ghost use Rattle.door_histories.specs.Served.{telling};
-ghost use Rattle.door_histories.specs.Workers.{IsHired, IsTakenIn, HasWorked};
-ghost use Rattle.office_asks.specs.Asking.{AnswersAt, UnanswersAt};
+ghost use Rattle.office_http.specs.Knowing.{known_of};
+ghost use Rattle.door_crews.specs.Served.{telling};
+ghost use Rattle.door_crews.specs.Workers.{IsHired, IsTakenIn, HasWorked};
+ghost use Rattle.office_http.specs.Asking.{AnswersAt, UnanswersAt};
 ghost use Rattle.office_desk.specs.Words.{belongs, left_of, origin_of, shares_of};
 ghost use Rattle.office_http.specs.Hands.{worker_of, most_turns};
 
-use desk_counters::{DeskCounter, DeskOffice, TablesBefore};
+use crate::{DeskCounter, DeskOffice, TablesBefore};
 use door_crews::Crew;
 use http_sessions::{Buffers, Gate, serve_door};
 use keeper_mem::Keeper;

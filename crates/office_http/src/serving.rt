@@ -2,17 +2,17 @@
 ghost use Rattle.std.specs.Prelude.{◌≡◌, ◌≤◌, ◌<◌, ◌^◌, ◌++◌, [], true, false, length, IfOk, IfErr, OnErr};
 ghost use Rattle.std.specs.List.{AllByRecursion};
 ghost use Rattle.office_base.specs.Limits.{most_doors, most_connections};
-ghost use Rattle.door_histories.specs.Served.{telling};
-ghost use Rattle.door_histories.specs.Workers.{IsRow};
+ghost use Rattle.door_crews.specs.Served.{telling};
+ghost use Rattle.door_crews.specs.Workers.{IsRow};
 ghost use Rattle.kept_rows.specs.Tables.{IsTold};
-ghost use Rattle.office_asks.specs.Asking.{AnswersAt, UnanswersAt};
+ghost use Rattle.office_http.specs.Asking.{AnswersAt, UnanswersAt};
 ghost use Rattle.office_desk.specs.Words.{belongs, count_of, left_of, origin_of, own_of, seen_of, shares_of, tickets_of};
 ghost use Rattle.office_http.specs.Hands.{worker_of};
 ghost use Rattle.office_http.specs.Serving.{Serves};
 ghost use Rattle.proceedings.specs.Proceeding.{last_of};
 
 use crate::hands::{DeskWorker, Shared};
-use desk_counters::{DeskOffice, TablesBefore};
+use crate::{DeskOffice, TablesBefore};
 use door_crews::work_all;
 use http_sessions::{Buffers, Gate};
 use keeper_mem::Keeper;

@@ -1,2 +1,3 @@
 pub mod Outputs
 mod Seasons
+mod Verdicts

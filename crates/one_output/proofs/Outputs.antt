@@ -5,11 +5,11 @@ use Rattle.office_base.specs.declared.person.CandId.{CandId}
 use Rattle.office_moves.specs.Facts.{SeasonFacts}
 use Rattle.season_facts.specs.Season.{facts_of}
 use Rattle.office_moves.specs.State.{State, opening}
-use Rattle.script_runs.specs.Laws.{OneRun}
-use Rattle.script_runs.specs.Laws as runs
+use Rattle.season_commands.specs.Laws.{OneRun}
+use Rattle.season_commands.specs.Laws as runs
 use Rattle.shown_replies.specs.Shown.{reply_bytes}
-use Rattle.script_runs.specs.Runs.{Answers}
-use Rattle.script_runs.specs.Tally.{AreHandled, Handled}
+use Rattle.season_commands.specs.Runs.{Answers}
+use Rattle.season_commands.specs.Tally.{AreHandled, Handled}
 use Rattle.one_output.specs.Laws.{GiveOneSeason, OneOutput, OneTally, SayTheSame}
 
 -- the season with its tokens kept in another order

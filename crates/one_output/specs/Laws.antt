@@ -7,8 +7,8 @@ use Rattle.season_file.specs.declared.season.Season.{Season}
 use Rattle.office_moves.specs.Facts.{IsSound, SeasonFacts}
 use Rattle.season_facts.specs.Season.{facts_of}
 use Rattle.office_moves.specs.State.{State, opening}
-use Rattle.script_runs.specs.Runs.{Answers}
-use Rattle.script_runs.specs.Tally.{AreHandled, Handled, requests_of}
+use Rattle.season_commands.specs.Runs.{Answers}
+use Rattle.season_commands.specs.Tally.{AreHandled, Handled, requests_of}
 
 -- Two seasons say the same. Only the order in which a register keeps its tokens may differ; each token has the same holder.
 pub record SayTheSame (facts other : SeasonFacts) : Type 0 where

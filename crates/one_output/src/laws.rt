@@ -1,5 +1,6 @@
-// The laws that the same input gives the same output. Each is the contract of a function that does nothing.
+// The laws of two readings and runs of the same bytes. Each is the contract of a function that does nothing.
 ghost use Rattle.one_output.specs.Laws.{GiveOneSeason, OneOutput, OneTally};
+ghost use Rattle.one_output.specs.VerdictLaws.{OneVerdictOfBytes};
 
 /// Bytes give one season, but for the order in which its register keeps tokens, and one script.
 /// So does the text of a season that is kept, or is in a dossier. What the season says is sound.
@@ -14,7 +15,7 @@ pub fn one_output()
     ensures { OneOutput }
 {
     one_season();
-    script_runs::laws::one_run();
+    season_commands::laws::one_run();
 }
 
 /// And each of the requests has one reply.
@@ -22,5 +23,15 @@ pub fn one_tally()
     ensures { OneTally }
 {
     one_season();
-    script_runs::laws::one_tally();
+    season_commands::laws::one_tally();
+}
+
+/// The bytes of a dossier have one verdict, on seasons of the same matrix.
+pub fn one_verdict_of_bytes()
+    ensures { OneVerdictOfBytes }
+{
+    one_season();
+    dossier_file::laws::one_dossier();
+    dossier_file::laws::texts_are_one();
+    audit_rules::laws::one_verdict();
 }

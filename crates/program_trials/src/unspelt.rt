@@ -9,7 +9,7 @@ use office_base::{
 };
 use request_rows::Script;
 use round_cut::Office;
-use script_runs::answer_all;
+use season_commands::answer_all;
 use season_file::Season;
 use std::alloc::Global;
 use std::test::Fail;

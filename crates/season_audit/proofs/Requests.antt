@@ -19,10 +19,10 @@ use Rattle.office_moves.specs.declared.decide.Decision.TheVariants.{Publish}
 use Rattle.seat_matrix.specs.Matrix.{SeatTable}
 use Rattle.office_moves.proofs.Decisions.{by_kind, question_old}
 use Rattle.audit_rules.specs.Papers.{Papers, lists_after, rows_after, seats_told}
-use Rattle.cut_checks.specs.AtCut.{IsAtCut, Setting}
-use Rattle.cut_checks.specs.Comes.{AreLists, CutComesTo, told_by}
-use Rattle.cut_checks.specs.declared.fault.Fault.{Fault}
-use Rattle.cut_checks.specs.declared.stand.Stand.{Stand}
+use Rattle.audit_rules.specs.AtCut.{IsAtCut, Setting}
+use Rattle.audit_rules.specs.Comes.{AreLists, CutComesTo, told_by}
+use Rattle.audit_rules.specs.declared.fault.Fault.{Fault}
+use Rattle.audit_rules.specs.declared.stand.Stand.{Stand}
 use Rattle.list_texts.specs.declared.lists.ListRead.{ListRead}
 use Rattle.season_audit.specs.Audit.{ComesTo, IsUpTo, NameOnce, Passes}
 use Rattle.season_audit.specs.declared.auditor.Auditor.{Auditor}

@@ -8,7 +8,7 @@ use Rattle.office_moves.specs.Facts.{SeasonFacts}
 use Rattle.audit_rules.specs.Papers.{Papers}
 use Rattle.audit_rules.specs.Replay.{before}
 use Rattle.audit_rules.specs.Verdict.{IsFirstBroken}
-use Rattle.cut_checks.specs.declared.fault.Fault.{Fault}
+use Rattle.audit_rules.specs.declared.fault.Fault.{Fault}
 use Rattle.season_audit.specs.Audit.{ComesTo}
 use Rattle.season_audit.specs.declared.auditor.Auditor.{Auditor}
 use Rattle.season_audit.proofs.Taking.{Stood, stood_broken, stood_next}

@@ -41,15 +41,15 @@ use Rattle.audit_rules.specs.Papers.{Papers}
 use Rattle.audit_rules.specs.Replay.{before, round_of, taken}
 use Rattle.audit_rules.specs.Verdict.{HoldsThere, IsFirstBroken}
 use Rattle.audit_rules.proofs.Ordering.{before_next, in_order_at_first, in_order_next, is_open, nothing_new, published, was_lift, with_lift}
-use Rattle.cut_checks.specs.Raises.{lifts}
-use Rattle.cut_checks.specs.Stands.{after_answer, notes, stand_of, stands_along}
-use Rattle.cut_checks.specs.declared.stand.Stand.{Stand}
-use Rattle.cut_checks.proofs.Along.{AreRising, set_along}
-use Rattle.cut_checks.proofs.Lifting.{is_lifted, not_lifted, opened}
-use Rattle.cut_checks.proofs.Noting.{is_noted, next_turn, not_noted, unknown_not_noted}
-use Rattle.cut_checks.proofs.Stood.{stand_answered, stand_other}
-use Rattle.cut_checks.proofs.Telling.{known, stands}
-use Rattle.cut_checks.specs.declared.fault.Fault.{Fault}
+use Rattle.audit_rules.specs.Raises.{lifts}
+use Rattle.audit_rules.specs.Stands.{after_answer, notes, stand_of, stands_along}
+use Rattle.audit_rules.specs.declared.stand.Stand.{Stand}
+use Rattle.audit_rules.proofs.Along.{AreRising, set_along}
+use Rattle.audit_rules.proofs.Lifting.{is_lifted, not_lifted, opened}
+use Rattle.audit_rules.proofs.Noting.{is_noted, next_turn, not_noted, unknown_not_noted}
+use Rattle.audit_rules.proofs.Stood.{stand_answered, stand_other}
+use Rattle.audit_rules.proofs.Telling.{known, stands}
+use Rattle.audit_rules.specs.declared.fault.Fault.{Fault}
 use Rattle.dossier_file.specs.Due.{cuts_accepted}
 use Rattle.list_texts.specs.declared.lists.ListRead.{ListRead}
 use Rattle.publish.specs.declared.reads.RoundRead.{RoundRead}

@@ -12,14 +12,14 @@ use Rattle.office_moves.specs.State.{State, with_row}
 use Rattle.office_moves.specs.declared.decide.Decision.{Decision}
 use Rattle.office_moves.specs.declared.decide.Decision.TheVariants.{Note}
 use Rattle.kept_rows.specs.declared.rows.AnswerRow.{AnswerRow}
-use Rattle.cut_checks.specs.declared.stand.Stand.{Stand}
+use Rattle.audit_rules.specs.declared.stand.Stand.{Stand}
 use Rattle.audit_rules.specs.Cut.{BreaksAt, HoldsAt}
 use Rattle.audit_rules.specs.InOrder.{IsInOrder}
 use Rattle.audit_rules.specs.Papers.{Papers}
 use Rattle.audit_rules.specs.Replay.{taken}
 use Rattle.audit_rules.specs.Verdict.{HoldsThere, IsFirstBroken}
-use Rattle.cut_checks.specs.Stands.{stands_along}
-use Rattle.cut_checks.specs.declared.fault.Fault.{Fault}
+use Rattle.audit_rules.specs.Stands.{stands_along}
+use Rattle.audit_rules.specs.declared.fault.Fault.{Fault}
 use Rattle.dossier_file.specs.declared.dossier.Dossier.{Dossier}
 use Rattle.season_audit.specs.declared.auditor.Auditor.{Auditor}
 

@@ -1,2 +1,5 @@
 pub mod Audit
 pub mod Deeds
+pub mod Best
+pub mod Compared
+pub mod Laws

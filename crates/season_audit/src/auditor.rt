@@ -7,15 +7,15 @@ ghost use Rattle.season_facts.specs.Season.{facts_of};
 ghost use Rattle.office_moves.specs.State.{State, opening, view_of};
 ghost use Rattle.office_moves.specs.declared.decide.Decision.TheVariants.{Finish, Publish};
 ghost use Rattle.audit_rules.specs.Papers.{Papers};
-ghost use Rattle.cut_checks.specs.AtCut.{Setting};
+ghost use Rattle.audit_rules.specs.AtCut.{Setting};
 ghost use Rattle.season_audit.specs.Audit.{ComesTo, IsUpTo, Passes, StandAfter, papers_in};
 ghost use Rattle.season_audit.specs.Deeds.{Does, IsOfMatrix};
 ghost use Rattle.office_moves.specs.Judge.{is_clerk};
 ghost use Rattle.audit_rules.specs.Cut.{EndHolds};
-ghost use Rattle.cut_checks.specs.Stands.{stands_along};
+ghost use Rattle.audit_rules.specs.Stands.{stands_along};
 
 use crate::texts::{lists_after, rows_after};
-use cut_checks::{Fault, Stand, are_final, cut_fault, lifts, seats_told, stands_after};
+use audit_rules::{Fault, Stand, are_final, cut_fault, lifts, seats_told, stands_after};
 use dossier_file::Dossier;
 use kept_rows::{AnswerRow, RaiseRow};
 use list_audit::Clause;

@@ -1,7 +1,7 @@
 // The texts of a dossier that a cut takes.
 ghost use Rattle.std.specs.Prelude.{◌≡◌, ◌≤◌, ◌-◌, ◌*◌, ◌+◌, drop, length, take};
 ghost use Rattle.audit_rules.specs.Papers.{lists_after, rows_after};
-ghost use Rattle.cut_checks.specs.Comes.{told_by};
+ghost use Rattle.audit_rules.specs.Comes.{told_by};
 ghost use Rattle.season_audit.specs.Audit.{NameOnce, papers_in};
 
 use dossier_file::Dossier;

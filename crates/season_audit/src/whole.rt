@@ -9,8 +9,7 @@ ghost use Rattle.audit_rules.specs.Verdict.{IsVerdict};
 ghost use Rattle.season_audit.specs.Audit.{ScriptComesTo, papers_in};
 
 use crate::auditor::Auditor;
-use audit_rules::Verdict;
-use cut_checks::Fault;
+use audit_rules::{Fault, Verdict};
 use dossier_file::Dossier;
 use office_base::OutOfMemory;
 use season_facts::says_what_is_sound;

@@ -1,3 +1,9 @@
+mod Counted
+mod OneRun
+mod OneTally
+mod RunLemmas
+pub mod Running
+mod Tallying
 pub mod CheckFaults
 mod OfficeEnds
 mod OneAnswer

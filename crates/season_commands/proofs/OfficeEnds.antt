@@ -5,15 +5,15 @@ use Rattle.office_base.specs.declared.asks.Request.{Request}
 use Rattle.kept_rows.specs.Tables.{Tables}
 use Rattle.office_moves.specs.Facts.{SeasonFacts}
 use Rattle.office_moves.specs.State.{State}
-use Rattle.script_runs.specs.Runs.{EndsBy}
-use Rattle.script_runs.specs.declared.fault.RunFault.{RunFault}
-use Rattle.script_runs.specs.declared.fault.RunFault.TheVariants.{KeeperFault as NoKeeper, OutOfMemory as NoMemory}
+use Rattle.season_commands.specs.Runs.{EndsBy}
+use Rattle.season_commands.specs.declared.fault.RunFault.{RunFault}
+use Rattle.season_commands.specs.declared.fault.RunFault.TheVariants.{KeeperFault as NoKeeper, OutOfMemory as NoMemory}
 use Rattle.season_commands.specs.Office.{EndsOffice, Follows}
 use Rattle.office_base.specs.FaultLines.{memory_line}
 use Rattle.command_answers.specs.Writes.{IsTextOut, keeper_line}
 use Rattle.command_answers.specs.declared.status.Status.{Status}
 use Rattle.command_answers.specs.declared.status.Status.TheVariants.{WriteFault, KeeperFault, OutOfMemory}
-use Rattle.script_runs.proofs.Running.{appends_on}
+use Rattle.season_commands.proofs.Running.{appends_on}
 
 -- how the requests end, with what was written
 abbrev pub IsEnd : SeasonFacts → State → List Request → Tables → Option (List ℕ) → Option (List ℕ) → Status → Type 0

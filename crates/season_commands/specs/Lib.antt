@@ -1,3 +1,8 @@
+pub mod Faults
+pub mod Laws
+pub mod Runs
+pub mod Steps
+pub mod Tally
 pub mod Check
 pub mod Office
 pub mod Outside

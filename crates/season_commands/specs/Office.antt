@@ -4,9 +4,9 @@ use Rattle.office_base.specs.declared.asks.Request.{Request}
 use Rattle.kept_rows.specs.Tables.{Tables}
 use Rattle.office_moves.specs.Facts.{SeasonFacts}
 use Rattle.office_moves.specs.State.{State}
-use Rattle.script_runs.specs.Runs.{AfterSome, EndsBy}
-use Rattle.script_runs.specs.declared.fault.RunFault.{RunFault}
-use Rattle.script_runs.specs.declared.fault.RunFault.TheVariants.{KeeperFault as NoKeeper, OutOfMemory as NoMemory, WriteFault as NotWritten}
+use Rattle.season_commands.specs.Runs.{AfterSome, EndsBy}
+use Rattle.season_commands.specs.declared.fault.RunFault.{RunFault}
+use Rattle.season_commands.specs.declared.fault.RunFault.TheVariants.{KeeperFault as NoKeeper, OutOfMemory as NoMemory, WriteFault as NotWritten}
 use Rattle.office_base.specs.FaultLines.{memory_line}
 use Rattle.command_answers.specs.Writes.{keeper_line}
 use Rattle.command_answers.specs.declared.status.Status.{Status}

@@ -7,11 +7,11 @@ ghost use Rattle.office_moves.specs.Stands.{Stand};
 ghost use Rattle.season_commands.specs.Office.{EndsOffice};
 ghost use Rattle.season_commands.specs.Outside.{BlamesOffice, EndsWith, outside_of};
 
+use crate::{RunFault, answer_all};
 use command_answers::{Status, tell_keeper_fault, tell_no_memory};
 use keeper_mem::Keeper;
 use office_base::{Request, Sink};
 use round_cut::Office;
-use script_runs::{RunFault, answer_all};
 use std::alloc::Global;
 
 /// Answers the requests over an office, which is in the state that its entries lead to, and returns its keeper.

@@ -1,3 +1,4 @@
 pub mod Draws
 pub mod Bundle
 pub mod Summary
+pub mod Laws

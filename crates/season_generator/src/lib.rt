@@ -3,8 +3,9 @@
 //
 // The command that generates depends on it. `specs/Bundle` defines every row as a function of what is drawn for it,
 // and `specs/Draws` defines what is drawn. The call returns exactly these bytes. It draws with a linear congruential
-// generator: the same number gives the same season everywhere, and nothing is promised about chance. It must never
-// know how a season is read, who gets a seat, or of commands.
+// generator: the same number gives the same season everywhere, and nothing is promised about chance.
+// Its laws say that a made-up season is a season bundle and has no fault, over what the readers' `specs/` say.
+// No function here reads a season, and it must never know who gets a seat, or of commands.
 #![tactic(auto)]
 
 mod bundle;

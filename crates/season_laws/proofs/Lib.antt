@@ -11,3 +11,6 @@ mod ReadBack
 mod Reasons
 mod Shown
 mod Stays
+mod InWindows
+mod Replayed
+pub mod TextsStay

@@ -4,3 +4,5 @@ pub mod NextRounds
 pub mod Otherwise
 pub mod ReadBack
 pub mod Reasons
+pub mod Kept
+pub mod Lasting

@@ -1,4 +1,4 @@
-// The laws between what is proved of a season. Each is the contract of a function that does nothing.
+// The laws between the layers of a season. Each is the contract of a function that does nothing.
 ghost use Rattle.office_moves.specs.Facts.{SeasonFacts};
 ghost use Rattle.season_laws.specs.Laws.{AnswersCanBeExchanged, OrderWithinWindowsIsFree, SeasonsCanBeFinished};
 ghost use Rattle.season_laws.specs.Looks.{AnswersLookAtOwnRows, CutoffsLookAtTheRound, EntriesLookAtTheSeason, ListsLookAtTheRound, PublishedRepliesStay, RaisesLookAtRaises, RoundsLookAtNumbers, StateLooksAtNumbers};
@@ -6,6 +6,8 @@ ghost use Rattle.season_laws.specs.NextRounds.{EveryRequestIsAnswered, NextRound
 ghost use Rattle.season_laws.specs.Otherwise.{FloatIsNoWorse, RaisesHurtNobody};
 ghost use Rattle.season_laws.specs.ReadBack.{PublishedIsRead, PublishedIsReadAlone};
 ghost use Rattle.season_laws.specs.Reasons.{OfficeReasonsAreJust, ToldReasonsAreJust};
+ghost use Rattle.season_laws.specs.Kept.{KeptHasNoFault, KeptIsReplayed};
+ghost use Rattle.season_laws.specs.Lasting.{CutsShowTheirRounds, FinalTextsStay, ReceiptsStay, RoundTextsStay};
 
 /// The reply to a raise looks at the season, at how many cuts were made and at the accepted raises alone.
 pub fn raises_look_at_raises()
@@ -147,3 +149,40 @@ pub fn published_is_read_alone()
     publish::laws::finals_are_one();
     list_texts::laws::lists_are_one();
 }
+
+/// What an office kept is replayed: where a history leads to a state and records stand for it, these records are replayed to that state.
+pub fn kept_is_replayed()
+    ensures { (facts : SeasonFacts) → KeptIsReplayed facts }
+{}
+
+/// So every fault of replaying such records is want of memory.
+pub fn kept_has_no_fault()
+    ensures { (facts : SeasonFacts) → KeptHasNoFault facts }
+{
+    kept_is_replayed();
+    replays::laws::one_end();
+}
+
+/// What was published as a round is shown under its number, word for word, whatever is accepted later.
+pub fn round_texts_stay()
+    ensures { (facts : SeasonFacts) → RoundTextsStay facts }
+{}
+
+/// And so are the final admissions.
+pub fn final_texts_stay()
+    ensures { (facts : SeasonFacts) → FinalTextsStay facts }
+{
+    histories::laws::windows_pass();
+}
+
+/// If something was accepted and is asked for again, the first text comes again, word for word; for a cut with all rows.
+pub fn receipts_stay()
+    ensures { (facts : SeasonFacts) → ReceiptsStay facts }
+{
+    office_moves::laws::repeats_once();
+}
+
+/// What a cut writes is the text of the round that every later state has under its number.
+pub fn cuts_show_their_rounds()
+    ensures { (facts : SeasonFacts) → CutsShowTheirRounds facts }
+{}

@@ -8,7 +8,7 @@ use Rattle.special_round.specs.Laws.{HaveOneAnswer}
 use Rattle.special_round.specs.Season.{IsSpecialFault, MayBeHeld}
 use Rattle.special_round.specs.declared.fault.SpecialFault.{SpecialFault}
 use Rattle.special_round.specs.declared.fault.SpecialFault.TheVariants.{OutOfMemory}
-use Rattle.special_texts.specs.Texts.{special_fault_line}
+use Rattle.special_command.specs.Texts.{special_fault_line}
 use Rattle.special_command.specs.Special.{AreFaultyLists, AreSpecialLists, HaveOneSpecial, IsListsFaultLine, IsSpecialOutput}
 
 pub one_special : (facts : SeasonFacts) (state : State) (bytes : List ℕ) → HaveOneAnswer facts state bytes → HaveOneSpecial facts state bytes

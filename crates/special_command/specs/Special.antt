@@ -13,7 +13,7 @@ use Rattle.special_round.specs.Special.{IsSpecial}
 use Rattle.special_round.specs.declared.fault.SpecialFault.{SpecialFault}
 use Rattle.special_round.specs.declared.fault.SpecialFault.TheVariants.{OutOfMemory as NoMemoryForRound}
 use Rattle.special_round.specs.declared.round_over.Special.{Special}
-use Rattle.special_texts.specs.Texts.{special_fault_line, special_text}
+use Rattle.special_command.specs.Texts.{special_fault_line, special_text}
 use Rattle.command_answers.specs.Answers.{Answers}
 use Rattle.command_answers.specs.Writes.{IsTextOf, Writes}
 use Rattle.command_answers.specs.declared.failure.Failure.{Failure}

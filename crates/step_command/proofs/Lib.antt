@@ -1,2 +1,7 @@
+mod CandidateLemmas
+mod LineLemmas
+mod RowLemmas
+mod SheetLemmas
+mod SoundLemmas
 mod OneAnswer
 mod StepFaults

@@ -8,8 +8,8 @@ use Rattle.office_base.specs.declared.step.Step.{Step as StepOfSheet}
 use Rattle.placements.proofs.Ranks.{pairwise_sublist}
 use Rattle.merit_choice.specs.Laws.{OneChoice}
 use Rattle.slot_cert.specs.Laws.{OneCertificate}
-use Rattle.step_sheet.specs.Output.{fault_output, step_output}
-use Rattle.step_sheet.specs.Sheet as sheet
+use Rattle.step_command.specs.Output.{fault_output, step_output}
+use Rattle.step_command.specs.Sheet as sheet
 use Rattle.command_answers.specs.Answers.{HaveOneAnswer}
 use Rattle.step_command.specs.Step.{IsStepOutput, IsStepText, step_answers}
 

@@ -1,8 +1,8 @@
 -- The failures of `step` have their causes.
 use Rattle.std.proofs.Common.{ℕ, List}
-use Rattle.step_sheet.specs.Output.{fault_output}
-use Rattle.step_sheet.specs.Sheet.{HasFault}
-use Rattle.step_sheet.specs.declared.fault.SheetFault.{SheetFault}
+use Rattle.step_command.specs.Output.{fault_output}
+use Rattle.step_command.specs.Sheet.{HasFault}
+use Rattle.step_command.specs.declared.fault.SheetFault.{SheetFault}
 use Rattle.command_answers.specs.Answers.{IsInputFailure, TellsLine}
 use Rattle.step_command.specs.Step.{step_answers}
 use Rattle.command_answers.specs.declared.failure.Failure.{Failure}

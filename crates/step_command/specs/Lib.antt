@@ -1,1 +1,4 @@
+pub mod Output
+pub mod Reading
+pub mod Sheet
 pub mod Step

@@ -6,9 +6,9 @@ use Rattle.office_base.specs.StepChoice.{IsStep, IsStepChoice}
 use Rattle.office_base.specs.declared.person.Person.{Person}
 use Rattle.office_base.specs.declared.step.Pair.{Pair}
 use Rattle.office_base.specs.declared.step.Step.{Step}
-use Rattle.step_sheet.specs.Output.{step_output, fault_output}
-use Rattle.step_sheet.specs.Sheet.{SheetGives, HasFault}
-use Rattle.step_sheet.specs.declared.fault.SheetFault.{SheetFault}
+use Rattle.step_command.specs.Output.{step_output, fault_output}
+use Rattle.step_command.specs.Sheet.{SheetGives, HasFault}
+use Rattle.step_command.specs.declared.fault.SheetFault.{SheetFault}
 use Rattle.command_answers.specs.Answers.{Answers}
 
 -- A step of which the choice is made, with few enough people that their number can be written.

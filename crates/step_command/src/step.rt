@@ -1,18 +1,18 @@
 // The command `step`: it reads a step sheet and answers whom the step admits.
 ghost use Rattle.std.specs.Prelude.{◌<◌, ℕ, List, length, IfOk, IfErr};
 ghost use Rattle.office_base.specs.Limits.{most_sheet_bytes};
-ghost use Rattle.step_sheet.specs.Output.{fault_output};
+ghost use Rattle.step_command.specs.Output.{fault_output};
 ghost use Rattle.command_answers.specs.Answers.{Answer, IsInputFailure, Reads, TellsLine};
 ghost use Rattle.office_base.specs.Visible.{source_of};
-ghost use Rattle.step_sheet.specs.Sheet.{SheetGives};
+ghost use Rattle.step_command.specs.Sheet.{SheetGives};
 ghost use Rattle.step_command.specs.Step.{IsLeftSheet, IsSoundStep, IsStepText, step_answers};
 
+use crate::{SheetError, SheetFault, SheetKind, fault_text, read_sheet, step_text};
 use command_answers::Failure;
 use merit_choice::choose;
 use office_base::limits::MOST_SHEET_BYTES;
 use office_base::{OutOfMemory, ReadFault, Source, Step, Text, read_whole};
 use std::alloc::Global;
-use step_sheet::{SheetError, SheetFault, SheetKind, fault_text, read_sheet, step_text};
 
 /// Returns the output of `step` for the sheet that the source gives.
 pub fn step_answer<S: Source>(alloc: Global, source: &mut S) -> Result<Text, Failure>

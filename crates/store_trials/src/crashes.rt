@@ -2,13 +2,13 @@
 // What is opened then holds the requests that were reported as accepted, perhaps one more, and resumes from there.
 // No head of a log that a crash leaves is refused.
 use crate::seasons::{goes_on, run_told, whole};
-use file_keepers::open_store;
 use keeper_sqlite::SqliteKeeper;
 use kept_rows::Kept;
 use sqlite::{FileStore, Files, Options};
 use sqlite_disk::{Crash, Disk, Fuse, Memory};
 use std::alloc::Global;
 use std::test::Fail;
+use system_edge::open_store;
 
 /// Files in memory, each of which stops after a number of calls.
 type Stopping = Files<Fuse<Memory>>;

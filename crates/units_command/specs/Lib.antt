@@ -1,2 +1,11 @@
+pub mod Expansion
+pub mod Homes
+pub mod Input
+pub mod Living
+pub mod Mapping
+pub mod Quoted
+pub mod Reads
+pub mod Spelled
+pub mod Writing
 pub mod Texts
 pub mod Units

@@ -1,10 +1,10 @@
 use Rattle.std.proofs.Common.{◌≡◌, ◌∙◌, ℕ, Bool, true, false, not, List, Option, Some, refl, ap, sym}
 use Rattle.std.specs.Prelude.{bytes_eq}
 use Rattle.std.proofs.lemmas.Bool.{cond-false}
-use Rattle.http_heads.specs.Messages.{Message}
-use Rattle.http_heads.specs.Methods.{method_name}
-use Rattle.http_heads.specs.Told.{told_message}
-use Rattle.http_heads.specs.declared.methods.Method.{Method}
+use Rattle.http_wire.specs.Messages.{Message}
+use Rattle.http_wire.specs.Methods.{method_name}
+use Rattle.http_wire.specs.Told.{told_message}
+use Rattle.http_wire.specs.declared.methods.Method.{Method}
 use Rattle.http_asks.specs.Pages.{method_of, page_of}
 use Rattle.http_asks.specs.Verdicts.{has_method, refuses, verdict_at, verdict_of}
 use Rattle.http_asks.specs.declared.pages.Page.{Page}

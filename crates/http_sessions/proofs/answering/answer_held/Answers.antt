@@ -1,6 +1,6 @@
 use Rattle.std.proofs.Common.{◌≡◌, ◌∙◌, refl, inl, inr}
 use Rattle.std.proofs.lemmas.List.{append-nil}
-use Rattle.http_heads.specs.Told.{told_message}
+use Rattle.http_wire.specs.Told.{told_message}
 use Rattle.http_sessions.specs.Exchange.{reply_to, refused_item, item_of, wired}
 use Rattle.http_sessions.proofs.Statuses.{refused_status}
 use Rattle.http_sessions.proofs.answering.answer_held.Goals as goal

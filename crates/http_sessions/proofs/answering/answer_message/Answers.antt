@@ -2,9 +2,9 @@ use Rattle.std.proofs.Common.{◌≡◌, ◌∙◌, ◌||◌, ◌==◌, ap, refl
 use Rattle.std.specs.Prelude.{option_map}
 use Rattle.std.proofs.lemmas.List.{append-nil}
 use Rattle.http_sessions.specs.Limits.{most_messages}
-use Rattle.http_heads.specs.Fields.{closes}
-use Rattle.http_heads.specs.Methods.{method_name}
-use Rattle.http_heads.specs.Told.{told_fields, told_message}
+use Rattle.http_wire.specs.Fields.{closes}
+use Rattle.http_wire.specs.Methods.{method_name}
+use Rattle.http_wire.specs.Told.{told_fields, told_message}
 use Rattle.http_wire.specs.Replies.{reply_text}
 use Rattle.http_wire.specs.declared.faults.Fault.TheVariants.{Memory}
 use Rattle.http_asks.specs.Told.{told}

@@ -1,5 +1,5 @@
 use Rattle.std.proofs.Common.{◌≡◌, ◌++◌, List, ℕ, sym, ap, subst, refl, ◌∙◌, append_assoc}
-use Rattle.http_heads.specs.Messages.{IsUnfinished}
+use Rattle.http_wire.specs.Messages.{IsUnfinished}
 use Rattle.office_base.specs.Outside.{IsAtEnd, Took}
 use Rattle.http_sessions.specs.Exchange.{IsItem}
 use Rattle.http_sessions.proofs.Talking.{took_on}

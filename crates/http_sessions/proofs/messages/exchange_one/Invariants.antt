@@ -1,6 +1,6 @@
 use Rattle.std.proofs.Common.{◌≡◌, ℕ, ◌-◌, length, List, ◌++◌}
 use Rattle.office_base.specs.Outside.{Took}
-use Rattle.http_heads.specs.Limits.{most_message_bytes}
+use Rattle.http_wire.specs.Limits.{most_message_bytes}
 use Rattle.http_sessions.proofs.messages.exchange_one.Given as goal
 
 -- bytes came behind what was held, and nothing else happened

@@ -1,5 +1,5 @@
 use Rattle.std.proofs.Common.{rules, subst, ◌≤◌}
-use Rattle.desk_rule.proofs.Parting.{parts}
+use Rattle.office_desk.proofs.Parting.{parts}
 use Rattle.office_desk.proofs.passes.cut.Goals as goal
 
 pub split_seat-requires : goal.split_seat-requires

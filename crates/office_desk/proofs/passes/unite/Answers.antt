@@ -1,8 +1,8 @@
 use Rattle.std.proofs.Common.{rules, ap, ◌∙◌, subst}
-use Rattle.desk_rule.proofs.Joining.{joins}
-use Rattle.desk_rule.proofs.Looking.{settles}
-use Rattle.desk_rule.specs.declared.view.Stage.TheVariants.{Idle}
-use Rattle.desk_rule.specs.Told.{IsSettled}
+use Rattle.office_desk.proofs.Joining.{joins}
+use Rattle.office_desk.proofs.Looking.{settles}
+use Rattle.office_desk.specs.declared.view.Stage.TheVariants.{Idle}
+use Rattle.office_desk.specs.Told.{IsSettled}
 use Rattle.office_desk.proofs.passes.unite.Goals as goal
 
 pub join_seat-requires : goal.join_seat-requires

@@ -1,5 +1,5 @@
 use Rattle.std.proofs.Common.{rules, ap, ◌∙◌}
-use Rattle.desk_rule.proofs.Looking.{looks}
+use Rattle.office_desk.proofs.Looking.{looks}
 use Rattle.office_desk.proofs.turning.await_turn.Goals as goal
 
 pub load-serving-requires : goal.load-serving-requires

@@ -1,5 +1,5 @@
 use Rattle.std.proofs.Common.{rules}
-use Rattle.desk_rule.proofs.Drawing.{draws}
+use Rattle.office_desk.proofs.Drawing.{draws}
 use Rattle.office_desk.proofs.turning.draw.Goals as goal
 
 pub fetch_add-requires : goal.fetch_add-requires

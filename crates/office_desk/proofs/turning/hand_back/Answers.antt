@@ -1,7 +1,7 @@
 use Rattle.std.proofs.Common.{rules, ap, ◌∙◌, refl}
 use Rattle.atomic_table.specs.Table.{rest}
-use Rattle.desk_rule.specs.Told.{advanced}
-use Rattle.desk_rule.proofs.Advancing.{advances}
+use Rattle.office_desk.specs.Told.{advanced}
+use Rattle.office_desk.proofs.Advancing.{advances}
 use Rattle.office_desk.proofs.turning.hand_back.Goals as goal
 
 pub store-requires : goal.store-requires

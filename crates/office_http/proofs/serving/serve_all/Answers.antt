@@ -1,9 +1,9 @@
 use denote.Param.Send.{sendable}
-use Rattle.office_asks.specs.Asking.{AnswersAt, UnanswersAt}
+use Rattle.office_http.specs.Asking.{AnswersAt, UnanswersAt}
 use Rattle.office_desk.specs.Words.{origin_of}
-use Rattle.door_histories.proofs.Rows.{rows_are_served}
+use Rattle.door_crews.proofs.Rows.{rows_are_served}
 use Rattle.office_http.specs.Hands.{worker_of}
-use Rattle.door_histories.specs.Served.{telling}
+use Rattle.door_crews.specs.Served.{telling}
 use Rattle.office_http.proofs.Sending.{buffers_sent}
 use Rattle.office_http.proofs.serving.serve_all.Goals as goal
 

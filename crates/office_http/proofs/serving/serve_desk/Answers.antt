@@ -1,8 +1,8 @@
 use Rattle.std.proofs.Common.{◌≡◌, ap, ◌∙◌}
-use Rattle.office_asks.specs.Asking.{AnswersAt, UnanswersAt}
+use Rattle.office_http.specs.Asking.{AnswersAt, UnanswersAt}
 use Rattle.office_desk.specs.Words.{count_of, origin_of, seen_of}
-use Rattle.door_histories.specs.Served.{telling}
-use Rattle.door_histories.proofs.Rows.{all_doors}
+use Rattle.door_crews.specs.Served.{telling}
+use Rattle.door_crews.proofs.Rows.{all_doors}
 use Rattle.office_http.proofs.serving.serve_desk.Goals as goal
 
 pub returns-clause-served : goal.returns-clause-served

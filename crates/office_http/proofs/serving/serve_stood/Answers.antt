@@ -2,7 +2,7 @@ use Rattle.std.proofs.Common.{◌≡◌, rules, subst, sym}
 use Rattle.kept_rows.specs.Tables.{IsTold}
 use Rattle.office_desk.specs.Words.{origin_of}
 use Rattle.round_cut.specs.Office.{Opened}
-use Rattle.door_histories.specs.Served.{telling}
+use Rattle.door_crews.specs.Served.{telling}
 use Rattle.office_http.specs.Serving.{Serves}
 use Rattle.office_http.proofs.serving.serve_stood.Goals as goal
 

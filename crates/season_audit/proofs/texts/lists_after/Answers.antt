@@ -1,7 +1,7 @@
 use Rattle.std.proofs.Common.{◌≡◌, ◌+◌, ◌*◌, ◌∙◌, List, length, take, drop, ap, subst, sym}
 use Rattle.std.specs.Prelude.{◌-◌, min}
 use Rattle.list_texts.specs.declared.lists.ListRead.{ListRead}
-use Rattle.cut_checks.specs.Comes.{told_by}
+use Rattle.audit_rules.specs.Comes.{told_by}
 use Rattle.season_audit.specs.Audit.{NameOnce}
 use Rattle.season_audit.proofs.Reading.{part_once, part_told}
 use Rattle.season_audit.proofs.texts.lists_after.Goals as goal

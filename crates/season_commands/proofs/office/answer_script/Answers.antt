@@ -1,5 +1,5 @@
 use Rattle.std.proofs.Common.{inl, subst}
-use Rattle.script_runs.specs.declared.fault.RunFault.{RunFault}
+use Rattle.season_commands.specs.declared.fault.RunFault.{RunFault}
 use Rattle.season_commands.proofs.OfficeEnds.{IsStopped, keeper_ends, memory_ends}
 use Rattle.season_commands.proofs.office.answer_script.Goals as goal
 

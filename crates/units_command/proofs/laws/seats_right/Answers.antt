@@ -1,4 +1,4 @@
-use Rattle.units_command.proofs.Living.{seats_right}
+use Rattle.units_command.proofs.SeatedLiving.{seats_right}
 use Rattle.units_command.proofs.laws.seats_right.Goals as goal
 
 pub returns : goal.returns

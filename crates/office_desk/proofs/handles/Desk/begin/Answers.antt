@@ -1,7 +1,7 @@
 use Rattle.std.proofs.Common.{ap, sym, subst, ◌∙◌, ◌+◌, ◌∷◌, ◌++◌, [], Some, arith}
 use Rattle.atomic_table.specs.Table.{opening}
-use Rattle.desk_rule.specs.Turning.{InTurn, whole_view}
-use Rattle.desk_rule.proofs.Ending.{opens}
+use Rattle.office_desk.specs.Turning.{InTurn, whole_view}
+use Rattle.office_desk.proofs.Ending.{opens}
 use Rattle.office_desk.proofs.handles.Desk.begin.Goals as goal
 
 pub new-requires : goal.new-requires

@@ -1,7 +1,7 @@
 use Rattle.std.proofs.Common.{refl, ap, sym, subst, ◌∙◌, ◌≤◌, ◌++◌}
 use Rattle.std.specs.Option.{IsSome}
 use Rattle.std.proofs.lemmas.Option.{same_Some}
-use Rattle.desk_rule.specs.Own.{among}
+use Rattle.office_desk.specs.Own.{among}
 use Rattle.office_desk.proofs.Closing.{found_left}
 use Rattle.office_desk.proofs.handles.Desk.close.Goals as goal
 

@@ -1,11 +1,11 @@
 use Rattle.std.proofs.Common.{rules, ap, sym, subst, refl, ◌∙◌, ◌<◌, ◌∷◌, map, arith, ⊎_elim, inl, inr, Some}
 use Rattle.atomic_table.specs.Table.{rest}
-use Rattle.desk_rule.specs.Own.{among}
-use Rattle.desk_rule.specs.Told.{IsTaken, holding, after_turn}
-use Rattle.desk_rule.specs.declared.view.View.{View}
-use Rattle.desk_rule.specs.declared.view.Stage.TheVariants.{Waits}
-use Rattle.desk_rule.proofs.EntryLemmas.{own_after, all_from_map}
-use Rattle.desk_rule.proofs.TicketLemmas.{all_below}
+use Rattle.office_desk.specs.Own.{among}
+use Rattle.office_desk.specs.Told.{IsTaken, holding, after_turn}
+use Rattle.office_desk.specs.declared.view.View.{View}
+use Rattle.office_desk.specs.declared.view.Stage.TheVariants.{Waits}
+use Rattle.office_desk.proofs.EntryLemmas.{own_after, all_from_map}
+use Rattle.office_desk.proofs.TicketLemmas.{all_below}
 use Rattle.office_desk.proofs.Slots.{there_still, taken_out}
 use Rattle.office_desk.proofs.handles.Desk.turn.Goals as goal
 

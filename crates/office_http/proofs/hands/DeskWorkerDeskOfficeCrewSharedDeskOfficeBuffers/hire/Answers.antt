@@ -1,5 +1,5 @@
 use Rattle.std.proofs.Common.{◌≡◌, refl, ap, ◌∙◌}
-use Rattle.desk_rule.specs.Own.{among}
+use Rattle.office_desk.specs.Own.{among}
 use Rattle.office_desk.specs.Words.{seen_of}
 use Rattle.office_http.proofs.Handing.{none_among}
 use Rattle.office_http.proofs.hands.DeskWorkerDeskOfficeCrewSharedDeskOfficeBuffers.hire.Goals as goal

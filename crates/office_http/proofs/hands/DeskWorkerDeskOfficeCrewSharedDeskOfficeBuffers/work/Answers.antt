@@ -1,9 +1,9 @@
 use Rattle.std.proofs.Common.{◌≡◌, ◌≤◌, arith, refl, subst}
-use Rattle.office_asks.specs.Asking.{AnswersAt, UnanswersAt}
-use Rattle.desk_counters.specs.Knowing.{known_of}
+use Rattle.office_http.specs.Asking.{AnswersAt, UnanswersAt}
+use Rattle.office_http.specs.Knowing.{known_of}
 use Rattle.office_desk.specs.Words.{belongs, origin_of, shares_of}
-use Rattle.door_histories.proofs.Linked.{visited_is_served}
-use Rattle.door_histories.specs.Served.{telling}
+use Rattle.door_crews.proofs.Linked.{visited_is_served}
+use Rattle.door_crews.specs.Served.{telling}
 use Rattle.office_http.proofs.Handing.{asked_there, ended_so}
 use Rattle.office_http.proofs.hands.DeskWorkerDeskOfficeCrewSharedDeskOfficeBuffers.work.Goals as goal
 

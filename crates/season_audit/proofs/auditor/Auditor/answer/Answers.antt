@@ -1,7 +1,7 @@
 use Rattle.std.proofs.Common.{◌≡◌, ◌∙◌, List, length, ap, arith, refl, subst, sym}
 use Rattle.std.specs.Vec.{with_items}
 use Rattle.std.proofs.lemmas.List.{with_items_is}
-use Rattle.cut_checks.specs.declared.stand.Stand.{Stand}
+use Rattle.audit_rules.specs.declared.stand.Stand.{Stand}
 use Rattle.season_audit.specs.Audit.{StandAfter}
 use Rattle.season_audit.specs.declared.auditor.Auditor.{Auditor}
 use Rattle.season_facts.specs.Season.{facts_of}

@@ -1,8 +1,8 @@
 use Rattle.std.proofs.Common.{◌≡◌, Option, None, refl, subst, sym, ◌∙◌}
 use Rattle.office_base.proofs.Options.{none_from}
 use Rattle.season_facts.specs.Season.{facts_of}
-use Rattle.cut_checks.specs.Comes.{CutComesTo}
-use Rattle.cut_checks.specs.declared.fault.Fault.{Fault}
+use Rattle.audit_rules.specs.Comes.{CutComesTo}
+use Rattle.audit_rules.specs.declared.fault.Fault.{Fault}
 use Rattle.season_audit.specs.Audit.{papers_in}
 use Rattle.season_audit.proofs.Requests.{are_lists, at_cut, fault_comes}
 use Rattle.season_audit.proofs.Taking.{is_published}

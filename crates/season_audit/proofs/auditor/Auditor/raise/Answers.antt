@@ -6,7 +6,7 @@ use Rattle.office_moves.specs.Decided.{same_raise}
 use Rattle.office_moves.specs.Raised.{raised_to}
 use Rattle.season_facts.specs.Season.{facts_of}
 use Rattle.office_moves.specs.declared.decide.RaiseLooks.{RaiseLooks}
-use Rattle.cut_checks.specs.Raises.{lifts}
+use Rattle.audit_rules.specs.Raises.{lifts}
 use Rattle.season_audit.proofs.Requests.{of_matrix}
 use Rattle.season_audit.proofs.Taking.{lift_fresh, lifted, looks_are, unlifted}
 use Rattle.season_audit.proofs.auditor.Auditor.raise.Goals as goal

@@ -1,4 +1,0 @@
-pub mod Calls
-pub mod Joined
-pub mod Laws
-pub mod SeasonDossiers

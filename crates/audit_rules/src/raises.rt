@@ -1,0 +1,33 @@
+// Which raises a replay takes.
+ghost use Rattle.std.specs.Prelude.{◌≡◌, ◌≤◌};
+ghost use Rattle.audit_rules.specs.Raises.{lifts, may_have};
+
+use kept_rows::RaiseRow;
+use office_base::limits::{MOST_MATRIX_SEATS, MOST_STEP_SEATS};
+use office_base::{By, StepKind};
+use office_moves::RaiseLooks;
+
+/// Returns whether the step may have this many seats.
+fn may_have(looks: &RaiseLooks, row: RaiseRow) -> bool
+    requires few { looks.now.seats ≤ looks.now.total }
+    requires all { looks.now.total ≤ 40000000 }
+    ensures { result ≡ may_have looks.now row }
+{
+    !matches!(row.step, StepKind::Dereserved)
+        && looks.seats < row.seats
+        && u32::from(row.seats) <= MOST_STEP_SEATS
+        && looks.total - u32::from(looks.seats) + u32::from(row.seats) <= MOST_MATRIX_SEATS
+}
+
+/// Returns whether the clerk raises seats anew, in the open window, before the last one. It takes no memory.
+pub fn lifts(looks: &RaiseLooks, by: By, row: RaiseRow) -> bool
+    requires few { looks.now.seats ≤ looks.now.total }
+    requires all { looks.now.total ≤ 40000000 }
+    ensures { result ≡ lifts looks.now by row }
+{
+    by == By::Clerk
+        && !looks.again
+        && row.window == looks.window
+        && looks.window < looks.rounds
+        && may_have(looks, row)
+}

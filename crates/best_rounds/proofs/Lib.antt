@@ -1,4 +1,0 @@
-mod Gaining
-mod OneBest
-mod Replaying
-mod Seeking

@@ -1,5 +1,0 @@
-use Rattle.better_off.proofs.Rounds as rounds
-use Rattle.better_off.proofs.laws.never_hurts_in_a_round.Goals as goal
-
-pub returns : goal.returns
-returns c = rounds.never_hurts_in_a_round c.orderly.ensures c.better_off_is_no_worse.ensures

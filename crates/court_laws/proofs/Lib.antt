@@ -1,4 +1,0 @@
-mod Narrows
-pub mod Papers
-pub mod Special
-mod Vacancies

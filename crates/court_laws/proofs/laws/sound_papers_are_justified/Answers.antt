@@ -1,5 +1,0 @@
-use Rattle.court_laws.proofs.Papers as papers
-use Rattle.court_laws.proofs.laws.sound_papers_are_justified.Goals as goal
-
-pub returns : goal.returns
-returns c = papers.sound_papers_are_justified c.one_step_changes.ensures c.sound_is_fair.ensures c.fair_seats_are_justified.ensures

@@ -1,5 +1,0 @@
-use Rattle.court_laws.proofs.Special as special
-use Rattle.court_laws.proofs.laws.special_rounds_are_justified.Goals as goal
-
-pub returns : goal.returns
-returns c = special.special_rounds_are_justified c.rounds_are_fair.ensures c.fair_seats_are_justified.ensures

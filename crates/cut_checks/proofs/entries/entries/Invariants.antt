@@ -1,7 +1,0 @@
-use Rattle.std.proofs.Common.{◌≡◌, take}
-use Rattle.cut_checks.specs.Comes.{told_by}
-use Rattle.cut_checks.specs.Entries.{entries_from}
-use Rattle.cut_checks.proofs.entries.entries.Given as goal
-
-abbrev pub invariant-loop-p : goal.invariant-loop-p
-invariant-loop-p l = l.entries.items ≡ entries_from 0 (take l.p (told_by l.lists))

@@ -1,6 +1,0 @@
-use Rattle.std.proofs.Common.{◌∙◌, length, ap}
-use Rattle.cut_checks.proofs.Telling.{none_along}
-use Rattle.cut_checks.proofs.told.seats_told.Goals as goal
-
-pub put_rows-requires : goal.put_rows-requires
-put_rows-requires c = c.deref_mut.ensures.value ∙ (c.in_ok-seats.ensures ∙ none_along _ c.args.register.now.people (ap length c.people.ensures.same))

@@ -1,4 +1,0 @@
-pub mod Own
-pub mod Told
-pub mod Totals
-pub mod Turning

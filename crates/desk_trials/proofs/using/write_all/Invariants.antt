@@ -1,6 +1,0 @@
-use Rattle.std.proofs.Common.{◌≤◌, ◌+◌}
-use Rattle.office_desk.specs.Words.{belongs, left_of}
-use Rattle.desk_trials.proofs.using.write_all.Given as goal
-
-abbrev pub invariant-loop-nth : goal.invariant-loop-nth
-invariant-loop-nth g l = belongs l.fn.desk l.pass × (l.fn.count ≤ left_of l.pass + l.nth)

@@ -1,4 +1,0 @@
-mod Bits
-mod Counting
-pub mod Linked
-pub mod Rows

@@ -1,5 +1,0 @@
-use Rattle.fair_round_laws.proofs.NewlySeated as seated
-use Rattle.fair_round_laws.proofs.laws.few_newly_seated.Goals as goal
-
-pub returns : goal.returns
-returns c = seated.few_newly_seated c.few_new_holders.ensures

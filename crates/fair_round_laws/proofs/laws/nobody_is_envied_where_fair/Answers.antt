@@ -1,5 +1,0 @@
-use Rattle.fair_round_laws.proofs.Market as market
-use Rattle.fair_round_laws.proofs.laws.nobody_is_envied_where_fair.Goals as goal
-
-pub returns : goal.returns
-returns c = market.nobody_is_envied_where_fair c.choose_well.ensures c.programme_choice_exists.ensures c.one_programme_choice.ensures c.nobody_is_passed_over.ensures

@@ -1,4 +1,0 @@
-pub mod Fair
-pub mod Laws
-pub mod People
-pub mod Published

@@ -1,4 +1,0 @@
-pub mod FieldsLemmas
-pub mod HeadEndsLemmas
-pub mod LawsLemmas
-pub mod MessagesLemmas

@@ -1,5 +1,0 @@
-use Rattle.http_heads.proofs.MessagesLemmas.{one_answer}
-use Rattle.http_heads.proofs.laws.bytes_come_to_one_answer.Goals as goal
-
-pub returns : goal.returns
-returns c = one_answer

@@ -1,5 +1,0 @@
-use Rattle.http_heads.proofs.LawsLemmas.{are_heads}
-use Rattle.http_heads.proofs.laws.head_is_its_lines.Goals as goal
-
-pub returns : goal.returns
-returns c = are_heads

@@ -1,5 +1,0 @@
-use Rattle.http_heads.proofs.MessagesLemmas.{none_or_torn}
-use Rattle.http_heads.proofs.laws.unfinished_bytes_are_none_or_torn.Goals as goal
-
-pub returns : goal.returns
-returns c = none_or_torn

@@ -1,5 +1,0 @@
-mod Ends
-pub mod Keep
-pub mod Replayed
-pub mod Resumed
-pub mod Tokens

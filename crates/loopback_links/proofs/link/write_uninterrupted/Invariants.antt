@@ -1,5 +1,0 @@
-use Rattle.std.specs.Io.KnownBytes.{Keeps}
-use Rattle.loopback_links.proofs.link.write_uninterrupted.Given as goal
-
-abbrev pub invariant-loop : goal.invariant-loop
-invariant-loop g l = Keeps (g.S.Write.contents l.initial.stream) (g.S.Write.contents l.stream)

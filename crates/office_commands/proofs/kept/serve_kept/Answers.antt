@@ -1,0 +1,34 @@
+use Rattle.std.proofs.Common.{inl, inr, refl, rules}
+use Rattle.season_commands.proofs.Unresumed.{judged}
+use Rattle.office_commands.specs.Doors.{doors_of}
+use Rattle.office_commands.proofs.ServedEnds.{handed_in}
+use Rattle.door_crews.specs.Served.{telling}
+use Rattle.office_commands.proofs.ServeEnds.{kept_ends}
+use Rattle.office_commands.proofs.kept.serve_kept.Goals as goal
+
+pub returns-in-Ok-clause-written : goal.returns-in-Ok-clause-written
+returns-in-Ok-clause-written g c =
+    let o = c.in-Ok.ensures.resumed in
+    rw (← c.in-Ok.ensures.unwritten) (kept_ends c.in-Ok.office.season c.in-Ok.office.state c.in-Ok.office.entries _ _ _ (doors_of (telling g.D.Door g.D.Conn.Link) _ _ _ _ _) _ _ c.serve_office.result.0 o.resumed o.entries o.history
+    o.told c.serve_office.ensures.told_before
+    (handed_in (telling g.D.Door g.D.Conn.Link) _ _ _ _ _ _ _ _ _ _ _ _ c.serve_office.result.0 o.blamed.room (o.blamed.steady (λ none. none)) c.serve_office.ensures.written))
+
+pub returns-in-Ok-clause-records : goal.returns-in-Ok-clause-records
+returns-in-Ok-clause-records g c = judged _ _ c.serve_office.result.0 (c.in-Ok.ensures.sound _ c.serve_office.ensures.told_before)
+
+pub returns-in-Ok-clause-keeper : goal.returns-in-Ok-clause-keeper
+returns-in-Ok-clause-keeper g c = record { keeper_fault = search rules; keeper_early = search rules; keeper_count = search rules }
+
+pub returns-in-Err-clause-written : goal.returns-in-Err-clause-written
+returns-in-Err-clause-written g c = let (output, appends, ends) = c.in-Err.ensures.unresumed.written in (output, appends, inl (ends, refl))
+
+pub returns-in-Err-clause-complete : goal.returns-in-Err-clause-complete
+returns-in-Err-clause-complete g c sound wrote kept shut = inr (c.in-Err.ensures.unresumed.sound sound (wrote, kept))
+
+pub returns-in-Err-clause-keeper : goal.returns-in-Err-clause-keeper
+returns-in-Err-clause-keeper g c =
+    let b = c.in-Err.ensures.unresumed.blamed in record {
+      keeper_fault = b.keeper_fault;
+      keeper_early = λ early. b.keeper_steady (λ is. elim early [ inl bad ↦ cc (bad, is) | inr other ↦ cc (other, is) ]) (λ is. elim early [ inl bad ↦ cc (bad, is) | inr other ↦ cc (other, is) ]);
+      keeper_count = b.keeper_count;
+    }

@@ -1,0 +1,20 @@
+use Rattle.std.proofs.Common.{◌<◌, refl, subst, sym}
+use Rattle.office_http.specs.Knowing.{known_of}
+use Rattle.proceedings.specs.Proceeding.{last_of}
+use Rattle.office_http.proofs.Turns.{asked_at_desk, asked_puts_back}
+use Rattle.office_http.proofs.desk_counter.DeskCounterDeskOfficeCounter.ask.Goals as goal
+
+pub turn-requires-clause-job : goal.turn-requires-clause-job
+turn-requires-clause-job g c v n small basis last p shown = (
+  subst (λ office. last_of office.entries < n) (sym shown) last,
+  λ q r asked. asked_puts_back g.K.Keeper.seen n _ _ r p.now v q.now shown asked,
+)
+
+pub returns-clause-answer : goal.returns-clause-answer
+returns-clause-answer g c =
+    let t = c.turn.ensures.turned in (
+      refl,
+      asked_at_desk g.K.Keeper.seen _ t.number _ _ _ _ t.did.shown.now t.held t.did.left.now t.left (known_of c.args.self.now.pass.now)
+          (known_of c.turn.new.pass) c.token_parts-has_token.ensures t.did.shows t.did.leaves t.basis
+          (record { begins = t.begins; counts = t.counts; shares = t.shares; seen = t.seen; own = t.grown; found = t.found; count = t.count }) t.did.met,
+    )

@@ -1,5 +1,0 @@
-use Rattle.one_verdict.proofs.Verdicts as verdicts
-use Rattle.one_verdict.proofs.laws.one_verdict_of_bytes.Goals as goal
-
-pub returns : goal.returns
-returns c = verdicts.one_verdict_of_bytes c.one_season.ensures.kept c.one_dossier.ensures c.texts_are_one.ensures c.one_verdict.ensures

@@ -1,5 +1,0 @@
-use Rattle.other_rules.proofs.Five as five
-use Rattle.other_rules.proofs.laws.dereservation_hurt_nobody.Goals as goal
-
-pub returns : goal.returns
-returns c = five.dereservation_hurt_nobody c.orderly.ensures c.dereservation_hurts_nobody.ensures

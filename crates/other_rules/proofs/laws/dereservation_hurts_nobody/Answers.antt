@@ -1,5 +1,0 @@
-use Rattle.other_rules.proofs.Five as five
-use Rattle.other_rules.proofs.laws.dereservation_hurts_nobody.Goals as goal
-
-pub returns : goal.returns
-returns c = five.dereservation_hurts_nobody c.choose_well.ensures

@@ -1,5 +1,0 @@
-use Rattle.other_rules.proofs.Versions as versions
-use Rattle.other_rules.proofs.laws.version_two_hurts_nobody.Goals as goal
-
-pub returns : goal.returns
-returns c = versions.version_two_hurts_nobody c.choose_well.ensures

@@ -1,5 +1,0 @@
-pub mod Five
-pub mod GroupLaws
-pub mod Groups
-pub mod Laws
-pub mod Procedures

@@ -1,5 +1,0 @@
-use Rattle.std.proofs.Common.{length}
-use Rattle.plain_choice.proofs.choosing.+is_no_worse.Given as goal
-
-abbrev pub decreases-is_no_worse : goal.decreases-is_no_worse
-decreases-is_no_worse l = length l.others.now

@@ -1,6 +1,0 @@
-use Rattle.std.proofs.Common.{All, take}
-use Rattle.plain_choice.specs.StepChoice.{StandsAgainst}
-use Rattle.plain_choice.proofs.choosing.stands_against_all.Given as goal
-
-abbrev pub invariant-loop-other : goal.invariant-loop-other
-invariant-loop-other l = All (StandsAgainst l.step l.set) (take l.other-index l.others)

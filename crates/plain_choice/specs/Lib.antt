@@ -1,4 +1,0 @@
-pub mod First
-pub mod ListOf
-pub mod StepChoice
-pub mod Sublists

@@ -1,0 +1,182 @@
+-- What holds of fair seats holds of a published round.
+use Rattle.std.proofs.Common.{◌≡◌, ◌<◌, ℕ, suc, true, List, Option, Some, length, arith, sym, ap, ◌∙◌, subst}
+use Rattle.std.specs.Prelude.{slice_get, option_map}
+use Rattle.std.specs.Option.{unwrap_or}
+use Rattle.std.proofs.lemmas.Option.{slice_get_within}
+use Rattle.office_base.proofs.Lists.{at_among}
+use Rattle.office_base.specs.Person.{IsBetter}
+use Rattle.office_base.specs.declared.asks.Seat.{Seat}
+use Rattle.office_base.specs.declared.person.ListId.{ListId}
+use Rattle.office_base.specs.declared.person.Person.{Person}
+use Rattle.office_base.specs.declared.person.ProgId.{ProgId}
+use Rattle.allocations.specs.Fair.{IsNextMarket}
+use Rattle.allocations.specs.Market.{Seeker, is_of, place_of, wants}
+use Rattle.programme_laws.specs.Laws.{HoldsEachTraitOf, MayStandFor}
+use Rattle.seat_matrix.specs.Matrix.{SeatTable, first_list, list_in}
+use Rattle.seat_matrix.specs.declared.entry.Home.{Home}
+use Rattle.rounds.specs.Rule.{ProgrammesChooseWell, ProgrammesGrow}
+use Rattle.rounds.specs.declared.round.Round.{Round}
+use Rattle.rounds.proofs.Entrants.{market}
+use Rattle.office_moves.specs.Facts.{IsSound, SeasonFacts, lists_in_order}
+use Rattle.office_moves.specs.Promise.{all_sought_then}
+use Rattle.office_moves.specs.State.{State}
+use Rattle.histories.proofs.Falls.{fit_all, next_market}
+use Rattle.histories.proofs.Fits.{enters}
+use Rattle.histories.specs.Course.{IsCourse}
+use Rattle.published_rounds.specs.Published.{IsThatOrEarlier, market_then, matrix_then, wanted_then}
+use Rattle.published_rounds.proofs.Places.{AreOrderly, InRound, course_of, in_round, made_then, may_enter, place_among}
+use Rattle.published_rounds.specs.Fair.{AreFairOver, IsDecided, IsFirstOpen, IsOpenTo}
+use Rattle.published_rounds.specs.FairLaws.{ClosingPlacesDecide, FewNewHolders, FewNewlySeated, NoSeatIsWasted, NoVacancyFillsByItself}
+use Rattle.published_rounds.specs.FairThen.{ClosingPlacesDecideThen, FewNewHoldersThen, FewNewlySeatedThen, IsDecidedThen, IsFirstOpenThen, IsOpenThen, NoSeatIsWastedThen, NoVacancyFillsByItselfThen}
+
+module _ (facts : SeasonFacts) (state : State) (window : ℕ) (round : Round) (sound : IsSound facts) (course : IsCourse facts state) (is : slice_get state.rounds window ≡ Some round) where
+  abbrev table : SeatTable
+  table = matrix_then facts state window
+
+  abbrev seekers : List Seeker
+  seekers = market_then facts state window
+
+  -- the seats of the round are fair over its matrix
+  pub fair_over : AreFairOver facts.version table seekers round.seats
+  fair_over = record {
+    are_seats = course.seats (suc window);
+    market = market table facts.people (lists_in_order facts) (all_sought_then facts state window) (course.seats (suc window)) (may_enter facts state window sound course);
+    fair = (made_then facts state window round course is).best.fair;
+  }
+
+  pub same_list : (p : ℕ) → list_in table p ≡ list_in facts.matrix p
+  same_list p = ap (λ programmes. unwrap_or (option_map (λ (held : List ℕ × Home). held.1.list) (slice_get programmes p)) first_list) (course.programmes (suc window))
+
+  -- a programme is open by the people of the register exactly where it is by the seekers
+  opens : (p : ℕ) (person : Person) → IsOpenThen facts round p person → IsOpenTo table seekers round.seats p person
+  opens p person o =
+      let at = place_among facts.people o.holder o.among in
+      let w = in_round facts state window at.0 round o.holder sound course is at.1 in
+      record {
+        place = at.0;
+        holder = w.s;
+        there = w.there;
+        step = o.step;
+        holds = w.has ∙ ap Some (sym w.seat_is ∙ o.holds);
+        may = subst (λ (l : ListId). MayStandFor l o.step person) (sym (same_list p)) o.may;
+        traits = subst (λ (h : Person). HoldsEachTraitOf person h) (sym w.person_is) o.traits;
+        not_better = subst (λ (h : Person). IsBetter (list_in table p) h person → ⊥) (sym w.person_is)
+            (subst (λ (l : ListId). IsBetter l o.holder person → ⊥) (sym (same_list p)) o.not_better);
+      }
+
+  opened : (p : ℕ) (person : Person) → IsOpenTo table seekers round.seats p person → IsOpenThen facts round p person
+  opened p person o =
+      let entry = enters facts state window o.place o.holder sound o.there in
+      let w = in_round facts state window o.place round o.holder.person sound course is entry.person_at in
+      record {
+        holder = o.holder.person;
+        among = at_among facts.people o.place o.holder.person entry.person_at;
+        step = o.step;
+        holds = w.seat_is ∙ (let a = w.has in let b = o.holds in cc);
+        may = subst (λ (l : ListId). MayStandFor l o.step person) (same_list p) o.may;
+        traits = o.traits;
+        not_better = subst (λ (l : ListId). IsBetter l o.holder.person person → ⊥) (same_list p) o.not_better;
+      }
+
+  module _ (i : ℕ) (person : Person) (at : slice_get facts.people i ≡ Some person) where
+    abbrev mine : InRound facts state window i round person
+    mine = in_round facts state window i round person sound course is at
+
+    abbrev wanted : List ProgId
+    wanted = wanted_then facts state window person.id.0
+
+    -- the first open one, both ways
+    firsts : (p : ℕ) → IsFirstOpenThen facts state window round person p → IsFirstOpen table seekers round.seats mine.s p
+    firsts p f = record {
+      wanted = subst (λ (l : List ProgId). wants p l ≡ true) (sym mine.list_is) f.wanted;
+      is_open = subst (λ (h : Person). IsOpenTo table seekers round.seats p h) (sym mine.person_is) (opens p person f.is_open);
+      none_before = λ other before o. f.none_before other (subst (λ (l : List ProgId). place_of l other < place_of l p) mine.list_is before)
+          (opened other person (subst (λ (h : Person). IsOpenTo table seekers round.seats other h) mine.person_is o));
+    }
+
+    first : (p : ℕ) → IsFirstOpen table seekers round.seats mine.s p → IsFirstOpenThen facts state window round person p
+    first p f = record {
+      wanted = subst (λ (l : List ProgId). wants p l ≡ true) mine.list_is f.wanted;
+      is_open = opened p person (subst (λ (h : Person). IsOpenTo table seekers round.seats p h) mine.person_is f.is_open);
+      none_before = λ other before o. f.none_before other (subst (λ (l : List ProgId). place_of l other < place_of l p) (sym mine.list_is) before)
+          (subst (λ (h : Person). IsOpenTo table seekers round.seats other h) (sym mine.person_is) (opens other person o));
+    }
+
+    pub decided_then : IsDecided table seekers round.seats mine.s mine.seat → IsDecidedThen facts state window round person
+    decided_then d = record {
+      seated = λ p. (
+        λ of_it. first p ((d.seated p).0 (subst (λ (o : Option Seat). is_of p o ≡ true) mine.seat_is of_it)),
+        λ f. subst (λ (o : Option Seat). is_of p o ≡ true) (sym mine.seat_is) ((d.seated p).1 (firsts p f)),
+      );
+      unseated = (
+        λ none p wants_it o. d.unseated.0 (sym mine.seat_is ∙ none) p (subst (λ (l : List ProgId). wants p l ≡ true) (sym mine.list_is) wants_it)
+            (subst (λ (h : Person). IsOpenTo table seekers round.seats p h) (sym mine.person_is) (opens p person o)),
+        λ none. mine.seat_is ∙ d.unseated.1 (λ p wants_it o. none p (subst (λ (l : List ProgId). wants p l ≡ true) mine.list_is wants_it)
+            (opened p person (subst (λ (h : Person). IsOpenTo table seekers round.seats p h) mine.person_is o))),
+      );
+    }
+
+pub no_seat_is_wasted_then : AreOrderly → NoSeatIsWasted → (facts : SeasonFacts) → NoSeatIsWastedThen facts
+no_seat_is_wasted_then orderly none facts entries state window round person prog step published left among wanted may =
+    let course = course_of orderly facts entries state window round published in
+    let at = place_among facts.people person among in
+    let mine = in_round facts state window at.0 round person published.sound course published.there at.1 in
+    let over = fair_over facts state window round published.sound course published.there in
+    let lists = same_list facts state window round published.sound course published.there prog in
+    let got = none facts.version (matrix_then facts state window) (market_then facts state window) round.seats prog at.0 step mine.s mine.seat over left mine.there mine.has
+    (subst (λ (l : List ProgId). wants prog l ≡ true) (sym mine.list_is) wanted)
+    (subst (λ (h : Person). MayStandFor (list_in (matrix_then facts state window) prog) step h) (sym mine.person_is)
+    (subst (λ (l : ListId). MayStandFor l step person) (sym lists) may)) in
+    subst (λ (o : Option Seat). IsThatOrEarlier (wanted_then facts state window person.id.0) prog o) (sym mine.seat_is)
+    (subst (λ (l : List ProgId). IsThatOrEarlier l prog mine.seat) mine.list_is got)
+
+pub closing_places_decide_then : AreOrderly → ClosingPlacesDecide → (facts : SeasonFacts) → ClosingPlacesDecideThen facts
+closing_places_decide_then orderly decide facts entries state window round person published among =
+    let course = course_of orderly facts entries state window round published in
+    let at = place_among facts.people person among in
+    let mine = in_round facts state window at.0 round person published.sound course published.there at.1 in
+    let over = fair_over facts state window round published.sound course published.there in
+    decided_then facts state window round published.sound course published.there at.0 person at.1
+    (decide facts.version (matrix_then facts state window) (market_then facts state window) round.seats at.0 mine.s mine.seat over mine.there mine.has)
+
+-- two rounds that follow each other
+record FollowEachOther (facts : SeasonFacts) (state : State) (window : ℕ) (round next : Round) (prog : ℕ) : Type 0 where
+  pub over : AreFairOver facts.version (matrix_then facts state window) (market_then facts state window) round.seats
+  pub next_over : AreFairOver facts.version (matrix_then facts state (suc window)) (market_then facts state (suc window)) next.seats
+  pub narrows : IsNextMarket (market_then facts state window) round.seats (market_then facts state (suc window))
+  pub below : prog < length (matrix_then facts state window).programmes
+  pub next_below : prog < length (matrix_then facts state (suc window)).programmes
+
+follow : (facts : SeasonFacts) (state : State) (window : ℕ) (round next : Round) (prog : ℕ) → ProgrammesChooseWell → ProgrammesGrow → IsSound facts → IsCourse facts state
+    → slice_get state.rounds window ≡ Some round → slice_get state.rounds (suc window) ≡ Some next → prog < length facts.matrix.programmes → FollowEachOther facts state window round next prog
+follow facts state window round next prog well grows sound course is again below =
+    let fit = fit_all facts state window sound well grows course (slice_get_within state.rounds window round is) in
+    let count = ap (λ l. length l) (course.programmes (suc window)) in
+    let count' = ap (λ l. length l) (course.programmes (suc (suc window))) in
+    record {
+      over = fair_over facts state window round sound course is;
+      next_over = fair_over facts state (suc window) next sound course again;
+      narrows = next_market facts state window round sound course fit is;
+      below = omega (arith, below, count);
+      next_below = omega (arith, below, count');
+    }
+
+pub no_vacancy_fills_by_itself_then : AreOrderly → ProgrammesChooseWell → ProgrammesGrow → NoVacancyFillsByItself → (facts : SeasonFacts) → NoVacancyFillsByItselfThen facts
+no_vacancy_fills_by_itself_then orderly well grows none facts entries state window round next prog published again below same =
+    let f = follow facts state window round next prog well grows published.sound (course_of orderly facts entries state window round published) published.there again below in
+    none facts.version (matrix_then facts state window) (matrix_then facts state (suc window)) (market_then facts state window) (market_then facts state (suc window)) round.seats next.seats
+    prog f.over f.next_over f.narrows f.below f.next_below same
+
+pub few_new_holders_then : AreOrderly → ProgrammesChooseWell → ProgrammesGrow → FewNewHolders → (facts : SeasonFacts) → FewNewHoldersThen facts
+few_new_holders_then orderly well grows few facts entries state window round next prog published again below =
+    let course = course_of orderly facts entries state window round published in
+    let f = follow facts state window round next prog well grows published.sound course published.there again below in
+    few facts.version (matrix_then facts state window) (matrix_then facts state (suc window)) (market_then facts state window) (market_then facts state (suc window)) round.seats next.seats
+    prog f.over f.next_over f.narrows f.below f.next_below ((course.raised (suc window)).seats prog)
+
+pub few_newly_seated_then : AreOrderly → ProgrammesChooseWell → ProgrammesGrow → FewNewlySeated → (facts : SeasonFacts) → FewNewlySeatedThen facts
+few_newly_seated_then orderly well grows few facts entries state window round next prog published again below =
+    let course = course_of orderly facts entries state window round published in
+    let f = follow facts state window round next prog well grows published.sound course published.there again below in
+    few facts.version (matrix_then facts state window) (matrix_then facts state (suc window)) (market_then facts state window) (market_then facts state (suc window)) round.seats next.seats
+    prog f.over f.next_over f.narrows f.below f.next_below ((course.raised (suc window)).seats prog)

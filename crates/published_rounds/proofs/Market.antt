@@ -1,0 +1,389 @@
+-- Fair seats over a matrix: who has one of a step is whom the step admits, so what holds of a programme's choice holds of the round.
+use Rattle.std.proofs.Common.{false, ◌≡◌, ◌<◌, ◌≤◌, inl, inr, ℕ, true, List, Option, Some, None, length, arith, refl, sym, ap, ◌∙◌, subst, ◌==◌, ◌+◌, Bool, [], ◌∷◌, count_by}
+use Rattle.std.specs.Prelude.{◌&&◌, slice_get}
+use Rattle.std.specs.List.{filter}
+use Rattle.std.proofs.lemmas.Bool.{cond-false, cond-true, and_from, cases_Bool, cases_lt, eq-eqb, eqb-true, lt-ltb, ltb-true}
+use Rattle.std.proofs.lemmas.List.Sums.{length-filter}
+use Rattle.office_base.specs.Lists.{IsAmong, IsSublist}
+use Rattle.office_base.specs.Merit.{in_merit}
+use Rattle.office_base.specs.Person.{IsBetter, number_in}
+use Rattle.office_base.specs.StepNumbers.{step_number}
+use Rattle.office_base.specs.declared.asks.Seat.{Seat}
+use Rattle.office_base.specs.declared.person.CandId.{CandId}
+use Rattle.office_base.specs.declared.person.Person.{Person}
+use Rattle.office_base.specs.declared.step.StepKind.{StepKind}
+use Rattle.office_base.specs.declared.step.StepKind.TheVariants.{Open, Ews, Obc, Sc, St, Dereserved}
+use Rattle.placements.proofs.Convert.{same_cand}
+use Rattle.placements.proofs.Merit.{not_ahead}
+use Rattle.placements.proofs.Ranks.{among_again, are_among, ranked_sublist, widen}
+use Rattle.placements.proofs.Sublists.{length-sublist}
+use Rattle.merit_choice.proofs.InMerit.{in_merit_ranks, ranked_part}
+use Rattle.merit_choice.proofs.OneByOne.{better_or_worse}
+use Rattle.allocations.specs.Market.{Seeker, applicants, applies, is_of, place_of, rank_of, seat_at, those, wants}
+use Rattle.allocations.proofs.Claims.{applicants_may}
+use Rattle.allocations.proofs.Places.{applies_true, holder_applies, one_place, place_read, seat_of, seat_same}
+use Rattle.allocations.proofs.Those.{of_those, part, same_place, those_has}
+use Rattle.programme_lists.specs.Chosen.{AreApplicants, ChoosesFrom, IsAdmitted}
+use Rattle.programme_lists.specs.Listing.{seats_filled}
+use Rattle.programme_lists.specs.Programme.{Admissions, admitted_by}
+use Rattle.programme_lists.proofs.Seats.{own_seats}
+use Rattle.programme_laws.specs.Laws.{AdmittedMayStand, EmptySeatsRefuseNobody, HoldsEachTraitOf, MayStandFor, NobodyIsPassedOver}
+use Rattle.open_then_category.specs.Laws.{OneProgrammeChoice, ProgrammeChoiceExists, admitted_in_all}
+use Rattle.seat_matrix.specs.Matrix.{SeatTable, list_in, seating_in, seats_in}
+use Rattle.rounds.specs.Rule.{MayApplyIn, ProgrammesChooseWell, rule_of}
+use Rattle.published_rounds.specs.Published.{AreWithin, is_seat_under, seats_under}
+use Rattle.published_rounds.proofs.Places.{seat_there_is}
+use Rattle.published_rounds.proofs.Within.{as_many, in_order, last_seats, left_falls, under_is, under_of}
+use Rattle.published_rounds.specs.Fair.{AreFairOver, HasSeatLeft, IsDecided, IsFirstOpen, IsOpenTo}
+use Rattle.published_rounds.specs.FairLaws.{ClosingPlacesDecide, NoSeatIsWasted, NobodyIsEnviedWhereFair, SeatsAreWithinWhereFair}
+
+-- the seat of a programme under a step is one under it
+under_itself : (p : ℕ) (step : StepKind) (seat : Option Seat) → seat ≡ Some (seat_at p step) → is_seat_under p step seat ≡ true
+under_itself p step seat e = subst (λ s. is_seat_under p step s ≡ true) (sym e) (and_from (p == p) (step_number step == step_number step) (eq-eqb p p refl) (eq-eqb _ _ refl))
+
+-- ---- the seats of a programme, step by step
+
+abbrev pub one_for : Bool → ℕ
+one_for true = 1
+one_for false = 0
+
+pub longer_by : (f : Option Seat → Bool) (b : Bool) (x : Option Seat) (xs : List (Option Seat)) → f x ≡ b → length (filter f (x ∷ xs)) ≡ one_for b + length (filter f xs)
+longer_by f true x xs e = ap length (cond-true (f x) (x ∷ filter f xs) (filter f xs) e) ∙ omega arith
+longer_by f false x xs e = ap length (cond-false (f x) (x ∷ filter f xs) (filter f xs) e) ∙ omega arith
+
+-- each seat of the programme is under one step
+one_of_six : (b : Bool) (kind : StepKind)
+    → one_for b ≡ one_for (b && (step_number kind == step_number Open)) + one_for (b && (step_number kind == step_number Ews)) + one_for (b && (step_number kind == step_number Obc))
+    + one_for (b && (step_number kind == step_number Sc)) + one_for (b && (step_number kind == step_number St)) + one_for (b && (step_number kind == step_number Dereserved))
+one_of_six false kind = refl
+one_of_six true Open = refl
+one_of_six true Ews = refl
+one_of_six true Obc = refl
+one_of_six true Sc = refl
+one_of_six true St = refl
+one_of_six true Dereserved = refl
+
+filtered_by_steps : (p : ℕ) (seats : List (Option Seat)) → length (filter (is_of p) seats)
+    ≡ length (filter (is_seat_under p Open) seats) + length (filter (is_seat_under p Ews) seats) + length (filter (is_seat_under p Obc) seats)
+    + length (filter (is_seat_under p Sc) seats) + length (filter (is_seat_under p St) seats) + length (filter (is_seat_under p Dereserved) seats)
+filtered_by_steps p [] = refl
+filtered_by_steps p (None ∷ seats) = filtered_by_steps p seats
+filtered_by_steps p (Some x ∷ seats) =
+    let rest = filtered_by_steps p seats in
+    let all = longer_by (is_of p) (x.prog.0 == p) (Some x) seats refl in
+    let open_step = longer_by (is_seat_under p Open) (x.prog.0 == p && (step_number x.step == step_number Open)) (Some x) seats refl in
+    let ews = longer_by (is_seat_under p Ews) (x.prog.0 == p && (step_number x.step == step_number Ews)) (Some x) seats refl in
+    let obc = longer_by (is_seat_under p Obc) (x.prog.0 == p && (step_number x.step == step_number Obc)) (Some x) seats refl in
+    let sc = longer_by (is_seat_under p Sc) (x.prog.0 == p && (step_number x.step == step_number Sc)) (Some x) seats refl in
+    let st = longer_by (is_seat_under p St) (x.prog.0 == p && (step_number x.step == step_number St)) (Some x) seats refl in
+    let last = longer_by (is_seat_under p Dereserved) (x.prog.0 == p && (step_number x.step == step_number Dereserved)) (Some x) seats refl in
+    let one = one_of_six (x.prog.0 == p) x.step in
+    omega (arith, rest, all, open_step, ews, obc, sc, st, last, one)
+
+by_steps : (p : ℕ) (seats : List (Option Seat)) → count_by (is_of p) seats
+    ≡ seats_under p Open seats + seats_under p Ews seats + seats_under p Obc seats + seats_under p Sc seats + seats_under p St seats + seats_under p Dereserved seats
+by_steps p seats =
+    let sum = filtered_by_steps p seats in
+    let all = length-filter (is_of p) seats in
+    let open_step = length-filter (is_seat_under p Open) seats in
+    let ews = length-filter (is_seat_under p Ews) seats in
+    let obc = length-filter (is_seat_under p Obc) seats in
+    let sc = length-filter (is_seat_under p Sc) seats in
+    let st = length-filter (is_seat_under p St) seats in
+    let last = length-filter (is_seat_under p Dereserved) seats in
+    omega (arith, sum, all, open_step, ews, obc, sc, st, last)
+
+module _ (well : ProgrammesChooseWell) (exists : ProgrammeChoiceExists) (one : OneProgrammeChoice) (version : ℕ) (table : SeatTable) (seekers : List Seeker) (seats : List (Option Seat))
+    (over : AreFairOver version table seekers seats) where
+  abbrev count : ℕ
+  count = length table.programmes
+
+  abbrev all : ℕ → List Person
+  all p = applicants p seekers seats
+
+  together : (p : ℕ) → p < count → AreApplicants (list_in table p) (all p)
+  together p below = applicants_may (rule_of version table) (MayApplyIn table) count p seekers seats over.market (well version table over.are_seats) below over.fair.allocation.full
+
+  -- The choice of a programme from its applicants: who has a seat of a step is whom the step admits.
+  record Chosen (p : ℕ) : Type 0 where
+    pub admissions : Admissions
+    pub choice : ChoosesFrom version (seats_in table p) (all p) admissions
+    pub seated : (i : ℕ) (s : Seeker) (step : StepKind) → slice_get seekers i ≡ Some s → IsAmong s.person (admitted_by admissions step) → slice_get seats i ≡ Some (Some (seat_at p step))
+    pub admitted : (i : ℕ) (s : Seeker) (step : StepKind) → slice_get seekers i ≡ Some s → slice_get seats i ≡ Some (Some (seat_at p step)) → IsAmong s.person (admitted_by admissions step)
+
+  chosen : (p : ℕ) → p < count → Chosen p
+  chosen p below =
+      let found = exists version (seats_in table p) (all p) (over.are_seats.sound p below) (together p below) in
+      record {
+        admissions = found.0;
+        choice = found.1;
+        seated = λ i s step there here. (over.fair.agrees p i s step below there).0 (found.0, found.1, here);
+        admitted = λ i s step there has.
+            let under = (over.fair.agrees p i s step below there).1 has in
+            subst (λ (a : Admissions). IsAmong s.person (admitted_by a step))
+            (one version (seats_in table p) (all p) under.0 found.0 (over.are_seats.sound p below) (together p below) under.1 found.1) under.2;
+      }
+
+  -- a programme on a list is one of the matrix
+  below_of : (i p : ℕ) (s : Seeker) → slice_get seekers i ≡ Some s → place_of s.list p < length s.list → p < count
+  below_of i p s there less =
+      let read = place_read s.list p less in
+      subst (λ n. n < count) read.2 (over.market.below i (place_of s.list p) s read.0 there read.1)
+
+  -- so is the programme of a seat
+  below_seat : (i p : ℕ) (s : Seeker) (step : StepKind) → slice_get seekers i ≡ Some s → slice_get seats i ≡ Some (Some (seat_at p step)) → p < count
+  below_seat i p s step there has = below_of i p s there (over.fair.allocation.own i s (Some (seat_at p step)) there has)
+
+  -- who wants a programme more than their seat applied to it
+  applied : (i p : ℕ) (s : Seeker) (seat : Option Seat) → slice_get seekers i ≡ Some s → slice_get seats i ≡ Some seat → place_of s.list p < length s.list
+      → place_of s.list p < rank_of s.list seat → IsAmong s.person (all p)
+  applied i p s seat there has less later = those_has (λ s o. applies p s.list o) seekers seats i s seat there has (applies_true p s.list seat less (omega (arith, later)))
+
+  -- and it does not admit them
+  not_admitted : (i p : ℕ) (s : Seeker) (seat : Option Seat) (below : p < count) → slice_get seekers i ≡ Some s → slice_get seats i ≡ Some seat
+      → place_of s.list p < rank_of s.list seat → IsAdmitted (chosen p below).admissions s.person → ⊥
+  not_admitted i p s seat below there has later under =
+      let got = (chosen p below).seated i s under.0 there under.1 in
+      let mine : seat ≡ Some (seat_at p under.0) = (let e = has in cc) in
+      let rank : rank_of s.list seat ≡ place_of s.list p = ap (λ z. rank_of s.list z) mine in
+      omega (arith, later, rank)
+
+  -- so nobody better is passed over
+  pub not_envied : NobodyIsPassedOver → (p i j : ℕ) (step : StepKind) (better worse : Seeker) (seat : Option Seat) → slice_get seekers i ≡ Some better → slice_get seats i ≡ Some seat
+      → slice_get seekers j ≡ Some worse → slice_get seats j ≡ Some (Some (seat_at p step)) → place_of better.list p < length better.list
+      → IsBetter (list_in table p) better.person worse.person → MayStandFor (list_in table p) step better.person → HoldsEachTraitOf better.person worse.person
+      → rank_of better.list seat ≤ place_of better.list p
+  not_envied passes p i j step better worse seat there has there' has' less ahead may holds = elim (cases_lt (place_of better.list p) (rank_of better.list seat)) [
+    | inr le ↦ le
+    | inl later ↦ absurd (
+        let below = below_of i p better there less in
+        let c = chosen p below in
+        not_admitted i p better seat below there has later
+        (passes version (seats_in table p) (all p) c.admissions better.person worse.person step (over.are_seats.sound p below) (together p below) c.choice
+        (applied i p better seat there has less later) (c.admitted j worse step there' has') ahead may holds))
+  ]
+
+  -- ---- seats of a step
+
+  module _ (p : ℕ) (below : p < count) (step : StepKind) where
+    abbrev held : List Person
+    held = those (λ s seat. is_seat_under p step seat) seekers seats
+
+    held_part : IsSublist held (all p)
+    held_part = part (λ s seat. is_seat_under p step seat) (λ s seat. applies p s.list seat) seekers seats seats refl
+        (λ i s x y there at again h.
+        let same : x ≡ y = cc in
+        subst (λ z. applies p s.list z ≡ true) same (holder_applies p s.list x (over.fair.allocation.own i s x there at) (under_of p step x h)))
+
+    held_together : AreApplicants (list_in table p) held
+    held_together = (well version table over.are_seats).part p held (all p) (together p below) held_part
+
+    -- as many seats are given as there are such holders
+    held_count : length held ≡ seats_under p step seats
+    held_count = (let a = as_many (is_seat_under p step) seekers seats over.fair.allocation.full in let b = length-filter (is_seat_under p step) seats in omega (arith, a, b))
+
+    -- they are those whom the step admits
+    admits_all : (x : Person) → IsAmong x held → IsAmong x (admitted_by (chosen p below).admissions step)
+    admits_all x inside =
+        let found = of_those (λ s seat. is_seat_under p step seat) seekers seats x inside in
+        let has : slice_get seats found.place ≡ Some (Some (seat_at p step)) = found.at ∙ ap Some (under_is p step found.value found.passes) in
+        subst (λ z. IsAmong z (admitted_by (chosen p below).admissions step)) (sym found.person_is) ((chosen p below).admitted found.place found.s step found.there has)
+
+    admits_only : (x : Person) → IsAmong x (admitted_by (chosen p below).admissions step) → IsAmong x held
+    admits_only x inside =
+        let c = chosen p below in
+        let from = (well version table over.are_seats).among p (all p) x step (together p below) (c.admissions, c.choice, inside) in
+        let found = of_those (λ s seat. applies p s.list seat) seekers seats x from in
+        let has = c.seated found.place found.s step found.there (subst (λ z. IsAmong z (admitted_by c.admissions step)) found.person_is inside) in
+        let value : found.value ≡ Some (seat_at p step) = (let e = found.at in cc) in
+        subst (λ z. IsAmong z held) (sym found.person_is)
+        (those_has (λ s seat. is_seat_under p step seat) seekers seats found.place found.s found.value found.there found.at (under_itself p step found.value value))
+
+    given_count : length (admitted_by (chosen p below).admissions step) ≡ seats_under p step seats
+    given_count =
+        let c = chosen p below in
+        let admitted = admitted_by c.admissions step in
+        let by_merit = in_merit_ranks (list_in table p) held held_together in
+        let order = (in_merit_ranks (list_in table p) (all p) (together p below)).0 in
+        let admitted_order = ranked_sublist (list_in table p) admitted (in_merit (list_in table p) (all p)) order (in_order version table p (all p) c.admissions step c.choice) in
+        let few = length-sublist (in_merit (list_in table p) held) admitted (ranked_part (list_in table p) (in_merit (list_in table p) held) admitted by_merit.0 admitted_order
+        (among_again (in_merit (list_in table p) held) held admitted by_merit.2 (are_among held admitted admits_all))) in
+        let many = length-sublist admitted (in_merit (list_in table p) held) (ranked_part (list_in table p) admitted (in_merit (list_in table p) held) admitted_order by_merit.0
+        (among_again admitted held (in_merit (list_in table p) held) (are_among admitted held admits_only) by_merit.1)) in
+        let size = by_merit.3 in
+        let count = held_count in
+        omega (arith, few, many, size, count)
+
+  -- the choice of a programme admits in all as many as there are seats of it
+  pub in_all : (p : ℕ) → p < count → (admissions : Admissions) × ChoosesFrom version (seats_in table p) (all p) admissions × (admitted_in_all admissions ≡ count_by (is_of p) seats)
+  in_all p below =
+      let c = chosen p below in
+      let open_step = given_count p below Open in
+      let ews = given_count p below Ews in
+      let obc = given_count p below Obc in
+      let sc = given_count p below Sc in
+      let st = given_count p below St in
+      let last = given_count p below Dereserved in
+      let sum = by_steps p seats in
+      (c.admissions, c.choice, omega (arith, open_step, ews, obc, sc, st, last, sum))
+
+  pub are_within : (p : ℕ) → p < count → AreWithin version table p seats
+  are_within p below =
+      let c = chosen p below in
+      record {
+        own = λ step own. (let a = given_count p below step in let b = own_seats version table p (all p) c.admissions step c.choice own in omega (arith, a, b));
+        dereserved =
+            let a = given_count p below Dereserved in
+            let b = last_seats version table p (all p) c.admissions c.choice in
+            let ews = given_count p below Ews in
+            let obc = given_count p below Obc in
+            let l = left_falls version (seating_in table p Ews).seats (seats_under p Ews seats) (length c.admissions.ews) (seating_in table p Obc).seats
+            (seats_under p Obc seats) (length c.admissions.obc) (omega (arith, ews)) (omega (arith, obc)) in
+            omega (arith, a, b, l);
+      }
+
+  -- a step with a seat left admits fewer than it fills
+  admits_fewer : (p : ℕ) (below : p < count) (step : StepKind) → HasSeatLeft version table p seats step
+      → length (admitted_by (chosen p below).admissions step) < seats_filled version (seats_in table p) (chosen p below).admissions step
+  admits_fewer p below Open left = let a = given_count p below Open in omega (arith, a, left)
+  admits_fewer p below Ews left = let a = given_count p below Ews in omega (arith, a, left)
+  admits_fewer p below Obc left = let a = given_count p below Obc in omega (arith, a, left)
+  admits_fewer p below Sc left = let a = given_count p below Sc in omega (arith, a, left)
+  admits_fewer p below St left = let a = given_count p below St in omega (arith, a, left)
+  admits_fewer p below Dereserved left =
+      let c = chosen p below in
+      let a = given_count p below Dereserved in
+      let ews = given_count p below Ews in
+      let obc = given_count p below Obc in
+      let l = left_falls version (seating_in table p Ews).seats (length c.admissions.ews) (seats_under p Ews seats) (seating_in table p Obc).seats
+      (length c.admissions.obc) (seats_under p Obc seats) (omega (arith, ews)) (omega (arith, obc)) in
+      omega (arith, a, left, l)
+
+  pub not_wasted : EmptySeatsRefuseNobody → (p i : ℕ) (step : StepKind) (s : Seeker) (seat : Option Seat) → HasSeatLeft version table p seats step → slice_get seekers i ≡ Some s
+      → slice_get seats i ≡ Some seat → place_of s.list p < length s.list → MayStandFor (list_in table p) step s.person → rank_of s.list seat ≤ place_of s.list p
+  not_wasted empty p i step s seat left there has less may = elim (cases_lt (place_of s.list p) (rank_of s.list seat)) [
+    | inr le ↦ le
+    | inl later ↦ absurd (
+        let below = below_of i p s there less in
+        let c = chosen p below in
+        not_admitted i p s seat below there has later
+        (empty version (seats_in table p) (all p) c.admissions s.person step (over.are_seats.sound p below) (together p below) c.choice (admits_fewer p below step left)
+        (applied i p s seat there has less later) may))
+  ]
+
+  -- ---- closing places
+
+  -- whom a programme is open to has a seat of it, or an earlier one
+  open_gives : NobodyIsPassedOver → (p i : ℕ) (s : Seeker) (seat : Option Seat) → slice_get seekers i ≡ Some s → slice_get seats i ≡ Some seat → place_of s.list p < length s.list
+      → IsOpenTo table seekers seats p s.person → rank_of s.list seat ≤ place_of s.list p
+  open_gives passes p i s seat there has less is_open = elim (cases_lt (place_of s.list p) (rank_of s.list seat)) [
+    | inr le ↦ le
+    | inl later ↦ absurd (
+        let below = below_of i p s there less in
+        let c = chosen p below in
+        let holder = is_open.holder in
+        let admitted = c.admitted is_open.place holder is_open.step is_open.there is_open.holds in
+        let among = (well version table over.are_seats).among p (all p) holder.person is_open.step (together p below) (c.admissions, c.choice, admitted) in
+        let mine = applied i p s seat there has less later in
+        let order = in_merit_ranks (list_in table p) (all p) (together p below) in
+        elim (cases_Bool (s.person.id.0 == holder.person.id.0)) [
+          | inl is_same ↦
+              let id : s.person.id ≡ holder.person.id = same_cand s.person.id holder.person.id (eqb-true _ _ is_same) in
+              let place = same_place seekers i is_open.place s holder over.market.ids there is_open.there id in
+              let own : slice_get seats i ≡ Some (Some (seat_at p is_open.step)) = subst (λ n. slice_get seats n ≡ Some (Some (seat_at p is_open.step))) (sym place) is_open.holds in
+              let given : seat ≡ Some (seat_at p is_open.step) = (let e = has in cc) in
+              let rank : rank_of s.list seat ≡ place_of s.list p = ap (λ z. rank_of s.list z) given in
+              omega (arith, later, rank)
+          | inr apart ↦
+              elim (better_or_worse (list_in table p) (in_merit (list_in table p) (all p)) s.person holder.person order.0.in_order (widen s.person (all p) _ order.1 mine)
+              (widen holder.person (all p) _ order.1 among) (λ id. let yes = eq-eqb s.person.id.0 holder.person.id.0 (ap (λ (c : CandId). c.0) id) in cc)) [
+                | inl better ↦ not_admitted i p s seat below there has later
+                    (passes version (seats_in table p) (all p) c.admissions s.person holder.person is_open.step (over.are_seats.sound p below) (together p below) c.choice
+                    mine admitted better is_open.may is_open.traits)
+                | inr worse ↦ is_open.not_better worse
+              ]
+        ])
+  ]
+
+  -- a programme is open to whoever holds a seat of it
+  open_to_holder : AdmittedMayStand → (p i : ℕ) (s : Seeker) (step : StepKind) → slice_get seekers i ≡ Some s → slice_get seats i ≡ Some (Some (seat_at p step))
+      → IsOpenTo table seekers seats p s.person
+  open_to_holder stands p i s step there has =
+      let below = below_seat i p s step there has in
+      let c = chosen p below in
+      record {
+        place = i;
+        holder = s;
+        there = there;
+        step = step;
+        holds = has;
+        may = stands version (seats_in table p) (all p) c.admissions s.person step c.choice (c.admitted i s step there has);
+        traits = λ t h. h;
+        not_better = not_ahead (number_in (list_in table p) s.person);
+      }
+
+  pub is_decided : NobodyIsPassedOver → AdmittedMayStand → (i : ℕ) (s : Seeker) (seat : Option Seat) → slice_get seekers i ≡ Some s → slice_get seats i ≡ Some seat
+      → IsDecided table seekers seats s seat
+  is_decided passes stands i s seat there has = record { seated = λ prog. (is_first prog, has_first prog); unseated = (none_open, λ none. unseated seat has none) }
+    where
+      is_first : (prog : ℕ) → is_of prog seat ≡ true → IsFirstOpen table seekers seats s prog
+      is_first prog of_it =
+          let found = seat_of prog seat of_it in
+          let mine : slice_get seats i ≡ Some (Some (seat_at prog found.0)) = has ∙ ap Some found.1 in
+          let own : place_of s.list prog < length s.list = over.fair.allocation.own i s (Some (seat_at prog found.0)) there mine in
+          record {
+            wanted = lt-ltb _ _ own;
+            is_open = open_to_holder stands prog i s found.0 there mine;
+            none_before = λ other before is_open.
+                let rank = open_gives passes other i s (Some (seat_at prog found.0)) there mine (omega (arith, before, own)) is_open in
+                omega (arith, rank, before);
+          }
+
+      none_open : seat ≡ None → (prog : ℕ) → wants prog s.list ≡ true → IsOpenTo table seekers seats prog s.person → ⊥
+      none_open none prog wanted is_open =
+          let less = ltb-true _ _ wanted in
+          let rank = open_gives passes prog i s None there (has ∙ ap Some none) less is_open in
+          omega (arith, rank, less)
+
+      has_seat : (prog : ℕ) (x : Option Seat) → slice_get seats i ≡ Some x → IsFirstOpen table seekers seats s prog → is_of prog x ≡ true
+      has_seat prog None at first =
+          let less = ltb-true _ _ first.wanted in
+          absurd (let rank = open_gives passes prog i s None there at less first.is_open in omega (arith, rank, less))
+      has_seat prog (Some x) at first =
+          let less = ltb-true _ _ first.wanted in
+          let rank : place_of s.list x.prog.0 ≤ place_of s.list prog = open_gives passes prog i s (Some x) there at less first.is_open in
+          let is_at : slice_get seats i ≡ Some (Some (seat_at x.prog.0 x.step)) = at ∙ ap (λ z. Some (Some z)) (seat_same x (seat_at x.prog.0 x.step) refl refl) in
+          let mine = open_to_holder stands x.prog.0 i s x.step there is_at in
+          elim (cases_lt (place_of s.list x.prog.0) (place_of s.list prog)) [
+            | inr le ↦ eq-eqb x.prog.0 prog (sym (one_place s.list prog x.prog.0 less (omega (arith, le, rank))))
+            | inl before ↦ absurd (first.none_before x.prog.0 before mine)
+          ]
+
+      has_first : (prog : ℕ) → IsFirstOpen table seekers seats s prog → is_of prog seat ≡ true
+      has_first prog first = has_seat prog seat has first
+
+      unseated : (x : Option Seat) → slice_get seats i ≡ Some x → ((prog : ℕ) → wants prog s.list ≡ true → IsOpenTo table seekers seats prog s.person → ⊥) → x ≡ None
+      unseated None at none = refl
+      unseated (Some x) at none = absurd (
+          let is_at : slice_get seats i ≡ Some (Some (seat_at x.prog.0 x.step)) = at ∙ ap (λ z. Some (Some z)) (seat_same x (seat_at x.prog.0 x.step) refl refl) in
+          let own : place_of s.list x.prog.0 < length s.list = over.fair.allocation.own i s (Some x) there at in
+          none x.prog.0 (lt-ltb _ _ own) (open_to_holder stands x.prog.0 i s x.step there is_at))
+
+-- ---- the laws
+
+pub nobody_is_envied_where_fair : ProgrammesChooseWell → ProgrammeChoiceExists → OneProgrammeChoice → NobodyIsPassedOver → NobodyIsEnviedWhereFair
+nobody_is_envied_where_fair well exists one passes version table seekers seats prog i j step better worse seat over there has there' has' wanted ahead may holds =
+    let less = ltb-true _ _ wanted in
+    seat_there_is better.list prog seat less (not_envied well exists one version table seekers seats over passes prog i j step better worse seat there has there' has' less ahead may holds)
+
+pub seats_are_within_where_fair : ProgrammesChooseWell → ProgrammeChoiceExists → OneProgrammeChoice → SeatsAreWithinWhereFair
+seats_are_within_where_fair well exists one version table seekers seats prog over below = are_within well exists one version table seekers seats over prog below
+
+pub no_seat_is_wasted : ProgrammesChooseWell → ProgrammeChoiceExists → OneProgrammeChoice → EmptySeatsRefuseNobody → NoSeatIsWasted
+no_seat_is_wasted well exists one empty version table seekers seats prog i step s seat over left there has wanted may =
+    let less = ltb-true _ _ wanted in
+    seat_there_is s.list prog seat less (not_wasted well exists one version table seekers seats over empty prog i step s seat left there has less may)
+
+pub closing_places_decide : ProgrammesChooseWell → ProgrammeChoiceExists → OneProgrammeChoice → NobodyIsPassedOver → AdmittedMayStand → ClosingPlacesDecide
+closing_places_decide well exists one passes stands version table seekers seats i s seat over there has =
+    is_decided well exists one version table seekers seats over passes stands i s seat there has

@@ -1,0 +1,343 @@
+-- One protected seat more for a trait keeps the chosen holders of the trait.
+use Rattle.std.proofs.Common.{◌≡◌, ◌≢◌, ◌+◌, ◌-◌, ◌<◌, ◌≤◌, inl, inr, ℕ, zero, suc, max, Bool, true, false, List, [], ◌∷◌, length, arith, refl, sym, ap, ◌∙◌, subst}
+use Rattle.std.specs.Prelude.{IsTrue}
+use Rattle.std.specs.List.{AllByRecursion}
+use Rattle.std.proofs.lemmas.Bool.{cases_eq}
+use Rattle.std.proofs.lemmas.Nat.Bits.{bit_at-pow_other, bit_at-pow_same}
+use Rattle.office_base.specs.Lists.{AnyByRecursion, IsAmong}
+use Rattle.office_base.proofs.Lists.{all_weaker}
+use Rattle.office_base.specs.Person.{has_trait}
+use Rattle.office_base.specs.Placement.{Fills, IsHonoured, IsPlacement, placed_on, protected}
+use Rattle.office_base.specs.declared.person.CandId.{CandId}
+use Rattle.office_base.specs.declared.person.Person.{Person}
+use Rattle.office_base.specs.declared.step.Pair.{Pair}
+use Rattle.office_base.specs.declared.step.Protections.{Protections}
+use Rattle.placements.specs.Ranks.{AreAmong, AreDistinct, CanBePlaced}
+use Rattle.placements.proofs.Exchange.{all_leaves, fewer, finds, finds_on, length_leaves, pairwise_leaves, Apart, apart_back, placed_on_leaves, stands_same}
+use Rattle.placements.proofs.Greatest.{honoured-exists, honoured-one}
+use Rattle.placements.proofs.Hall.{alone, bit_one, has_one}
+use Rattle.placements.proofs.Ranks.{all_both, among_itself, among_longer, any_all, diminishing, left_out, nowhere, one_step, refused, same_people, taken}
+use Rattle.merit_choice.specs.Laws.{ByHand, MarksByHand, OneChoice}
+use Rattle.merit_choice.specs.Marks.{AreMarkedByHand, IsRaise, filled_up, kept, marked}
+use Rattle.merit_choice.proofs.ByHand.{honoured_placed, placed_nobody}
+use Rattle.published_rounds.specs.OneMore.{OneMoreKeepsItsHolders}
+use Rattle.published_rounds.proofs.Simple.{apart_from_nobody, on_or_off}
+
+-- ---- somebody else who holds one trait alone
+
+-- the greatest number of these people
+abbrev top : List Person → ℕ
+top [] = 0
+top (person ∷ people) = max person.id.0 (top people)
+
+-- a person of another number, with the traits and places of nobody
+abbrev stranger : ℕ → Person → List Person → Person
+stranger t like people = record like { id = record { 0 = suc (top people) }; traits = alone t }
+
+above_top : (n : ℕ) (people : List Person) → top people < n → AllByRecursion (λ other. record { 0 = n } ≢ other.id) people
+above_top n [] less = tt
+above_top n (person ∷ people) less =
+    ((λ e. let same = ap (λ (c : CandId). c.0) e in absurd (omega (arith, less, same))), above_top n people (omega (arith, less)))
+
+only_trait : (t s : ℕ) → IsTrue (has_trait (alone t) s) → s ≡ t
+only_trait t s holds = elim (cases_eq s t) [
+  | inl same ↦ same
+  | inr apart ↦ absurd (let one = bit_one (alone t) s holds in let none = bit_at-pow_other t s apart in omega (arith, one, none))
+]
+
+own_trait : (t : ℕ) → IsTrue (has_trait (alone t) t)
+own_trait t = has_one (alone t) t (bit_at-pow_same t)
+
+-- ---- placements with one protected seat more
+
+module _ (one two : Protections) (t : ℕ) (more : protected two t ≡ suc (protected one t)) (same : (s : ℕ) → s ≢ t → protected two s ≡ protected one s) where
+  no_fewer : (s : ℕ) → protected one s ≤ protected two s
+  no_fewer s = elim (cases_eq s t) [
+    | inl e ↦ let here = subst (λ z. protected two z ≡ suc (protected one z)) (sym e) more in omega (arith, here)
+    | inr apart ↦ let there = same s apart in omega (arith, there)
+  ]
+
+  wide : (people : List Person) (pairs : List Pair) → IsPlacement one people pairs → IsPlacement two people pairs
+  wide people pairs p = record { held = p.held; once = p.once; within = λ s. let a = p.within s in let b = no_fewer s in omega (arith, a, b) }
+
+  narrow : (people : List Person) (pairs : List Pair) → IsPlacement two people pairs → placed_on t pairs ≤ protected one t → IsPlacement one people pairs
+  narrow people pairs p few = record {
+    held = p.held;
+    once = p.once;
+    within = λ s. elim (cases_eq s t) [
+      | inl e ↦ subst (λ z. placed_on z pairs ≤ protected one z) (sym e) few
+      | inr apart ↦ let a = p.within s in let b = same s apart in omega (arith, a, b)
+    ];
+  }
+
+  -- at most one person more is placed
+  little_more : (people : List Person) (n : ℕ) (pairs : List Pair) → IsHonoured one people n → IsPlacement two people pairs → length pairs ≤ suc n
+  little_more people n pairs h p = elim (finds_on t pairs) [
+    | inl found ↦
+        let rest = fewer two people found.0 pairs found.1 found.2 p in
+        let counts = placed_on_leaves t found.0 pairs found.1 found.2 in
+        let on = stands_same t found.0 found.3 in
+        let room = p.within t in
+        let most = h.most found.1 (narrow people found.1 rest (omega (arith, counts, on, room, more))) in
+        let size = length_leaves found.0 pairs found.1 found.2 in
+        omega (arith, most, size)
+    | inr none ↦ let most = h.most pairs (narrow people pairs p (omega (arith, none))) in omega (arith, most)
+  ]
+
+  -- a stranger who holds that trait alone takes that seat
+  contract : (d : Person) (people : List Person) (n : ℕ) → d.traits ≡ alone t → AllByRecursion (λ other. d.id ≢ other.id) people → IsHonoured one people n → IsHonoured two (d ∷ people) (suc n)
+  contract d people n only apart h = record {
+    reached = (record { cand = d.id; slot = t } ∷ h.reached.0, placed, (let size = h.reached.2 in omega (arith, size)));
+    most = most;
+  }
+    where
+      placed : IsPlacement two (d ∷ people) (record { cand = d.id; slot = t } ∷ h.reached.0)
+      placed = record {
+        held = (
+          inl (refl, subst (λ z. IsTrue (has_trait z t)) (sym only) (own_trait t)),
+          all_weaker (λ pair. AnyByRecursion (Fills pair) people)
+              (λ pair. AnyByRecursion (Fills pair) (d ∷ people)) (λ pair a. inr a) h.reached.0 h.reached.1.held,
+        );
+        once = (nowhere one d people h.reached.0 apart h.reached.1, h.reached.1.once);
+        within = λ s. elim (on_or_off t s) [
+          | inl on ↦
+              let was = h.reached.1.within t in
+              let here = subst (λ z. placed_on z h.reached.0 < protected two z) on.0 (omega (arith, was, more)) in
+              let counted = on.1 in
+              omega (arith, here, counted)
+          | inr off ↦ let was = h.reached.1.within s in let few = no_fewer s in omega (arith, was, off, few)
+        ];
+      }
+
+      most : (pairs : List Pair) → IsPlacement two (d ∷ people) pairs → length pairs ≤ suc n
+      most pairs p = elim (finds d.id pairs) [
+        | inl found ↦
+            let by = (all_leaves (λ (x : Pair). AnyByRecursion (Fills x) (d ∷ people)) found.0 pairs found.1 found.2 p.held).0 in
+            let on : found.0.slot ≡ t = elim by [
+              | inl mine ↦ only_trait t found.0.slot (subst (λ z. IsTrue (has_trait z found.0.slot)) only mine.1)
+              | inr theirs ↦ absurd (let who = any_all (Fills found.0) (λ other. d.id ≢ other.id) people theirs apart in who.2 (sym found.3 ∙ who.1.0))
+            ] in
+            let rest = fewer two (d ∷ people) found.0 pairs found.1 found.2 p in
+            let away : AllByRecursion (λ (x : Pair). d.id ≢ x.cand) found.1 =
+            subst (λ cand. AllByRecursion (λ (x : Pair). cand ≢ x.cand) found.1) found.3 (pairwise_leaves Apart apart_back found.0 pairs found.1 found.2 p.once).0 in
+            let counts = placed_on_leaves t found.0 pairs found.1 found.2 in
+            let counted = stands_same t found.0 on in
+            let room = p.within t in
+            let few = h.most found.1 (narrow people found.1 (left_out two d people found.1 away rest) (omega (arith, counts, counted, room, more))) in
+            let size = length_leaves found.0 pairs found.1 found.2 in
+            omega (arith, few, size)
+        | inr none ↦ little_more people n pairs h (left_out two d people pairs none p)
+      ]
+
+  -- who raises the number still does
+  raises_still : (person : Person) (before : List Person) (n m : ℕ) → AreDistinct (person ∷ before) → IsHonoured one before n → IsHonoured one (person ∷ before) (suc n) → IsHonoured two before m
+      → IsHonoured two (person ∷ before) (suc m)
+  raises_still person before n m distinct h up h' =
+      let d = stranger t person (person ∷ before) in
+      let apart = above_top (suc (top (person ∷ before))) (person ∷ before) (omega arith) in
+      let first = contract d before n refl apart.1 h in
+      let second = contract d (person ∷ before) (suc n) refl apart up in
+      let turned = same_people two (d ∷ person ∷ before) (person ∷ d ∷ before) (suc (suc n))
+      (inr (inl refl), (inl refl, all_weaker (λ p. IsAmong p before) (λ p. IsAmong p (person ∷ d ∷ before)) (λ p a. inr (inr a)) before (among_itself before)))
+      (inr (inl refl), (inl refl, all_weaker (λ p. IsAmong p before) (λ p. IsAmong p (d ∷ person ∷ before)) (λ p a. inr (inr a)) before (among_itself before))) second in
+      let k = honoured-exists two (person ∷ before) distinct in
+      let less = diminishing two person before (d ∷ before) m (suc n) k.0 (suc (suc n)) (((λ e. apart.0 (sym e)), distinct.0), (apart.1, distinct.1))
+      (among_longer d before before (among_itself before)) h' first k.1 turned in
+      let step = one_step two person before (person ∷ before) m k.0 (among_itself (person ∷ before)) h' k.1 in
+      subst (λ z. IsHonoured two (person ∷ before) z) (omega (arith, less, step)) k.1
+
+  -- a holder of the trait raises the number where nobody more was placed
+  holder_raises : (person : Person) (before : List Person) (n : ℕ) → IsTrue (has_trait person.traits t) → AreDistinct (person ∷ before) → IsHonoured one before n → IsHonoured two before n
+      → IsHonoured two (person ∷ before) (suc n)
+  holder_raises person before n holds distinct h h' =
+      let pairs = h.reached.0 in
+      let placed : IsPlacement two (person ∷ before) (record { cand = person.id; slot = t } ∷ pairs) = record {
+        held = (inl (refl, holds), all_weaker (λ pair. AnyByRecursion (Fills pair) before) (λ pair. AnyByRecursion (Fills pair) (person ∷ before)) (λ pair a. inr a) pairs h.reached.1.held);
+        once = (nowhere one person before pairs distinct.0 h.reached.1, h.reached.1.once);
+        within = λ s. elim (on_or_off t s) [
+          | inl on ↦
+              let was = h.reached.1.within t in
+              let here = subst (λ z. placed_on z pairs < protected two z) on.0 (omega (arith, was, more)) in
+              let counted = on.1 in
+              omega (arith, here, counted)
+          | inr off ↦ let was = h.reached.1.within s in let few = no_fewer s in omega (arith, was, off, few)
+        ];
+      } in
+      let k = honoured-exists two (person ∷ before) distinct in
+      let step = one_step two person before (person ∷ before) n k.0 (among_itself (person ∷ before)) h' k.1 in
+      let reached = k.1.most (record { cand = person.id; slot = t } ∷ pairs) placed in
+      let size = h.reached.2 in
+      subst (λ z. IsHonoured two (person ∷ before) z) (omega (arith, step, reached, size)) k.1
+
+-- ---- marks down the merit order
+
+-- those who were marked are all placed, and as many as all before honour
+record AreMarkedSoFar (protections : Protections) (before chosen : List Person) : Type 0 where
+  pub among : AreAmong chosen before
+  pub can : CanBePlaced protections chosen
+  pub was : IsHonoured protections before (length chosen)
+
+mark_next : (protections : Protections) (person : Person) (before chosen : List Person) → AreMarkedSoFar protections before chosen → IsRaise protections chosen person true
+    → AreMarkedSoFar protections (person ∷ before) (person ∷ chosen)
+mark_next protections person before chosen are raise =
+    let up = raise (length chosen) (honoured_placed protections chosen are.can) in
+    let all : CanBePlaced protections (person ∷ chosen) = (up.reached.0, up.reached.1, up.reached.2) in
+    record { among = (inl refl, among_longer person chosen before are.among); can = all; was = taken protections person chosen before are.among are.was all }
+
+pass_next : (protections : Protections) (person : Person) (before chosen : List Person) → AreDistinct (person ∷ before) → AreMarkedSoFar protections before chosen → IsRaise protections chosen person false
+    → AreMarkedSoFar protections (person ∷ before) chosen
+pass_next protections person before chosen distinct are raise =
+    let same = raise (length chosen) (honoured_placed protections chosen are.can) in
+    let cannot : CanBePlaced protections (person ∷ chosen) → ⊥ = λ all. let most = same.most all.0 all.1 in absurd (let size = all.2 in omega (arith, size, most)) in
+    record { among = among_longer person chosen before are.among; can = are.can; was = refused protections person chosen before distinct are.among are.can are.was cannot }
+
+-- people who come are apart from those before, and from each other
+record AreToCome (people before : List Person) : Type 0 where
+  pub apart : AllByRecursion (λ person. AllByRecursion (λ other. person.id ≢ other.id) before) people
+  pub distinct : AreDistinct people
+  pub were : AreDistinct before
+
+first_new : (person : Person) (people before : List Person) → AreToCome (person ∷ people) before → AreDistinct (person ∷ before)
+first_new person people before new = (new.apart.0, new.were)
+
+next_new : (person : Person) (people before : List Person) → AreToCome (person ∷ people) before → AreToCome people (person ∷ before)
+next_new person people before new = record {
+  apart = all_both (λ (other : Person). person.id ≢ other.id) (λ (other : Person). AllByRecursion (λ o. other.id ≢ o.id) before) (λ (other : Person). AllByRecursion (λ o. other.id ≢ o.id) (person ∷ before))
+      (λ other d rest. ((λ e. d (sym e)), rest)) people new.distinct.0 new.apart.1;
+  distinct = new.distinct.1;
+  were = first_new person people before new;
+}
+
+-- the people after those before, the last of them first
+abbrev onto : List Person → List Person → List Person
+onto [] before = before
+onto (person ∷ people) before = onto people (person ∷ before)
+
+-- all of them honour as many as are marked in the end
+all_marked : (protections : Protections) (people before chosen : List Person) (marks : List Bool) → AreToCome people before → AreMarkedSoFar protections before chosen
+    → AreMarkedByHand protections chosen people marks → IsHonoured protections (onto people before) (length chosen + marked marks)
+all_marked protections [] before chosen [] new are told = subst (λ n. IsHonoured protections before n) (omega arith) are.was
+all_marked protections [] before chosen (mark ∷ marks) new are told = absurd told
+all_marked protections (person ∷ people) before chosen [] new are told = absurd told
+all_marked protections (person ∷ people) before chosen (true ∷ marks) new are told =
+    subst (λ n. IsHonoured protections (onto people (person ∷ before)) n) (omega arith)
+    (all_marked protections people (person ∷ before) (person ∷ chosen) marks (next_new person people before new) (mark_next protections person before chosen are told.0) told.1)
+all_marked protections (person ∷ people) before chosen (false ∷ marks) new are told =
+    all_marked protections people (person ∷ before) chosen marks (next_new person people before new)
+    (pass_next protections person before chosen (first_new person people before new) are told.0) told.1
+
+-- ---- side by side
+
+module _ (one two : Protections) (t : ℕ) (more : protected two t ≡ suc (protected one t)) (same : (s : ℕ) → s ≢ t → protected two s ≡ protected one s) (person : Person)
+    (holds : IsTrue (has_trait person.traits t)) where
+  -- the numbers marked differ by one at most
+  close : (before some others : List Person) → AreMarkedSoFar one before some → AreMarkedSoFar two before others → (length some ≤ length others) × (length others ≤ suc (length some))
+  close before some others first second =
+      let up = second.was.most first.was.reached.0 (wide one two t more same before first.was.reached.0 first.was.reached.1) in
+      let size = first.was.reached.2 in
+      let little = little_more one two t more same before (length some) second.was.reached.0 first.was second.was.reached.1 in
+      let size' = second.was.reached.2 in
+      (omega (arith, up, size), omega (arith, little, size'))
+
+  -- who was marked still is
+  still_marked : (first : Person) (before some others : List Person) → AreDistinct (first ∷ before) → AreMarkedSoFar one before some → AreMarkedSoFar two before others → IsRaise one some first true
+      → IsRaise two others first false → ⊥
+  still_marked first before some others distinct a b up stays =
+      let now = mark_next one first before some a up in
+      let raised = raises_still one two t more same first before (length some) (length others) distinct a.was now.was b.was in
+      let not = pass_next two first before others distinct b stays in
+      let e = honoured-one two (first ∷ before) (suc (length others)) (length others) raised not.was in
+      absurd (omega (arith, e))
+
+  -- a holder who is not marked now was not before, and there one more is marked
+  not_marked : (before some others : List Person) → AreDistinct (person ∷ before) → AreMarkedSoFar one before some → AreMarkedSoFar two before others → IsRaise two others person false
+      → length others ≡ suc (length some)
+  not_marked before some others distinct a b stays = elim (cases_eq (length others) (length some)) [
+    | inl equal ↦ absurd (
+        let raised = holder_raises one two t more same person before (length some) holds distinct a.was (subst (λ n. IsHonoured two before n) equal b.was) in
+        let not = pass_next two person before others distinct b stays in
+        let e = honoured-one two (person ∷ before) (suc (length some)) (length others) raised not.was in
+        omega (arith, e, equal))
+    | inr apart ↦ let near = close before some others a b in let low = near.0 in let high = near.1 in omega (arith, apart, low, high)
+  ]
+
+  stays_chosen : (people before some others : List Person) (marks now : List Bool) (free left : ℕ) → AreToCome people before → AreMarkedSoFar one before some → AreMarkedSoFar two before others
+      → AreMarkedByHand one some people marks → AreMarkedByHand two others people now → free + length others ≤ left + suc (length some)
+      → IsAmong person (kept people (filled_up marks free)) → IsAmong person (kept people (filled_up now left))
+  stays_chosen [] before some others marks now free left new a b told told' room here = absurd here
+  stays_chosen (first ∷ people) before some others [] now free left new a b told told' room here = absurd told
+  stays_chosen (first ∷ people) before some others (mark ∷ marks) [] free left new a b told told' room here = absurd told'
+  stays_chosen (first ∷ people) before some others (true ∷ marks) (true ∷ now) free left new a b told told' room here = elim here [
+    | inl mine ↦ inl mine
+    | inr later ↦ inr (stays_chosen people (first ∷ before) (first ∷ some) (first ∷ others) marks now free left (next_new first people before new) (mark_next one first before some a told.0)
+        (mark_next two first before others b told'.0) told.1 told'.1 (omega (arith, room)) later)
+  ]
+  stays_chosen (first ∷ people) before some others (true ∷ marks) (false ∷ now) free left new a b told told' room here =
+      absurd (still_marked first before some others (first_new first people before new) a b told.0 told'.0)
+  stays_chosen (first ∷ people) before some others (false ∷ marks) (true ∷ now) zero left new a b told told' room here =
+      let distinct = first_new first people before new in
+      let near = close (first ∷ before) some (first ∷ others) (pass_next one first before some distinct a told.0) (mark_next two first before others b told'.0) in
+      let high = near.1 in
+      inr (stays_chosen people (first ∷ before) some (first ∷ others) marks now zero left (next_new first people before new) (pass_next one first before some distinct a told.0)
+      (mark_next two first before others b told'.0) told.1 told'.1 (omega (arith, high)) here)
+  stays_chosen (first ∷ people) before some others (false ∷ marks) (true ∷ now) (suc free) left new a b told told' room here = elim here [
+    | inl mine ↦ inl mine
+    | inr later ↦
+        let distinct = first_new first people before new in
+        inr (stays_chosen people (first ∷ before) some (first ∷ others) marks now free left (next_new first people before new) (pass_next one first before some distinct a told.0)
+        (mark_next two first before others b told'.0) told.1 told'.1 (omega (arith, room)) later)
+  ]
+  stays_chosen (first ∷ people) before some others (false ∷ marks) (false ∷ now) zero zero new a b told told' room here =
+      let distinct = first_new first people before new in
+      stays_chosen people (first ∷ before) some others marks now zero zero (next_new first people before new) (pass_next one first before some distinct a told.0)
+      (pass_next two first before others distinct b told'.0) told.1 told'.1 (omega (arith, room)) here
+  stays_chosen (first ∷ people) before some others (false ∷ marks) (false ∷ now) zero (suc left) new a b told told' room here =
+      let distinct = first_new first people before new in
+      let near = close before some others a b in
+      let high = near.1 in
+      inr (stays_chosen people (first ∷ before) some others marks now zero left (next_new first people before new) (pass_next one first before some distinct a told.0)
+      (pass_next two first before others distinct b told'.0) told.1 told'.1 (omega (arith, high)) here)
+  stays_chosen (first ∷ people) before some others (false ∷ marks) (false ∷ now) (suc free) zero new a b told told' room here =
+      let distinct = first_new first people before new in
+      elim here [
+        | inl mine ↦ absurd (
+            let is : person ≡ first = mine in
+            let up = not_marked before some others (subst (λ (p : Person). AreDistinct (p ∷ before)) (sym is) distinct) a b (subst (λ (p : Person). IsRaise two others p false) (sym is) told'.0) in
+            omega (arith, up, room))
+        | inr later ↦
+            let near = close before some others a b in
+            let low = near.0 in
+            stays_chosen people (first ∷ before) some others marks now free zero (next_new first people before new) (pass_next one first before some distinct a told.0)
+            (pass_next two first before others distinct b told'.0) told.1 told'.1 (omega (arith, room, low)) later
+      ]
+  stays_chosen (first ∷ people) before some others (false ∷ marks) (false ∷ now) (suc free) (suc left) new a b told told' room here = elim here [
+    | inl mine ↦ inl mine
+    | inr later ↦
+        let distinct = first_new first people before new in
+        inr (stays_chosen people (first ∷ before) some others marks now free left (next_new first people before new) (pass_next one first before some distinct a told.0)
+        (pass_next two first before others distinct b told'.0) told.1 told'.1 (omega (arith, room)) later)
+  ]
+
+nobody_new : (people : List Person) → AreDistinct people → AreToCome people []
+nobody_new people distinct = record { apart = apart_from_nobody people; distinct = distinct; were = tt }
+
+nobody_marked : (protections : Protections) → AreMarkedSoFar protections [] []
+nobody_marked protections = record { among = tt; can = placed_nobody protections; was = honoured_placed protections [] (placed_nobody protections) }
+
+pub one_more_keeps_its_holders : OneChoice → MarksByHand → ByHand → OneMoreKeepsItsHolders
+one_more_keeps_its_holders one_choice marks_by_hand by_hand step more chosen others person t has choice more_choice here holds =
+    let marks = marks_by_hand step has.is_step in
+    let now = marks_by_hand more has.more_is_step in
+    let told' : AreMarkedByHand more.protections [] step.people now.0 = subst (λ (l : List Person). AreMarkedByHand more.protections [] l now.0) has.people now.1 in
+    let new = nobody_new step.people has.is_step.people.distinct in
+    let mine = one_choice step chosen (kept step.people (filled_up marks.0 (step.seats - marked marks.0))) has.is_step choice (by_hand step marks.0 has.is_step marks.1) in
+    let his = one_choice more (kept more.people (filled_up now.0 (more.seats - marked now.0))) others has.more_is_step (by_hand more now.0 has.more_is_step now.1) more_choice in
+    let first = all_marked step.protections step.people [] [] marks.0 new (nobody_marked step.protections) marks.1 in
+    let second = all_marked more.protections step.people [] [] now.0 new (nobody_marked more.protections) told' in
+    let little = little_more step.protections more.protections t has.one_more has.others (onto step.people []) (marked marks.0) second.reached.0
+    (subst (λ n. IsHonoured step.protections (onto step.people []) n) (omega arith) first) second.reached.1 in
+    let size = second.reached.2 in
+    let seats = has.seats in
+    let there = stays_chosen step.protections more.protections t has.one_more has.others person holds step.people [] [] [] marks.0 now.0 (step.seats - marked marks.0) (more.seats - marked now.0) new
+    (nobody_marked step.protections) (nobody_marked more.protections) marks.1 told' (omega (arith, little, size, seats)) (subst (λ l. IsAmong person l) mine here) in
+    subst (λ l. IsAmong person l) his (subst (λ (l : List Person). IsAmong person (kept l (filled_up now.0 (more.seats - marked now.0)))) (sym has.people) there)

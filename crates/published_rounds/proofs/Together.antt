@@ -1,0 +1,455 @@
+-- No group gains together (Hatfield and Kojima 2009). Those who would gain cut their lists before their seats, and take them back one by one.
+use Rattle.std.proofs.Common.{◌≡◌, ◌<◌, ◌≤◌, ◌+◌, ◌⊎◌, ◌==◌, inl, inr, ℕ, zero, suc, Bool, true, false, List, [], ◌∷◌, Option, Some, None, length, nat_lt, not, take, arith, refl, sym, ap, ◌∙◌, subst, if◌then◌else◌}
+use Rattle.std.specs.Prelude.{◌&&◌, ◌||◌, slice_get}
+use Rattle.std.proofs.lemmas.Bool.{and_from, and_parts, cases_Bool, cases_eq, cases_lt, eq-eqb, eqb-true, lt-ltb, ltb-false, ltb-true}
+use Rattle.std.proofs.lemmas.Option.{slice_get_within}
+use Rattle.office_base.proofs.Lists.{there_is}
+use Rattle.office_base.specs.declared.asks.Seat.{Seat}
+use Rattle.office_base.specs.declared.person.Person.{Person}
+use Rattle.allocations.specs.Fair.{IsBest, IsFair, IsMarket}
+use Rattle.allocations.specs.Market.{Seeker, applies, place_of, rank_of}
+use Rattle.allocations.specs.Rule.{AdmitsNoFewer, ChoosesWell, Rule}
+use Rattle.allocations.proofs.Best.{best_there}
+use Rattle.allocations.proofs.Places.{applies_true, rank_within}
+use Rattle.allocations.proofs.Seated.{fair_alike}
+use Rattle.allocations.proofs.Those.{value_at}
+use Rattle.allocations.proofs.Truthful.{with_list}
+use Rattle.published_rounds.specs.Groups.{AllGain, NoGroupGains, TellTogether}
+use Rattle.published_rounds.proofs.Counted.{AreBeside, has_seat}
+use Rattle.published_rounds.proofs.ListFronts.{AppliesBy, IsWithin, applies_by, by_applies, fronted, fronted_at, fronted_whole, front_market, front_within, length_fronted, moved, of_place, own_within, rank_at, rank_there, seat_of_place, size_at, size_there, still_listed}
+
+-- ---- places
+
+-- one of the first places passes a test, or none does
+search_places : (f : ℕ → Bool) (n : ℕ) → ((i : ℕ) × (i < n) × (f i ≡ true)) ⊎ ((i : ℕ) → i < n → f i ≡ false)
+search_places f zero = inr (λ i less. absurd (omega (arith, less)))
+search_places f (suc n) = elim (search_places f n) [
+  | inl found ↦ inl (found.0, (let less = found.1 in omega (arith, less)), found.2)
+  | inr none ↦ elim (cases_Bool (f n)) [
+    | inl here ↦ inl (n, omega arith, here)
+    | inr gone ↦ inr (λ i less. elim (cases_lt i n) [
+      | inl before ↦ none i before
+      | inr last ↦ let same : i ≡ n = omega (arith, less, last) in subst (λ k. f k ≡ false) (sym same) gone
+    ])
+  ]
+]
+
+-- how many of the first places pass a test
+abbrev passing : (ℕ → Bool) → ℕ → ℕ
+passing f zero = 0
+passing f (suc n) = passing f n + (if f n then 1 else 0)
+
+one_fewer : (b c : Bool) (m n : ℕ) → (b ≡ true → c ≡ true) → m ≤ n → m + (if b then 1 else 0) ≤ n + (if c then 1 else 0)
+one_fewer true true m n h le = omega (arith, le)
+one_fewer true false m n h le = absurd (let e = h refl in cc)
+one_fewer false true m n h le = omega (arith, le)
+one_fewer false false m n h le = omega (arith, le)
+
+one_gone : (b c : Bool) (m n : ℕ) → b ≡ false → c ≡ true → m ≤ n → m + (if b then 1 else 0) < n + (if c then 1 else 0)
+one_gone true c m n e f le = absurd (cc)
+one_gone false true m n e f le = omega (arith, le)
+one_gone false false m n e f le = absurd (cc)
+
+passing_le : (f g : ℕ → Bool) (n : ℕ) → ((i : ℕ) → f i ≡ true → g i ≡ true) → passing f n ≤ passing g n
+passing_le f g zero each = omega arith
+passing_le f g (suc n) each = one_fewer (f n) (g n) _ _ (each n) (passing_le f g n each)
+
+passing_less : (f g : ℕ → Bool) (n r : ℕ) → ((i : ℕ) → f i ≡ true → g i ≡ true) → r < n → f r ≡ false → g r ≡ true → passing f n < passing g n
+passing_less f g zero r each less e h = absurd (omega (arith, less))
+passing_less f g (suc n) r each less e h = elim (cases_lt r n) [
+  | inl before ↦
+      let rest = passing_less f g n r each before e h in
+      let here = one_fewer (f n) (g n) 0 0 (each n) (omega arith) in
+      omega (arith, rest, here)
+  | inr last ↦
+      let same : r ≡ n = omega (arith, less, last) in
+      one_gone (f n) (g n) _ _ (subst (λ k. f k ≡ false) same e) (subst (λ k. g k ≡ true) same h) (passing_le f g n each)
+]
+
+pick_true : (b : Bool) (m n : ℕ) → b ≡ true → (if b then m else n) ≡ m
+pick_true true m n e = refl
+pick_true false m n e = absurd (cc)
+
+pick_false : (b : Bool) (m n : ℕ) → b ≡ false → (if b then m else n) ≡ n
+pick_false true m n e = absurd (cc)
+pick_false false m n e = refl
+
+abbrev is_none : Option Seat → Bool
+is_none None = true
+is_none (Some seat) = false
+
+ranks_short : (seekers : List Seeker) (seats : List (Option Seat))
+    → ((i : ℕ) (s : Seeker) (seat : Option Seat) → slice_get seekers i ≡ Some s → slice_get seats i ≡ Some seat → rank_of s.list seat ≤ length s.list)
+    → (i : ℕ) → rank_at seekers seats i ≤ size_at seekers i
+ranks_short [] seats each i = omega arith
+ranks_short (s ∷ seekers) [] each zero = omega arith
+ranks_short (s ∷ seekers) [] each (suc i) = omega arith
+ranks_short (s ∷ seekers) (x ∷ seats) each zero = each 0 s x refl refl
+ranks_short (s ∷ seekers) (x ∷ seats) each (suc i) = ranks_short seekers seats (λ j. each (suc j)) i
+
+module _ (rule : Rule) (MayApply : ℕ → List Person → Type 0) (well : ChoosesWell rule MayApply) (no_fewer : AdmitsNoFewer rule MayApply) (count : ℕ) (group : ℕ → Bool)
+    (seekers told : List Seeker) (seats others : List (Option Seat)) (market : IsMarket MayApply count seekers) (market' : IsMarket MayApply count told)
+    (together : TellTogether group seekers told) (best : IsBest rule count seekers seats) (fair' : IsFair rule count told others) (gain : AllGain group seekers seats others) where
+  abbrev many : ℕ
+  many = length seekers
+
+  abbrev whole : ℕ → ℕ
+  whole i = size_at seekers i
+
+  abbrev rank : ℕ → ℕ
+  rank i = rank_at seekers seats i
+
+  -- who would gain
+  abbrev gains : ℕ → Bool
+  gains i = nat_lt (rank_at seekers others i) (rank i)
+
+  -- of these, who has not taken their list back
+  abbrev cuts : (ℕ → Bool) → ℕ → Bool
+  cuts back i = gains i && not (back i)
+
+  -- they cut it before their seat
+  abbrev kept : (ℕ → Bool) → ℕ → ℕ
+  kept back i = if cuts back i then rank i else whole i
+
+  seat_there : (i : ℕ) (s : Seeker) → slice_get seekers i ≡ Some s → (seat : Option Seat) × (slice_get seats i ≡ Some seat)
+  seat_there i s there = value_at seekers seats i s best.fair.allocation.full there
+
+  short : (i : ℕ) → rank i ≤ whole i
+  short = ranks_short seekers seats (λ i s seat there has. rank_within s.list seat (best.fair.allocation.own i s seat there has))
+
+  all_whole : fronted whole seekers ≡ seekers
+  all_whole = fronted_whole whole seekers (λ i s there. let e = size_there seekers i s there in omega (arith, e))
+
+  seats_whole : IsFair rule count (fronted whole seekers) seats
+  seats_whole = subst (λ l. IsFair rule count l seats) (sym all_whole) best.fair
+
+  kept_cut : (back : ℕ → Bool) (i : ℕ) → cuts back i ≡ true → kept back i ≡ rank i
+  kept_cut back i e = pick_true (cuts back i) (rank i) (whole i) e
+
+  kept_whole : (back : ℕ → Bool) (i : ℕ) → cuts back i ≡ false → kept back i ≡ whole i
+  kept_whole back i e = pick_false (cuts back i) (rank i) (whole i) e
+
+  kept_short : (back : ℕ → Bool) (i : ℕ) → kept back i ≤ whole i
+  kept_short back i = elim (cases_Bool (cuts back i)) [
+    | inl cut ↦ let e = kept_cut back i cut in let le = short i in omega (arith, e, le)
+    | inr not_cut ↦ let e = kept_whole back i not_cut in omega (arith, e)
+  ]
+
+  wider : (n m : ℕ) (s : Seeker) (seat : Option Seat) → n ≤ m → IsWithin n s.list seat → IsWithin m s.list seat
+  wider n m s None le at = tt
+  wider n m s (Some y) le at = (let before = at.0 in omega (arith, before, le), at.1)
+
+  -- the best seats by what is kept
+  seated : (back : ℕ → Bool) → (small : List (Option Seat)) × IsBest rule count (fronted (kept back) seekers) small
+  seated back = best_there rule MayApply count (fronted (kept back) seekers) (front_market rule MayApply well count seekers market (kept back)) well
+
+  full_seated : (back : ℕ → Bool) → length (seated back).0 ≡ length seekers
+  full_seated back = (seated back).1.fair.allocation.full ∙ length_fronted (kept back) seekers
+
+  within_whole : (i : ℕ) (s : Seeker) (seat : Option Seat) → slice_get seekers i ≡ Some s → slice_get seats i ≡ Some seat → IsWithin (whole i) s.list seat
+  within_whole i s seat there has = front_within rule MayApply well count seekers market whole seats i s seat seats_whole there has
+
+  -- who does not cut has no worse seat than before
+  no_worse : (back : ℕ → Bool) (i : ℕ) (s : Seeker) (y : Option Seat) → cuts back i ≡ false → slice_get seekers i ≡ Some s → slice_get (seated back).0 i ≡ Some y → rank_of s.list y ≤ rank i
+  no_worse back i s y not_cut there has =
+      let seat = seat_there i s there in
+      let e = kept_whole back i not_cut in
+      let same = rank_there seekers seats i s seat.0 there seat.1 in
+      let le = still_listed rule rule MayApply well (λ p people x may h. h) count seekers market (kept back) whole (kept_short back) seats seats_whole (seated back).0 i s seat.0 y (seated back).1 there seat.1 has
+      (wider (whole i) (kept back i) s seat.0 (omega (arith, e)) (within_whole i s seat.0 there seat.1)) in
+      omega (arith, le, same)
+
+  -- ---- if all who cut have a seat, it is better than the best
+
+  module _ (back : ℕ → Bool) (all : (i : ℕ) → i < many → (cuts back i && is_none (seat_of_place (seated back).0 i)) ≡ false) where
+    has_one : (i : ℕ) (s : Seeker) → slice_get seekers i ≡ Some s → cuts back i ≡ true → slice_get (seated back).0 i ≡ Some None → ⊥
+    has_one i s there cut none =
+        let less = slice_get_within seekers i s there in
+        let gone = all i less in
+        let is : is_none (seat_of_place (seated back).0 i) ≡ true = ap is_none (of_place (seated back).0 i None none) in
+        let both = and_from (cuts back i) (is_none (seat_of_place (seated back).0 i)) cut is in
+        cc
+
+    stays : (i p : ℕ) (s : Seeker) (y : Option Seat) → slice_get seekers i ≡ Some s → slice_get (seated back).0 i ≡ Some y → AppliesBy (whole i) s.list p y → place_of s.list p < kept back i
+    stays i p s None there has a = elim (cases_Bool (cuts back i)) [
+      | inl cut ↦ absurd (has_one i s there cut has)
+      | inr not_cut ↦ let e = kept_whole back i not_cut in let before = a.before in omega (arith, e, before)
+    ]
+    stays i p s (Some y) there has a =
+        let own = front_within rule MayApply well count seekers market (kept back) (seated back).0 i s (Some y) (seated back).1.fair there has in
+        let before = own.0 in
+        let within : place_of s.list p ≤ place_of s.list y.prog.0 = a.within in
+        omega (arith, before, within)
+
+    seated_fair : IsFair rule count seekers (seated back).0
+    seated_fair = subst (λ l. IsFair rule count l (seated back).0) all_whole
+        (moved rule MayApply well count seekers market (kept back) whole (seated back).0 (seated back).1.fair
+        (λ i s y there has. wider (kept back i) (whole i) s y (kept_short back i)
+        (front_within rule MayApply well count seekers market (kept back) (seated back).0 i s y (seated back).1.fair there has))
+        stays)
+
+    too_good : (j : ℕ) (s : Seeker) (y : Option Seat) → slice_get seekers j ≡ Some s → cuts back j ≡ true → slice_get (seated back).0 j ≡ Some y → ⊥
+    too_good j s None there cut has = has_one j s there cut has
+    too_good j s (Some y) there cut has =
+        let seat = seat_there j s there in
+        let own = front_within rule MayApply well count seekers market (kept back) (seated back).0 j s (Some y) (seated back).1.fair there has in
+        let before = own.0 in
+        let e = kept_cut back j cut in
+        let same = rank_there seekers seats j s seat.0 there seat.1 in
+        let le : rank_of s.list seat.0 ≤ place_of s.list y.prog.0 = best.best (seated back).0 seated_fair j s seat.0 (Some y) there seat.1 has in
+        omega (arith, before, e, same, le)
+
+  -- ---- one who has none takes the list back
+
+  abbrev Holds : (ℕ → Bool) → Type 0
+  Holds back = (i : ℕ) (s : Seeker) (y : Option Seat) → back i ≡ true → slice_get seekers i ≡ Some s → slice_get (seated back).0 i ≡ Some y → rank_of s.list y ≡ rank i
+
+  not_cut_of : (back : ℕ → Bool) (i : ℕ) → back i ≡ true → cuts back i ≡ false
+  not_cut_of back i e = by (gains i) (back i) e
+    where
+      by : (b c : Bool) → c ≡ true → (b && not c) ≡ false
+      by true true e = refl
+      by true false e = absurd (cc)
+      by false c e = refl
+
+  module _ (back : ℕ → Bool) (holds : Holds back) (r : ℕ) (s : Seeker) (there : slice_get seekers r ≡ Some s) (cut : cuts back r ≡ true) (none : slice_get (seated back).0 r ≡ Some None) where
+    abbrev more : ℕ → Bool
+    more i = back i || (i == r)
+
+    more_self : more r ≡ true
+    more_self = by (back r) (r == r) (eq-eqb r r refl)
+      where
+        by : (b c : Bool) → c ≡ true → (b || c) ≡ true
+        by true c e = refl
+        by false c e = e
+
+    more_means : (i : ℕ) → more i ≡ true → (back i ≡ true) ⊎ (i ≡ r)
+    more_means i e = by (back i) (i == r) e (eqb-true i r)
+      where
+        by : (b c : Bool) → (b || c) ≡ true → (c ≡ true → i ≡ r) → (b ≡ true) ⊎ (i ≡ r)
+        by true c e is = inl refl
+        by false c e is = inr (is e)
+
+    -- who cuts after cut before
+    cut_before : (i : ℕ) → cuts more i ≡ true → cuts back i ≡ true
+    cut_before i e = by (gains i) (back i) (i == r) e
+      where
+        by : (a b c : Bool) → (a && not (b || c)) ≡ true → (a && not b) ≡ true
+        by true true c e = absurd (cc)
+        by true false c e = refl
+        by false b c e = absurd (cc)
+
+    -- and who cut before, and is another, cuts after
+    cut_after : (i : ℕ) → cuts back i ≡ true → (i ≡ r → ⊥) → cuts more i ≡ true
+    cut_after i e apart = by (gains i) (back i) (i == r) e (λ f. apart (eqb-true i r f))
+      where
+        by : (a b c : Bool) → (a && not b) ≡ true → (c ≡ true → ⊥) → (a && not (b || c)) ≡ true
+        by true true c e f = absurd (cc)
+        by true false true e f = absurd (f refl)
+        by true false false e f = refl
+        by false b c e f = absurd (cc)
+
+    longer : (i : ℕ) → kept back i ≤ kept more i
+    longer i = elim (cases_Bool (cuts more i)) [
+      | inl still ↦ let e = kept_cut more i still in let f = kept_cut back i (cut_before i still) in omega (arith, e, f)
+      | inr not_cut ↦ let e = kept_whole more i not_cut in let le = kept_short back i in omega (arith, e, le)
+    ]
+
+    -- an earlier seat than before would be one by the cut list
+    back_fair : (w : Seat) → slice_get (seated more).0 r ≡ Some (Some w) → place_of s.list w.prog.0 < rank r → IsFair rule count (fronted (kept back) seekers) (seated more).0
+    back_fair w has before =
+        moved rule MayApply well count seekers market (kept more) (kept back) (seated more).0 (seated more).1.fair own (λ i p t y there' has' a. let first = a.before in let le = longer i in omega (arith, first, le))
+      where
+        own : (i : ℕ) (t : Seeker) (y : Option Seat) → slice_get seekers i ≡ Some t → slice_get (seated more).0 i ≡ Some y → IsWithin (kept back i) t.list y
+        own i t y there' has' =
+            let mine = front_within rule MayApply well count seekers market (kept more) (seated more).0 i t y (seated more).1.fair there' has' in
+            elim (cases_Bool (cuts back i)) [
+              | inr not_cut ↦ let e = kept_whole back i not_cut in let le = kept_short more i in wider (kept more i) (kept back i) t y (omega (arith, e, le)) mine
+              | inl is_cut ↦ elim (cases_eq i r) [
+                | inl same ↦
+                    let at : slice_get seekers r ≡ Some t = subst (λ n. slice_get seekers n ≡ Some t) same there' in
+                    let at' : slice_get (seated more).0 r ≡ Some y = subst (λ n. slice_get (seated more).0 n ≡ Some y) same has' in
+                    let one : s ≡ t = cc in
+                    let two : Some w ≡ y = cc in
+                    let e = kept_cut back r cut in
+                    let on = (front_within rule MayApply well count seekers market (kept more) (seated more).0 r s (Some w) (seated more).1.fair there has).1 in
+                    let here : IsWithin (kept back r) s.list (Some w) = (omega (arith, e, before), on) in
+                    subst (λ n. IsWithin (kept back n) t.list y) (sym same) (subst (λ o. IsWithin (kept back r) t.list o) two (subst (λ (z : Seeker). IsWithin (kept back r) z.list (Some w)) one here))
+                | inr apart ↦
+                    let e = kept_cut back i is_cut in
+                    let f = kept_cut more i (cut_after i is_cut apart) in
+                    wider (kept more i) (kept back i) t y (omega (arith, e, f)) mine
+              ]
+            ]
+
+    exactly : (y : Option Seat) → slice_get (seated more).0 r ≡ Some y → rank_of s.list y ≡ rank r
+    exactly y has =
+        let le = no_worse more r s y (not_cut_of more r more_self) there has in
+        elim (cases_lt (rank_of s.list y) (rank r)) [
+          | inr past ↦ omega (arith, le, past)
+          | inl before ↦ absurd (earlier y has before)
+        ]
+      where
+        earlier : (y : Option Seat) → slice_get (seated more).0 r ≡ Some y → rank_of s.list y < rank r → ⊥
+        earlier None has before = let le = short r in let e = size_there seekers r s there in omega (arith, before, le, e)
+        earlier (Some w) has before =
+            let alike = fair_alike rule MayApply well no_fewer count (fronted (kept back) seekers) (front_market rule MayApply well count seekers market (kept back)) (seated back).0 (seated more).0
+            (seated back).1.fair (back_fair w has before) in
+            let gone = (alike.unseated r).0 none in
+            cc
+
+    still_holds : Holds more
+    still_holds i t y is_back there' has = elim (more_means i is_back) [
+      | inr same ↦
+          let at : slice_get seekers r ≡ Some t = subst (λ n. slice_get seekers n ≡ Some t) same there' in
+          let at' : slice_get (seated more).0 r ≡ Some y = subst (λ n. slice_get (seated more).0 n ≡ Some y) same has in
+          let one : s ≡ t = cc in
+          subst (λ n. rank_of t.list y ≡ rank n) (sym same) (subst (λ (z : Seeker). rank_of z.list y ≡ rank r) one (exactly y at'))
+      | inl was ↦
+          let before = value_at seekers (seated back).0 i t (full_seated back) there' in
+          let e = holds i t before.0 was there' before.1 in
+          let mine = front_within rule MayApply well count seekers market (kept more) (seated more).0 i t y (seated more).1.fair there' has in
+          let f = kept_whole back i (not_cut_of back i was) in
+          let le = kept_short more i in
+          let first = still_listed rule rule MayApply well (λ p people x may h. h) count seekers market (kept back) (kept more) longer (seated more).0 (seated more).1.fair (seated back).0 i t y before.0 (seated back).1 there' has before.1
+          (wider (kept more i) (kept back i) t y (omega (arith, f, le)) mine) in
+          let second = no_worse more i t y (not_cut_of more i is_back) there' has in
+          omega (arith, e, first, second)
+    ]
+
+    -- ---- the last one
+
+    module _ (last : (i : ℕ) → i < many → cuts more i ≡ false) where
+      taken_back : (i : ℕ) (t : Seeker) → slice_get seekers i ≡ Some t → gains i ≡ true → more i ≡ true
+      taken_back i t there' e = by (gains i) (more i) e (last i (slice_get_within seekers i t there'))
+        where
+          by : (a b : Bool) → a ≡ true → (a && not b) ≡ false → b ≡ true
+          by true true e f = refl
+          by true false e f = absurd (cc)
+          by false b e f = absurd (cc)
+
+      front_is : (i : ℕ) (a : Seeker) → slice_get (fronted (kept back) seekers) i ≡ Some a → (t : Seeker) × (slice_get seekers i ≡ Some t) × (a ≡ with_list t (take (kept back i) t.list))
+      front_is i a at =
+          let t = value_at (fronted (kept back) seekers) seekers i a (sym (length_fronted (kept back) seekers)) at in
+          let here = fronted_at (kept back) seekers i t.0 t.1 in
+          (t.0, t.1, (let same : Some a ≡ Some (with_list t.0 (take (kept back i) t.0.list)) = sym at ∙ here in cc))
+
+      -- who gains applied for the seat of the others
+      moving : (i : ℕ) (t : Seeker) (y other : Option Seat) → gains i ≡ true → slice_get seekers i ≡ Some t → slice_get (seated back).0 i ≡ Some y → slice_get others i ≡ Some other
+          → (z : Seat) × (other ≡ Some z) × AppliesBy (kept back i) t.list z.prog.0 y
+      moving i t y None e there' has has' = absurd (
+          let less = ltb-true _ _ e in
+          let same = rank_there seekers others i t None there' has' in
+          let le = short i in
+          let size = size_there seekers i t there' in
+          omega (arith, less, same, le, size))
+      moving i t y (Some z) e there' has has' =
+          let less = ltb-true _ _ e in
+          let same = rank_there seekers others i t (Some z) there' has' in
+          let le = short i in
+          let size = size_there seekers i t there' in (
+            z,
+            refl,
+            elim (more_means i (taken_back i t there' e)) [
+              | inl was ↦
+                  let f = kept_whole back i (not_cut_of back i was) in
+                  let g = holds i t y was there' has in
+                  record { before = omega (arith, less, same, le, f); on = omega (arith, less, same, le, size); within = omega (arith, less, same, g) }
+              | inr is_r ↦
+                  let at' : slice_get (seated back).0 r ≡ Some y = subst (λ n. slice_get (seated back).0 n ≡ Some y) is_r has in
+                  let gone : None ≡ y = cc in
+                  let f : kept back i ≡ rank i = subst (λ n. kept back n ≡ rank n) (sym is_r) (kept_cut back r cut) in
+                  let g : length t.list ≡ rank_of t.list y = ap (λ o. rank_of t.list o) gone in
+                  record { before = omega (arith, less, same, f); on = omega (arith, less, same, le, size); within = omega (arith, less, same, le, size, g) }
+            ],
+          )
+
+      -- who does not gain is as the others are
+      staying : (i p : ℕ) (t u : Seeker) (y other : Option Seat) → gains i ≡ false → slice_get seekers i ≡ Some t → slice_get told i ≡ Some u → slice_get (seated back).0 i ≡ Some y
+          → slice_get others i ≡ Some other → AppliesBy (kept back i) t.list p y → applies p u.list other ≡ true
+      staying i p t u y other e there' at has has' a =
+          let seat = seat_there i t there' in
+          let same = rank_there seekers others i t other there' has' in
+          let same' = rank_there seekers seats i t seat.0 there' seat.1 in
+          let past = ltb-false (rank_at seekers others i) (rank i) e in
+          let out : group i ≡ false = elim (cases_Bool (group i)) [
+            | inl within ↦ absurd (let less = gain i t seat.0 other within there' seat.1 has' in omega (arith, less, same, same', past))
+            | inr out ↦ out
+          ] in
+          let list = together.others i t u out there' at in
+          let worse = no_worse back i t y (by (gains i) (back i) e) there' has in
+          let within = a.within in
+          subst (λ l. applies p l other ≡ true) (sym list) (applies_true p t.list other a.on (omega (arith, within, worse, past, same)))
+        where
+          by : (b c : Bool) → b ≡ false → (b && not c) ≡ false
+          by true c e = absurd (cc)
+          by false c e = refl
+
+      beside : AreBeside rule count (fronted (kept back) seekers) told (seated back).0 others gains
+      beside = record {
+        fair = (seated back).1.fair;
+        told_fair = fair';
+        same = together.same ∙ sym (length_fronted (kept back) seekers);
+        persons = λ i a u at at'.
+            let t = front_is i a at in
+            ap (λ (z : Seeker). z.person) t.2 ∙ together.persons i t.0 u t.1 at';
+        moving = λ i a y other e at has has'.
+            let t = front_is i a at in
+            let m = moving i t.0 y other e t.1 has has' in
+            (m.0, m.1, subst (λ (z : Seeker). applies m.0.prog.0 z.list y ≡ true) (sym t.2) (by_applies (kept back i) t.0.list m.0.prog.0 y m.2));
+        staying = λ i p a u y other e at at' has has' h.
+            let t = front_is i a at in
+            let own = own_within (kept back i) t.0.list y (front_within rule MayApply well count seekers market (kept back) (seated back).0 i t.0 y (seated back).1.fair t.1 has) in
+            staying i p t.0 u y other e t.1 at' has has' (applies_by (kept back i) t.0.list p y own (subst (λ (z : Seeker). applies p z.list y ≡ true) t.2 h));
+      }
+
+      no_last : ⊥
+      no_last =
+          has_seat rule MayApply well no_fewer count (fronted (kept back) seekers) told (seated back).0 others gains (front_market rule MayApply well count seekers market (kept back)) market' beside r
+          (with_list s (take (kept back r) s.list)) (and_parts (gains r) (not (back r)) cut).0 (fronted_at (kept back) seekers r s there) none
+
+  -- ---- one after another
+
+  none_left : (fuel : ℕ) (back : ℕ → Bool) (j : ℕ) → passing (cuts back) many ≤ fuel → Holds back → j < many → cuts back j ≡ true → ⊥
+  none_left zero back j few holds less cut =
+      let some = passing_less (λ i. false) (cuts back) many j (λ i e. absurd (cc)) less refl cut in
+      omega (arith, few, some)
+  none_left (suc fuel) back j few holds less cut = elim (search_places (λ i. cuts back i && is_none (seat_of_place (seated back).0 i)) many) [
+    | inr all ↦
+        let s = there_is seekers j less in
+        let y = value_at seekers (seated back).0 j s.0 (full_seated back) s.1 in
+        too_good back all j s.0 y.0 s.1 cut y.1
+    | inl found ↦
+        let r = found.0 in
+        let parts = and_parts (cuts back r) (is_none (seat_of_place (seated back).0 r)) found.2 in
+        let s = there_is seekers r found.1 in
+        let y = value_at seekers (seated back).0 r s.0 (full_seated back) s.1 in
+        let none : slice_get (seated back).0 r ≡ Some None = y.1 ∙ ap Some (nothing y.0 (subst (λ o. is_none o ≡ true) (of_place (seated back).0 r y.0 y.1) parts.1)) in
+        let next : ℕ → Bool = λ i. back i || (i == r) in
+        let fewer = passing_less (cuts next) (cuts back) many r (cut_before back holds r s.0 s.1 parts.0 none) found.1
+        (not_cut_of next r (more_self back holds r s.0 s.1 parts.0 none)) parts.0 in
+        elim (search_places (cuts next) many) [
+          | inl other ↦ none_left fuel next other.0 (omega (arith, fewer, few)) (still_holds back holds r s.0 s.1 parts.0 none) other.1 other.2
+          | inr last ↦ no_last back holds r s.0 s.1 parts.0 none last
+        ]
+  ]
+    where
+      nothing : (y : Option Seat) → is_none y ≡ true → y ≡ None
+      nothing None e = refl
+      nothing (Some y) e = absurd (cc)
+
+  not_all_gain : (i : ℕ) (s : Seeker) → group i ≡ true → slice_get seekers i ≡ Some s → ⊥
+  not_all_gain i s within there =
+      let seat = seat_there i s there in
+      let other = value_at seekers others i s (fair'.allocation.full ∙ together.same) there in
+      let less = gain i s seat.0 other.0 within there seat.1 other.1 in
+      let e = rank_there seekers seats i s seat.0 there seat.1 in
+      let f = rank_there seekers others i s other.0 there other.1 in
+      let gaining : gains i ≡ true = lt-ltb (rank_at seekers others i) (rank i) (omega (arith, less, e, f)) in
+      none_left (passing (cuts (λ j. false)) many) (λ j. false) i (omega arith) (λ j t y is_back. absurd (cc)) (slice_get_within seekers i s there)
+      (and_from (gains i) true gaining refl)
+
+-- No group can all gain.
+pub no_group_gains : (rule : Rule) (MayApply : ℕ → List Person → Type 0) → ChoosesWell rule MayApply → AdmitsNoFewer rule MayApply → NoGroupGains rule MayApply
+no_group_gains rule MayApply well no_fewer count group seekers told seats others i s market market' together best fair' within there gain =
+    not_all_gain rule MayApply well no_fewer count group seekers told seats others market market' together best fair' gain i s within there

@@ -1,0 +1,5 @@
+use Rattle.published_rounds.proofs.Versions as versions
+use Rattle.published_rounds.proofs.laws.version_two_hurts_nobody.Goals as goal
+
+pub returns : goal.returns
+returns c = versions.version_two_hurts_nobody c.choose_well.ensures

@@ -1,2 +1,0 @@
-mod InWindows
-mod Replayed

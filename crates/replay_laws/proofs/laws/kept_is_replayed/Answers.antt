@@ -1,5 +1,0 @@
-use Rattle.replay_laws.proofs.Replayed.{kept_is_replayed}
-use Rattle.replay_laws.proofs.laws.kept_is_replayed.Goals as goal
-
-pub returns : goal.returns
-returns c = kept_is_replayed

@@ -1,4 +1,0 @@
-mod Later
-mod Raised
-mod Refused
-mod Seated

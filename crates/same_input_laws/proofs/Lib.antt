@@ -1,0 +1,22 @@
+mod RunEnds
+pub mod Written
+mod ResumeEnds
+pub mod Keep
+pub mod Replayed
+pub mod Resumed
+pub mod Tokens
+pub mod UnitEnds
+mod SpecialEnds
+mod Remaining
+mod SpecialRounds
+mod Answered
+mod Calls
+mod Dossiers
+mod DuePapers
+mod AuditEnds
+mod Joined
+mod OwnAudit
+mod OwnDossier
+mod OwnPapers
+mod SeasonDossiers
+mod ShownLists

@@ -1,0 +1,17 @@
+use Rattle.same_input_laws.proofs.SpecialEnds as ends
+use Rattle.same_input_laws.proofs.laws.specials_are_one.Goals as goal
+
+pub returns : goal.returns
+returns c = ends.specials_are_one (record {
+  readings = c.one_reading.ensures;
+  kept = record { seasons = c.one_season.ensures.kept; sound = c.one_season.ensures.sound; records = c.one_end.ensures };
+  grows = c.history_grows.ensures;
+  orderly = c.orderly.ensures;
+  known = c.finals_are_known.ensures;
+  certificate = c.one_certificate.ensures;
+  lists = c.one_reading-2.ensures;
+  carry = c.same_reading.ensures;
+  enter = c.enter.ensures;
+  round = c.one_round.ensures;
+  answer = c.one_special_answer.ensures;
+})

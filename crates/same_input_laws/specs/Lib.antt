@@ -1,0 +1,9 @@
+pub mod RunOutputs
+pub mod Keep
+pub mod ResumeOutputs
+pub mod UnitOutputs
+pub mod SpecialOutputs
+pub mod Calls
+pub mod Joined
+pub mod AuditOutputs
+pub mod SeasonDossiers

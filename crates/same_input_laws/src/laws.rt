@@ -1,0 +1,135 @@
+// That the same input gives the same output of each command. Each law is the contract of a function that does nothing.
+ghost use Rattle.same_input_laws.specs.RunOutputs.{CommandsAreOne};
+ghost use Rattle.same_input_laws.specs.Keep.{HistoriesKeepOne};
+ghost use Rattle.same_input_laws.specs.ResumeOutputs.{ResumesAreOne};
+ghost use Rattle.same_input_laws.specs.UnitOutputs.{UnitsAreOne};
+ghost use Rattle.same_input_laws.specs.SpecialOutputs.{SpecialsAreOne};
+ghost use Rattle.same_input_laws.specs.Calls.{CallsAreOne};
+ghost use Rattle.same_input_laws.specs.AuditOutputs.{EachAuditIsOne};
+ghost use Rattle.same_input_laws.specs.SeasonDossiers.{SeasonsHaveDossiers};
+
+use keeper_mem::Keeper;
+use office_base::{Sink, Source};
+use office_links::Door;
+
+/// Two runs of `check` over the same bytes write the same. So do two of `run`, and two of one generated season.
+pub fn commands_are_one()
+    ensures { CommandsAreOne }
+{
+    season_commands::laws::one_answer();
+    season_commands::laws::one_bundle_answer();
+    one_output::laws::one_output();
+    one_output::laws::one_tally();
+}
+
+/// Two runs of `resume` over the same bytes and the same visible records, both with an answer, end with the same status,
+/// write the same and leave the same records.
+pub fn resumes_are_one()
+    ensures { ResumesAreOne }
+{
+    season_file::laws::one_reading();
+    season_commands::laws::one_script_answer();
+    one_output::laws::one_season();
+    histories::laws::history_grows();
+    replays::laws::one_end();
+    season_commands::laws::one_run();
+}
+
+/// Two offices of one season with one history keep the same records: in each window the same answers and raises, and in each
+/// round the same seats.
+pub fn histories_keep_one()
+    ensures { HistoriesKeepOne }
+{
+    histories::laws::one_history();
+}
+
+/// Two runs of `units` over the same bytes write the same.
+pub fn units_are_one()
+    ensures { UnitsAreOne }
+{
+    units_command::laws::one_units_answer();
+    commands_are_one();
+}
+
+/// Two runs of `special` over the same bytes and the same visible records, both with an answer, end with the same status
+/// and write the same.
+pub fn specials_are_one()
+    ensures { SpecialsAreOne }
+{
+    season_file::laws::one_reading();
+    one_output::laws::one_season();
+    replays::laws::one_end();
+    histories::laws::history_grows();
+    histories::laws::orderly();
+    special_round::laws::finals_are_known();
+    slot_cert::laws::one_certificate();
+    choice_lists::laws::one_reading();
+    choice_lists::laws::same_reading();
+    round_laws::laws::enter();
+    round_laws::laws::one_round();
+    special_command::laws::one_special_answer();
+}
+
+/// Two runs of `audit` over the same bytes, both with an answer, end with the same status and write the same.
+/// So do two of `audit best`.
+pub fn audits_are_one()
+    ensures { EachAuditIsOne }
+{
+    audit_command::laws::one_audit();
+    one_output::laws::one_verdict_of_bytes();
+    one_output::laws::one_season();
+    dossier_file::laws::one_dossier();
+    dossier_file::laws::texts_are_one();
+    season_audit::laws::one_best_verdict();
+}
+
+/// Each season with its requests has a dossier: every text that is due exists, says what the office holds, and an audit finds no
+/// broken clause.
+pub fn seasons_have_dossiers()
+    ensures { SeasonsHaveDossiers }
+{
+    one_output::laws::one_season();
+    histories::laws::orderly();
+    histories::laws::history_grows();
+    season_laws::laws::every_request_is_answered();
+    season_laws::laws::published_is_read();
+    merit_choice::laws::choice_size();
+    merit_choice::laws::in_merit_ranks();
+    axiom_laws::laws::axioms_are_the_rule();
+    open_then_category::laws::one_programme_choice();
+    round_laws::laws::choose_well();
+    audit_command::laws::one_audit();
+    one_output::laws::one_verdict_of_bytes();
+    dossier_file::laws::one_dossier();
+    dossier_file::laws::texts_are_one();
+    season_audit::laws::one_best_verdict();
+}
+
+/// Two calls of the program with the same words, over the same visible bytes and tables, that both end with an answer end in
+/// one way: with one status, one output, and tables that hold the same. Words of `serve` are left out.
+pub fn calls_are_one<
+    S: Source,
+    K: Sink,
+    P: Keeper,
+    D: Door,
+    T: Source,
+    N: Sink,
+    Q: Keeper,
+    E: Door,
+>()
+    ensures { CallsAreOne S.Source K.Sink P.Keeper D.Door D.Conn.Link
+        T.Source N.Sink Q.Keeper E.Door E.Conn.Link }
+{
+    step_command::laws::one_answer();
+    season_commands::laws::one_answer();
+    season_commands::laws::one_bundle_answer();
+    units_command::laws::one_units_answer();
+    command_words::laws::one_spelling();
+    one_output::laws::one_season();
+    one_output::laws::one_output();
+    one_output::laws::one_tally();
+    commands_are_one();
+    resumes_are_one();
+    specials_are_one();
+    audits_are_one();
+}

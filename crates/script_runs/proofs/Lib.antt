@@ -1,6 +1,0 @@
-mod Counted
-mod OneRun
-mod OneTally
-mod RunLemmas
-pub mod Running
-mod Tallying

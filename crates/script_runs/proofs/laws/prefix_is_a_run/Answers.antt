@@ -1,5 +1,0 @@
-use Rattle.script_runs.proofs.RunLemmas.{prefix_is_a_run}
-use Rattle.script_runs.proofs.laws.prefix_is_a_run.Goals as goal
-
-pub returns : goal.returns
-returns c = λ facts. prefix_is_a_run facts

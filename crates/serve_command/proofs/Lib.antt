@@ -1,2 +1,0 @@
-mod ServeEnds
-mod ServedEnds

@@ -1,4 +1,0 @@
-pub mod Blames
-pub mod Doors
-pub mod Ending
-pub mod Serve

@@ -1,5 +1,0 @@
-mod CandidateLemmas
-mod LineLemmas
-mod RowLemmas
-mod SheetLemmas
-mod SoundLemmas

@@ -1,7 +1,0 @@
-use Rattle.std.proofs.Common.{arith}
-use Rattle.std.proofs.lemmas.Grind.{common_steps}
-use Rattle.step_sheet.proofs.LineLemmas.{traits_in-more}
-use Rattle.step_sheet.proofs.line.traits_after.Goals as goal
-
-pub returns-in-Some-more-clause-value : goal.returns-in-Some-more-clause-value
-returns-in-Some-more-clause-value c = grind (arith, common_steps, traits_in-more)

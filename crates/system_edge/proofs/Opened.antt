@@ -1,0 +1,56 @@
+-- A keeper over a connection, with its tables made.
+use Rattle.std.proofs.Common.{◌≡◌, Bool, Option, Some, None, IfSome, arith, subst}
+use Rattle.sqlite.specs.Store.{Ghosts}
+use Rattle.sqlite.specs.State.{State, HasCleanDisk}
+use Rattle.sqlite.specs.Held.{Held, IsNew, state}
+use Rattle.sqlite.specs.Files.{file_state, image_of, over_files, Finds, IsOpened}
+use Rattle.sqlite.specs.Start.{FindsIn}
+use Rattle.sqlite_disk.specs.declared.Files.{Files}
+use Rattle.sqlite_disk.specs.declared.Disk as disk
+use Rattle.sqlite_wal.specs.Recovery.{Image}
+use Rattle.sqlite_store.specs.declared.store.FileStore.{FileStore}
+use Rattle.kept_rows.specs.Tables.{NoSeason}
+use Rattle.stored_tables.specs.Told.{told, tables_in, without_raises}
+use Rattle.stored_tables.specs.Layout.{no_schema, first_four, stored}
+use Rattle.keeper_sqlite.specs.Commits.{CommitsOnce}
+use Rattle.keeper_sqlite.specs.Stored.{Stored}
+use Rattle.system_edge.specs.Heads.{HasSoundHead}
+use Rattle.system_edge.specs.Tables.{HasTables, HoldsFiles, IsOpenedOver, MakesTables}
+
+-- no lie was taken before, if none was taken up to now
+honest : (old new : State) → CommitsOnce old new → HasCleanDisk new → HasCleanDisk old
+unfolding CommitsOnce
+honest old new once clean =
+    let falls = once.1.clean in
+    omega (arith, falls, clean)
+
+module _ {S : Type 0} {g : Ghosts S} where
+  pub has_tables : (begun : Held S) (keeper : Stored S) → MakesTables g begun keeper.connection → keeper.faults ≡ 0
+      → CommitsOnce (state g begun) (state g keeper.connection)
+      → (HasCleanDisk (state g keeper.connection) → begun.schema ≡ no_schema → told (state g keeper.connection) ≡ NoSeason)
+      → ((strict : Bool) → HasCleanDisk (state g keeper.connection) → begun.schema ≡ first_four strict
+      → told (state g keeper.connection) ≡ tables_in (without_raises (state g begun).now.trees))
+      → ((strict : Bool) → HasCleanDisk (state g keeper.connection) → begun.schema ≡ stored strict → told (state g keeper.connection) ≡ tables_in (state g begun).now.trees)
+      → HasTables g begun keeper
+  has_tables begun keeper made faults once fresh older whole =
+      record { made = made; faults = faults; honest = λ clean. honest (state g begun) (state g keeper.connection) once clean; fresh = fresh; older = older; whole = whole }
+
+module _ {D : Type 0} {g : disk.Ghosts D} where
+  -- what was opened over files that held this shows it
+  pub opened_over : (files : Files D) (image : Image) (connection : Held (FileStore D g)) → image_of g files ≡ image
+      → (HasCleanDisk (file_state connection) → IsOpened connection × Finds files connection)
+      → (HasCleanDisk (file_state connection) → HasSoundHead (g.seen files.log)) → IsOpenedOver image connection
+  opened_over files image connection same opened sound clean =
+      let (is_open, found) = opened clean in
+      record {
+        opened = is_open;
+        found = subst (λ (i : Image). FindsIn i (file_state connection)) same (record { holds = found.holds; reads = found.reads });
+        sound = subst (λ (i : Image). HasSoundHead i.log) same (sound clean);
+      }
+
+  -- a keeper over a connection that shows what two files held
+  pub holds_files : (image : Image) (begun : Held (FileStore D g)) (made : Stored (FileStore D g)) → IsNew begun → IsOpenedOver image begun → made ≡ record { connection = begun; faults = 0 }
+      → (result : Option (Stored (FileStore D g))) → IfSome result (HasTables over_files made.connection) → IfSome result (HoldsFiles image)
+  holds_files image begun made new opened is None none = none
+  holds_files image begun made new opened is (Some keeper) tables =
+      record { begun = begun; is_new = new; opened = opened; tables = subst (λ (it : Stored (FileStore D g)). HasTables over_files it.connection keeper) is tables }

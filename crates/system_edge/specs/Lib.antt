@@ -1,0 +1,6 @@
+pub mod Coming
+pub mod Counts
+pub mod Failing
+pub mod Tables
+pub mod Heads
+pub mod Stores

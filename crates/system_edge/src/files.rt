@@ -1,0 +1,81 @@
+// A file, opened and closed as a keeper.
+ghost use Rattle.std.specs.Prelude.{◌≡◌, IfSome, IsTrue, false, true};
+ghost use Rattle.system_edge.specs.Tables.{HasTables, HoldsFiles, IsOpenedOver};
+ghost use Rattle.sqlite.specs.Held.{IsNew};
+ghost use Rattle.sqlite_std_file.specs.File.{IsFresh, file_is_usable};
+ghost use Rattle.sqlite_wal.specs.Files.{image_at};
+
+use crate::stores::open_store;
+use keeper_sqlite::SqliteKeeper;
+use office_base::Text;
+use sqlite::{Alter, Connection, FileFrom, FileStore, Files, Options, Start};
+use std::hash::{BuildHasher, RandomState};
+use std::str;
+
+/// A keeper over a file that held what `S` says.
+pub type FileKeeper<S> = SqliteKeeper<FileStore<FileFrom<S>>>;
+
+/// Opens a keeper over the file of this name and its log, with no faults yet, and makes the tables that are missing.
+/// Returns None if the name is no path of a file, if the files or the tables cannot be opened,
+/// or if the head of the log is damaged. Damage of the head leaves both files as they were.
+/// `start` says what the two files hold as they are opened: no code can read it, so the clause holds for all contents.
+pub fn open_keeper<S: Start>(rt: &HostRuntime, name: &Text, start: S) -> Option<FileKeeper<S>>
+    ensures { IfSome result (HoldsFiles (image_at S.Start)) }
+{
+    let connection = open_file(rt, name, start)?;
+    with_tables(SqliteKeeper::new(connection))
+}
+
+/// Closes the file. What was kept is in the file and in the log next to it,
+/// also if the log cannot be copied into the file.
+pub fn close_keeper<S: Start>(keeper: FileKeeper<S>) {
+    let _ = keeper.into_connection().close();
+}
+
+// Opens the file of this name.
+fn open_file<S: Start>(
+    rt: &HostRuntime,
+    name: &Text,
+    start: S,
+) -> Option<Connection<FileStore<FileFrom<S>>>>
+    ensures fresh { IfSome result IsNew }
+    ensures opened { IfSome result (IsOpenedOver (image_at S.Start)) }
+{
+    let path = str::from_utf8(name.as_slice()).ok()?;
+    let files = open_pair(rt, path, start)?;
+    let options = options(rt)?;
+    match open_store(rt.alloc(), files, options) {
+        Ok(connection) => Some(connection),
+        Err(_unopened) => None,
+    }
+}
+
+// Opens the two files at a path, and makes those that are missing.
+// Returns None for a name that SQLite gives another meaning.
+fn open_pair<S: Start>(rt: &HostRuntime, path: &str, start: S) -> Option<Files<FileFrom<S>>>
+    ensures log { IfSome result (λ files. IsTrue (file_is_usable S.Start files.log)) }
+    ensures db { IfSome result (λ files. IsTrue (file_is_usable S.Start files.db)) }
+    ensures fresh { IfSome result (λ files. IsFresh true files.log × IsFresh false files.db) }
+{
+    if path == ":memory:" || path.starts_with("file:") {
+        return None;
+    }
+    sqlite_std_file::open(rt, path, start).ok()
+}
+
+// Returns the options of an open, with a number drawn at random for the salts of the log.
+fn options(rt: &HostRuntime) -> Option<Options> {
+    let seed = RandomState::new(rt).ok()?.hash_one(&0u8);
+    Some(Options::new(seed))
+}
+
+// The keeper over a new connection, with its tables.
+fn with_tables<S: Alter + Drop>(mut keeper: SqliteKeeper<S>) -> Option<SqliteKeeper<S>>
+    requires { keeper.faults ≡ 0 }
+    ensures { IfSome result (HasTables S.Store keeper.connection) }
+{
+    match keeper.make_tables() {
+        Ok(()) => Some(keeper),
+        Err(_) => None,
+    }
+}

@@ -1,0 +1,66 @@
+// Two files, opened as a database.
+ghost use Rattle.std.specs.Prelude.{◌≡◌, IfOk, IfErr, IsTrue};
+ghost use Rattle.sqlite.specs.State.{HasCleanDisk};
+ghost use Rattle.sqlite.specs.Held.{IsNew};
+ghost use Rattle.sqlite.specs.Files.{file_state, IsOpened, Finds};
+ghost use Rattle.system_edge.specs.Heads.{HasSoundHead};
+ghost use Rattle.system_edge.specs.Stores.{IsRefused, files_left};
+
+use crate::heads::has_sound_head;
+use sqlite::{Connection, FileStore, Files, Options};
+use sqlite_disk::Disk;
+use std::alloc::Global;
+
+/// Files that were not opened.
+pub enum Unopened<D: Disk> {
+    /// The head of the log is not sound, or could not be read. Neither file was written.
+    Head(Files<D>),
+    /// The database refused the files, or failed.
+    Database(Files<D>),
+}
+
+impl<D: Disk> Unopened<D> {
+    /// Gives the files back.
+    pub fn into_files(self) -> Files<D>
+        ensures { (result.log, result.db) ≡ files_left self }
+    {
+        match self {
+            Unopened::Head(files) | Unopened::Database(files) => files,
+        }
+    }
+}
+
+// It is written out, because only files that can be dropped are.
+impl<D: Disk + Drop> Drop for Unopened<D> {
+    fn drop(self) {
+        match self {
+            Unopened::Head(_files) => {}
+            Unopened::Database(_files) => {}
+        }
+    }
+}
+
+/// Opens the database in these files. An empty file gets an empty database.
+/// A log whose head is not sound is refused before the database sees it, and neither file is written:
+/// the database would take such a log for an empty one, and what it holds would be lost.
+pub fn open_store<D: Disk + Drop>(
+    alloc: Global,
+    mut files: Files<D>,
+    options: Options,
+) -> Result<Connection<FileStore<D>>, Unopened<D>>
+    requires log { IsTrue (D.Disk.is_usable files.log) }
+    requires db { IsTrue (D.Disk.is_usable files.db) }
+    ensures fresh { IfOk result IsNew }
+    ensures opened { IfOk result (λ c. HasCleanDisk (file_state c) → IsOpened c × Finds files c) }
+    ensures sound { IfOk result (λ c. HasCleanDisk (file_state c)
+        → HasSoundHead (D.Disk.seen files.log)) }
+    ensures refused { IfErr result (IsRefused D.Disk files) }
+{
+    let Ok(true) = has_sound_head(&mut files.log) else {
+        return Err(Unopened::Head(files));
+    };
+    match Connection::open_files(alloc, files, options) {
+        Ok(connection) => Ok(connection),
+        Err((_, left)) => Err(Unopened::Database(left.into_files())),
+    }
+}
