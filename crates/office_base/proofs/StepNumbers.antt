@@ -1,8 +1,13 @@
--- Each step has a number from 0 to 5, which is its place in the order of the steps.
-use Rattle.std.proofs.Common.{◌≡◌, ◌<◌, ℕ, zero, suc, List, [], ◌∷◌, Some, arith, refl, sym, ap, ◌∙◌}
-use Rattle.std.specs.Prelude.{slice_get}
+-- Each step has a number from 0 to 5, which is its place in the order of the steps, and each category has one.
+use Rattle.std.proofs.Common.{◌≡◌, ◌<◌, ℕ, zero, suc, Bool, true, false, List, [], ◌∷◌, Some, None, arith, inl, inr, refl, sym, ap, ◌∙◌, subst}
+use Rattle.std.proofs.lemmas.Bool.{and_parts, cases_Bool, cond-false, cond-true}
+use Rattle.std.specs.List.{list_all}
+use Rattle.std.specs.Prelude.{find, slice_get}
+use Rattle.office_base.specs.declared.person.Category.{Category}
+use Rattle.office_base.specs.declared.person.Category.TheVariants.{Gen, Ews as InEws, Obc as InObc, Sc as InSc, St as InSt}
 use Rattle.office_base.specs.declared.step.StepKind.{StepKind}
 use Rattle.office_base.specs.declared.step.StepKind.TheVariants.{Open, Ews, Obc, Sc, St, Dereserved}
+use Rattle.office_base.specs.CategorySteps.{all_steps, category_number, own_steps}
 use Rattle.office_base.specs.StepNumbers.{step_number}
 
 -- the step of a number
@@ -35,9 +40,27 @@ below_six Sc = omega arith
 below_six St = omega arith
 below_six Dereserved = omega arith
 
+-- those with a number below five have seats of their own, and each is at the place of its number among them
+pub own_at : (kind : StepKind) → step_number kind < 5 → slice_get own_steps (step_number kind) ≡ Some kind
+own_at Open below = refl
+own_at Ews below = refl
+own_at Obc below = refl
+own_at Sc below = refl
+own_at St below = refl
+own_at Dereserved below = absurd (omega (arith, below))
+
+-- the number of a step with seats of its own is its place among them
+pub own_number_at : (j : ℕ) (kind : StepKind) → slice_get own_steps j ≡ Some kind → step_number kind ≡ j
+own_number_at zero kind at = ap step_number (let same : Open ≡ kind = cc in sym same)
+own_number_at (suc zero) kind at = ap step_number (let same : Ews ≡ kind = cc in sym same)
+own_number_at (suc (suc zero)) kind at = ap step_number (let same : Obc ≡ kind = cc in sym same)
+own_number_at (suc (suc (suc zero))) kind at = ap step_number (let same : Sc ≡ kind = cc in sym same)
+own_number_at (suc (suc (suc (suc zero)))) kind at = ap step_number (let same : St ≡ kind = cc in sym same)
+own_number_at (suc (suc (suc (suc (suc j))))) kind at = absurd (cc)
+
 -- the steps in their order
 abbrev pub kinds : List StepKind
-kinds = Open ∷ Ews ∷ Obc ∷ Sc ∷ St ∷ Dereserved ∷ []
+kinds = all_steps
 
 -- each step is at the place of its number
 pub kind_at : (kind : StepKind) → slice_get kinds (step_number kind) ≡ Some kind
@@ -57,3 +80,61 @@ number_at (suc (suc (suc zero))) kind at = ap step_number (let same : Sc ≡ kin
 number_at (suc (suc (suc (suc zero)))) kind at = ap step_number (let same : St ≡ kind = cc in sym same)
 number_at (suc (suc (suc (suc (suc zero))))) kind at = ap step_number (let same : Dereserved ≡ kind = cc in sym same)
 number_at (suc (suc (suc (suc (suc (suc j)))))) kind at = absurd (cc)
+
+-- what passes a test that all of some steps pass
+all_at : (test : StepKind → Bool) (steps : List StepKind) (j : ℕ) (kind : StepKind) → list_all test steps ≡ true → slice_get steps j ≡ Some kind → test kind ≡ true
+all_at test [] j kind all at = absurd (cc)
+all_at test (first ∷ steps) zero kind all at = let same : first ≡ kind = cc in subst (λ k. test k ≡ true) same (and_parts (test first) (list_all test steps) all).0
+all_at test (first ∷ steps) (suc j) kind all at = all_at test steps j kind (and_parts (test first) (list_all test steps) all).1 at
+
+-- a test that all steps pass is passed by each: so what computes for every step is proved once
+pub each_step : (test : StepKind → Bool) → list_all test all_steps ≡ true → (kind : StepKind) → test kind ≡ true
+each_step test all kind = all_at test all_steps (step_number kind) kind all (kind_at kind)
+
+found_among : (test : StepKind → Bool) (steps : List StepKind) (kind : StepKind) → find test steps ≡ Some kind → test kind ≡ true
+found_among test [] kind found = absurd (cc)
+found_among test (first ∷ steps) kind found = elim (cases_Bool (test first)) [
+  | inl holds ↦
+      let one : Some first ≡ Some kind = sym (cond-true (test first) (Some first) (find test steps) holds) ∙ found in
+      let same : first ≡ kind = cc (one) in
+      subst (λ k. test k ≡ true) same holds
+  | inr fails ↦ found_among test steps kind (sym (cond-false (test first) (Some first) (find test steps) fails) ∙ found)
+]
+
+-- a step that a search finds passes the test
+pub found_step : (test : StepKind → Bool) (kind : StepKind) → find test all_steps ≡ Some kind → test kind ≡ true
+found_step test kind found = found_among test all_steps kind found
+
+none_among : (test : StepKind → Bool) (steps : List StepKind) (j : ℕ) (kind : StepKind) → find test steps ≡ None → slice_get steps j ≡ Some kind → test kind ≡ false
+none_among test [] j kind none at = absurd (cc)
+none_among test (first ∷ steps) zero kind none at = elim (cases_Bool (test first)) [
+  | inl holds ↦ absurd (let one : Some first ≡ None = sym (cond-true (test first) (Some first) (find test steps) holds) ∙ none in cc (one))
+  | inr fails ↦ let same : first ≡ kind = cc in subst (λ k. test k ≡ false) same fails
+]
+none_among test (first ∷ steps) (suc j) kind none at = elim (cases_Bool (test first)) [
+  | inl holds ↦ absurd (let one : Some first ≡ None = sym (cond-true (test first) (Some first) (find test steps) holds) ∙ none in cc (one))
+  | inr fails ↦ none_among test steps j kind (sym (cond-false (test first) (Some first) (find test steps) fails) ∙ none) at
+]
+
+-- where a search finds none, no step passes the test
+pub no_step : (test : StepKind → Bool) → find test all_steps ≡ None → (kind : StepKind) → test kind ≡ false
+no_step test none kind = none_among test all_steps (step_number kind) kind none (kind_at kind)
+
+-- the category of a number
+abbrev category_of : ℕ → Category
+category_of zero = Gen
+category_of (suc zero) = InEws
+category_of (suc (suc zero)) = InObc
+category_of (suc (suc (suc zero))) = InSc
+category_of (suc (suc (suc (suc n)))) = InSt
+
+of_category : (category : Category) → category_of (category_number category) ≡ category
+of_category Gen = refl
+of_category InEws = refl
+of_category InObc = refl
+of_category InSc = refl
+of_category InSt = refl
+
+-- different categories have different numbers
+pub one_category : (category other : Category) → category_number category ≡ category_number other → category ≡ other
+one_category category other same = sym (of_category category) ∙ (ap category_of same ∙ of_category other)

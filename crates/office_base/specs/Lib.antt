@@ -1,3 +1,4 @@
+pub mod CategorySteps
 pub mod Certificate
 pub mod Codes
 pub mod FaultLines

@@ -7,6 +7,7 @@
 
 pub mod asks;
 pub mod booked;
+pub mod category_steps;
 pub mod code;
 pub mod errors;
 pub mod laws;
@@ -28,6 +29,7 @@ pub mod words;
 
 pub use asks::{Ask, By, Choice, Request, Seat};
 pub use booked::Booked;
+pub use category_steps::{ALL_STEPS, CATEGORY_STEPS, CategoryStep, GivesUp, OWN_STEPS, gives_up};
 pub use code::Code;
 pub use errors::{Failed, OutOfMemory};
 pub use listed::{Listed, Pairs, People, Text};
