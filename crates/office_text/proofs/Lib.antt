@@ -1,4 +1,5 @@
 pub mod FirstFaultLemmas
 pub mod LinesLemmas
+pub mod NamesLemmas
 pub mod NumberLemmas
 pub mod TraitsLemmas

@@ -1,20 +1,44 @@
--- How the steps, the choices, and the codes of programmes and institutes, are spelled.
-use Rattle.std.specs.Prelude.{ℕ, ◌||◌, List, Option, Some, None, bytes_eq, codes, if◌then◌else◌}
+-- How the categories, the steps, the choices, and the codes of programmes and institutes, are spelled.
+use Rattle.std.specs.Prelude.{ℕ, ◌||◌, Bool, List, Option, Some, None, bytes_eq, codes, find, if◌then◌else◌}
+use Rattle.office_base.specs.CategorySteps.{own_steps}
 use Rattle.office_base.specs.Codes.{is_code}
 use Rattle.office_base.specs.declared.asks.Choice.{Choice}
 use Rattle.office_base.specs.declared.asks.Choice.TheVariants.{Freeze, Float, Slide, Withdraw}
+use Rattle.office_base.specs.declared.person.Category.{Category}
+use Rattle.office_base.specs.declared.person.Category.TheVariants.{Gen, Ews, Obc, Sc, St}
 use Rattle.office_base.specs.declared.step.StepKind.{StepKind}
-use Rattle.office_base.specs.declared.step.StepKind.TheVariants.{Open, Ews, Obc, Sc, St}
+use Rattle.office_base.specs.declared.step.StepKind.TheVariants.{Open, Ews as EwsStep, Obc as ObcStep, Sc as ScStep, St as StStep, Dereserved}
 
--- the step that a text spells
+-- the name of a category, as it is written
+abbrev pub category_name : Category → List ℕ
+category_name Gen = codes "GEN"
+category_name Ews = codes "EWS"
+category_name Obc = codes "OBC"
+category_name Sc = codes "SC"
+category_name St = codes "ST"
+
+-- the name of a step, as it is written
+abbrev pub step_name : StepKind → List ℕ
+step_name Open = codes "OPEN"
+step_name EwsStep = codes "EWS"
+step_name ObcStep = codes "OBC"
+step_name ScStep = codes "SC"
+step_name StStep = codes "ST"
+step_name Dereserved = codes "D"
+
+-- A second name of a step, which is read and never written. A step without one has its name once more.
+abbrev pub second_name : StepKind → List ℕ
+second_name EwsStep = codes "GEN-EWS"
+second_name ObcStep = codes "OBC-NCL"
+second_name kind = step_name kind
+
+-- the text is a name of the step
+abbrev pub is_named : List ℕ → StepKind → Bool
+is_named text kind = bytes_eq text (step_name kind) || bytes_eq text (second_name kind)
+
+-- the step with seats of its own that a text spells
 abbrev pub step_of : List ℕ → Option StepKind
-step_of text =
-    if bytes_eq text (codes "OPEN") then Some Open
-    else if bytes_eq text (codes "EWS") || bytes_eq text (codes "GEN-EWS") then Some Ews
-    else if bytes_eq text (codes "OBC") || bytes_eq text (codes "OBC-NCL") then Some Obc
-    else if bytes_eq text (codes "SC") then Some Sc
-    else if bytes_eq text (codes "ST") then Some St
-    else None
+step_of text = find (is_named text) own_steps
 
 -- the choice that a text spells
 abbrev pub choice_of : List ℕ → Option Choice

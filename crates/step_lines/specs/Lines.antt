@@ -5,18 +5,8 @@ use Rattle.std.specs.List.{flat_map}
 use Rattle.office_base.specs.Certificate.{slot_of}
 use Rattle.office_base.specs.declared.person.Person.{Person}
 use Rattle.office_base.specs.declared.step.Pair.{Pair}
-use Rattle.office_base.specs.declared.step.StepKind.{StepKind}
-use Rattle.office_base.specs.declared.step.StepKind.TheVariants.{Open, Ews, Obc, Sc, St, Dereserved}
+pub use Rattle.office_text.specs.Names.{step_name}
 use Rattle.office_text.specs.Traits.{letter}
-
--- the name of a step
-abbrev pub step_name : StepKind → List ℕ
-step_name Open = codes "OPEN"
-step_name Ews = codes "EWS"
-step_name Obc = codes "OBC"
-step_name Sc = codes "SC"
-step_name St = codes "ST"
-step_name Dereserved = codes "D"
 
 -- the letter of a slot's trait, or a dash where there is none
 abbrev pub slot_letter : Option ℕ → ℕ

@@ -7,7 +7,6 @@
 #![tactic(auto)]
 
 pub mod lines;
-pub mod name;
 
 pub use lines::{push_count, push_step_lines};
-pub use name::step_name;
+pub use office_text::step_name;
