@@ -1,4 +1,5 @@
 pub mod RecordLemmas
 mod RowsLemmas
+pub mod StageLemmas
 pub mod StepsLemmas
 pub mod TableLemmas

@@ -1,136 +1,99 @@
--- A table read row by row has its first fault, or its entries.
-use Rattle.std.proofs.Common.{◌≡◌, ◌<◌, ◌⊎◌, inl, inr, ℕ, true, false, List, [], ◌∷◌, ◌++◌, ◌+◌, Some, None, Option, Ok, Err, length, refl, sym, ap, ◌∙◌, append_assoc, arith, length-append}
-use Rattle.std.proofs.lemmas.Bool.{cases_order}
-use Rattle.std.proofs.lemmas.List.{append-nil}
-use Rattle.std.proofs.lemmas.Option.{slice_get_past}
-use Rattle.std.proofs.Math.Seq.{take-append_seam, take-length}
-use Rattle.office_base.proofs.Lists.{get-after}
-use Rattle.office_text.specs.FirstFault.{Judge, fault_at, IsFirstFault, IsFaultless}
-use Rattle.office_text.proofs.FirstFaultLemmas.{one_answer}
+-- A table read row by row.
+use Rattle.std.proofs.Common.{◌≡◌, ◌+◌, ◌⊎◌, inl, inr, ℕ, Bool, true, false, cond, List, [], ◌∷◌, ◌++◌, Result, Ok, Err, refl, sym, ap, subst, ◌∙◌}
+use Rattle.std.proofs.lemmas.Bool.{cond-true, cond-false}
 use Rattle.section_rows.specs.Rows.{Row, same_fields}
-use Rattle.section_rows.specs.Table.{IsTableFault, Reading, entries_after, entries_of, fault_of, table_judge, with_entry}
-use Rattle.section_rows.specs.declared.fault.TableFault.TheVariants.{Bad}
+use Rattle.section_rows.specs.Table.{Given, Reading, entries_from, table_of, then_read}
 
--- The judge at the row after others.
-pub fault_at-seam : {Kind : Type 0} (judge : Judge Row Kind) (rows : List Row) (row : Row) (more : List Row) → fault_at judge (rows ++ row ∷ more) (length rows) ≡ judge rows (Some row)
-fault_at-seam judge rows row more = rw (take-append_seam rows (row ∷ more), get-after rows row more) refl
+module _ {Entry Kind : Type 0} (bad : Kind) (names : Row) (reading : Reading Entry Kind) where
+  -- the header was read
+  pub read-header : (all left : List Row) (header : Row) → all ≡ header ∷ left → same_fields header names ≡ true → entries_from reading 2 [] left ≡ table_of bad names reading all
+  read-header all left header split same = sym (ap (table_of bad names reading) split ∙ cond-true (same_fields header names) _ _ same)
 
--- The judge at the end of the rows.
-pub fault_at-end : {Kind : Type 0} (judge : Judge Row Kind) (rows : List Row) → fault_at judge rows (length rows) ≡ judge rows None
-fault_at-end judge rows = rw (take-length rows, slice_get_past rows (length rows) (omega arith)) refl
+  -- the first row is another one, or there is none
+  pub no-header : (all left : List Row) (header : Row) → all ≡ header ∷ left → same_fields header names ≡ false → table_of bad names reading all ≡ Err (1, bad)
+  no-header all left header split other = ap (table_of bad names reading) split ∙ cond-false (same_fields header names) _ _ other
 
--- One more row gives one more entry, or none.
-pub entries_after-push : {Entry Kind : Type 0} (reading : Reading Entry Kind) (entries : List Entry) (rows : List Row) (row : Row)
-    → entries_after reading entries (rows ++ row ∷ []) ≡ with_entry (entries_after reading entries rows) (reading (entries_after reading entries rows) row)
-entries_after-push reading entries [] row = refl
-entries_after-push reading entries (r ∷ rows) row = entries_after-push reading (with_entry entries (reading entries r)) rows row
+  pub no-rows : (all : List Row) → all ≡ [] → table_of bad names reading all ≡ Err (1, bad)
+  no-rows all none = ap (table_of bad names reading) none
 
--- The table is read up to these rows, which have no fault and give these entries; those rows are left.
-pub record IsReadTo {Entry Kind : Type 0} (bad : Kind) (names : Row) (reading : Reading Entry Kind) (all rows left : List Row) (entries : List Entry) : Type 0 where
-  pub split : all ≡ rows ++ left
-  pub some : 0 < length rows
-  pub clean : (m : ℕ) → m < length rows → fault_at (table_judge bad names reading) all m ≡ None
-  pub gives : entries_of reading rows ≡ entries
+module _ {Entry Kind : Type 0} (reading : Reading Entry Kind) (number next : ℕ) (entries : List Entry) (rows left : List Row) (row : Row) (table : Given Entry Kind) (split : rows ≡ row ∷ left) (counted : next ≡ number + 1)
+    (here : entries_from reading (number + 1) entries rows ≡ table) where
+  to_row : then_read (number + 1) (reading entries row) (λ entry. entries_from reading (number + 1 + 1) (entries ++ entry ∷ []) left) ≡ table
+  to_row = sym (ap (entries_from reading (number + 1) entries) split) ∙ here
 
--- the judge of a row after others
-judge-some : {Entry Kind : Type 0} (bad : Kind) (names : Row) (reading : Reading Entry Kind) (rows : List Row) (row : Row) → 0 < length rows
-    → table_judge bad names reading rows (Some row) ≡ fault_of (reading (entries_of reading rows) row)
-judge-some bad names reading [] row some = absurd (omega arith)
-judge-some bad names reading (header ∷ rows) row some = refl
+  -- one more row gave an entry
+  pub read-more : (entry : Entry) → reading entries row ≡ Ok entry → entries_from reading (next + 1) (entries ++ entry ∷ []) left ≡ table
+  read-more entry gave =
+      ap (λ (n : ℕ). entries_from reading (n + 1) (entries ++ entry ∷ []) left) counted
+      ∙ sym (ap (λ (r : Result Entry Kind). then_read (number + 1) r (λ other. entries_from reading (number + 1 + 1) (entries ++ other ∷ []) left)) gave) ∙ to_row
 
-judge-none : {Entry Kind : Type 0} (bad : Kind) (names : Row) (reading : Reading Entry Kind) (rows : List Row) → 0 < length rows → table_judge bad names reading rows None ≡ None
-judge-none bad names reading [] some = absurd (omega arith)
-judge-none bad names reading (header ∷ rows) some = refl
+  -- one more row has a fault
+  pub read-fault : (kind : Kind) → reading entries row ≡ Err kind → table ≡ Err (next, kind)
+  read-fault kind gave =
+      sym to_row ∙ ap (λ (r : Result Entry Kind). then_read (number + 1) r (λ other. entries_from reading (number + 1 + 1) (entries ++ other ∷ []) left)) gave
+      ∙ ap (λ (n : ℕ). Err (n, kind)) (sym counted)
 
-entries_of-push : {Entry Kind : Type 0} (reading : Reading Entry Kind) (rows : List Row) (row : Row) → 0 < length rows
-    → entries_of reading (rows ++ row ∷ []) ≡ with_entry (entries_of reading rows) (reading (entries_of reading rows) row)
-entries_of-push reading [] row some = absurd (omega arith)
-entries_of-push reading (header ∷ rows) row some = entries_after-push reading [] rows row
+-- all rows were read
+pub read-all : {Entry Kind : Type 0} (reading : Reading Entry Kind) (number : ℕ) (entries : List Entry) (rows : List Row) (table : Given Entry Kind) → rows ≡ [] → entries_from reading number entries rows ≡ table → table ≡ Ok entries
+read-all reading number entries rows table none here = sym here ∙ ap (entries_from reading number entries) none
 
--- the judge of the next row
-judge-next : {Entry Kind : Type 0} (bad : Kind) (names : Row) (reading : Reading Entry Kind) (all rows left : List Row) (row : Row) (entries : List Entry) (o : Option Kind)
-    → IsReadTo bad names reading all rows (row ∷ left) entries → fault_of (reading entries row) ≡ o → fault_at (table_judge bad names reading) all (length rows) ≡ o
-judge-next {Entry} {Kind} bad names reading all rows left row entries o r e =
-    ap (λ (a : List Row). fault_at (table_judge bad names reading) a (length rows)) r.split
-    ∙ fault_at-seam (table_judge bad names reading) rows row left
-    ∙ judge-some bad names reading rows row r.some
-    ∙ ap (λ (es : List Entry). fault_of (reading es row)) r.gives
-    ∙ e
+-- ---- laws of tables
 
--- The header was read.
-pub read-header : {Entry Kind : Type 0} (bad : Kind) (names : Row) (reading : Reading Entry Kind) (all left : List Row) (header : Row)
-    → all ≡ header ∷ left → same_fields header names ≡ true → IsReadTo bad names reading all (header ∷ []) left []
-read-header {Entry} {Kind} bad names reading all left header e same = record {
-  split = e;
-  some = omega arith;
-  clean = λ m below. let zero_m : m ≡ 0 = omega arith in rw (zero_m, e, same) refl;
-  gives = refl;
-}
+-- What holds of the entries so far and the rows that remain, if each row that gives an entry keeps it, holds of all entries.
+module _ {Entry Kind : Type 0} (reading : Reading Entry Kind) (Holds : List Entry → List Row → Type 0)
+    (step : (before : List Entry) (row : Row) (rows : List Row) (entry : Entry) → Holds before (row ∷ rows) → reading before row ≡ Ok entry → Holds (before ++ entry ∷ []) rows) where
+  all-from : (number : ℕ) (before : List Entry) (rows : List Row) (entries : List Entry) → Holds before rows → entries_from reading number before rows ≡ Ok entries → Holds entries []
+  all-from number before [] entries held e = let same : before ≡ entries = cc in subst (λ (es : List Entry). Holds es []) same held
+  all-from number before (row ∷ rows) entries held e = by (λ entry. all-from (number + 1) (before ++ entry ∷ []) rows entries) (reading before row) refl e
+    where
+      by : ((entry : Entry) → Holds (before ++ entry ∷ []) rows → entries_from reading (number + 1) (before ++ entry ∷ []) rows ≡ Ok entries → Holds entries [])
+          → (r : Result Entry Kind) → reading before row ≡ r → then_read number r (λ entry. entries_from reading (number + 1) (before ++ entry ∷ []) rows) ≡ Ok entries → Holds entries []
+      by rest (Ok entry) is more = rest entry (step before row rows entry held is) more
+      by rest (Err kind) is more = cc more
 
--- The first row is another one, or there is none.
-pub no-header : {Entry Kind : Type 0} (bad : Kind) (names : Row) (reading : Reading Entry Kind) (all left : List Row) (header : Row)
-    → all ≡ header ∷ left → same_fields header names ≡ false → IsFirstFault (table_judge bad names reading) all 0 bad
-no-header bad names reading all left header e same = record { here = rw (e, same) refl; within = omega arith; before = λ m below. absurd (omega arith) }
+  pub all-along : (bad : Kind) (names header : Row) (rows : List Row) (entries : List Entry) → Holds [] rows → table_of bad names reading (header ∷ rows) ≡ Ok entries → Holds entries []
+  all-along bad names header rows entries none e = by (same_fields header names) e
+    where
+      by : (b : Bool) → cond b (entries_from reading 2 [] rows) (Err (1, bad)) ≡ Ok entries → Holds entries []
+      by true more = all-from 2 [] rows entries none more
+      by false more = cc more
 
-pub no-rows : {Entry Kind : Type 0} (bad : Kind) (names : Row) (reading : Reading Entry Kind) (all : List Row)
-    → all ≡ [] → IsFirstFault (table_judge bad names reading) all 0 bad
-no-rows bad names reading all e = record { here = rw e refl; within = omega arith; before = λ m below. absurd (omega arith) }
+-- What holds of no entries, if each further entry keeps it, holds of all entries.
+pub all-hold : {Entry Kind : Type 0} (reading : Reading Entry Kind) (Holds : List Entry → Type 0)
+    → ((before : List Entry) (row : Row) (entry : Entry) → Holds before → reading before row ≡ Ok entry → Holds (before ++ entry ∷ []))
+    → (bad : Kind) (names : Row) (rows : List Row) (entries : List Entry) → Holds [] → table_of bad names reading rows ≡ Ok entries → Holds entries
+all-hold reading Holds step bad names [] entries none e = cc e
+all-hold reading Holds step bad names (header ∷ rows) entries none e =
+    all-along reading (λ before rest. Holds before) (λ before row rest entry held is. step before row entry held is) bad names header rows entries none e
 
--- One more row was read, and gave an entry.
-pub read-more : {Entry Kind : Type 0} (bad : Kind) (names : Row) (reading : Reading Entry Kind) (all rows left : List Row) (row : Row) (entries : List Entry) (entry : Entry)
-    → IsReadTo bad names reading all rows (row ∷ left) entries → reading entries row ≡ Ok entry
-    → IsReadTo bad names reading all (rows ++ row ∷ []) left (entries ++ entry ∷ [])
-read-more {Entry} {Kind} bad names reading all rows left row entries entry r e = record {
-  split = r.split ∙ sym (append_assoc rows (row ∷ []) left);
-  some = omega (arith, r.some, length-append rows (row ∷ []));
-  clean = λ m below. elim (cases_order m (length rows)) [
-    | inl same ↦ rw same (judge-next bad names reading all rows left row entries None r (ap fault_of e))
-    | inr other ↦ elim other [
-      | inl less ↦ r.clean m less
-      | inr more ↦ absurd (omega (arith, length-append rows (row ∷ [])))
-    ]
-  ];
-  gives = entries_of-push reading rows row r.some ∙ ap (λ (es : List Entry). with_entry es (reading es row)) r.gives ∙ ap (with_entry entries) e;
-}
+-- What is made of the entries of a table is one value, if each list of entries makes one.
+module _ {Entry Kind Value : Type 0} (table : Given Entry Kind) (Makes : List Entry → Value → Type 0) where
+  -- the table has entries, which make the value
+  abbrev Read : Value → Type 0
+  Read value = (entries : List Entry) × (table ≡ Ok entries) × Makes entries value
 
--- One more row was read, and has a fault.
-pub read-fault : {Entry Kind : Type 0} (bad : Kind) (names : Row) (reading : Reading Entry Kind) (all rows left : List Row) (row : Row) (entries : List Entry) (kind : Kind)
-    → IsReadTo bad names reading all rows (row ∷ left) entries → reading entries row ≡ Err kind
-    → IsFirstFault (table_judge bad names reading) all (length rows) kind
-read-fault bad names reading all rows left row entries kind r e = record {
-  here = judge-next bad names reading all rows left row entries (Some kind) r (ap fault_of e);
-  within = omega (arith, ap length r.split, length-append rows (row ∷ left));
-  before = r.clean;
-}
+  -- the table has a first fault
+  abbrev HasFault : ℕ → Kind → Type 0
+  HasFault row kind = table ≡ Err (row, kind)
 
--- All rows were read, and none has a fault.
-pub read-all : {Entry Kind : Type 0} (bad : Kind) (names : Row) (reading : Reading Entry Kind) (all rows left : List Row) (entries : List Entry)
-    → IsReadTo bad names reading all rows left entries → left ≡ [] → IsFaultless (table_judge bad names reading) all × (entries_of reading all ≡ entries)
-read-all {Entry} {Kind} bad names reading all rows left entries r none =
-    let same : all ≡ rows = r.split ∙ ap (λ (l : List Row). rows ++ l) none ∙ append-nil rows in (
-      (λ m within. elim (cases_order m (length rows)) [
-        | inl at ↦ rw (at, same) (fault_at-end (table_judge bad names reading) rows ∙ judge-none bad names reading rows r.some)
-        | inr other ↦ elim other [
-          | inl less ↦ r.clean m less
-          | inr more ↦ absurd (omega (arith, ap length same))
-        ]
-      ]),
-      ap (entries_of reading) same ∙ r.gives,
-    )
+  pub some_reading : ((entries : List Entry) → (value : Value) × Makes entries value) → ((value : Value) × Read value) ⊎ ((row : ℕ) × (kind : Kind) × HasFault row kind)
+  some_reading make = by table refl
+    where
+      by : (t : Given Entry Kind) → table ≡ t → ((value : Value) × Read value) ⊎ ((row : ℕ) × (kind : Kind) × HasFault row kind)
+      by (Ok entries) e = let (value, made) = make entries in inl (value, (entries, e, made))
+      by (Err fault) e = inr (fault.0, fault.1, e)
 
--- Rows have no fault, or they have one first fault.
-pub record HaveOneFault {Kind : Type 0} (judge : Judge Row Kind) (rows : List Row) : Type 0 where
-  pub some : IsFaultless judge rows ⊎ ((row : ℕ) × (kind : Kind) × IsTableFault judge rows (Bad row kind))
-  pub apart : (row : ℕ) (kind : Kind) → IsFaultless judge rows → IsTableFault judge rows (Bad row kind) → ⊥
-  pub one : (row other : ℕ) (kind next : Kind) → IsTableFault judge rows (Bad row kind) → IsTableFault judge rows (Bad other next) → (row ≡ other) × (kind ≡ next)
+  pub apart_reading : (value : Value) (row : ℕ) (kind : Kind) → Read value → HasFault row kind → ⊥
+  apart_reading value row kind read fault = let e = read.1 in cc (e, fault)
 
-pub one_fault : {Kind : Type 0} (judge : Judge Row Kind) (rows : List Row) → HaveOneFault judge rows
-one_fault judge rows =
-    let answer = one_answer judge rows in
-    record {
-      some = elim answer.some [ inl none ↦ inl none | inr found ↦ inr (found.0 + 1, found.1, (found.0, refl, found.2)) ];
-      apart = λ row kind none fault. answer.apart fault.0 kind none fault.2;
-      one = λ row other kind next a b.
-          let same = answer.one a.0 b.0 kind next a.2 b.2 in
-          (a.1 ∙ ap (λ (n : ℕ). n + 1) same.0 ∙ sym b.1, same.1);
-    }
+  pub one_value : ((entries : List Entry) (value other : Value) → Makes entries value → Makes entries other → value ≡ other) → (value other : Value) → Read value → Read other → value ≡ other
+  one_value one value other a b =
+      let e = a.1 in
+      let f = b.1 in
+      let same : a.0 ≡ b.0 = cc (e, f) in
+      one b.0 value other (subst (λ (entries : List Entry). Makes entries value) same a.2) b.2
+
+-- the first fault of a table is one
+pub one_fault : {Entry Kind : Type 0} (table : Given Entry Kind) (row other : ℕ) (kind next : Kind) → table ≡ Err (row, kind) → table ≡ Err (other, next) → (row ≡ other) × (kind ≡ next)
+one_fault {Entry} {Kind} table row other kind next a b =
+    let same : ◌≡◌ {A = ℕ × Kind} (row, kind) (other, next) = cc (a, b) in (ap (λ (p : ℕ × Kind). p.0) same, ap (λ (p : ℕ × Kind). p.1) same)

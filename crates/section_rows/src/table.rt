@@ -1,8 +1,7 @@
 // The reader of tables: a header row, and then one row after another, up to the first fault.
-ghost use Rattle.std.specs.Prelude.{◌≡◌, [], List, IfOk, IfErr, OnOk};
-ghost use Rattle.office_text.specs.FirstFault.{IsFaultless};
+ghost use Rattle.std.specs.Prelude.{◌≡◌, [], List, Ok, IfOk, IfErr, OnOk};
 ghost use Rattle.section_rows.specs.Rows.{Row, rows_of, same_fields};
-ghost use Rattle.section_rows.specs.Table.{Reading, IsPut, IsTableFault, entries_of, table_judge};
+ghost use Rattle.section_rows.specs.Table.{Reading, IsPut, IsTableFault, table_of};
 
 use crate::fault::TableFault;
 use crate::rows::Rows;
@@ -60,13 +59,12 @@ pub fn read_table<B: TableBuilder>(
     builder: &mut B,
 ) -> Result<(), TableFault<B::Kind>>
     requires { B.keeps builder.old [] }
-    ensures clean { OnOk result (IsFaultless
-        (table_judge B.bad B.names (B.reading (B.beside builder.old))) (rows_of body.now)) }
-    ensures entries { OnOk result
-        (B.keeps builder.new (entries_of (B.reading (B.beside builder.old)) (rows_of body.now))) }
+    ensures entries { OnOk result ((entries : List B.Entry) × (table_of B.bad B.names
+        (B.reading (B.beside builder.old)) (rows_of body.now) ≡ Ok entries)
+        × B.keeps builder.new entries) }
     ensures beside { OnOk result (B.beside builder.new ≡ B.beside builder.old) }
-    ensures fault { IfErr result (λ fault. IsTableFault (table_judge B.bad B.names
-        (B.reading (B.beside builder.old))) (rows_of body.now) fault) }
+    ensures fault { IfErr result (IsTableFault
+        (table_of B.bad B.names (B.reading (B.beside builder.old)) (rows_of body.now))) }
 {
     let mut rows = Rows::new(alloc, body);
     if !rows.advance()? || !B::is_header(&rows) {
