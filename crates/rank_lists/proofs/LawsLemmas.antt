@@ -1,19 +1,23 @@
 -- Rows have exactly one reading, and what they give is sound.
-use Rattle.std.proofs.Common.{◌≡◌, ◌<◌, ◌≤◌, ◌⊎◌, inl, inr, ℕ, suc, Bool, true, false, cond, List, [], ◌∷◌, map, Option, Some, None, Result, Ok, Err, length, refl, sym, ap, ◌∙◌, arith}
-use Rattle.std.specs.Prelude.{◌==◌, bytes_eq, is_some, nat_lt, if◌then◌else◌}
+use Rattle.std.proofs.Common.{◌≡◌, ◌<◌, ◌≤◌, ◌⊎◌, inl, inr, ℕ, suc, Bool, true, false, cond, List, [], ◌∷◌, map, Option, Some, None, Result, Ok, Err, length, refl, sym, ap, subst, ◌∙◌, arith}
+use Rattle.std.specs.Prelude.{◌==◌, ◌+◌, ◌++◌, T, IsTrue, bytes_eq, is_some, nat_lt, if◌then◌else◌}
+use Rattle.std.specs.Cmp.Lexicographic.{nat_list_cmp_total, slice_cmp}
+use Rattle.std.specs.FinMap.{find, is_sorted, nat_cmp-IsAntisymmetric, put as put_entry, slice_cmp-IsAntisymmetric}
+use Rattle.std.specs.FinMap.Entries.{find-put, is_sorted-put, same_entries}
+use Rattle.std.specs.Ordering.{is_eq, nat_cmp}
 use Rattle.std.specs.List.{AllByRecursion}
+use Rattle.std.proofs.lemmas.Map.Text.{is_eq-slice_cmp}
 use Rattle.std.proofs.lemmas.Bool.{cases_order, cond-false, cond-true, eq-eqb, eqb-false, eqb-true, ltb-false, ltb-true, ne_eqb}
 use Rattle.office_base.specs.Lists.{Pairwise}
 use Rattle.office_base.specs.declared.person.CandId.{CandId}
 use Rattle.office_base.specs.declared.person.Person.{Person}
 use Rattle.section_rows.specs.Rows.{Row}
-use Rattle.section_rows.specs.Table.{entries_after, entries_of, with_entry}
-use Rattle.section_rows.specs.declared.fault.TableFault.TheVariants.{Bad}
-use Rattle.section_rows.proofs.TableLemmas.{one_fault}
-use Rattle.rank_lists.specs.Laws.{AreSame, HaveOneReading}
-use Rattle.rank_lists.specs.Register.{AreEntries, AreRanks, IsFault, IsRead, IsRegister, Ranks, find_holder, find_person, holder_at, judge, person_at, reading}
+use Rattle.section_rows.proofs.TableLemmas.{all-hold, apart_reading, one_fault, one_value, some_reading}
+use Rattle.rank_lists.specs.Laws.{HaveOneReading}
+use Rattle.rank_lists.specs.Register.{AreEntries, AreRanks, IsRegister, Ranks, entries_of, find_holder, find_person, header, holder_at, person_at, reading}
 use Rattle.rank_lists.specs.declared.entry.Entry.{Entry}
 use Rattle.rank_lists.specs.declared.fault.RankKind.{RankKind}
+use Rattle.rank_lists.specs.declared.fault.RankKind.TheVariants.{BadHeader}
 use Rattle.rank_lists.proofs.BuilderLemmas.{IsAccepted, accepted}
 use Rattle.rank_lists.proofs.EntriesLemmas.{entries-step}
 
@@ -35,9 +39,10 @@ abbrev people_of : List Entry → List Person
 people_of [] = []
 people_of (entry ∷ entries) = put entry.person (people_of entries)
 
--- the tokens of entries, with those who hold them
+-- the tokens of entries, with those who hold them, in the order of tokens
 abbrev holders_of : List Entry → List (List ℕ × CandId)
-holders_of entries = map (λ entry. (entry.token, entry.person.id)) entries
+holders_of [] = []
+holders_of (entry ∷ entries) = put_entry (slice_cmp nat_cmp) entry.token entry.person.id (holders_of entries)
 
 above-less : (low id : ℕ) (people : List Person) → low ≤ id → Above id people → Above low people
 above-less low id [] e all = tt
@@ -104,13 +109,36 @@ people_of-found : (entries : List Entry) (id : ℕ) → find_person id (people_o
 people_of-found [] id = refl
 people_of-found (entry ∷ entries) id = found-put id entry.person (people_of entries) ∙ ap (λ (o : Option Person). cond (id == entry.person.id.0) (Some entry.person) o) (people_of-found entries id)
 
+-- a holder is found by bytes as by the order of tokens
+pub found-holder : (token : List ℕ) (holders : List (List ℕ × CandId)) → find_holder token holders ≡ find (slice_cmp nat_cmp) token holders
+found-holder token [] = refl
+found-holder token (held ∷ holders) =
+    ap (λ (b : Bool). cond b (Some held.1) (find_holder token holders)) (sym (is_eq-slice_cmp token held.0))
+    ∙ ap (λ (o : Option CandId). cond (is_eq (slice_cmp nat_cmp token held.0)) (Some held.1) o) (found-holder token holders)
+
 holders_of-found : (entries : List Entry) (token : List ℕ) → find_holder token (holders_of entries) ≡ holder_at token entries
 holders_of-found [] token = refl
-holders_of-found (entry ∷ entries) token = ap (λ (o : Option CandId). cond (bytes_eq token entry.token) (Some entry.person.id) o) (holders_of-found entries token)
+holders_of-found (entry ∷ entries) token =
+    found-holder token (holders_of (entry ∷ entries)) ∙ find-put (slice_cmp nat_cmp) nat_list_cmp_total token entry.token entry.person.id (holders_of entries)
+    ∙ ap (λ (b : Bool). cond b (Some entry.person.id) (find (slice_cmp nat_cmp) token (holders_of entries))) (is_eq-slice_cmp token entry.token)
+    ∙ ap (λ (o : Option CandId). cond (bytes_eq token entry.token) (Some entry.person.id) o) (sym (found-holder token (holders_of entries)) ∙ holders_of-found entries token)
+
+true-T : (b : Bool) → IsTrue b → T b
+true-T true e = tt
+true-T false e = cc e
+
+T-true : (b : Bool) → T b → IsTrue b
+T-true true t = refl
+T-true false t = absurd t
+
+holders_of-sorted : (entries : List Entry) → IsTrue (is_sorted (slice_cmp nat_cmp) (holders_of entries))
+holders_of-sorted [] = refl
+holders_of-sorted (entry ∷ entries) =
+    T-true _ (is_sorted-put (slice_cmp nat_cmp) nat_list_cmp_total entry.token entry.person.id (holders_of entries) (true-T _ (holders_of-sorted entries)))
 
 -- All entries have a register.
 register_of : (entries : List Entry) → IsRegister entries (record { people = people_of entries; holders = holders_of entries })
-register_of entries = record { rising = people_of-rising entries; people = people_of-found entries; holders = holders_of-found entries }
+register_of entries = record { rising = people_of-rising entries; people = people_of-found entries; sorted = holders_of-sorted entries; holders = holders_of-found entries }
 
 -- an id below all others is not found
 not_found : (id : ℕ) (people : List Person) → Above id people → find_person id people ≡ None
@@ -160,19 +188,16 @@ same_people (first ∷ firsts) (second ∷ seconds) a b e = elim (cases_order fi
   ]
 ]
 
--- Entries have one register at most.
-one_register : (entries : List Entry) (ranks other : Ranks) → IsRegister entries ranks → IsRegister entries other → AreSame ranks other
-one_register entries ranks other a b = record {
-  people = same_people ranks.people other.people a.rising b.rising (λ id. a.people id ∙ sym (b.people id));
-  holders = λ token. a.holders token ∙ sym (b.holders token);
-}
+-- Entries have one register.
+one_register : (entries : List Entry) (ranks other : Ranks) → IsRegister entries ranks → IsRegister entries other → ranks ≡ other
+one_register entries ranks other a b = λ i. record { people = people i; holders = holders i }
+  where
+    people : ranks.people ≡ other.people
+    people = same_people ranks.people other.people a.rising b.rising (λ id. a.people id ∙ sym (b.people id))
 
--- Rows give ranks or have a fault.
-some_reading : (rows : List Row) → ((ranks : Ranks) × IsRead rows ranks) ⊎ ((row : ℕ) × (kind : RankKind) × IsFault rows (Bad row kind))
-some_reading rows = elim (one_fault judge rows).some [
-  | inl none ↦ inl (record { people = people_of (entries_of reading rows); holders = holders_of (entries_of reading rows) }, (none, register_of (entries_of reading rows)))
-  | inr fault ↦ inr fault
-]
+    holders : ranks.holders ≡ other.holders
+    holders = same_entries (slice_cmp nat_cmp) nat_list_cmp_total (slice_cmp-IsAntisymmetric nat_cmp-IsAntisymmetric) ranks.holders other.holders (true-T _ a.sorted) (true-T _ b.sorted)
+        (λ token. sym (found-holder token ranks.holders) ∙ a.holders token ∙ sym (b.holders token) ∙ found-holder token other.holders)
 
 -- ---- what rows give is sound
 
@@ -194,7 +219,7 @@ people_of-few (entry ∷ entries) = omega (arith, length-put entry.person (peopl
 -- The register of sound entries is sound.
 pub ranks_sound : (entries : List Entry) (ranks : Ranks) → AreEntries entries → IsRegister entries ranks → AreRanks ranks
 ranks_sound entries ranks sound register =
-    let same = (one_register entries ranks _ register (register_of entries)).people in
+    let same = ap (λ (r : Ranks). r.people) (one_register entries ranks _ register (register_of entries)) in
     record {
       few = omega (arith, ap (λ (l : List Person). length l) same, people_of-few entries, sound.few);
       rising = register.rising;
@@ -206,27 +231,20 @@ ranks_sound entries ranks sound register =
 no_entries : AreEntries []
 no_entries = record { few = omega arith; apart = λ i j list n a b ha. cc ha; registered = λ id person e. cc e; tokens = λ token h. cc h }
 
--- what a row gives is accepted, and a row with a fault gives nothing
-with_sound : (entries : List Entry) (given : Result Entry RankKind) → AreEntries entries → ((entry : Entry) → given ≡ Ok entry → IsAccepted entries entry) → AreEntries (with_entry entries given)
-with_sound entries (Ok entry) sound each = entries-step entries entry sound (each entry refl)
-with_sound entries (Err kind) sound each = sound
-
-after_sound : (entries : List Entry) (rows : List Row) → AreEntries entries → AreEntries (entries_after reading entries rows)
-after_sound entries [] sound = sound
-after_sound entries (row ∷ rows) sound = after_sound (with_entry entries (reading entries row)) rows (with_sound entries (reading entries row) sound (λ entry e. accepted entries row entry e))
-
-entries_sound : (rows : List Row) → AreEntries (entries_of reading rows)
-entries_sound [] = no_entries
-entries_sound (header ∷ rows) = after_sound [] rows no_entries
+-- The entries of rows are sound.
+entries_sound : (rows : List Row) (entries : List Entry) → entries_of rows ≡ Ok entries → AreEntries entries
+entries_sound rows entries e = all-hold reading AreEntries (λ before row entry sound is. entries-step before entry sound (accepted before row entry is)) BadHeader header rows entries no_entries e
 
 -- ---- one reading
 
 -- Rows have exactly one reading.
 pub one_reading : (rows : List Row) → HaveOneReading rows
-one_reading rows = record {
-  some = some_reading rows;
-  apart = λ ranks row kind read fault. (one_fault judge rows).apart row kind read.0 fault;
-  sound = λ ranks read. ranks_sound (entries_of reading rows) ranks (entries_sound rows) read.1;
-  one_value = λ ranks other a b. one_register (entries_of reading rows) ranks other a.1 b.1;
-  one_fault = (one_fault judge rows).one;
-}
+one_reading rows =
+    let table = entries_of rows in
+    record {
+      some = some_reading table IsRegister (λ entries. (record { people = people_of entries; holders = holders_of entries }, register_of entries));
+      apart = apart_reading table IsRegister;
+      sound = λ ranks read. ranks_sound read.0 ranks (entries_sound rows read.0 read.1) read.2;
+      one_value = one_value table IsRegister one_register;
+      one_fault = one_fault table;
+    }

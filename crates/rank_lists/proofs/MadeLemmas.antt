@@ -3,14 +3,16 @@ use Rattle.std.proofs.Common.{◌≡◌, ◌<◌, ◌≤◌, ℕ, zero, suc, Boo
 use Rattle.std.specs.Prelude.{◌==◌, ◌+◌, IsSome, MatchResult, map, option_map, slice_get}
 use Rattle.std.specs.Option.{option_and_then}
 use Rattle.std.specs.Bool.{one_answer}
+use Rattle.std.specs.FinMap.{is_sorted}
+use Rattle.std.specs.FinMap.Entries.{below_all}
 use Rattle.std.specs.BTreeMap as tree
 use Rattle.std.specs.Cmp.Lexicographic.{slice_cmp}
 use Rattle.std.specs.List.{AllByRecursion}
 use Rattle.std.specs.List.Sorted.{IsBinarySearchResult, IsNonDecreasingBy, IsSearchInRange, IsStrictlySortedBy}
 use Rattle.std.specs.Map.{keys_of, lookup, values_of}
-use Rattle.std.specs.Ordering.{is_eq, nat_cmp, ordering_index}
+use Rattle.std.specs.Ordering.{is_eq, is_lt, nat_cmp, ordering_index}
 use Rattle.std.specs.declared.cmp.Ordering.TheVariants.{Less}
-use Rattle.std.proofs.lemmas.Bool.{cases_order, cond-true, cond-false, eq-eqb, ne_eqb}
+use Rattle.std.proofs.lemmas.Bool.{and_from, cases_order, cond-true, cond-false, eq-eqb, ne_eqb}
 use Rattle.std.proofs.lemmas.Bool.Decides.{nat_tests}
 use Rattle.std.proofs.lemmas.Cmp.{ranked}
 use Rattle.std.proofs.lemmas.List.{get_or-map, length-map}
@@ -65,24 +67,35 @@ unfolding IsStrictlySortedBy
 rising_values [] keyed sorted = tt
 rising_values (e ∷ es) keyed sorted = (above_same e.0 e.1.id.0 (values_of es) keyed.0 (all_above e.0 es keyed.1 sorted.0), rising_values es keyed.1 sorted.1)
 
+-- tokens that rise are sorted
+below_from : (token : List ℕ) (es : List (List ℕ × CandId)) → AllByRecursion (λ other. slice_cmp nat_cmp token other ≡ Less) (keys_of es) → below_all (slice_cmp nat_cmp) token es ≡ true
+below_from token [] all = refl
+below_from token (e ∷ es) all = and_from _ _ (ap is_lt all.0) (below_from token es all.1)
+
+sorted_is : (es : List (List ℕ × CandId)) → IsStrictlySortedBy (slice_cmp nat_cmp) (keys_of es) → is_sorted (slice_cmp nat_cmp) es ≡ true
+unfolding IsStrictlySortedBy
+sorted_is [] rise = refl
+sorted_is (e ∷ es) rise = and_from _ _ (below_from e.0 es rise.0) (sorted_is es rise.1)
+
 -- The values of a builder are the register of its entries.
 pub made : (entries : List Entry) (builder : RegisterBuilder) (people : List Person) → Keeps entries builder → people ≡ tree.values builder.people → tree.IsOrdered nat_cmp builder.people
-    → IsRegister entries (record { people = people; holders = builder.holders.entries })
-made entries builder people keeps e ordered = record {
+    → tree.IsOrdered (slice_cmp nat_cmp) builder.holders → IsRegister entries (record { people = people; holders = builder.holders.entries })
+made entries builder people keeps e ordered tokens = record {
   rising = rw e (rising_values builder.people.entries keeps.keyed ordered);
   people = λ id. ap (find_person id) e ∙ find-value id builder.people.entries keeps.keyed ∙ keeps.people id;
+  sorted = sorted_is builder.holders.entries tokens;
   holders = λ token. find-holder token builder.holders.entries ∙ keeps.holders token;
 }
 
 -- What is the register of sound entries is sound.
 made_ranks : (entries : List Entry) (builder : RegisterBuilder) (people : List Person) → Keeps entries builder → people ≡ tree.values builder.people → tree.IsOrdered nat_cmp builder.people
-    → AreRanks (record { people = people; holders = builder.holders.entries })
-made_ranks entries builder people keeps e ordered = ranks_sound entries _ keeps.sound (made entries builder people keeps e ordered)
+    → tree.IsOrdered (slice_cmp nat_cmp) builder.holders → AreRanks (record { people = people; holders = builder.holders.entries })
+made_ranks entries builder people keeps e ordered tokens = ranks_sound entries _ keeps.sound (made entries builder people keeps e ordered tokens)
 
 -- The register of sound entries, with the ids of its people, is one.
 pub made_sound : (entries : List Entry) (builder : RegisterBuilder) (people : List Person) (ids : List ℕ) → Keeps entries builder → people ≡ tree.values builder.people → tree.IsOrdered nat_cmp builder.people
-    → ids ≡ map (λ p. p.id.0) people → IsKeptRegister ids (record { people = people; holders = builder.holders.entries })
-made_sound entries builder people ids keeps e ordered same = record { sound = made_ranks entries builder people keeps e ordered; same = same }
+    → tree.IsOrdered (slice_cmp nat_cmp) builder.holders → ids ≡ map (λ p. p.id.0) people → IsKeptRegister ids (record { people = people; holders = builder.holders.entries })
+made_sound entries builder people ids keeps e ordered tokens same = record { sound = made_ranks entries builder people keeps e ordered tokens; same = same }
 
 all_at : (P : Person → Type 0) (people : List Person) (i : ℕ) (d : Person) → AllByRecursion P people → i < length people → P (get_or people i d)
 all_at P [] i d all within = absurd (omega arith)

@@ -1,5 +1,8 @@
 -- The grammar of the register: what a row gives behind the entries of the rows before it, or what is wrong with it.
 use Rattle.std.specs.Prelude.{◌≡◌, ◌<◌, ◌≤◌, ◌+◌, ℕ, Bool, true, false, ◌==◌, ◌&&◌, ◌||◌, nat_le, List, [], ◌∷◌, is_some, IsSome, IsTrue, Option, Some, None, Result, Ok, length, map, slice_index_or, bytes_eq, codes, option_map, if◌then◌else◌}
+use Rattle.std.specs.Cmp.Lexicographic.{slice_cmp}
+use Rattle.std.specs.FinMap.{is_sorted}
+use Rattle.std.specs.Ordering.{nat_cmp}
 use Rattle.office_base.specs.Codes.{is_token}
 use Rattle.office_base.specs.Limits.{last_id, most_candidates}
 use Rattle.office_base.specs.Lists.{Pairwise}
@@ -11,12 +14,11 @@ use Rattle.office_base.specs.declared.person.ListId.{ListId}
 use Rattle.office_base.specs.declared.person.Person.{Person}
 use Rattle.office_base.specs.declared.person.Place.{Place}
 use Rattle.office_base.specs.declared.person.Place.TheVariants.{Absent, Common, Relaxed}
-use Rattle.office_text.specs.FirstFault.{Judge, IsFaultless}
 use Rattle.office_text.specs.Number.{number_within}
 use Rattle.office_text.specs.Traits.{traits_of}
 use Rattle.section_rows.specs.Rows.{Row, field}
 use Rattle.section_rows.specs.Steps.{after, first_of, needs, unless}
-use Rattle.section_rows.specs.Table.{IsTableFault, Reading, entries_of, table_judge}
+use Rattle.section_rows.specs.Table.{Given, IsTableFault, Reading, table_of}
 use Rattle.section_rows.specs.declared.fault.TableFault.{TableFault}
 use Rattle.rank_lists.specs.Fields.{category_of, place_of}
 use Rattle.rank_lists.specs.declared.entry.Entry.{Entry}
@@ -106,9 +108,9 @@ reading entries row =
     (after (new_token entries (field row 3)) (λ token.
     Ok (record { person = record { id = record { 0 = id }; category = category; traits = record { 0 = traits }; places = places }; token = token }))))))))
 
--- what is wrong with a row of a register
-abbrev pub judge : Judge Row RankKind
-judge = table_judge BadHeader header reading
+-- the entries of a register's rows, or the first fault
+abbrev pub entries_of : List Row → Given Entry RankKind
+entries_of rows = table_of BadHeader header reading rows
 
 -- what a register knows: its people, and who holds which token
 pub record Ranks : Type 0 where
@@ -128,10 +130,11 @@ row_of id (person ∷ people) = if id == person.id.0 then Some 0 else option_map
 abbrev pub find_holder : List ℕ → List (List ℕ × CandId) → Option CandId
 find_holder token holders = first_of (λ held. bytes_eq token held.0) (λ held. held.1) holders
 
--- The register of these entries: their people in rising order of id, and their tokens.
+-- The register of these entries: their people in rising order of id, and their tokens in rising order of bytes.
 pub record IsRegister (entries : List Entry) (ranks : Ranks) : Type 0 where
   pub rising : Pairwise (λ a b. a.id.0 < b.id.0) ranks.people
   pub people : (id : ℕ) → find_person id ranks.people ≡ person_at id entries
+  pub sorted : IsTrue (is_sorted (slice_cmp nat_cmp) ranks.holders)
   pub holders : (token : List ℕ) → find_holder token ranks.holders ≡ holder_at token entries
 
 -- this number of a list is one person's alone
@@ -168,11 +171,11 @@ pub record IsKeptRegister (ids : List ℕ) (ranks : Ranks) : Type 0 where
 
 -- a body's rows have no fault, and these are the ranks of their entries
 abbrev pub IsRead : List Row → Ranks → Type 0
-IsRead rows ranks = IsFaultless judge rows × IsRegister (entries_of reading rows) ranks
+IsRead rows ranks = (entries : List Entry) × (entries_of rows ≡ Ok entries) × IsRegister entries ranks
 
 -- the first fault of a body's rows; `OutOfMemory` says nothing of them
 abbrev pub IsFault : List Row → TableFault RankKind → Type 0
-IsFault = IsTableFault judge
+IsFault rows = IsTableFault (entries_of rows)
 
 -- the place of a person in a list; an unknown person has none
 abbrev pub place_of_person : ListId → Option Person → Place
