@@ -1,23 +1,21 @@
 -- Rows have exactly one reading, and what they give is sound.
-use Rattle.std.proofs.Common.{◌≡◌, ◌⊎◌, inl, inr, ℕ, Bool, true, false, cond, List, [], ◌∷◌, ◌++◌, map, Option, Some, None, Result, Ok, Err, refl, sym, ap, subst, ◌∙◌, arith}
+use Rattle.std.proofs.Common.{◌≡◌, ℕ, Bool, true, false, cond, List, [], ◌∷◌, ◌++◌, map, Option, Some, None, Ok, refl, sym, ap, subst, ◌∙◌, arith}
 use Rattle.std.specs.Prelude.{◌||◌, bytes_eq, is_some, if◌then◌else◌}
 use Rattle.std.specs.List.{AllByRecursion, list_any}
 use Rattle.std.proofs.lemmas.Bool.{cond-false, cond-true, false_from_ne_true}
 use Rattle.std.proofs.lemmas.Slice.Eq.{bytes_eq-Decides}
 use Rattle.office_base.specs.Codes.{is_code}
 use Rattle.section_rows.specs.Rows.{Row}
-use Rattle.section_rows.specs.declared.fault.TableFault.TheVariants.{Bad}
-use Rattle.section_rows.proofs.TableLemmas.{one_fault}
-use Rattle.section_rows.specs.Table.{entries_after, entries_of, with_entry}
+use Rattle.section_rows.proofs.TableLemmas.{all-hold, apart_reading, one_fault, one_value, some_reading}
 use Rattle.section_rows.specs.Steps.{or_else}
 use Rattle.section_rows.proofs.StepsLemmas.{first_of-push}
 use Rattle.seat_matrix.proofs.Codes.{Distinct, codes-distinct}
 use Rattle.seat_matrix.proofs.SeatsLemmas as seats
-use Rattle.seat_matrix.specs.Laws.{AreCodes, AreSame, HaveOneReading}
-use Rattle.seat_matrix.specs.Matrix.{AreEntries, IsFault, IsMatrix, IsRead, SeatTable, codes_after, codes_in, codes_of, find_home, home_at, judge, reading, seatings_in, with_code}
+use Rattle.seat_matrix.specs.Laws.{AreCodes, HaveOneReading}
+use Rattle.seat_matrix.specs.Matrix.{AreEntries, IsMatrix, SeatTable, codes_after, codes_in, codes_of, entries_of, find_home, header, home_at, reading, seatings_in, with_code}
 use Rattle.seat_matrix.specs.declared.entry.Entry.{Entry}
 use Rattle.seat_matrix.specs.declared.entry.Home.{Home}
-use Rattle.seat_matrix.specs.declared.fault.MatrixKind.{MatrixKind}
+use Rattle.seat_matrix.specs.declared.fault.MatrixKind.TheVariants.{BadHeader}
 
 -- programmes with their homes
 abbrev Homes : Type 0
@@ -144,20 +142,15 @@ same_programmes (first ∷ firsts) (second ∷ seconds) codes distinct e =
     let rest = same_programmes firsts seconds behind distinct.1 (found_behind first second firsts seconds same behind distinct.0 e) in
     cc (same, rest)
 
--- Entries have one matrix at most.
-one_matrix : (entries : List Entry) (table other : SeatTable) → IsMatrix entries table → IsMatrix entries other → AreSame table other
-one_matrix entries table other a b = record {
-  programmes = same_programmes table.programmes other.programmes (a.programmes ∙ sym b.programmes) (subst Distinct (sym a.programmes) (codes-distinct [] entries tt))
-      (λ code. a.homes code ∙ sym (b.homes code));
-  steps = a.steps ∙ sym b.steps;
-}
+-- Entries have one matrix.
+one_matrix : (entries : List Entry) (table other : SeatTable) → IsMatrix entries table → IsMatrix entries other → table ≡ other
+one_matrix entries table other a b = λ i. record { programmes = programmes i; steps = steps i }
+  where
+    programmes : table.programmes ≡ other.programmes
+    programmes = same_programmes table.programmes other.programmes (a.programmes ∙ sym b.programmes) (subst Distinct (sym a.programmes) (codes-distinct [] entries tt)) (λ code. a.homes code ∙ sym (b.homes code))
 
--- Rows give seats or have a fault.
-some_reading : (rows : List Row) → ((table : SeatTable) × IsRead rows table) ⊎ ((row : ℕ) × (kind : MatrixKind) × IsFault rows (Bad row kind))
-some_reading rows = elim (one_fault judge rows).some [
-  | inl none ↦ inl (record { programmes = programmes_after [] (entries_of reading rows); steps = map (seatings_in (entries_of reading rows)) (codes_of (entries_of reading rows)) }, (none, matrix_of (entries_of reading rows)))
-  | inr fault ↦ inr fault
-]
+    steps : table.steps ≡ other.steps
+    steps = a.steps ∙ sym b.steps
 
 -- ---- what rows give is sound
 
@@ -185,32 +178,28 @@ AreSound entries = AreEntries entries × AreCodes (codes_of entries)
 no_entries : AreSound []
 no_entries = (record { seated = λ code step seating e. cc e; lists = λ code home e. cc e; few = omega arith; total = omega arith }, tt)
 
--- what a row gives is accepted, and a row with a fault gives nothing
-with_sound : (entries : List Entry) (given : Result Entry MatrixKind) → AreSound entries → ((entry : Entry) → given ≡ Ok entry → seats.IsAccepted entries entry) → AreSound (with_entry entries given)
-with_sound entries (Ok entry) sound each =
-    let accepted = each entry refl in (
+-- Each row that gives an entry keeps the entries sound.
+row_sound : (entries : List Entry) (row : Row) (entry : Entry) → AreSound entries → reading entries row ≡ Ok entry → AreSound (entries ++ entry ∷ [])
+row_sound entries row entry sound e =
+    let accepted = seats.accepted entries row entry e in (
       seats.entries-step entries entry sound.0 accepted (home_known entries entry.programme),
       subst AreCodes (sym (seats.codes-push [] entries entry)) (codes-with (codes_of entries) entry.programme sound.1 accepted.code),
     )
-with_sound entries (Err kind) sound each = sound
 
-after_sound : (entries : List Entry) (rows : List Row) → AreSound entries → AreSound (entries_after reading entries rows)
-after_sound entries [] sound = sound
-after_sound entries (row ∷ rows) sound = after_sound (with_entry entries (reading entries row)) rows (with_sound entries (reading entries row) sound (λ entry e. seats.accepted entries row entry e))
-
-entries_sound : (rows : List Row) → AreSound (entries_of reading rows)
-entries_sound [] = no_entries
-entries_sound (header ∷ rows) = after_sound [] rows no_entries
+entries_sound : (rows : List Row) (entries : List Entry) → entries_of rows ≡ Ok entries → AreSound entries
+entries_sound rows entries e = all-hold reading AreSound row_sound BadHeader header rows entries no_entries e
 
 -- ---- one reading
 
 -- Rows have exactly one reading.
 pub one_reading : (rows : List Row) → HaveOneReading rows
-one_reading rows = record {
-  some = some_reading rows;
-  apart = λ table row kind read fault. (one_fault judge rows).apart row kind read.0 fault;
-  sound = λ table read. seats.matrix_sound (entries_of reading rows) table (entries_sound rows).0 read.1;
-  spelled = λ table read. subst AreCodes (sym read.1.programmes) (entries_sound rows).1;
-  one_value = λ table other a b. one_matrix (entries_of reading rows) table other a.1 b.1;
-  one_fault = (one_fault judge rows).one;
-}
+one_reading rows =
+    let given = entries_of rows in
+    record {
+      some = some_reading given IsMatrix (λ entries. (record { programmes = programmes_after [] entries; steps = map (seatings_in entries) (codes_of entries) }, matrix_of entries));
+      apart = apart_reading given IsMatrix;
+      sound = λ table read. seats.matrix_sound read.0 table (entries_sound rows read.0 read.1).0 read.2;
+      spelled = λ table read. subst AreCodes (sym read.2.programmes) (entries_sound rows read.0 read.1).1;
+      one_value = one_value given IsMatrix one_matrix;
+      one_fault = one_fault given;
+    }

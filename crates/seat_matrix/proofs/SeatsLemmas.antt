@@ -7,18 +7,18 @@ use Rattle.std.specs.List.{list_any}
 use Rattle.std.specs.Map.{keys_of, lookup}
 use Rattle.std.specs.Option.{option_and_then, unwrap_or}
 use Rattle.std.specs.Ordering.{is_eq, nat_cmp}
-use Rattle.std.proofs.lemmas.Bool.{and_parts, cases_eq, cond-false, cond-true, eqb-true, false_from_ne_true, leb-false, ltb-false}
+use Rattle.std.proofs.lemmas.Bool.{and_parts, cases_Bool, cases_eq, cond-false, cond-true, cond_both, eq-eqb, eqb-false, eqb-true, false_from_ne_true, leb-false, ltb-false, ne_eqb}
 use Rattle.std.proofs.lemmas.Grind.{get_or-set_at}
-use Rattle.std.proofs.lemmas.List.{length-map}
-use Rattle.std.proofs.lemmas.Option.{cond_some}
+use Rattle.std.proofs.lemmas.List.{get_or-map, length-map}
+use Rattle.std.proofs.lemmas.Option.{cond_some, get_or_from_slice_get}
 use Rattle.std.proofs.lemmas.Map.Text.{is_eq-slice_cmp}
 use Rattle.std.proofs.lemmas.Slice.Eq.{bytes_eq-Decides}
 use Rattle.indexmap.specs.IndexMap.{insert_entry}
+use Rattle.office_base.specs.CategorySteps.{own_steps}
 use Rattle.office_base.specs.Codes.{is_code}
 use Rattle.office_base.specs.Limits.{most_matrix_seats, most_programmes, most_step_seats}
 use Rattle.office_base.specs.Person.{IsList}
 use Rattle.office_base.specs.declared.step.StepKind.{StepKind}
-use Rattle.office_base.specs.declared.step.StepKind.TheVariants.{Open, Ews, Obc, Sc, St, Dereserved}
 use Rattle.seat_matrix.proofs.Codes.{Distinct, code_apart, codes-distinct}
 use Rattle.office_text.specs.Number.{number_within}
 use Rattle.office_text.specs.Names.{code_of, step_of}
@@ -27,10 +27,11 @@ use Rattle.section_rows.specs.Steps.{after, needs, unless}
 use Rattle.section_rows.proofs.StepsLemmas.{after_ok, flip, found_cases, needs_ok, number_found, step, then_found, unless_ok, within_range}
 use Rattle.office_base.specs.StepNumbers.{step_number}
 use Rattle.office_base.proofs.Options.{none_from}
+use Rattle.office_base.proofs.StepNumbers.{below_six, one_number, own_at}
 use Rattle.seat_matrix.specs.Fields.{count_of, protections_of, seating_of}
 use Rattle.seat_matrix.specs.Laws.{OneStepChanges}
 use Rattle.seat_matrix.specs.Matrix.{AreEntries, AreSeats, IsMatrix, SeatTable, all_seats, codes_after, codes_in, codes_of, find_home, first_list, given, home_at, matrix_with, new_row, reading, seating_at, seating_in, seatings_in, seats_after, settles, steps_in, with_code}
-use Rattle.seat_matrix.specs.Seats.{IsSeated, is_dereserved, no_seatings, of_step, with_seating}
+use Rattle.seat_matrix.specs.Seats.{IsSeated, is_dereserved, no_seating, no_seatings, of_step, with_seating}
 use Rattle.seat_matrix.specs.Builder.{Keeps, step_cmp}
 use Rattle.seat_matrix.specs.declared.entry.Entry.{Entry}
 use Rattle.seat_matrix.specs.declared.entry.Home.{Home}
@@ -220,14 +221,31 @@ given_seated entries sound code step = by (seating_at code step entries) refl
     by None e = record { protections = omega arith; seats = omega arith }
     by (Some seating) e = sound.seated code step seating e
 
+-- one number is another, or is not
+cases_number : (a b : ℕ) → (a ≡ b) ⊎ (a ≢ b)
+cases_number a b = cases_eq a b
+
+-- a step with seats of its own is one of five
+pub own_number : (step : StepKind) → is_dereserved step ≡ false → step_number step < 5
+own_number step own = omega (arith, below_six step, eqb-false (step_number step) 5 own)
+
+-- what a list that is made for each step with seats of its own has for a step
+pub made_at : (f : StepKind → Seating) (step : StepKind) → is_dereserved step ≡ false → of_step (record { own = map f own_steps }) step ≡ f step
+made_at f step own =
+    cond-false (is_dereserved step) no_seating (get_or (map f own_steps) (step_number step) no_seating) own
+    ∙ get_or-map f own_steps (step_number step) step no_seating (own_number step own)
+    ∙ ap f (get_or_from_slice_get own_steps (step_number step) step step (own_at step (own_number step own)))
+
+-- the de-reserved step has no seats of its own
+pub none_own : (steps : Seatings) (step : StepKind) → is_dereserved step ≡ true → of_step steps step ≡ no_seating
+none_own steps step e = cond-true (is_dereserved step) no_seating (get_or steps.own (step_number step) no_seating) e
+
 -- and so is what they give for a programme
 pub steps_seated : (entries : List Entry) → AreEntries entries → (code : List ℕ) (kind : StepKind) → IsSeated (of_step (seatings_in entries code) kind)
-steps_seated entries sound code Open = given_seated entries sound code 0
-steps_seated entries sound code Ews = given_seated entries sound code 1
-steps_seated entries sound code Obc = given_seated entries sound code 2
-steps_seated entries sound code Sc = given_seated entries sound code 3
-steps_seated entries sound code St = given_seated entries sound code 4
-steps_seated entries sound code Dereserved = record { protections = omega arith; seats = omega arith }
+steps_seated entries sound code kind = elim (cases_Bool (is_dereserved kind)) [
+  | inl last ↦ subst IsSeated (sym (none_own (seatings_in entries code) kind last)) (record { protections = lit≤ tt; seats = lit≤ tt })
+  | inr own ↦ subst IsSeated (sym (made_at (λ step. given (seating_at code (step_number step) entries)) kind own)) (given_seated entries sound code (step_number kind))
+]
 
 -- what holds of each image holds at each place
 mapped_at : {X Y : Type 0} (f : X → Y) (P : Y → Type 0) (d : Y) → ((x : X) → P (f x)) → (xs : List X) (k : ℕ) → k < length xs → P (get_or (map f xs) k d)
@@ -283,100 +301,43 @@ matrix_sound entries table sound matrix =
 
 -- the step has the seats that it was given
 put_here : (steps : Seatings) (step : StepKind) (seating : Seating) → is_dereserved step ≡ false → of_step (with_seating steps step seating) step ≡ seating
-put_here steps Open seating e = refl
-put_here steps Ews seating e = refl
-put_here steps Obc seating e = refl
-put_here steps Sc seating e = refl
-put_here steps St seating e = refl
-put_here steps Dereserved seating e = cc e
+put_here steps step seating own =
+    made_at (λ other. cond (step_number other == step_number step) seating (of_step steps other)) step own
+    ∙ cond-true (step_number step == step_number step) seating (of_step steps step) (eq-eqb (step_number step) (step_number step) refl)
 
 -- each other step has its own
 put_elsewhere : (steps : Seatings) (step kind : StepKind) (seating : Seating) → (kind ≡ step → ⊥) → of_step (with_seating steps step seating) kind ≡ of_step steps kind
-put_elsewhere steps Open Open seating other = absurd (other refl)
-put_elsewhere steps Open Ews seating other = refl
-put_elsewhere steps Open Obc seating other = refl
-put_elsewhere steps Open Sc seating other = refl
-put_elsewhere steps Open St seating other = refl
-put_elsewhere steps Open Dereserved seating other = refl
-put_elsewhere steps Ews Open seating other = refl
-put_elsewhere steps Ews Ews seating other = absurd (other refl)
-put_elsewhere steps Ews Obc seating other = refl
-put_elsewhere steps Ews Sc seating other = refl
-put_elsewhere steps Ews St seating other = refl
-put_elsewhere steps Ews Dereserved seating other = refl
-put_elsewhere steps Obc Open seating other = refl
-put_elsewhere steps Obc Ews seating other = refl
-put_elsewhere steps Obc Obc seating other = absurd (other refl)
-put_elsewhere steps Obc Sc seating other = refl
-put_elsewhere steps Obc St seating other = refl
-put_elsewhere steps Obc Dereserved seating other = refl
-put_elsewhere steps Sc Open seating other = refl
-put_elsewhere steps Sc Ews seating other = refl
-put_elsewhere steps Sc Obc seating other = refl
-put_elsewhere steps Sc Sc seating other = absurd (other refl)
-put_elsewhere steps Sc St seating other = refl
-put_elsewhere steps Sc Dereserved seating other = refl
-put_elsewhere steps St Open seating other = refl
-put_elsewhere steps St Ews seating other = refl
-put_elsewhere steps St Obc seating other = refl
-put_elsewhere steps St Sc seating other = refl
-put_elsewhere steps St St seating other = absurd (other refl)
-put_elsewhere steps St Dereserved seating other = refl
-put_elsewhere steps Dereserved kind seating other = refl
-
--- sound seats of each step stay sound where a step gets others
-put_seated : (steps : Seatings) (step kind : StepKind) (seating : Seating) → IsSeated seating → ((k : StepKind) → IsSeated (of_step steps k)) → IsSeated (of_step (with_seating steps step seating) kind)
-put_seated steps Open Open seating here each = here
-put_seated steps Ews Ews seating here each = here
-put_seated steps Obc Obc seating here each = here
-put_seated steps Sc Sc seating here each = here
-put_seated steps St St seating here each = here
-put_seated steps Dereserved kind seating here each = each kind
-put_seated steps Open Ews seating here each = each Ews
-put_seated steps Open Obc seating here each = each Obc
-put_seated steps Open Sc seating here each = each Sc
-put_seated steps Open St seating here each = each St
-put_seated steps Open Dereserved seating here each = each Dereserved
-put_seated steps Ews Open seating here each = each Open
-put_seated steps Ews Obc seating here each = each Obc
-put_seated steps Ews Sc seating here each = each Sc
-put_seated steps Ews St seating here each = each St
-put_seated steps Ews Dereserved seating here each = each Dereserved
-put_seated steps Obc Open seating here each = each Open
-put_seated steps Obc Ews seating here each = each Ews
-put_seated steps Obc Sc seating here each = each Sc
-put_seated steps Obc St seating here each = each St
-put_seated steps Obc Dereserved seating here each = each Dereserved
-put_seated steps Sc Open seating here each = each Open
-put_seated steps Sc Ews seating here each = each Ews
-put_seated steps Sc Obc seating here each = each Obc
-put_seated steps Sc St seating here each = each St
-put_seated steps Sc Dereserved seating here each = each Dereserved
-put_seated steps St Open seating here each = each Open
-put_seated steps St Ews seating here each = each Ews
-put_seated steps St Obc seating here each = each Obc
-put_seated steps St Sc seating here each = each Sc
-put_seated steps St Dereserved seating here each = each Dereserved
-
--- one number is another, or is not
-cases_number : (a b : ℕ) → (a ≡ b) ⊎ (a ≢ b)
-cases_number a b = cases_eq a b
+put_elsewhere steps step kind seating apart = elim (cases_Bool (is_dereserved kind)) [
+  | inl last ↦ none_own (with_seating steps step seating) kind last ∙ sym (none_own steps kind last)
+  | inr own ↦
+      made_at (λ other. cond (step_number other == step_number step) seating (of_step steps other)) kind own
+      ∙ cond-false (step_number kind == step_number step) seating (of_step steps kind) (ne_eqb (step_number kind) (step_number step) (λ e. apart (one_number kind step e)))
+]
 
 -- A matrix with other seats in one step has them there, and is as before elsewhere.
 pub one_step_changes : OneStepChanges
 one_step_changes table prog step seating below plain =
-    let there : steps_in (matrix_with table prog step seating) prog ≡ with_seating (steps_in table prog) step seating =
-    get_or-set_same table.steps prog (with_seating (steps_in table prog) step seating) no_seatings below in
+    let old = steps_in table prog in
+    let there : steps_in (matrix_with table prog step seating) prog ≡ with_seating old step seating = get_or-set_same table.steps prog (with_seating old step seating) no_seatings below in
     record {
       programmes = refl;
-      here = ap (λ (steps : Seatings). of_step steps step) there ∙ put_here (steps_in table prog) step seating plain;
+      here = ap (λ (steps : Seatings). of_step steps step) there ∙ put_here old step seating plain;
       elsewhere = λ other kind apart. elim (cases_number other prog) [
         | inl same ↦
             subst (λ (n : ℕ). seating_in (matrix_with table prog step seating) n kind ≡ seating_in table n kind) (sym same)
-            (ap (λ (steps : Seatings). of_step steps kind) there ∙ put_elsewhere (steps_in table prog) step kind seating (apart same))
-        | inr differs ↦ ap (λ (steps : Seatings). of_step steps kind) (get_or-set_other table.steps prog other (with_seating (steps_in table prog) step seating) no_seatings differs)
+            (ap (λ (steps : Seatings). of_step steps kind) there ∙ put_elsewhere old step kind seating (apart same))
+        | inr differs ↦ ap (λ (steps : Seatings). of_step steps kind) (get_or-set_other table.steps prog other (with_seating old step seating) no_seatings differs)
       ];
     }
+
+-- sound seats of each step stay sound where a step gets others
+put_seated : (steps : Seatings) (step kind : StepKind) (seating : Seating) → IsSeated seating → ((k : StepKind) → IsSeated (of_step steps k)) → IsSeated (of_step (with_seating steps step seating) kind)
+put_seated steps step kind seating here each = elim (cases_Bool (is_dereserved kind)) [
+  | inl last ↦ subst IsSeated (none_own steps kind last ∙ sym (none_own (with_seating steps step seating) kind last)) (each kind)
+  | inr own ↦
+      subst IsSeated (sym (made_at (λ other. cond (step_number other == step_number step) seating (of_step steps other)) kind own))
+      (cond_both (step_number kind == step_number step) seating (of_step steps kind) IsSeated (λ _. here) (λ _. each kind))
+]
 
 -- A sound matrix with sound other seats in one step is sound.
 pub with_sound : (table : SeatTable) (prog : ℕ) (step : StepKind) (seating : Seating) → AreSeats table → prog < length table.programmes → IsSeated seating → AreSeats (matrix_with table prog step seating)

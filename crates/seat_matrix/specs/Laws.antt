@@ -10,11 +10,6 @@ use Rattle.seat_matrix.specs.Seats.{is_dereserved}
 use Rattle.seat_matrix.specs.declared.fault.MatrixKind.{MatrixKind}
 use Rattle.seat_matrix.specs.declared.seats.Seating.{Seating}
 
--- two matrices with the same programmes, which have the same seats in their steps
-pub record AreSame (table other : SeatTable) : Type 0 where
-  pub programmes : table.programmes ≡ other.programmes
-  pub steps : table.steps ≡ other.steps
-
 -- each code is spelled as codes are
 abbrev pub AreCodes : List (List ℕ) → Type 0
 AreCodes codes = AllByRecursion (λ code. is_code code ≡ true) codes
@@ -25,7 +20,7 @@ pub record HaveOneReading (rows : List Row) : Type 0 where
   pub apart : (table : SeatTable) (row : ℕ) (kind : MatrixKind) → IsRead rows table → IsFault rows (Bad row kind) → ⊥
   pub sound : (table : SeatTable) → IsRead rows table → AreSeats table
   pub spelled : (table : SeatTable) → IsRead rows table → AreCodes (codes_in table.programmes)
-  pub one_value : (table other : SeatTable) → IsRead rows table → IsRead rows other → AreSame table other
+  pub one_value : (table other : SeatTable) → IsRead rows table → IsRead rows other → table ≡ other
   pub one_fault : (row other : ℕ) (kind next : MatrixKind) → IsFault rows (Bad row kind) → IsFault rows (Bad other next) → (row ≡ other) × (kind ≡ next)
 
 -- a matrix with other seats in one step has them there, and is as before elsewhere

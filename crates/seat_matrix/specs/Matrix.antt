@@ -1,19 +1,18 @@
 -- The grammar of the matrix: what a row gives after the entries of the rows before it, or what is wrong with it.
-use Rattle.std.specs.Prelude.{◌≡◌, ◌≢◌, ◌≤◌, ◌<◌, ◌+◌, ℕ, Bool, not, ◌==◌, ◌&&◌, nat_le, nat_lt, sum, List, [], ◌∷◌, ◌++◌, is_some, Option, Some, None, Result, Ok, length, map, slice_get, slice_index_or, slice_set, option_map, bytes_eq, codes, if◌then◌else◌}
+use Rattle.std.specs.Prelude.{◌≡◌, ◌≢◌, ◌≤◌, ◌<◌, ◌+◌, ℕ, not, ◌==◌, ◌&&◌, nat_le, nat_lt, sum, List, [], ◌∷◌, ◌++◌, is_some, Option, Some, None, Result, Ok, length, map, slice_get, slice_index_or, slice_set, option_map, bytes_eq, codes, if◌then◌else◌}
 use Rattle.std.specs.List.{list_any}
 use Rattle.std.specs.Option.{unwrap_or}
+use Rattle.office_base.specs.CategorySteps.{own_steps}
 use Rattle.office_base.specs.Limits.{most_matrix_seats, most_programmes}
 use Rattle.office_base.specs.Lists.{Pairwise}
 use Rattle.office_base.specs.Person.{IsList}
 use Rattle.office_base.specs.declared.person.ListId.{ListId}
 use Rattle.office_base.specs.declared.step.StepKind.{StepKind}
-use Rattle.office_base.specs.declared.step.StepKind.TheVariants.{Open, Ews, Obc, Sc, St}
-use Rattle.office_text.specs.FirstFault.{Judge, IsFaultless}
 use Rattle.office_text.specs.Names.{code_of, step_of}
 use Rattle.office_text.specs.Number.{number_within}
 use Rattle.section_rows.specs.Rows.{Row, field}
 use Rattle.section_rows.specs.Steps.{after, first_of, needs, unless}
-use Rattle.section_rows.specs.Table.{IsTableFault, Reading, entries_of, table_judge}
+use Rattle.section_rows.specs.Table.{Given, IsTableFault, Reading, table_of}
 use Rattle.section_rows.specs.declared.fault.TableFault.{TableFault}
 use Rattle.office_base.specs.StepNumbers.{step_number}
 use Rattle.seat_matrix.specs.Fields.{seating_of}
@@ -77,9 +76,9 @@ reading entries row =
     after (settles (home_at p.0 entries) (length (codes_of entries)) (record { institute = p.1; list = record { 0 = list } })) (λ home.
     unless (nat_lt most_matrix_seats (all_seats entries + seating.seats)) TooMany (Ok (record { programme = p.0; home = home; step = p.2; seating = seating })))))))
 
--- what is wrong with a row of a matrix
-abbrev pub judge : Judge Row MatrixKind
-judge = table_judge BadHeader header reading
+-- the entries of a matrix's rows, or the first fault
+abbrev pub entries_of : List Row → Given Entry MatrixKind
+entries_of rows = table_of BadHeader header reading rows
 
 -- what a row gave for a step, and no seats where no row was given
 abbrev pub given : Option Seating → Seating
@@ -88,13 +87,7 @@ given (Some seating) = seating
 
 -- what the entries give for the steps of a programme
 abbrev pub seatings_in : List Entry → List ℕ → Seatings
-seatings_in entries code = record {
-  open_step = given (seating_at code (step_number Open) entries);
-  ews = given (seating_at code (step_number Ews) entries);
-  obc = given (seating_at code (step_number Obc) entries);
-  sc = given (seating_at code (step_number Sc) entries);
-  st = given (seating_at code (step_number St) entries);
-}
+seatings_in entries code = record { own = map (λ step. given (seating_at code (step_number step) entries)) own_steps }
 
 -- what a matrix knows: the programmes by their numbers, and the seats of the steps of each
 pub record SeatTable : Type 0 where
@@ -165,8 +158,8 @@ pub record HasSeating (before : SeatTable) (prog : ℕ) (step : StepKind) (seati
 
 -- a body's rows have no fault, and this is the matrix of their entries
 abbrev pub IsRead : List Row → SeatTable → Type 0
-IsRead rows table = IsFaultless judge rows × IsMatrix (entries_of reading rows) table
+IsRead rows table = (entries : List Entry) × (entries_of rows ≡ Ok entries) × IsMatrix entries table
 
 -- the first fault of a body's rows; `OutOfMemory` says nothing of them
 abbrev pub IsFault : List Row → TableFault MatrixKind → Type 0
-IsFault = IsTableFault judge
+IsFault rows = IsTableFault (entries_of rows)

@@ -1,10 +1,12 @@
 -- The seats of a programme.
-use Rattle.std.specs.Prelude.{◌≡◌, ◌≤◌, Bool, true, false, sum, [], ◌∷◌}
+use Rattle.std.specs.Prelude.{◌≡◌, ◌==◌, ◌≤◌, Bool, sum, [], ◌∷◌, map, slice_index_or, if◌then◌else◌}
+use Rattle.office_base.specs.CategorySteps.{own_steps}
 use Rattle.office_base.specs.Limits.{most_step_seats}
 use Rattle.office_base.specs.Person.{IsList}
+use Rattle.office_base.specs.StepNumbers.{step_number}
 use Rattle.office_base.specs.declared.step.Protections.{Protections}
 use Rattle.office_base.specs.declared.step.StepKind.{StepKind}
-use Rattle.office_base.specs.declared.step.StepKind.TheVariants.{Open, Ews, Obc, Sc, St, Dereserved}
+use Rattle.office_base.specs.declared.step.StepKind.TheVariants.{Dereserved}
 use Rattle.seat_matrix.specs.declared.seats.ProgrammeSeats.{ProgrammeSeats}
 use Rattle.seat_matrix.specs.declared.seats.Seating.{Seating}
 use Rattle.seat_matrix.specs.declared.seats.Seatings.{Seatings}
@@ -19,25 +21,15 @@ no_seating = record { seats = 0; protections = no_protections }
 
 -- no seats of a programme
 abbrev pub no_seatings : Seatings
-no_seatings = record { open_step = no_seating; ews = no_seating; obc = no_seating; sc = no_seating; st = no_seating }
+no_seatings = record { own = map (λ step. no_seating) own_steps }
 
 -- the step is of seats that a category left unfilled; it has none of its own
 abbrev pub is_dereserved : StepKind → Bool
-is_dereserved Open = false
-is_dereserved Ews = false
-is_dereserved Obc = false
-is_dereserved Sc = false
-is_dereserved St = false
-is_dereserved Dereserved = true
+is_dereserved step = step_number step == step_number Dereserved
 
--- the seats of a step
+-- the seats of a step, by its number; the step of seats that a category left unfilled has none of its own
 abbrev pub of_step : Seatings → StepKind → Seating
-of_step steps Open = steps.open_step
-of_step steps Ews = steps.ews
-of_step steps Obc = steps.obc
-of_step steps Sc = steps.sc
-of_step steps St = steps.st
-of_step steps Dereserved = no_seating
+of_step steps step = if is_dereserved step then no_seating else slice_index_or steps.own (step_number step) no_seating
 
 -- the seats of a programme in a step
 abbrev pub seats_of : ProgrammeSeats → StepKind → Seating
@@ -45,12 +37,7 @@ seats_of seats step = of_step seats.steps step
 
 -- the same seats, but for those of one step
 abbrev pub with_seating : Seatings → StepKind → Seating → Seatings
-with_seating steps Open seating = record steps { open_step = seating }
-with_seating steps Ews seating = record steps { ews = seating }
-with_seating steps Obc seating = record steps { obc = seating }
-with_seating steps Sc seating = record steps { sc = seating }
-with_seating steps St seating = record steps { st = seating }
-with_seating steps Dereserved seating = steps
+with_seating steps step seating = record { own = map (λ other. if step_number other == step_number step then seating else of_step steps other) own_steps }
 
 -- the protections are among the seats, and these are at most 4,000
 pub record IsSeated (seating : Seating) : Type 0 where

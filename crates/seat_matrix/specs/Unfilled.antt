@@ -1,7 +1,9 @@
 -- The seats that are left to the de-reserved step, from numbers alone.
-use Rattle.std.specs.Prelude.{◌+◌, ◌-◌, ◌==◌, ℕ, if◌then◌else◌}
+use Rattle.std.specs.Prelude.{◌-◌, ℕ, sum, map, if◌then◌else◌}
+use Rattle.office_base.specs.CategorySteps.{category_steps, gives_up}
+use Rattle.office_base.specs.declared.step.StepKind.{StepKind}
 
--- The seats that OBC left unfilled, and in version 2 those that EWS left unfilled too: from the version, and the seats and persons of EWS and of OBC.
--- The seats that SC and ST left unfilled stay empty.
-abbrev pub left_unfilled : ℕ → ℕ → ℕ → ℕ → ℕ → ℕ
-left_unfilled version ews_seats ews obc_seats obc = (obc_seats - obc) + (if version == 2 then ews_seats - ews else 0)
+-- The seats that categories left unfilled, of those whose empty seats are given away in this version: from the seats of each step and the number of
+-- persons whom it admitted.
+abbrev pub left_unfilled : ℕ → (StepKind → ℕ) → (StepKind → ℕ) → ℕ
+left_unfilled version seats held = sum (map (λ row. if gives_up row version then seats row.step - held row.step else 0) category_steps)

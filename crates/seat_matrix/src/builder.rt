@@ -156,11 +156,13 @@ impl MatrixBuilder {
             → result ≡ seatings_in entries code }
     {
         Seatings {
-            open_step: self.seating(code, StepKind::Open),
-            ews: self.seating(code, StepKind::Ews),
-            obc: self.seating(code, StepKind::Obc),
-            sc: self.seating(code, StepKind::Sc),
-            st: self.seating(code, StepKind::St),
+            own: [
+                self.seating(code, StepKind::Open),
+                self.seating(code, StepKind::Ews),
+                self.seating(code, StepKind::Obc),
+                self.seating(code, StepKind::Sc),
+                self.seating(code, StepKind::St),
+            ],
         }
     }
 

@@ -1,8 +1,8 @@
 // The seats of a programme: its merit list, and the seats of each step with the protected ones among them.
 ghost use Rattle.std.specs.Prelude.{◌≡◌};
-ghost use Rattle.seat_matrix.specs.Seats.{no_protections, no_seating, no_seatings, of_step, seats_of, with_seating};
+ghost use Rattle.seat_matrix.specs.Seats.{no_seating, of_step, seats_of, with_seating};
 
-use office_base::{ListId, Protections, StepKind};
+use office_base::{ListId, Protections, StepKind, step_number};
 
 /// The seats of one step, at most 4,000, and how many of them are protected for each trait. The protected positions are
 /// among the seats.
@@ -12,14 +12,11 @@ pub struct Seating {
     pub protections: Protections,
 }
 
-/// The seats of a programme in the steps OPEN, EWS, OBC, SC and ST: 0 and no protections where no row was given.
+/// The seats of a programme in each step that has seats of its own, by the number of the step: 0 and no protections where no
+/// row was given.
 #[derive(Clone, Copy, Debug, PartialEq, Eq)]
 pub struct Seatings {
-    pub open_step: Seating,
-    pub ews: Seating,
-    pub obc: Seating,
-    pub sc: Seating,
-    pub st: Seating,
+    pub own: [Seating; 5],
 }
 
 /// All that a matrix has for one programme: its merit list, and the seats of its steps.
@@ -46,27 +43,19 @@ impl Seatings {
     pub fn of(&self, step: StepKind) -> Seating
         ensures { result ≡ of_step self.now step }
     {
-        match step {
-            StepKind::Open => self.open_step,
-            StepKind::Ews => self.ews,
-            StepKind::Obc => self.obc,
-            StepKind::Sc => self.sc,
-            StepKind::St => self.st,
-            StepKind::Dereserved => Seating::none(),
+        match self.own.get(usize::from(step_number(step))) {
+            Some(seating) => *seating,
+            None => Seating::none(),
         }
     }
 
-    /// Gives a step these seats. The other steps keep theirs; the step of seats that a category left unfilled takes none.
+    /// Gives a step these seats. The other steps keep theirs. The step of seats that a category left unfilled takes none.
     pub fn put(&mut self, step: StepKind, seating: Seating)
         ensures { self.new ≡ with_seating self.old step seating }
     {
-        match step {
-            StepKind::Open => self.open_step = seating,
-            StepKind::Ews => self.ews = seating,
-            StepKind::Obc => self.obc = seating,
-            StepKind::Sc => self.sc = seating,
-            StepKind::St => self.st = seating,
-            StepKind::Dereserved => {}
+        let number = usize::from(step_number(step));
+        if number < self.own.len() {
+            self.own[number] = seating;
         }
     }
 }
