@@ -1,42 +1,41 @@
 // How many seats categories left empty.
-ghost use Rattle.std.specs.Prelude.{◌≡◌, ◌≤◌, ◌<◌, length, slice_index_or};
+ghost use Rattle.std.specs.Prelude.{◌≡◌, ◌<◌, length};
 ghost use Rattle.office_base.specs.Version.{IsVersion};
-ghost use Rattle.office_base.specs.declared.step.StepKind.TheVariants.{Ews as EwsStep, Obc as ObcStep};
 ghost use Rattle.seat_matrix.specs.Matrix.{seating_in};
+ghost use Rattle.seat_matrix.specs.Seats.{of_step};
 ghost use Rattle.seat_matrix.specs.Unfilled.{left_unfilled};
-ghost use Rattle.dereserve.specs.Unfilled.{AreHeld};
+ghost use Rattle.dereserve.specs.Unfilled.{AreHeld, held_at};
 
-use office_base::{ProgId, StepKind};
-use seat_matrix::Matrix;
+use office_base::{CATEGORY_STEPS, ProgId, gives_up, step_number};
+use seat_matrix::{Matrix, Seatings};
 
-/// How many seats are left to the de-reserved step, at most 8,000: in version 1 of the bundle those that OBC left unfilled,
-/// and in version 2 those that EWS left unfilled too. The persons of each step are at most its seats.
-pub fn left_unfilled(version: u8, ews_seats: u16, ews: u16, obc_seats: u16, obc: u16) -> u32
+/// Returns how many seats are left to the de-reserved step, at most 16,000. `held` has the numbers of persons whom the steps
+/// with seats of their own admitted, by the number of the step, each at most the seats of its step.
+pub fn left_unfilled(version: u8, seats: &Seatings, held: &[u16; 5]) -> u32
     requires version { IsVersion version }
-    requires ews { ews ≤ ews_seats }
-    requires obc { obc ≤ obc_seats }
-    ensures { result ≡ left_unfilled version ews_seats ews obc_seats obc }
+    requires held { AreHeld (λ step. (of_step seats.now step).seats) held.now }
+    ensures { result ≡ left_unfilled version (λ step. (of_step seats.now step).seats)
+        (held_at held.now) }
 {
-    let of_obc = u32::from(obc_seats - obc);
-    if version == 2 {
-        of_obc + u32::from(ews_seats - ews)
-    } else {
-        of_obc
+    let mut empty = 0;
+    for row in CATEGORY_STEPS {
+        if gives_up(row, version) {
+            let held = held[usize::from(step_number(row.step))];
+            empty += u32::from(seats.of(row.step).seats - held);
+        }
     }
+    empty
 }
 
-/// How many seats of a programme are left to the de-reserved step, at most 8,000. What is held are the numbers of persons
-/// whom OPEN, EWS, OBC, SC and ST admitted, each at most the seats of its step. The version is that of the bundle: in
-/// version 1 the seats that OBC left empty are given away, in version 2 those of EWS too.
+/// Returns how many seats of a programme are left to the de-reserved step, at most 16,000. `held` has the numbers of persons
+/// whom the steps with seats of their own admitted, by the number of the step, each at most the seats of its step. The
+/// version is that of the bundle: `CATEGORY_STEPS` says which categories give their empty seats away in it.
 pub fn unfilled(matrix: &Matrix, prog: ProgId, version: u8, held: &[u16; 5]) -> u32
     requires programme { prog.0 < length matrix.now.programmes }
     requires version { IsVersion version }
-    requires held { AreHeld matrix.now prog.0 held.now }
-    ensures { result ≡ left_unfilled version (seating_in matrix.now prog.0 EwsStep).seats
-        (slice_index_or held.now 1 0)
-        (seating_in matrix.now prog.0 ObcStep).seats (slice_index_or held.now 2 0) }
+    requires held { AreHeld (λ step. (seating_in matrix.now prog.0 step).seats) held.now }
+    ensures { result ≡ left_unfilled version (λ step. (seating_in matrix.now prog.0 step).seats)
+        (held_at held.now) }
 {
-    let ews = matrix.seats(prog, StepKind::Ews);
-    let obc = matrix.seats(prog, StepKind::Obc);
-    left_unfilled(version, ews, held[1], obc, held[2])
+    left_unfilled(version, &matrix.programme(prog).steps, held)
 }
