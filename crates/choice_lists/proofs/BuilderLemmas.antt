@@ -15,11 +15,12 @@ use Rattle.section_rows.proofs.StepsLemmas.{first_of-other, first_of-push, first
 use Rattle.rank_lists.specs.Register.{AreRanks, Ranks, find_person, row_of}
 use Rattle.rank_lists.proofs.MadeLemmas.{above_same}
 use Rattle.seat_matrix.specs.Matrix.{SeatTable}
-use Rattle.choice_lists.specs.Choices.{AreListsOf, AreChoices, AreKept, Entry, IsChoice, Lists, choices, choices_after, is_chosen, list_at, list_of, listed, lists_along, new_candidate, person_of, reading, all_choices}
+use Rattle.choice_lists.specs.Choices.{AreChoices, AreKept, Entry, IsChoice, Lists, choices, choices_after, is_chosen, list_at, list_of, listed, lists_along, lists_for, new_candidate, person_of, reading, all_choices}
 use Rattle.choice_lists.specs.Builder.{Keeps, along}
 use Rattle.choice_lists.specs.declared.builder.ChoicesBuilder.{ChoicesBuilder}
 use Rattle.choice_lists.specs.declared.fault.ChoiceKind.{ChoiceKind}
 use Rattle.choice_lists.specs.declared.fault.ChoiceKind.TheVariants.{RepeatedCandidate, TooLong, TooMany}
+use Rattle.choice_lists.proofs.FoundLemmas.{lists-found}
 use Rattle.choice_lists.proofs.ChoicesLemmas.{IsNew, choices_ok, good_choice, is_chosen-push, new_candidate_ok}
 
 choices-push : (count : ℕ) (entries : List Entry) (entry : Entry) → choices_after count (entries ++ entry ∷ []) ≡ choices_after count entries + length entry.programmes
@@ -128,7 +129,7 @@ nobody (suc count) zero candidate some = ne_eqb 0 candidate (λ e. absurd (omega
 nobody (suc count) (suc n) candidate some = nobody count n candidate some
 
 -- who has an entry after one more is known, where the one who has it is
-known-step : (ranks : Ranks) (entries : List Entry) (entry : Entry) → ((q : ℕ) → IsSome (list_at q entries) → IsSome (find_person q ranks.people)) → IsSome (find_person entry.candidate ranks.people)
+pub known-step : (ranks : Ranks) (entries : List Entry) (entry : Entry) → ((q : ℕ) → IsSome (list_at q entries) → IsSome (find_person q ranks.people)) → IsSome (find_person entry.candidate ranks.people)
     → (q : ℕ) → IsSome (list_at q (entries ++ entry ∷ [])) → IsSome (find_person q ranks.people)
 known-step ranks entries entry known one q some = by (q == entry.candidate) refl
   where
@@ -192,50 +193,25 @@ zip_people : (entries : List Entry) (people : List Person) → lists_along (map 
 zip_people entries [] = refl
 zip_people entries (p ∷ people) = ap (λ (ls : Lists). (p.id.0, listed (list_at p.id.0 entries)) ∷ ls) (zip_people entries people)
 
--- a candidate's list among those of the people
-list_of-known : (entries : List Entry) (people : List Person) (q : ℕ)
-    → list_of (map (λ person. (person.id.0, listed (list_at person.id.0 entries))) people) q ≡ cond (is_some (find_person q people)) (listed (list_at q entries)) []
-list_of-known entries [] q = refl
-list_of-known entries (p ∷ people) q = by (q == p.id.0) refl (list_of-known entries people q)
-  where
-    by : (b : Bool) → (q == p.id.0) ≡ b
-        → list_of (map (λ person. (person.id.0, listed (list_at person.id.0 entries))) people) q ≡ cond (is_some (find_person q people)) (listed (list_at q entries)) []
-        → listed (cond b (Some (listed (list_at p.id.0 entries))) (first_of (λ (held : ℕ × List ProgId). q == held.0) (λ (held : ℕ × List ProgId). held.1) (map (λ (person : Person). (person.id.0, listed (list_at person.id.0 entries))) people)))
-        ≡ cond (is_some (cond b (Some p) (find_person q people))) (listed (list_at q entries)) []
-    by true e more = ap (λ (k : ℕ). listed (list_at k entries)) (sym (eqb-true q p.id.0 e))
-    by false e more = more
-
-unknown : (o : Option (List ProgId)) (b : Bool) → (IsSome o → b ≡ true) → cond b (listed o) [] ≡ listed o
-unknown None true h = refl
-unknown None false h = refl
-unknown (Some l) true h = refl
-unknown (Some l) false h = cc (h refl)
-
--- The lists of the people of a register, one for each.
-pub people_lists : (entries : List Entry) (builder : ChoicesBuilder) → Keeps entries builder
-    → lists_along (map (λ person. person.id.0) builder.register.now.people) builder.lists ≡ map (λ person. (person.id.0, listed (list_at person.id.0 entries))) builder.register.now.people
-people_lists entries builder keeps =
+-- The lists that were made are those of the people.
+pub made : (entries : List Entry) (builder : ChoicesBuilder) → Keeps entries builder → lists_along (map (λ person. person.id.0) builder.register.now.people) builder.lists ≡ lists_for builder.register.now entries
+made entries builder keeps =
     ap (λ (ls : List (List ProgId)). lists_along (map (λ person. person.id.0) builder.register.now.people) ls) keeps.lists ∙ zip_people entries builder.register.now.people
-
--- The lists that were made are those of the entries, and sound, and go along with the people.
-pub made : (entries : List Entry) (builder : ChoicesBuilder) → Keeps entries builder → AreListsOf entries (lists_along (map (λ person. person.id.0) builder.register.now.people) builder.lists)
-made entries builder keeps q =
-    ap (λ (ls : Lists). list_of ls q) (people_lists entries builder keeps)
-    ∙ list_of-known entries builder.register.now.people q
-    ∙ unknown (list_at q entries) (is_some (find_person q builder.register.now.people)) (keeps.known q)
 
 pub made_sound : (entries : List Entry) (builder : ChoicesBuilder) → Keeps entries builder
     → AreChoices builder.register.now builder.matrix.now (lists_along (map (λ person. person.id.0) builder.register.now.people) builder.lists)
-made_sound entries builder keeps q = subst (IsChoice builder.register.now builder.matrix.now q) (sym (made entries builder keeps q)) (keeps.sound q)
+made_sound entries builder keeps q =
+    subst (IsChoice builder.register.now builder.matrix.now q)
+    (sym (ap (λ (ls : Lists). list_of ls q) (made entries builder keeps) ∙ lists-found builder.register.now entries keeps.known q)) (keeps.sound q)
 
-ids_of-people : (entries : List Entry) (people : List Person) → map (λ (held : ℕ × List ProgId). held.0) (map (λ person. (person.id.0, listed (list_at person.id.0 entries))) people) ≡ map (λ person. person.id.0) people
+pub ids_of-people : (entries : List Entry) (people : List Person) → map (λ (held : ℕ × List ProgId). held.0) (map (λ person. (person.id.0, listed (list_at person.id.0 entries))) people) ≡ map (λ person. person.id.0) people
 ids_of-people entries [] = refl
 ids_of-people entries (p ∷ people) = ap (λ (ids : List ℕ). p.id.0 ∷ ids) (ids_of-people entries people)
 
 pub made_aligned : (entries : List Entry) (builder : ChoicesBuilder) → Keeps entries builder
     → map (λ (held : ℕ × List ProgId). held.0) (lists_along (map (λ person. person.id.0) builder.register.now.people) builder.lists) ≡ map (λ person. person.id.0) builder.register.now.people
 made_aligned entries builder keeps =
-    ap (λ (ls : Lists). map (λ (held : ℕ × List ProgId). held.0) ls) (people_lists entries builder keeps) ∙ ids_of-people entries builder.register.now.people
+    ap (λ (ls : Lists). map (λ (held : ℕ × List ProgId). held.0) ls) (made entries builder keeps) ∙ ids_of-people entries builder.register.now.people
 
 ids_above : (id : ℕ) (people : List Person) → AllByRecursion (λ (p : Person). id < p.id.0) people → AllByRecursion (λ (n : ℕ). id < n) (map (λ person. person.id.0) people)
 ids_above id [] all = tt

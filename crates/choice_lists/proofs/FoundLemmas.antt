@@ -1,15 +1,17 @@
 -- The list of a candidate among lists that go along with ids that rise.
-use Rattle.std.proofs.Common.{◌≡◌, ◌<◌, ◌≤◌, ℕ, zero, suc, List, [], ◌∷◌, Option, None, Result, Ok, Err, length, get_or, refl, sym, ap, inl, inr, ◌∙◌, arith}
-use Rattle.std.specs.Prelude.{◌==◌, MatchResult, option_map, slice_get}
+use Rattle.std.proofs.Common.{◌≡◌, ◌⊎◌, ◌<◌, ◌≤◌, ℕ, zero, suc, Bool, true, false, cond, List, [], ◌∷◌, map, Option, Some, None, Result, Ok, Err, length, get_or, refl, sym, ap, inl, inr, ◌∙◌, arith}
+use Rattle.std.specs.Prelude.{◌==◌, IsSome, MatchResult, is_some, option_map, slice_get}
 use Rattle.std.specs.List.{AllByRecursion}
 use Rattle.std.specs.List.Sorted.{IsBinarySearchResult}
 use Rattle.std.specs.Ordering.{nat_cmp}
-use Rattle.std.proofs.lemmas.Bool.{cases_order, cond-false, cond-true, eq-eqb, ne_eqb}
+use Rattle.std.proofs.lemmas.Bool.{cases_order, cond-false, cond-true, eq-eqb, eqb-true, ne_eqb}
 use Rattle.std.proofs.lemmas.List.Sorted.{searched}
 use Rattle.office_base.specs.Lists.{Pairwise}
+use Rattle.office_base.specs.declared.person.Person.{Person}
 use Rattle.office_base.specs.declared.person.ProgId.{ProgId}
 use Rattle.section_rows.specs.Steps.{first_of}
-use Rattle.choice_lists.specs.Choices.{list_of, listed, lists_along}
+use Rattle.rank_lists.specs.Register.{Ranks, find_person}
+use Rattle.choice_lists.specs.Choices.{Entry, list_at, list_of, listed, lists_along, lists_for}
 
 -- numbers rise
 abbrev Rising : List ℕ → Type 0
@@ -87,3 +89,36 @@ list_there [] (list ∷ lists) at count = absurd (omega (arith, count))
 list_there (id ∷ ids) [] at count = absurd (omega (arith, count))
 list_there (id ∷ ids) (list ∷ lists) zero count = refl
 list_there (id ∷ ids) (list ∷ lists) (suc at) count = list_there ids lists at (omega (arith, count))
+
+-- ---- the lists that entries give people
+
+-- a candidate's list among those of the people
+list_of-known : (entries : List Entry) (people : List Person) (q : ℕ)
+    → list_of (map (λ person. (person.id.0, listed (list_at person.id.0 entries))) people) q ≡ cond (is_some (find_person q people)) (listed (list_at q entries)) []
+list_of-known entries [] q = refl
+list_of-known entries (p ∷ people) q = by (q == p.id.0) refl (list_of-known entries people q)
+  where
+    by : (b : Bool) → (q == p.id.0) ≡ b
+        → list_of (map (λ person. (person.id.0, listed (list_at person.id.0 entries))) people) q ≡ cond (is_some (find_person q people)) (listed (list_at q entries)) []
+        → listed (cond b (Some (listed (list_at p.id.0 entries))) (first_of (λ (held : ℕ × List ProgId). q == held.0) (λ (held : ℕ × List ProgId). held.1) (map (λ (person : Person). (person.id.0, listed (list_at person.id.0 entries))) people)))
+        ≡ cond (is_some (cond b (Some p) (find_person q people))) (listed (list_at q entries)) []
+    by true e more = ap (λ (k : ℕ). listed (list_at k entries)) (sym (eqb-true q p.id.0 e))
+    by false e more = more
+
+unknown : (o : Option (List ProgId)) (b : Bool) → (IsSome o → b ≡ true) → cond b (listed o) [] ≡ listed o
+unknown None true h = refl
+unknown None false h = refl
+unknown (Some l) true h = refl
+unknown (Some l) false h = cc (h refl)
+
+-- The lists that entries give people are those of the entries, if they are lists of people.
+pub lists-found : (ranks : Ranks) (entries : List Entry) → ((q : ℕ) → IsSome (list_at q entries) → IsSome (find_person q ranks.people)) → (q : ℕ) → list_of (lists_for ranks entries) q ≡ listed (list_at q entries)
+lists-found ranks entries known q = list_of-known entries ranks.people q ∙ unknown (list_at q entries) (is_some (find_person q ranks.people)) (known q)
+
+-- or they are none
+pub listed-or-none : (ranks : Ranks) (entries : List Entry) (q : ℕ) → (list_of (lists_for ranks entries) q ≡ listed (list_at q entries)) ⊎ (list_of (lists_for ranks entries) q ≡ [])
+listed-or-none ranks entries q = by (is_some (find_person q ranks.people)) (list_of-known entries ranks.people q)
+  where
+    by : (b : Bool) → list_of (lists_for ranks entries) q ≡ cond b (listed (list_at q entries)) [] → (list_of (lists_for ranks entries) q ≡ listed (list_at q entries)) ⊎ (list_of (lists_for ranks entries) q ≡ [])
+    by true e = inl e
+    by false e = inr e

@@ -1,41 +1,24 @@
 -- Rows have exactly one reading, which depends on the people and the programmes alone.
-use Rattle.std.proofs.Common.{◌≡◌, ◌⊎◌, inl, inr, ℕ, cond, List, [], ◌∷◌, ◌++◌, ◌+◌, map, drop, Option, Some, Result, Ok, Err, refl, sym, ap, subst, ◌∙◌, arith}
-use Rattle.std.specs.Prelude.{◌==◌}
+use Rattle.std.proofs.Common.{◌≡◌, ℕ, List, [], ◌∷◌, ◌++◌, ◌+◌, map, drop, Result, Ok, Err, refl, sym, ap, subst, ◌∙◌, arith}
+use Rattle.std.specs.Prelude.{IsSome, is_some}
 use Rattle.std.proofs.lemmas.List.{length-drop}
 use Rattle.office_base.specs.declared.person.Person.{Person}
 use Rattle.office_base.specs.declared.person.ProgId.{ProgId}
-use Rattle.office_text.specs.FirstFault.{IsFaultless, IsFirstFault}
 use Rattle.section_rows.specs.Rows.{Row}
-use Rattle.section_rows.specs.declared.fault.TableFault.TheVariants.{Bad}
-use Rattle.section_rows.proofs.TableLemmas.{one_fault}
-use Rattle.section_rows.specs.Steps.{after, first_of}
-use Rattle.section_rows.specs.Table.{Reading, entries_after, entries_of, table_judge, with_entry}
+use Rattle.section_rows.proofs.TableLemmas.{all-hold, apart_reading, one_fault, one_value, some_reading}
+use Rattle.section_rows.specs.Steps.{after}
+use Rattle.section_rows.specs.Table.{Reading, table_of}
 use Rattle.section_rows.proofs.StepsLemmas.{after_ok}
-use Rattle.rank_lists.specs.Register.{Ranks}
+use Rattle.rank_lists.specs.Register.{Ranks, find_person}
 use Rattle.seat_matrix.specs.Matrix.{SeatTable}
 use Rattle.seat_matrix.specs.declared.entry.Home.{Home}
-use Rattle.choice_lists.specs.Choices.{AreListsOf, Entry, IsChoice, IsFault, IsRead, Lists, choice, choices, header, judge, list_at, listed, new_candidate, reading}
+use Rattle.choice_lists.specs.Choices.{Entry, IsChoice, IsRead, Lists, choice, choices, entries_of, header, list_at, list_of, listed, lists_for, new_candidate, reading}
 use Rattle.choice_lists.specs.Laws.{DependOnPeopleAndProgrammes, HaveOneReading}
 use Rattle.choice_lists.specs.declared.fault.ChoiceKind.{ChoiceKind}
 use Rattle.choice_lists.specs.declared.fault.ChoiceKind.TheVariants.{BadHeader}
 use Rattle.choice_lists.proofs.ChoicesLemmas.{choices_ok, good_choice, new_candidate_ok}
-use Rattle.choice_lists.proofs.BuilderLemmas.{sound-step}
-
--- the lists of entries
-abbrev lists_from : List Entry → Lists
-lists_from entries = map (λ entry. (entry.candidate, entry.programmes)) entries
-
--- each list of entries is sound
-abbrev AreSound : Ranks → SeatTable → List Entry → Type 0
-AreSound ranks seats entries = (candidate : ℕ) → IsChoice ranks seats candidate (listed (list_at candidate entries))
-
-lists-found : (entries : List Entry) (candidate : ℕ) → first_of (λ held. candidate == held.0) (λ held. held.1) (lists_from entries) ≡ list_at candidate entries
-lists-found [] candidate = refl
-lists-found (entry ∷ entries) candidate = ap (λ (o : Option (List ProgId)). cond (candidate == entry.candidate) (Some entry.programmes) o) (lists-found entries candidate)
-
--- All entries have lists.
-lists_made : (entries : List Entry) → AreListsOf entries (lists_from entries)
-lists_made entries candidate = ap listed (lists-found entries candidate)
+use Rattle.choice_lists.proofs.BuilderLemmas.{ids_of-people, known-step, sound-step}
+use Rattle.choice_lists.proofs.FoundLemmas.{lists-found}
 
 -- the entry of a person with these programmes
 abbrev entry_of : Person → List ProgId → Result Entry ChoiceKind
@@ -45,8 +28,9 @@ entry_of person programmes = Ok (record { candidate = person.id.0; programmes = 
 abbrev wanted : SeatTable → Row → Person → Result Entry ChoiceKind
 wanted seats row person = after (choices seats person [] (drop 1 row)) (entry_of person)
 
--- What a row gives is sound.
-row_sound : (ranks : Ranks) (seats : SeatTable) (entries : List Entry) (row : Row) (entry : Entry) → reading ranks seats entries row ≡ Ok entry → IsChoice ranks seats entry.candidate entry.programmes
+-- What a row gives is sound, and its candidate is one of the register.
+row_sound : (ranks : Ranks) (seats : SeatTable) (entries : List Entry) (row : Row) (entry : Entry) → reading ranks seats entries row ≡ Ok entry
+    → IsChoice ranks seats entry.candidate entry.programmes × IsSome (find_person entry.candidate ranks.people)
 unfolding reading
 row_sound ranks seats entries row entry e =
     let (person, e1, r1) = after_ok (new_candidate ranks entries row) (wanted seats row) entry e in
@@ -55,41 +39,44 @@ row_sound ranks seats entries row entry e =
     let (good, count) = choices_ok seats person [] (drop 1 row) progs e2 (record { distinct = tt; ranked = tt }) in
     let made : Entry = record { candidate = person.id.0; programmes = progs } in
     let same : made ≡ entry = cc r2 in
-    subst (λ (x : Entry). IsChoice ranks seats x.candidate x.programmes) same (good_choice ranks seats person progs accepted.known good (omega (arith, accepted.short, count, length-drop 1 row)))
+    subst (λ (x : Entry). IsChoice ranks seats x.candidate x.programmes × IsSome (find_person x.candidate ranks.people)) same
+    (good_choice ranks seats person progs accepted.known good (omega (arith, accepted.short, count, length-drop 1 row)), ap is_some accepted.known)
 
--- Further rows keep all lists sound.
-sound_after : (ranks : Ranks) (seats : SeatTable) (entries : List Entry) (rows : List Row) → AreSound ranks seats entries → AreSound ranks seats (entries_after (reading ranks seats) entries rows)
-sound_after ranks seats entries [] sound = sound
-sound_after ranks seats entries (row ∷ rows) sound =
-    sound_after ranks seats (with_entry entries (reading ranks seats entries row)) rows (by (reading ranks seats entries row) refl)
-  where
-    by : (r : Result Entry ChoiceKind) → reading ranks seats entries row ≡ r → AreSound ranks seats (with_entry entries r)
-    by (Ok entry) e = sound-step ranks seats entries entry sound (row_sound ranks seats entries row entry e)
-    by (Err kind) e = sound
+-- each list of entries is sound, and its candidate is one of the register
+record AreSound (ranks : Ranks) (seats : SeatTable) (entries : List Entry) : Type 0 where
+  lists : (candidate : ℕ) → IsChoice ranks seats candidate (listed (list_at candidate entries))
+  known : (candidate : ℕ) → IsSome (list_at candidate entries) → IsSome (find_person candidate ranks.people)
 
-no_lists : (ranks : Ranks) (seats : SeatTable) → AreSound ranks seats []
-no_lists ranks seats candidate = record { distinct = tt; short = omega arith; numbers = tt; ranked = tt }
+-- The entries of rows are sound.
+entries_sound : (ranks : Ranks) (seats : SeatTable) (rows : List Row) (entries : List Entry) → entries_of ranks seats rows ≡ Ok entries → AreSound ranks seats entries
+entries_sound ranks seats rows entries e =
+    all-hold (reading ranks seats) (AreSound ranks seats)
+    (λ before row entry sound is.
+    let (good, known) = row_sound ranks seats before row entry is in
+    record { lists = sound-step ranks seats before entry sound.lists good; known = known-step ranks before entry sound.known known })
+    BadHeader header rows entries (record { lists = λ candidate. record { distinct = tt; short = omega arith; numbers = tt; ranked = tt }; known = λ candidate some. cc some }) e
 
-sound_of : (ranks : Ranks) (seats : SeatTable) (rows : List Row) → AreSound ranks seats (entries_of (reading ranks seats) rows)
-sound_of ranks seats [] = no_lists ranks seats
-sound_of ranks seats (first ∷ rows) = sound_after ranks seats [] rows (no_lists ranks seats)
-
--- Rows give lists or have a fault.
-some_reading : (ranks : Ranks) (seats : SeatTable) (rows : List Row) → ((lists : Lists) × IsRead ranks seats rows lists) ⊎ ((row : ℕ) × (kind : ChoiceKind) × IsFault ranks seats rows (Bad row kind))
-some_reading ranks seats rows = elim (one_fault (judge ranks seats) rows).some [
-  | inl none ↦ inl (lists_from (entries_of (reading ranks seats) rows), (none, lists_made (entries_of (reading ranks seats) rows)))
-  | inr fault ↦ inr fault
-]
+-- The lists that are read are those of the entries.
+lists_read : (ranks : Ranks) (seats : SeatTable) (rows : List Row) (lists : Lists) (entries : List Entry) → IsRead ranks seats rows lists → entries_of ranks seats rows ≡ Ok entries
+    → (candidate : ℕ) → list_of lists candidate ≡ listed (list_at candidate entries)
+lists_read ranks seats rows lists entries read e candidate =
+    let f = read.1 in
+    let same : read.0 ≡ entries = cc (e, f) in
+    ap (λ (ls : Lists). list_of ls candidate) (read.2 ∙ ap (lists_for ranks) same) ∙ lists-found ranks entries (entries_sound ranks seats rows entries e).known candidate
 
 -- Rows have exactly one reading.
 pub one_reading : (ranks : Ranks) (seats : SeatTable) (rows : List Row) → HaveOneReading ranks seats rows
-one_reading ranks seats rows = record {
-  some = some_reading ranks seats rows;
-  apart = λ lists row kind read fault. (one_fault (judge ranks seats) rows).apart row kind read.0 fault;
-  one_value = λ lists other a b candidate. a.1 candidate ∙ sym (b.1 candidate);
-  one_fault = (one_fault (judge ranks seats) rows).one;
-  sound = λ lists read candidate. subst (IsChoice ranks seats candidate) (sym (read.1 candidate)) (sound_of ranks seats rows candidate);
-}
+one_reading ranks seats rows =
+    let given = entries_of ranks seats rows in
+    record {
+      some = some_reading given (λ entries lists. lists ≡ lists_for ranks entries) (λ entries. (lists_for ranks entries, refl));
+      apart = apart_reading given (λ entries lists. lists ≡ lists_for ranks entries);
+      one_value = one_value given (λ entries lists. lists ≡ lists_for ranks entries) (λ entries lists other a b. a ∙ sym b);
+      one_fault = one_fault given;
+      sound = λ lists read candidate. subst (IsChoice ranks seats candidate) (sym (lists_read ranks seats rows lists read.0 read read.1 candidate)) ((entries_sound ranks seats rows read.0 read.1).lists candidate);
+      aligned = λ lists read. ap (λ (ls : Lists). map (λ (held : ℕ × List ProgId). held.0) ls) read.2 ∙ ids_of-people read.0 ranks.people;
+      own = lists_read ranks seats rows;
+    }
 
 -- a programme is chosen among the programmes alone
 same_choice : (seats matrix : SeatTable) (person : Person) (chosen : List ProgId) (text : List ℕ) → seats.programmes ≡ matrix.programmes → choice seats person chosen text ≡ choice matrix person chosen text
@@ -128,8 +115,8 @@ same_grammar ranks other seats matrix e f = λ i entries row. same_row ranks oth
 -- What rows give depends on the people and the programmes alone.
 pub same_reading : (rows : List Row) → DependOnPeopleAndProgrammes rows
 same_reading rows ranks other seats matrix e f =
-    let same = same_grammar ranks other seats matrix e f in
+    let same : entries_of ranks seats rows ≡ entries_of other matrix rows = ap (λ (r : Reading Entry ChoiceKind). table_of BadHeader header r rows) (same_grammar ranks other seats matrix e f) in
     record {
-      value = λ lists read. subst (λ (r : Reading Entry ChoiceKind). IsFaultless (table_judge BadHeader header r) rows × AreListsOf (entries_of r rows) lists) same read;
-      fault = λ row kind fault. subst (λ (r : Reading Entry ChoiceKind). (n : ℕ) × (row ≡ n + 1) × IsFirstFault (table_judge BadHeader header r) rows n kind) same fault;
+      value = λ lists read. (read.0, sym same ∙ read.1, read.2 ∙ ap (λ (people : List Person). map (λ person. (person.id.0, listed (list_at person.id.0 read.0))) people) e);
+      fault = λ row kind fault. sym same ∙ fault;
     }

@@ -7,12 +7,11 @@ use Rattle.office_base.specs.Lists.{Pairwise}
 use Rattle.office_base.specs.Person.{number_in}
 use Rattle.office_base.specs.declared.person.Person.{Person}
 use Rattle.office_base.specs.declared.person.ProgId.{ProgId}
-use Rattle.office_text.specs.FirstFault.{Judge, IsFaultless}
 use Rattle.office_text.specs.Names.{code_of}
 use Rattle.office_text.specs.Number.{number_within}
 use Rattle.section_rows.specs.Rows.{Row, field}
 use Rattle.section_rows.specs.Steps.{after, first_of, needs, unless}
-use Rattle.section_rows.specs.Table.{IsTableFault, Reading, entries_of, table_judge}
+use Rattle.section_rows.specs.Table.{Given, IsTableFault, Reading, table_of}
 use Rattle.section_rows.specs.declared.fault.TableFault.{TableFault}
 use Rattle.rank_lists.specs.Register.{Ranks, find_person}
 use Rattle.seat_matrix.specs.Matrix.{SeatTable}
@@ -90,9 +89,9 @@ reading ranks seats entries row =
     after (new_candidate ranks entries row)
     (λ person. after (choices seats person [] (drop 1 row)) (λ programmes. Ok (record { candidate = person.id.0; programmes = programmes })))
 
--- what is wrong with a row of choices
-abbrev pub judge : Ranks → SeatTable → Judge Row ChoiceKind
-judge ranks seats = table_judge BadHeader header (reading ranks seats)
+-- the entries of the rows of choices, or the first fault
+abbrev pub entries_of : Ranks → SeatTable → List Row → Given Entry ChoiceKind
+entries_of ranks seats rows = table_of BadHeader header (reading ranks seats) rows
 
 -- no programme is twice in a list
 abbrev pub AreDistinct : List ProgId → Type 0
@@ -138,14 +137,14 @@ pub record AreKept (ids : List ℕ) (lists : List (List ProgId)) : Type 0 where
   pub count : length ids ≡ length lists
   pub sound : AreLists (lists_along ids lists)
 
--- the lists are those of the entries
-abbrev pub AreListsOf : List Entry → Lists → Type 0
-AreListsOf entries lists = (candidate : ℕ) → list_of lists candidate ≡ listed (list_at candidate entries)
+-- the lists that these entries give all people of the register, in their order
+abbrev pub lists_for : Ranks → List Entry → Lists
+lists_for ranks entries = map (λ person. (person.id.0, listed (list_at person.id.0 entries))) ranks.people
 
 -- a body's rows have no fault, and these are the lists of their entries
 abbrev pub IsRead : Ranks → SeatTable → List Row → Lists → Type 0
-IsRead ranks seats rows lists = IsFaultless (judge ranks seats) rows × AreListsOf (entries_of (reading ranks seats) rows) lists
+IsRead ranks seats rows lists = (entries : List Entry) × (entries_of ranks seats rows ≡ Ok entries) × (lists ≡ lists_for ranks entries)
 
 -- the first fault of a body's rows; `OutOfMemory` says nothing of them
 abbrev pub IsFault : Ranks → SeatTable → List Row → TableFault ChoiceKind → Type 0
-IsFault ranks seats rows fault = IsTableFault (judge ranks seats) rows fault
+IsFault ranks seats rows fault = IsTableFault (entries_of ranks seats rows) fault

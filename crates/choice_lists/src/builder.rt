@@ -37,7 +37,7 @@ pub(crate) struct ChoicesBuilder<'a> {
 
 impl<'a> ChoicesBuilder<'a> {
     ghost use Rattle.choice_lists.specs.Builder.{Keeps};
-    ghost use Rattle.choice_lists.specs.Choices.{AreListsOf, AreChoices, Entry, new_candidate};
+    ghost use Rattle.choice_lists.specs.Choices.{AreChoices, Entry, lists_for, new_candidate};
 
     /// No lists.
     pub(crate) fn new(
@@ -93,7 +93,7 @@ impl<'a> ChoicesBuilder<'a> {
     pub(crate) fn finish(self, alloc: Global) -> Result<Choices, OutOfMemory>
         requires { (entries : List Entry) × Keeps entries self }
         ensures lists { IfOk result (λ choices. (entries : List Entry)
-            → Keeps entries self.entry → AreListsOf entries choices) }
+            → Keeps entries self.entry → choices ≡ lists_for self.entry.register.now entries) }
         ensures sound { IfOk result (λ choices.
             AreChoices self.entry.register.now self.entry.matrix.now choices) }
         ensures aligned { IfOk result (λ choices. map (λ held. held.0) choices
