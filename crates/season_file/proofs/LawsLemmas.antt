@@ -8,6 +8,7 @@ use Rattle.office_base.specs.declared.person.CandId.{CandId}
 use Rattle.office_base.specs.Limits.{most_bundle_bytes}
 use Rattle.office_base.specs.declared.asks.Request.{Request}
 use Rattle.section_rows.specs.Rows.{Row, rows_of}
+use Rattle.section_rows.proofs.StageLemmas.{EndsOnce, gives, gives-once, reads, reads-once, then, then-once}
 use Rattle.request_rows.specs.Requests.{script_of}
 use Rattle.rank_lists.specs.Laws as rank_laws
 use Rattle.rank_lists.specs.Register as rank_grammar
@@ -22,7 +23,7 @@ use Rattle.choice_lists.specs.Laws as choice_laws
 use Rattle.choice_lists.specs.declared.fault.ChoiceKind.{ChoiceKind}
 use Rattle.season_file.specs.Bundle.{Parts, bundle_of}
 use Rattle.season_file.specs.Head.{head_of}
-use Rattle.season_file.specs.Laws.{AreSame, AreSound, HasFault, HaveOneReading}
+use Rattle.season_file.specs.Laws.{AreSound, HasFault, HaveOneReading}
 use Rattle.season_file.specs.Season.{BundleGives, IsChoiceFault, IsClerkApart, IsHeadFault, IsMatrixFault, IsRegisterFault, IsRequestFault, IsText, SectionsGive, request_rows_of}
 use Rattle.season_file.specs.declared.fault.SeasonFault.{SeasonFault}
 use Rattle.season_file.specs.declared.fault.SeasonFault.TheVariants.{ReadFault, TooLong, BadFirstLine, Section, BadSeason, Register, Matrix, Choices, NotUtf8, BadRequest, OutOfMemory}
@@ -35,234 +36,157 @@ pub record AreLawful : Type 0 where
   pub register : (rows : List Row) → rank_laws.HaveOneReading rows
   pub matrix : (rows : List Row) → seat_laws.HaveOneReading rows
   pub choices : (ranks : rank_grammar.Ranks) (seats : seat_grammar.SeatTable) (rows : List Row) → choice_laws.HaveOneReading ranks seats rows
-  pub same : (rows : List Row) → choice_laws.DependOnPeopleAndProgrammes rows
 
--- A fault after what was read before it, stage by stage: at each one the fault is the stage's own, or the stage is passed.
-abbrev FromClerk : Parts → Head → rank_grammar.Ranks → SeasonFault → Type 0
-FromClerk parts head ranks fault =
-    (IsSome (rank_grammar.find_holder head.clerk ranks.holders) × (fault ≡ BadSeason head.row))
-    ⊎ ((rank_grammar.find_holder head.clerk ranks.holders ≡ None) × ((row : ℕ) × (script_of (request_rows_of parts) ≡ Err row) × (fault ≡ BadRequest row)))
+-- ---- the stages of a reading
 
-abbrev FromChoices : Parts → Head → rank_grammar.Ranks → seat_grammar.SeatTable → SeasonFault → Type 0
-FromChoices parts head ranks seats fault =
-    ((row : ℕ) × (kind : ChoiceKind) × choice_grammar.IsFault ranks seats (rows_of parts.choices) (BadRow row kind) × (fault ≡ Choices (BadRow row kind)))
-    ⊎ ((lists : choice_grammar.Lists) × choice_grammar.IsRead ranks seats (rows_of parts.choices) lists × FromClerk parts head ranks fault)
+-- a content and requests, as sections give them
+abbrev Whole : Type 0
+Whole = Content × List Request
 
-abbrev FromMatrix : Parts → Head → rank_grammar.Ranks → SeasonFault → Type 0
-FromMatrix parts head ranks fault =
-    ((row : ℕ) × (kind : MatrixKind) × seat_grammar.IsFault (rows_of parts.matrix) (BadRow row kind) × (fault ≡ Matrix (BadRow row kind)))
-    ⊎ ((seats : seat_grammar.SeatTable) × seat_grammar.IsRead (rows_of parts.matrix) seats × FromChoices parts head ranks seats fault)
+-- the bytes are a text
+abbrev text_ends : List ℕ → Result (Unit {0}) SeasonFault → Type 0
+text_ends bytes (Ok done) = IsText bytes
+text_ends bytes (Err fault) = ((most_bundle_bytes < length bytes) × (fault ≡ TooLong)) ⊎ ((length bytes ≤ most_bundle_bytes) × (IsUtf8 bytes → ⊥) × (fault ≡ NotUtf8))
 
-abbrev FromRegister : Parts → Head → SeasonFault → Type 0
-FromRegister parts head fault =
-    ((row : ℕ) × (kind : RankKind) × rank_grammar.IsFault (rows_of parts.register) (BadRow row kind) × (fault ≡ Register (BadRow row kind)))
-    ⊎ ((ranks : rank_grammar.Ranks) × rank_grammar.IsRead (rows_of parts.register) ranks × FromMatrix parts head ranks fault)
+-- the clerk's token is no candidate's
+abbrev clerk_ends : Head → rank_grammar.Ranks → Result (Unit {0}) SeasonFault → Type 0
+clerk_ends head ranks (Ok done) = rank_grammar.find_holder head.clerk ranks.holders ≡ None
+clerk_ends head ranks (Err fault) = IsSome (rank_grammar.find_holder head.clerk ranks.holders) × (fault ≡ BadSeason head.row)
 
-abbrev FromHead : Parts → SeasonFault → Type 0
-FromHead parts fault =
-    ((row : ℕ) × (head_of (rows_of parts.season) ≡ Err row) × (fault ≡ BadSeason row))
-    ⊎ ((head : Head) × (head_of (rows_of parts.season) ≡ Ok head) × FromRegister parts head fault)
+-- From each stage on: after the choices come the clerk and the requests.
+abbrev after_choices : Parts → Head → rank_grammar.Ranks → seat_grammar.SeatTable → choice_grammar.Lists → Result Whole SeasonFault → Type 0
+after_choices parts head ranks seats lists =
+    then (clerk_ends head ranks) (λ done. then (gives BadRequest (script_of (request_rows_of parts)))
+    (λ script r. r ≡ Ok (record { version = parts.version; head = head; register = ranks; matrix = seats; choices = lists }, script)))
 
-abbrev FromBundle : Bool → List ℕ → SeasonFault → Type 0
-FromBundle requests bytes fault = (bundle_of requests bytes ≡ Err fault) ⊎ ((parts : Parts) × (bundle_of requests bytes ≡ Ok parts) × FromHead parts fault)
+abbrev after_matrix : Parts → Head → rank_grammar.Ranks → seat_grammar.SeatTable → Result Whole SeasonFault → Type 0
+after_matrix parts head ranks seats =
+    then (reads (choice_grammar.IsRead ranks seats (rows_of parts.choices)) (choice_grammar.IsFault ranks seats (rows_of parts.choices)) Choices) (after_choices parts head ranks seats)
 
-abbrev FromText : Bool → List ℕ → SeasonFault → Type 0
-FromText requests bytes fault = ((IsUtf8 bytes → ⊥) × (fault ≡ NotUtf8)) ⊎ (IsUtf8 bytes × FromBundle requests bytes fault)
+abbrev after_register : Parts → Head → rank_grammar.Ranks → Result Whole SeasonFault → Type 0
+after_register parts head ranks = then (reads (seat_grammar.IsRead (rows_of parts.matrix)) (seat_grammar.IsFault (rows_of parts.matrix)) Matrix) (after_matrix parts head ranks)
 
-abbrev FromBytes : Bool → List ℕ → SeasonFault → Type 0
-FromBytes requests bytes fault = ((most_bundle_bytes < length bytes) × (fault ≡ TooLong)) ⊎ ((length bytes ≤ most_bundle_bytes) × FromText requests bytes fault)
+abbrev after_head : Parts → Head → Result Whole SeasonFault → Type 0
+after_head parts head = then (reads (rank_grammar.IsRead (rows_of parts.register)) (rank_grammar.IsFault (rows_of parts.register)) Register) (after_register parts head)
 
-head-staged : (parts : Parts) (row : ℕ) → IsHeadFault parts row → FromHead parts (BadSeason row)
-head-staged parts row (inl e) = inl (row, e, refl)
-head-staged parts row (inr found) =
-    let (content, give, held, e) = found in
-    inr (content.head, give.head, inr (content.register, give.register, inr (content.matrix, give.matrix, inr (content.choices, give.choices, inl (held, ap BadSeason e)))))
+abbrev after_cut : Parts → Result Whole SeasonFault → Type 0
+after_cut parts = then (gives BadSeason (head_of (rows_of parts.season))) (after_head parts)
 
-register-staged : (parts : Parts) (fault : TableFault RankKind) → IsRegisterFault parts fault → FromHead parts (Register fault)
-register-staged parts (BadRow row kind) found = let (head, e, first) = found in inr (head, e, inl (row, kind, first, refl))
-register-staged parts NoTableMemory found = absurd found
+-- what bytes end with: a content and requests, or a fault
+abbrev ends : Bool → List ℕ → Result Whole SeasonFault → Type 0
+ends requests bytes = then (text_ends bytes) (λ done. then (gives (λ fault. fault) (bundle_of requests bytes)) after_cut)
 
-matrix-staged : (parts : Parts) (fault : TableFault MatrixKind) → IsMatrixFault parts fault → FromHead parts (Matrix fault)
-matrix-staged parts (BadRow row kind) found = let (head, ranks, e, read, first) = found in inr (head, e, inr (ranks, read, inl (row, kind, first, refl)))
-matrix-staged parts NoTableMemory found = absurd found
+-- ---- each stage ends in one way
 
-choices-staged : (parts : Parts) (fault : TableFault ChoiceKind) → IsChoiceFault parts fault → FromHead parts (Choices fault)
-choices-staged parts (BadRow row kind) found =
-    let (head, ranks, seats, e, read, table, first) = found in inr (head, e, inr (ranks, read, inr (seats, table, inl (row, kind, first, refl))))
-choices-staged parts NoTableMemory found = absurd found
-
-request-staged : (parts : Parts) (row : ℕ) → IsRequestFault parts row → FromHead parts (BadRequest row)
-request-staged parts row found =
-    let (content, give, clerk, e) = found in
-    inr (content.head, give.head, inr (content.register, give.register, inr (content.matrix, give.matrix, inr (content.choices, give.choices, inr (clerk, (row, e, refl))))))
-
-inside-staged : (requests : Bool) (bytes : List ℕ) (parts : Parts) (fault : SeasonFault) → IsText bytes → bundle_of requests bytes ≡ Ok parts → FromHead parts fault → FromBytes requests bytes fault
-inside-staged requests bytes parts fault text cut first = inr (text.short, inr (text.utf8, inr (parts, cut, first)))
-
--- A fault is that of one stage.
-staged : (requests : Bool) (bytes : List ℕ) (fault : SeasonFault) → HasFault requests bytes fault → FromBytes requests bytes fault
-staged requests bytes TooLong first = inl (first, refl)
-staged requests bytes NotUtf8 first = inr (first.0, inl (first.1, refl))
-staged requests bytes BadFirstLine first = inr (first.0.short, inr (first.0.utf8, inl first.1))
-staged requests bytes (Section line) first = inr (first.0.short, inr (first.0.utf8, inl first.1))
-staged requests bytes (BadSeason row) first = let (text, found) = first in inside-staged requests bytes found.0 (BadSeason row) text found.1 (head-staged found.0 row found.2)
-staged requests bytes (Register fault) first = let (text, found) = first in inside-staged requests bytes found.0 (Register fault) text found.1 (register-staged found.0 fault found.2)
-staged requests bytes (Matrix fault) first = let (text, found) = first in inside-staged requests bytes found.0 (Matrix fault) text found.1 (matrix-staged found.0 fault found.2)
-staged requests bytes (Choices fault) first = let (text, found) = first in inside-staged requests bytes found.0 (Choices fault) text found.1 (choices-staged found.0 fault found.2)
-staged requests bytes (BadRequest row) first = let (text, found) = first in inside-staged requests bytes found.0 (BadRequest row) text found.1 (request-staged found.0 row found.2)
-staged requests bytes OutOfMemory first = absurd first
-staged requests bytes ReadFault first = let (text, found) = first in absurd found.2
-
--- faults of one row and one kind are one
-same_rank : (r s : ℕ) (j k : RankKind) → (r ≡ s) × (j ≡ k) → Register (BadRow r j) ≡ Register (BadRow s k)
-same_rank r s j k same = cc (same.0, same.1)
-
-same_seat : (r s : ℕ) (j k : MatrixKind) → (r ≡ s) × (j ≡ k) → Matrix (BadRow r j) ≡ Matrix (BadRow s k)
-same_seat r s j k same = cc (same.0, same.1)
-
-same_list : (r s : ℕ) (j k : ChoiceKind) → (r ≡ s) × (j ≡ k) → Choices (BadRow r j) ≡ Choices (BadRow s k)
-same_list r s j k same = cc (same.0, same.1)
-
--- what carries over from one register and matrix to others that are the same
-carried : AreLawful → (rows : List Row) (ranks other : rank_grammar.Ranks) (seats matrix : seat_grammar.SeatTable) → rank_laws.AreSame ranks other → seat_laws.AreSame seats matrix → choice_laws.CarryOver other ranks matrix seats rows
-carried laws rows ranks other seats matrix a b = laws.same rows other ranks matrix seats (sym a.people) (sym b.programmes)
-
--- a result is one value, or one error, and never both
-pub one_ok : {X E : Type 0} (r : Result X E) (x y : X) → r ≡ Ok x → r ≡ Ok y → x ≡ y
-one_ok r x y e f = cc
-
-one_err : {X E : Type 0} (r : Result X E) (x y : E) → r ≡ Err x → r ≡ Err y → x ≡ y
-one_err r x y e f = cc
-
-pub not_both : {X E : Type 0} (r : Result X E) (x : X) (y : E) → r ≡ Ok x → r ≡ Err y → ⊥
-not_both r x y e f = cc
+text-once : (bytes : List ℕ) → EndsOnce (text_ends bytes)
+text-once bytes (Ok done) (Ok other) a b = refl
+text-once bytes (Ok done) (Err fault) a (inl b) = absurd (omega (arith, a.short, b.0))
+text-once bytes (Ok done) (Err fault) a (inr b) = absurd (b.1 a.utf8)
+text-once bytes (Err fault) (Ok done) (inl a) b = absurd (omega (arith, b.short, a.0))
+text-once bytes (Err fault) (Ok done) (inr a) b = absurd (a.1 b.utf8)
+text-once bytes (Err fault) (Err other) (inl a) (inl b) = ap Err (a.1 ∙ sym b.1)
+text-once bytes (Err fault) (Err other) (inl a) (inr b) = absurd (omega (arith, a.0, b.0))
+text-once bytes (Err fault) (Err other) (inr a) (inl b) = absurd (omega (arith, a.0, b.0))
+text-once bytes (Err fault) (Err other) (inr a) (inr b) = ap Err (a.2 ∙ sym b.2)
 
 -- who is found is somebody
 not_held : (o : Option CandId) → o ≡ None → IsSome o → ⊥
 not_held o e h = cc (ap (λ (p : Option CandId). is_some p) e, h)
 
--- A fault after sections without faults is the clerk's, or that of a request.
-one-clerk : (parts : Parts) (head : Head) (ranks other : rank_grammar.Ranks) → rank_laws.AreSame ranks other
-    → (fault next : SeasonFault) → FromClerk parts head ranks fault → FromClerk parts head other next → fault ≡ next
-one-clerk parts head ranks other same fault next (inl a) (inl b) = a.1 ∙ sym b.1
-one-clerk parts head ranks other same fault next (inl a) (inr b) = absurd (not_held (rank_grammar.find_holder head.clerk ranks.holders) (same.holders head.clerk ∙ b.0) a.0)
-one-clerk parts head ranks other same fault next (inr a) (inl b) = absurd (not_held (rank_grammar.find_holder head.clerk other.holders) (sym (same.holders head.clerk) ∙ a.0) b.0)
-one-clerk parts head ranks other same fault next (inr a) (inr b) = a.1.2 ∙ ap BadRequest (one_err (script_of (request_rows_of parts)) a.1.0 b.1.0 a.1.1 b.1.1) ∙ sym b.1.2
+clerk-once : (head : Head) (ranks : rank_grammar.Ranks) → EndsOnce (clerk_ends head ranks)
+clerk-once head ranks (Ok done) (Ok other) a b = refl
+clerk-once head ranks (Ok done) (Err fault) a b = absurd (not_held (rank_grammar.find_holder head.clerk ranks.holders) a b.0)
+clerk-once head ranks (Err fault) (Ok other) a b = absurd (not_held (rank_grammar.find_holder head.clerk ranks.holders) b a.0)
+clerk-once head ranks (Err fault) (Err other) a b = ap Err (a.1 ∙ sym b.1)
 
--- Each stage has one fault at most.
-one-choices : AreLawful → (parts : Parts) (head : Head) (ranks other : rank_grammar.Ranks) (seats matrix : seat_grammar.SeatTable) → rank_laws.AreSame ranks other → seat_laws.AreSame seats matrix
-    → (fault next : SeasonFault) → FromChoices parts head ranks seats fault → FromChoices parts head other matrix next → fault ≡ next
-one-choices laws parts head ranks other seats matrix people programmes fault next (inl a) (inl b) =
-    let there = (carried laws (rows_of parts.choices) ranks other seats matrix people programmes).fault b.0 b.1 b.2 in
-    a.3 ∙ same_list a.0 b.0 a.1 b.1 ((laws.choices ranks seats (rows_of parts.choices)).one_fault a.0 b.0 a.1 b.1 a.2 there) ∙ sym b.3
-one-choices laws parts head ranks other seats matrix people programmes fault next (inl a) (inr b) =
-    let there = (carried laws (rows_of parts.choices) ranks other seats matrix people programmes).value b.0 b.1 in
-    absurd ((laws.choices ranks seats (rows_of parts.choices)).apart b.0 a.0 a.1 there a.2)
-one-choices laws parts head ranks other seats matrix people programmes fault next (inr a) (inl b) =
-    let there = (carried laws (rows_of parts.choices) ranks other seats matrix people programmes).fault b.0 b.1 b.2 in
-    absurd ((laws.choices ranks seats (rows_of parts.choices)).apart a.0 b.0 b.1 a.1 there)
-one-choices laws parts head ranks other seats matrix people programmes fault next (inr a) (inr b) = one-clerk parts head ranks other people fault next a.2 b.2
+choices-once : (parts : Parts) (head : Head) (ranks : rank_grammar.Ranks) (seats : seat_grammar.SeatTable) (lists : choice_grammar.Lists) → EndsOnce (after_choices parts head ranks seats lists)
+choices-once parts head ranks seats lists =
+    let script = script_of (request_rows_of parts) in
+    then-once (clerk_ends head ranks) _ (clerk-once head ranks) (λ done. then-once (gives BadRequest script) _ (gives-once BadRequest script) (λ script r s a b. a ∙ sym b))
 
-one-matrix : AreLawful → (parts : Parts) (head : Head) (ranks other : rank_grammar.Ranks) → rank_laws.AreSame ranks other
-    → (fault next : SeasonFault) → FromMatrix parts head ranks fault → FromMatrix parts head other next → fault ≡ next
-one-matrix laws parts head ranks other people fault next (inl a) (inl b) = a.3 ∙ same_seat a.0 b.0 a.1 b.1 ((laws.matrix (rows_of parts.matrix)).one_fault a.0 b.0 a.1 b.1 a.2 b.2) ∙ sym b.3
-one-matrix laws parts head ranks other people fault next (inl a) (inr b) = absurd ((laws.matrix (rows_of parts.matrix)).apart b.0 a.0 a.1 b.1 a.2)
-one-matrix laws parts head ranks other people fault next (inr a) (inl b) = absurd ((laws.matrix (rows_of parts.matrix)).apart a.0 b.0 b.1 a.1 b.2)
-one-matrix laws parts head ranks other people fault next (inr a) (inr b) =
-    one-choices laws parts head ranks other a.0 b.0 people ((laws.matrix (rows_of parts.matrix)).one_value a.0 b.0 a.1 b.1) fault next a.2 b.2
+matrix-once : AreLawful → (parts : Parts) (head : Head) (ranks : rank_grammar.Ranks) (seats : seat_grammar.SeatTable) → EndsOnce (after_matrix parts head ranks seats)
+matrix-once laws parts head ranks seats =
+    let law = laws.choices ranks seats (rows_of parts.choices) in
+    then-once _ (after_choices parts head ranks seats)
+    (reads-once (choice_grammar.IsRead ranks seats (rows_of parts.choices)) (choice_grammar.IsFault ranks seats (rows_of parts.choices)) Choices law.apart law.one_value law.one_fault)
+    (choices-once parts head ranks seats)
 
-one-register : AreLawful → (parts : Parts) (head : Head) (fault next : SeasonFault) → FromRegister parts head fault → FromRegister parts head next → fault ≡ next
-one-register laws parts head fault next (inl a) (inl b) = a.3 ∙ same_rank a.0 b.0 a.1 b.1 ((laws.register (rows_of parts.register)).one_fault a.0 b.0 a.1 b.1 a.2 b.2) ∙ sym b.3
-one-register laws parts head fault next (inl a) (inr b) = absurd ((laws.register (rows_of parts.register)).apart b.0 a.0 a.1 b.1 a.2)
-one-register laws parts head fault next (inr a) (inl b) = absurd ((laws.register (rows_of parts.register)).apart a.0 b.0 b.1 a.1 b.2)
-one-register laws parts head fault next (inr a) (inr b) = one-matrix laws parts head a.0 b.0 ((laws.register (rows_of parts.register)).one_value a.0 b.0 a.1 b.1) fault next a.2 b.2
+register-once : AreLawful → (parts : Parts) (head : Head) (ranks : rank_grammar.Ranks) → EndsOnce (after_register parts head ranks)
+register-once laws parts head ranks =
+    let law = laws.matrix (rows_of parts.matrix) in
+    then-once _ (after_matrix parts head ranks) (reads-once (seat_grammar.IsRead (rows_of parts.matrix)) (seat_grammar.IsFault (rows_of parts.matrix)) Matrix law.apart law.one_value law.one_fault)
+    (matrix-once laws parts head ranks)
 
-one-head : AreLawful → (parts : Parts) (fault next : SeasonFault) → FromHead parts fault → FromHead parts next → fault ≡ next
-one-head laws parts fault next (inl a) (inl b) = a.2 ∙ ap BadSeason (one_err (head_of (rows_of parts.season)) a.0 b.0 a.1 b.1) ∙ sym b.2
-one-head laws parts fault next (inl a) (inr b) = absurd (not_both (head_of (rows_of parts.season)) b.0 a.0 b.1 a.1)
-one-head laws parts fault next (inr a) (inl b) = absurd (not_both (head_of (rows_of parts.season)) a.0 b.0 a.1 b.1)
-one-head laws parts fault next (inr a) (inr b) =
-    one-register laws parts a.0 fault next a.2 (subst (λ (head : Head). FromRegister parts head next) (one_ok (head_of (rows_of parts.season)) b.0 a.0 b.1 a.1) b.2)
+head-once : AreLawful → (parts : Parts) (head : Head) → EndsOnce (after_head parts head)
+head-once laws parts head =
+    let law = laws.register (rows_of parts.register) in
+    then-once _ (after_register parts head) (reads-once (rank_grammar.IsRead (rows_of parts.register)) (rank_grammar.IsFault (rows_of parts.register)) Register law.apart law.one_value law.one_fault)
+    (register-once laws parts head)
 
-one-bundle : AreLawful → (requests : Bool) (bytes : List ℕ) (fault next : SeasonFault) → FromBundle requests bytes fault → FromBundle requests bytes next → fault ≡ next
-one-bundle laws requests bytes fault next (inl a) (inl b) = one_err (bundle_of requests bytes) fault next a b
-one-bundle laws requests bytes fault next (inl a) (inr b) = absurd (not_both (bundle_of requests bytes) b.0 fault b.1 a)
-one-bundle laws requests bytes fault next (inr a) (inl b) = absurd (not_both (bundle_of requests bytes) a.0 next a.1 b)
-one-bundle laws requests bytes fault next (inr a) (inr b) = one-head laws a.0 fault next a.2 (subst (λ (parts : Parts). FromHead parts next) (one_ok (bundle_of requests bytes) b.0 a.0 b.1 a.1) b.2)
+-- Bytes end in one way.
+ends-once : AreLawful → (requests : Bool) (bytes : List ℕ) → EndsOnce (ends requests bytes)
+ends-once laws requests bytes =
+    then-once (text_ends bytes) _ (text-once bytes)
+    (λ done. then-once _ after_cut (gives-once (λ fault. fault) (bundle_of requests bytes))
+    (λ parts. then-once _ (after_head parts) (gives-once BadSeason (head_of (rows_of parts.season))) (head-once laws parts)))
 
-one-text : AreLawful → (requests : Bool) (bytes : List ℕ) (fault next : SeasonFault) → FromText requests bytes fault → FromText requests bytes next → fault ≡ next
-one-text laws requests bytes fault next (inl a) (inl b) = a.1 ∙ sym b.1
-one-text laws requests bytes fault next (inl a) (inr b) = absurd (a.0 b.0)
-one-text laws requests bytes fault next (inr a) (inl b) = absurd (b.0 a.0)
-one-text laws requests bytes fault next (inr a) (inr b) = one-bundle laws requests bytes fault next a.1 b.1
+-- ---- what bytes give, and their faults, are ends
 
-one-bytes : AreLawful → (requests : Bool) (bytes : List ℕ) (fault next : SeasonFault) → FromBytes requests bytes fault → FromBytes requests bytes next → fault ≡ next
-one-bytes laws requests bytes fault next (inl a) (inl b) = a.1 ∙ sym b.1
-one-bytes laws requests bytes fault next (inl a) (inr b) = absurd (omega (arith, a.0, b.0))
-one-bytes laws requests bytes fault next (inr a) (inl b) = absurd (omega (arith, a.0, b.0))
-one-bytes laws requests bytes fault next (inr a) (inr b) = one-text laws requests bytes fault next a.1 b.1
+-- sections that give a content are passed
+past-choices : (parts : Parts) (content : Content) (r : Result Whole SeasonFault) → SectionsGive parts content → after_choices parts content.head content.register content.matrix content.choices r → after_cut parts r
+past-choices parts content r give rest =
+    let matrix : after_register parts content.head content.register r = inr (content.matrix, give.matrix, inr (content.choices, give.choices, rest)) in
+    inr (content.head, give.head, inr (content.register, give.register, matrix))
 
--- The bodies give one content.
-one_content : AreLawful → (parts : Parts) (content other : Content) → SectionsGive parts content → SectionsGive parts other → AreSame content other
-one_content laws parts content other a b =
-    let ranks = (laws.register (rows_of parts.register)).one_value content.register other.register a.register b.register in
-    let seats = (laws.matrix (rows_of parts.matrix)).one_value content.matrix other.matrix a.matrix b.matrix in
-    let there = (carried laws (rows_of parts.choices) content.register other.register content.matrix other.matrix ranks seats).value other.choices b.choices in
-    record {
-      version = a.version ∙ sym b.version;
-      head = one_ok (head_of (rows_of parts.season)) content.head other.head a.head b.head;
-      people = ranks.people;
-      holders = ranks.holders;
-      programmes = seats.programmes;
-      steps = seats.steps;
-      lists = (laws.choices content.register content.matrix (rows_of parts.choices)).one_value content.choices other.choices a.choices there;
-    }
+given-ends : (requests : Bool) (bytes : List ℕ) (content : Content) (script : List Request) → BundleGives requests bytes content script → ends requests bytes (Ok (content, script))
+given-ends requests bytes content script given =
+    let (parts, cut, give, scripted) = given.1 in
+    let same : Ok (content, script) ≡ Ok (record { version = parts.version; head = content.head; register = content.register; matrix = content.matrix; choices = content.choices }, script) =
+    ap (λ (v : ℕ). Ok (record { version = v; head = content.head; register = content.register; matrix = content.matrix; choices = content.choices }, script)) give.version in
+    inr (tt, given.0, inr (parts, cut, past-choices parts content (Ok (content, script)) give (inr (tt, given.2, inr (script, scripted, same)))))
 
--- the requests have no fault
-abbrev IsScripted : Parts → Type 0
-IsScripted parts = (script : List Request) × (script_of (request_rows_of parts) ≡ Ok script)
+head-ends : (parts : Parts) (row : ℕ) → IsHeadFault parts row → after_cut parts (Err (BadSeason row))
+head-ends parts row (inl e) = inl (BadSeason row, (row, e, refl), refl)
+head-ends parts row (inr found) =
+    let (content, give, held, e) = found in past-choices parts content (Err (BadSeason row)) give (inl (BadSeason content.head.row, (held, refl), ap (λ (r : ℕ). Err (BadSeason r)) e))
 
--- A stage that is passed has no fault.
-apart-choices : AreLawful → (parts : Parts) (content : Content) (ranks : rank_grammar.Ranks) (seats : seat_grammar.SeatTable) (fault : SeasonFault) → SectionsGive parts content → IsScripted parts → IsClerkApart content
-    → rank_laws.AreSame content.register ranks → seat_laws.AreSame content.matrix seats → FromChoices parts content.head ranks seats fault → ⊥
-apart-choices laws parts content ranks seats fault give scripted clerk people programmes (inl b) =
-    let there = (carried laws (rows_of parts.choices) content.register ranks content.matrix seats people programmes).fault b.0 b.1 b.2 in
-    (laws.choices content.register content.matrix (rows_of parts.choices)).apart content.choices b.0 b.1 give.choices there
-apart-choices laws parts content ranks seats fault give scripted clerk people programmes (inr b) = by b.2
-  where
-    by : FromClerk parts content.head ranks fault → ⊥
-    by (inl held) = not_held (rank_grammar.find_holder content.head.clerk ranks.holders) (sym (people.holders content.head.clerk) ∙ clerk) held.0
-    by (inr bad) = not_both (script_of (request_rows_of parts)) scripted.0 bad.1.0 scripted.1 bad.1.1
+register-ends : (parts : Parts) (fault : TableFault RankKind) → IsRegisterFault parts fault → after_cut parts (Err (Register fault))
+register-ends parts (BadRow row kind) found = let (head, e, first) = found in inr (head, e, inl (Register (BadRow row kind), (row, kind, first, refl), refl))
+register-ends parts NoTableMemory found = absurd found
 
-apart-matrix : AreLawful → (parts : Parts) (content : Content) (ranks : rank_grammar.Ranks) (fault : SeasonFault) → SectionsGive parts content → IsScripted parts → IsClerkApart content
-    → rank_laws.AreSame content.register ranks → FromMatrix parts content.head ranks fault → ⊥
-apart-matrix laws parts content ranks fault give scripted clerk people (inl b) = (laws.matrix (rows_of parts.matrix)).apart content.matrix b.0 b.1 give.matrix b.2
-apart-matrix laws parts content ranks fault give scripted clerk people (inr b) =
-    apart-choices laws parts content ranks b.0 fault give scripted clerk people ((laws.matrix (rows_of parts.matrix)).one_value content.matrix b.0 give.matrix b.1) b.2
+matrix-ends : (parts : Parts) (fault : TableFault MatrixKind) → IsMatrixFault parts fault → after_cut parts (Err (Matrix fault))
+matrix-ends parts (BadRow row kind) found =
+    let (head, ranks, e, read, first) = found in inr (head, e, inr (ranks, read, inl (Matrix (BadRow row kind), (row, kind, first, refl), refl)))
+matrix-ends parts NoTableMemory found = absurd found
 
-apart-register : AreLawful → (parts : Parts) (content : Content) (fault : SeasonFault) → SectionsGive parts content → IsScripted parts → IsClerkApart content → FromRegister parts content.head fault → ⊥
-apart-register laws parts content fault give scripted clerk (inl b) = (laws.register (rows_of parts.register)).apart content.register b.0 b.1 give.register b.2
-apart-register laws parts content fault give scripted clerk (inr b) =
-    apart-matrix laws parts content b.0 fault give scripted clerk ((laws.register (rows_of parts.register)).one_value content.register b.0 give.register b.1) b.2
+choices-ends : (parts : Parts) (fault : TableFault ChoiceKind) → IsChoiceFault parts fault → after_cut parts (Err (Choices fault))
+choices-ends parts (BadRow row kind) found =
+    let (head, ranks, seats, e, read, table, first) = found in
+    inr (head, e, inr (ranks, read, inr (seats, table, inl (Choices (BadRow row kind), (row, kind, first, refl), refl))))
+choices-ends parts NoTableMemory found = absurd found
 
-apart-head : AreLawful → (parts : Parts) (content : Content) (fault : SeasonFault) → SectionsGive parts content → IsScripted parts → IsClerkApart content → FromHead parts fault → ⊥
-apart-head laws parts content fault give scripted clerk (inl b) = not_both (head_of (rows_of parts.season)) content.head b.0 give.head b.1
-apart-head laws parts content fault give scripted clerk (inr b) =
-    apart-register laws parts content fault give scripted clerk (subst (λ (head : Head). FromRegister parts head fault) (one_ok (head_of (rows_of parts.season)) b.0 content.head b.1 give.head) b.2)
+request-ends : (parts : Parts) (row : ℕ) → IsRequestFault parts row → after_cut parts (Err (BadRequest row))
+request-ends parts row found =
+    let (content, give, clerk, e) = found in past-choices parts content (Err (BadRequest row)) give (inr (tt, clerk, inl (BadRequest row, (row, e, refl), refl)))
 
-apart-bundle : AreLawful → (requests : Bool) (bytes : List ℕ) (parts : Parts) (content : Content) (fault : SeasonFault) → bundle_of requests bytes ≡ Ok parts → SectionsGive parts content → IsScripted parts → IsClerkApart content → FromBundle requests bytes fault → ⊥
-apart-bundle laws requests bytes parts content fault cut give scripted clerk (inl b) = not_both (bundle_of requests bytes) parts fault cut b
-apart-bundle laws requests bytes parts content fault cut give scripted clerk (inr b) =
-    apart-head laws parts content fault give scripted clerk (subst (λ (p : Parts). FromHead p fault) (one_ok (bundle_of requests bytes) b.0 parts b.1 cut) b.2)
+inside-ends : (requests : Bool) (bytes : List ℕ) (parts : Parts) (fault : SeasonFault) → IsText bytes → bundle_of requests bytes ≡ Ok parts → after_cut parts (Err fault) → ends requests bytes (Err fault)
+inside-ends requests bytes parts fault text cut first = inr (tt, text, inr (parts, cut, first))
 
--- What gives a content has no fault.
-apart-bytes : AreLawful → (requests : Bool) (bytes : List ℕ) (content : Content) (script : List Request) (fault : SeasonFault) → BundleGives requests bytes content script → FromBytes requests bytes fault → ⊥
-apart-bytes laws requests bytes content script fault gives (inl b) = omega (arith, gives.0.short, b.0)
-apart-bytes laws requests bytes content script fault gives (inr b) = by b.1
-  where
-    by : FromText requests bytes fault → ⊥
-    by (inl c) = c.0 gives.0.utf8
-    by (inr c) = let (parts, cut, give, scripted) = gives.1 in apart-bundle laws requests bytes parts content fault cut give (script, scripted) gives.2 c.1
+-- A fault is an end.
+fault-ends : (requests : Bool) (bytes : List ℕ) (fault : SeasonFault) → HasFault requests bytes fault → ends requests bytes (Err fault)
+fault-ends requests bytes TooLong first = inl (TooLong, inl (first, refl), refl)
+fault-ends requests bytes NotUtf8 first = inl (NotUtf8, inr (first.0, first.1, refl), refl)
+fault-ends requests bytes BadFirstLine first = inr (tt, first.0, inl (BadFirstLine, (BadFirstLine, first.1, refl), refl))
+fault-ends requests bytes (Section line) first = inr (tt, first.0, inl (Section line, (Section line, first.1, refl), refl))
+fault-ends requests bytes (BadSeason row) first = let (text, found) = first in inside-ends requests bytes found.0 (BadSeason row) text found.1 (head-ends found.0 row found.2)
+fault-ends requests bytes (Register fault) first = let (text, found) = first in inside-ends requests bytes found.0 (Register fault) text found.1 (register-ends found.0 fault found.2)
+fault-ends requests bytes (Matrix fault) first = let (text, found) = first in inside-ends requests bytes found.0 (Matrix fault) text found.1 (matrix-ends found.0 fault found.2)
+fault-ends requests bytes (Choices fault) first = let (text, found) = first in inside-ends requests bytes found.0 (Choices fault) text found.1 (choices-ends found.0 fault found.2)
+fault-ends requests bytes (BadRequest row) first = let (text, found) = first in inside-ends requests bytes found.0 (BadRequest row) text found.1 (request-ends found.0 row found.2)
+fault-ends requests bytes OutOfMemory first = absurd first
+fault-ends requests bytes ReadFault first = let (text, found) = first in absurd found.2
+
+-- ---- bytes give a content or have a fault
 
 -- what bytes give or have
 abbrev HaveSome : Bool → List ℕ → Type 0
@@ -337,20 +261,21 @@ sound_content laws parts content give = record {
   spelled = (laws.matrix (rows_of parts.matrix)).spelled content.matrix give.matrix;
 }
 
+-- Two readings of bytes are one.
+one_whole : AreLawful → (requests : Bool) (bytes : List ℕ) (content other : Content) (script more : List Request) → BundleGives requests bytes content script → BundleGives requests bytes other more → (content ≡ other) × (script ≡ more)
+one_whole laws requests bytes content other script more a b =
+    let same = ends-once laws requests bytes (Ok (content, script)) (Ok (other, more)) (given-ends requests bytes content script a) (given-ends requests bytes other more b) in
+    let both : ◌≡◌ {A = Whole} (content, script) (other, more) = cc in
+    (ap (λ (w : Whole). w.0) both, ap (λ (w : Whole). w.1) both)
+
 -- Bytes have exactly one reading.
 pub one_reading : AreLawful → (requests : Bool) (bytes : List ℕ) → HaveOneReading requests bytes
 one_reading laws requests bytes = record {
   some = some_reading laws requests bytes;
-  apart = λ content script fault gives first. apart-bytes laws requests bytes content script fault gives (staged requests bytes fault first);
+  apart = λ content script fault gives first.
+      let both = ends-once laws requests bytes (Ok (content, script)) (Err fault) (given-ends requests bytes content script gives) (fault-ends requests bytes fault first) in cc;
   sound = λ content script gives. let (parts, cut, give, scripted) = gives.1 in sound_content laws parts content give;
-  one_content = λ content other script more a b.
-      let (parts, cut, give, scripted) = a.1 in
-      let (pieces, split, gift, asked) = b.1 in
-      one_content laws parts content other give (subst (λ (p : Parts). SectionsGive p other) (one_ok (bundle_of requests bytes) pieces parts split cut) gift);
-  one_script = λ content other script more a b.
-      let (parts, cut, give, scripted) = a.1 in
-      let (pieces, split, gift, asked) = b.1 in
-      one_ok (script_of (request_rows_of parts)) script more scripted
-      (subst (λ (p : Parts). script_of (request_rows_of p) ≡ Ok more) (one_ok (bundle_of requests bytes) pieces parts split cut) asked);
-  one_fault = λ fault other a b. one-bytes laws requests bytes fault other (staged requests bytes fault a) (staged requests bytes other b);
+  one_content = λ content other script more a b. (one_whole laws requests bytes content other script more a b).0;
+  one_script = λ content other script more a b. (one_whole laws requests bytes content other script more a b).1;
+  one_fault = λ fault other a b. let same = ends-once laws requests bytes (Err fault) (Err other) (fault-ends requests bytes fault a) (fault-ends requests bytes other b) in cc;
 }

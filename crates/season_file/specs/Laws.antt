@@ -1,24 +1,13 @@
 -- That bytes give one season with its requests, which is sound, or have one fault.
 use Rattle.std.specs.Prelude.{◌≡◌, ◌⊎◌, ℕ, Bool, List}
 use Rattle.office_base.specs.declared.asks.Request.{Request}
-use Rattle.rank_lists.specs.Register.{AreRanks, find_holder}
+use Rattle.rank_lists.specs.Register.{AreRanks}
 use Rattle.seat_matrix.specs.Laws.{AreCodes}
 use Rattle.seat_matrix.specs.Matrix.{AreSeats, codes_in}
-use Rattle.choice_lists.specs.Choices.{list_of}
 use Rattle.season_file.specs.Season.{BundleGives, IsSeasonFault}
 use Rattle.season_file.specs.declared.fault.SeasonFault.{SeasonFault}
 use Rattle.season_file.specs.declared.fault.SeasonFault.TheVariants.{OutOfMemory}
 use Rattle.season_file.specs.declared.content.Content.{Content}
-
--- two contents that answer every look-up alike
-pub record AreSame (content other : Content) : Type 0 where
-  pub version : content.version ≡ other.version
-  pub head : content.head ≡ other.head
-  pub people : content.register.people ≡ other.register.people
-  pub holders : (token : List ℕ) → find_holder token content.register.holders ≡ find_holder token other.register.holders
-  pub programmes : content.matrix.programmes ≡ other.matrix.programmes
-  pub steps : content.matrix.steps ≡ other.matrix.steps
-  pub lists : (candidate : ℕ) → list_of content.choices candidate ≡ list_of other.choices candidate
 
 -- a fault of the bytes themselves: `OutOfMemory` is none
 abbrev pub HasFault : Bool → List ℕ → SeasonFault → Type 0
@@ -36,6 +25,6 @@ pub record HaveOneReading (requests : Bool) (bytes : List ℕ) : Type 0 where
   pub some : ((content : Content) × (script : List Request) × BundleGives requests bytes content script) ⊎ ((fault : SeasonFault) × HasFault requests bytes fault)
   pub apart : (content : Content) (script : List Request) (fault : SeasonFault) → BundleGives requests bytes content script → HasFault requests bytes fault → ⊥
   pub sound : (content : Content) (script : List Request) → BundleGives requests bytes content script → AreSound content
-  pub one_content : (content other : Content) (script more : List Request) → BundleGives requests bytes content script → BundleGives requests bytes other more → AreSame content other
+  pub one_content : (content other : Content) (script more : List Request) → BundleGives requests bytes content script → BundleGives requests bytes other more → content ≡ other
   pub one_script : (content other : Content) (script more : List Request) → BundleGives requests bytes content script → BundleGives requests bytes other more → script ≡ more
   pub one_fault : (fault other : SeasonFault) → HasFault requests bytes fault → HasFault requests bytes other → fault ≡ other

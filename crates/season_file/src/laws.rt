@@ -13,7 +13,6 @@ pub fn one_reading()
     rank_lists::laws::one_reading();
     seat_matrix::laws::one_reading();
     choice_lists::laws::one_reading();
-    choice_lists::laws::same_reading();
 }
 
 /// The section lines of a bundle are the lines that begin with `[`, and title lines with the bodies between them give its bytes

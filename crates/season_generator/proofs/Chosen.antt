@@ -11,14 +11,13 @@ use Rattle.office_base.specs.Person.{number_of}
 use Rattle.office_base.specs.declared.person.Person.{Person}
 use Rattle.office_base.specs.declared.person.Place.TheVariants.{Absent}
 use Rattle.office_base.specs.declared.person.ProgId.{ProgId}
-use Rattle.office_text.specs.FirstFault.{IsFaultless}
 use Rattle.office_text.specs.Number.{AreInverse, number_within}
 use Rattle.section_rows.specs.Rows.{Row}
 use Rattle.section_rows.specs.Steps.{after as follows}
 use Rattle.rank_lists.specs.Register.{Ranks, find_person}
 use Rattle.seat_matrix.specs.Matrix.{SeatTable, codes_in, find_home}
 use Rattle.seat_matrix.specs.declared.entry.Home.{Home}
-use Rattle.choice_lists.specs.Choices.{Entry, all_choices, choice, choices, choices_after, header, is_chosen, is_ranked, judge, list_at, programme_of, reading}
+use Rattle.choice_lists.specs.Choices.{Entry, all_choices, choice, choices, choices_after, entries_of, header, is_chosen, is_ranked, list_at, programme_of, reading}
 use Rattle.choice_lists.specs.declared.fault.ChoiceKind.TheVariants.{BadHeader}
 use Rattle.season_generator.specs.Bundle.{programme_code, lines, profile_of}
 use Rattle.season_generator.specs.Draws.{state_after}
@@ -216,7 +215,7 @@ choices_lines most n state = codes "[choices]\ncandidate,programmes\n" ++ lines 
 pub record AreChosen (most n state : ℕ) (ranks : Ranks) (table : SeatTable) (rows : List Row) : Type 0 where
   pub text : choices_lines most n state ≡ codes "[choices]\n" ++ text_of rows
   pub words : AreWordRows rows
-  pub faultless : IsFaultless (judge ranks table) rows
+  pub read : entries_of ranks table rows ≡ Ok (entries_to most state n)
 
 abbrev pub choice_rows : ℕ → ℕ → ℕ → List Row
 choice_rows most n state = header ∷ flat_map (rows_at most state) (range_with_len 0 n)
@@ -242,5 +241,5 @@ chosen inverse count most n state first second ranks table short small people ha
       text = ap (λ (l : List ℕ). codes "[choices]\ncandidate,programmes\n" ++ l) (text-range (λ i. choices_line most (i + 1) (profile_of state i)) (rows_at most state) 0 n
           (λ i. row-single (row_words most (i + 1) (profile_of state i)) _ (row-line most (i + 1) (profile_of state i))));
       words = ((refl, (refl, tt)), words-range (rows_at most state) 0 n (λ i less. (row-is-words most (i + 1) (profile_of state i) (omega (arith, less, small)), tt)));
-      faultless = reads.0;
+      read = reads;
     }

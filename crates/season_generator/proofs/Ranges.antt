@@ -1,14 +1,12 @@
 -- What the rows of a range of numbers give, one after another.
-use Rattle.std.proofs.Common.{◌≡◌, ◌≤◌, ◌<◌, ◌+◌, ℕ, zero, suc, Bool, true, false, List, [], ◌∷◌, ◌++◌, Option, Some, None, Ok, refl, sym, ap, subst, ◌∙◌, add-one, append_assoc, arith, inl, inr, if◌then◌else◌}
+use Rattle.std.proofs.Common.{◌≡◌, ◌≤◌, ◌<◌, ◌+◌, ℕ, zero, suc, Bool, true, false, List, [], ◌∷◌, ◌++◌, Option, Some, None, Result, Ok, refl, sym, ap, subst, ◌∙◌, add-one, append_assoc, arith, inl, inr, if◌then◌else◌}
 use Rattle.std.specs.List.{flat_map, range_with_len}
-use Rattle.std.proofs.lemmas.Bool.{cases_eq}
+use Rattle.std.proofs.lemmas.Bool.{cases_eq, cond-true}
 use Rattle.std.proofs.lemmas.List.{append-nil}
 use Rattle.std.proofs.lemmas.List.Concat.{flat_map-append}
-use Rattle.office_text.specs.FirstFault.{IsFaultless}
 use Rattle.section_rows.specs.Rows.{Row, same_fields}
 use Rattle.section_rows.specs.Steps.{first_of, or_else}
-use Rattle.section_rows.specs.Table.{Reading, entries_of, table_judge}
-use Rattle.section_rows.proofs.TableLemmas.{IsReadTo, read-all, read-header, read-more}
+use Rattle.section_rows.specs.Table.{Reading, entries_from, table_of, then_read}
 use Rattle.season_generator.proofs.RowLemmas.{range_next}
 use Rattle.season_generator.proofs.Plain.{AreWordRows, rows-append, text-append, text_of}
 
@@ -47,23 +45,19 @@ reads-range {Entry} reading rows entries a (suc k) before each e =
     (subst (λ b. Reads reading b (rows a) (entries a)) (sym e) (each a (omega arith)))
     (reads-range reading rows entries (a + 1) k (before ++ entries a) (λ i less. each i (omega (arith, less))) (ap (λ (b : List Entry). b ++ entries a) e ∙ sym (flat-more entries a)))
 
-reads-on : {Entry Kind : Type 0} (bad : Kind) (names : Row) (reading : Reading Entry Kind) (all done : List Row) (before : List Entry) (rows : List Row) (entries : List Entry)
-    → IsReadTo bad names reading all done rows before → Reads reading before rows entries → IsFaultless (table_judge bad names reading) all × (entries_of reading all ≡ before ++ entries)
-reads-on bad names reading all done before [] [] r h =
-    let end = read-all bad names reading all done [] before r refl in
-    (end.0, end.1 ∙ sym (append-nil before))
-reads-on bad names reading all done before [] (entry ∷ entries) r h = absurd h
-reads-on bad names reading all done before (row ∷ rows) [] r h = absurd h
-reads-on bad names reading all done before (row ∷ rows) (entry ∷ entries) r h =
-    let end = reads-on bad names reading all (done ++ row ∷ []) (before ++ entry ∷ []) rows entries (read-more bad names reading all done rows row before entry r h.0) h.1 in
-    (end.0, end.1 ∙ append_assoc before (entry ∷ []) entries)
+reads-on : {Entry Kind : Type 0} (reading : Reading Entry Kind) (number : ℕ) (before : List Entry) (rows : List Row) (entries : List Entry) → Reads reading before rows entries
+    → entries_from reading number before rows ≡ Ok (before ++ entries)
+reads-on reading number before [] [] h = ap Ok (sym (append-nil before))
+reads-on reading number before [] (entry ∷ entries) h = absurd h
+reads-on reading number before (row ∷ rows) [] h = absurd h
+reads-on {Entry} {Kind} reading number before (row ∷ rows) (entry ∷ entries) h =
+    ap (λ (r : Result Entry Kind). then_read number r (λ e. entries_from reading (number + 1) (before ++ e ∷ []) rows)) h.0
+    ∙ reads-on reading (number + 1) (before ++ entry ∷ []) rows entries h.1 ∙ ap Ok (append_assoc before (entry ∷ []) entries)
 
--- A table whose rows give these entries has no fault, and these are its entries.
+-- A table whose rows give these entries has them.
 pub reads-table : {Entry Kind : Type 0} (bad : Kind) (names : Row) (reading : Reading Entry Kind) (header : Row) (rows : List Row) (entries : List Entry)
-    → same_fields header names ≡ true → Reads reading [] rows entries
-    → IsFaultless (table_judge bad names reading) (header ∷ rows) × (entries_of reading (header ∷ rows) ≡ entries)
-reads-table bad names reading header rows entries same h =
-    reads-on bad names reading (header ∷ rows) (header ∷ []) [] rows entries (read-header bad names reading (header ∷ rows) rows header refl same) h
+    → same_fields header names ≡ true → Reads reading [] rows entries → table_of bad names reading (header ∷ rows) ≡ Ok entries
+reads-table bad names reading header rows entries same h = cond-true (same_fields header names) _ _ same ∙ reads-on reading 2 [] rows entries h
 
 -- ---- what is found
 

@@ -15,12 +15,10 @@ use Rattle.office_base.specs.declared.person.Place.{Place}
 use Rattle.office_base.specs.declared.person.Place.TheVariants.{Absent, Common, Relaxed}
 use Rattle.office_text.specs.Number.{AreInverse, number_within}
 use Rattle.office_text.specs.Traits.{traits_of}
-use Rattle.office_text.specs.FirstFault.{IsFaultless}
 use Rattle.section_rows.specs.Rows.{Row}
 use Rattle.section_rows.specs.Steps.{first_of}
-use Rattle.section_rows.specs.Table.{entries_of}
 use Rattle.rank_lists.specs.Fields.{category_of, place_of}
-use Rattle.rank_lists.specs.Register.{any_relaxed, header, holder_at, is_general, is_number, is_taken, judge, person_at, place_at, reading, token_of}
+use Rattle.rank_lists.specs.Register.{any_relaxed, header, holder_at, is_general, is_number, is_taken, entries_of, person_at, place_at, reading, token_of}
 use Rattle.rank_lists.specs.declared.entry.Entry.{Entry}
 use Rattle.rank_lists.specs.declared.fault.RankKind.TheVariants.{BadHeader}
 use Rattle.season_generator.specs.Bundle.{category_name, eight_digits, has_relaxed, lines, place_field, profile_at, profile_of, register_row, register_text, stride_of, traits_name}
@@ -236,8 +234,7 @@ new-row inverse n state first second i most firsts seconds less =
 pub record IsRegistered (n state : ℕ) (first second : List ℕ) (rows : List Row) : Type 0 where
   pub text : register_text n state first second ≡ codes "[register]\n" ++ text_of rows
   pub words : AreWordRows rows
-  pub faultless : IsFaultless judge rows
-  pub entries : entries_of reading rows ≡ entries_to state first second n
+  pub read : entries_of rows ≡ Ok (entries_to state first second n)
 
 abbrev pub register_rows : ℕ → ℕ → List ℕ → List ℕ → List Row
 register_rows n state first second = header ∷ flat_map (rows_at state first second) (range_with_len 0 n)
@@ -267,8 +264,7 @@ registered inverse n state first second most firsts seconds =
           tt,
         )),
       );
-      faultless = reads.0;
-      entries = reads.1;
+      read = reads;
     }
 
 -- ---- who is in it

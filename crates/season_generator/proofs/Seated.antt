@@ -13,15 +13,13 @@ use Rattle.office_base.specs.Limits.{most_matrix_seats, most_programmes, most_st
 use Rattle.office_base.specs.StepNumbers.{step_number}
 use Rattle.office_base.specs.declared.step.StepKind.{StepKind}
 use Rattle.office_base.specs.declared.step.StepKind.TheVariants.{Open, Ews, Obc, Sc, St}
-use Rattle.office_text.specs.FirstFault.{IsFaultless}
 use Rattle.office_text.specs.Names.{code_of, step_of}
 use Rattle.office_text.specs.Number.{AreInverse, number_within}
 use Rattle.section_rows.specs.Rows.{Row}
 use Rattle.section_rows.specs.Steps.{or_else}
-use Rattle.section_rows.specs.Table.{entries_of}
 use Rattle.section_rows.proofs.StepsLemmas.{first_of-push}
 use Rattle.seat_matrix.specs.Fields.{count_of, protection_of}
-use Rattle.seat_matrix.specs.Matrix.{all_seats, codes_after, codes_of, header, home_at, judge, reading, seating_at, seats_after, settles, with_code}
+use Rattle.seat_matrix.specs.Matrix.{all_seats, codes_after, codes_of, entries_of, header, home_at, reading, seating_at, seats_after, settles, with_code}
 use Rattle.seat_matrix.specs.declared.entry.Entry.{Entry}
 use Rattle.seat_matrix.specs.declared.entry.Home.{Home}
 use Rattle.seat_matrix.specs.declared.fault.MatrixKind.TheVariants.{BadHeader}
@@ -310,8 +308,7 @@ matrix_lines size count = codes "[matrix]\nprogramme,institute,list,step,seats,W
 pub record IsSeated (size count : ℕ) (rows : List Row) : Type 0 where
   pub text : matrix_lines size count ≡ codes "[matrix]\n" ++ text_of rows
   pub words : AreWordRows rows
-  pub faultless : IsFaultless judge rows
-  pub entries : entries_of reading rows ≡ entries_to size count
+  pub read : entries_of rows ≡ Ok (entries_to size count)
 
 abbrev pub matrix_rows : ℕ → ℕ → List Row
 matrix_rows size count = header ∷ flat_map (rows_of_programme size) (range_with_len 0 count)
@@ -325,8 +322,7 @@ seated inverse size count small most =
     record {
       text = ap (λ (l : List ℕ). codes "[matrix]\nprogramme,institute,list,step,seats,W,D,X,S,F,L\n" ++ l) (text-range (programme_rows size) (rows_of_programme size) 0 count (programme-text size));
       words = ((refl, (refl, (refl, (refl, (refl, (refl, (refl, (refl, (refl, (refl, (refl, tt))))))))))), words-range (rows_of_programme size) 0 count (λ i less. programme-words size i small (omega (arith, less, most))));
-      faultless = reads.0;
-      entries = reads.1;
+      read = reads;
     }
 
 -- The `Home` of each programme is that of the first of its rows.

@@ -1,16 +1,15 @@
 -- The season that is made up has no fault.
-use Rattle.std.proofs.Common.{◌≡◌, ◌≤◌, ◌+◌, ◌-◌, ◌*◌, ◌/◌, ℕ, true, List, [], ◌∷◌, ◌++◌, Some, None, Ok, length, refl, sym, ap, subst, ◌∙◌, append_assoc, length-append, arith, inl, inr, lit≤}
+use Rattle.std.proofs.Common.{◌≡◌, ◌≤◌, ◌⊎◌, ◌+◌, ◌-◌, ◌*◌, ◌/◌, ℕ, true, List, [], ◌∷◌, ◌++◌, None, Result, Ok, Err, length, refl, sym, ap, subst, ◌∙◌, append_assoc, length-append, arith, inl, inr, lit≤}
 use Rattle.std.specs.Prelude.{codes}
 use Rattle.std.specs.List.{range_with_len}
 use Rattle.std.specs.List.Sorted.{IsPermutation}
 use Rattle.std.proofs.lemmas.Str.{IsUtf8-from_ascii}
 use Rattle.office_base.specs.Limits.{most_bundle_bytes}
 use Rattle.office_base.specs.declared.asks.Request.{Request}
-use Rattle.office_text.specs.FirstFault.{IsFaultless, Judge, fault_at}
 use Rattle.office_text.specs.Number.{AreInverse}
 use Rattle.section_rows.specs.Rows.{Row}
-use Rattle.section_rows.specs.Table.{IsTableFault}
-use Rattle.section_rows.specs.declared.fault.TableFault.TheVariants.{Bad}
+use Rattle.section_rows.specs.Table.{Given}
+use Rattle.section_rows.proofs.StageLemmas.{not_both, one_ok}
 use Rattle.rank_lists.specs.Laws as rank_laws
 use Rattle.rank_lists.specs.Register as rank_grammar
 use Rattle.seat_matrix.specs.Laws as seat_laws
@@ -26,7 +25,7 @@ use Rattle.season_file.specs.Season.{BundleGives, IsText, SectionsGive, request_
 use Rattle.season_file.specs.declared.content.Content.{Content}
 use Rattle.season_file.specs.declared.head.Head.{Head}
 use Rattle.season_generator.specs.Laws.{IsSeasonBundle}
-use Rattle.season_generator.proofs.Chosen.{HasCandidates, HasProgrammes, choice_rows, choices_lines, chosen}
+use Rattle.season_generator.proofs.Chosen.{HasCandidates, HasProgrammes, choice_rows, choices_lines, chosen, entries_to}
 use Rattle.season_generator.proofs.Cut.{bundle-ascii, bundle-cut, bundle_text, parts_made, requests_section}
 use Rattle.season_generator.proofs.Lengths.{choices-length, matrix-length, register-length, requests-length}
 use Rattle.season_generator.proofs.ListedPlaces.{ArePlaces, are-places}
@@ -35,24 +34,12 @@ use Rattle.season_generator.proofs.Registered.{clerk-apart, person-found, regist
 use Rattle.season_generator.proofs.Requested.{request_rows, requested}
 use Rattle.season_generator.proofs.Seated.{codes-to, home-found, matrix_lines, matrix_rows, seated}
 
--- ---- rows without a fault give something
+-- ---- rows whose entries are known give something
 
-no-fault : {Kind : Type 0} (judge : Judge Row Kind) (rows : List Row) (row : ℕ) (kind : Kind) → IsFaultless judge rows → IsTableFault judge rows (Bad row kind) → ⊥
-no-fault judge rows row kind none fault =
-    let clean : fault_at judge rows fault.0 ≡ None = none fault.0 fault.2.within in
-    let here : fault_at judge rows fault.0 ≡ Some kind = fault.2.here in
-    let both : None ≡ Some kind = sym clean ∙ here in
-    cc
-
-ranks-read : (rows : List Row) → rank_laws.HaveOneReading rows → IsFaultless rank_grammar.judge rows → (ranks : rank_grammar.Ranks) × rank_grammar.IsRead rows ranks
-ranks-read rows law none = elim law.some [ inl read ↦ read | inr fault ↦ absurd (no-fault rank_grammar.judge rows fault.0 fault.1 none fault.2) ]
-
-table-read : (rows : List Row) → seat_laws.HaveOneReading rows → IsFaultless seat_grammar.judge rows → (table : seat_grammar.SeatTable) × seat_grammar.IsRead rows table
-table-read rows law none = elim law.some [ inl read ↦ read | inr fault ↦ absurd (no-fault seat_grammar.judge rows fault.0 fault.1 none fault.2) ]
-
-lists-read : (ranks : rank_grammar.Ranks) (table : seat_grammar.SeatTable) (rows : List Row) → choice_laws.HaveOneReading ranks table rows → IsFaultless (choice_grammar.judge ranks table) rows
-    → (lists : choice_grammar.Lists) × choice_grammar.IsRead ranks table rows lists
-lists-read ranks table rows law none = elim law.some [ inl read ↦ read | inr fault ↦ absurd (no-fault (choice_grammar.judge ranks table) rows fault.0 fault.1 none fault.2) ]
+made-of : {Entry Kind Value : Type 0} (table : Given Entry Kind) (Makes : List Entry → Value → Type 0) (entries : List Entry) → table ≡ Ok entries
+    → ((value : Value) × ((others : List Entry) × (table ≡ Ok others) × Makes others value)) ⊎ ((row : ℕ) × (kind : Kind) × (table ≡ Err (row, kind))) → (value : Value) × Makes entries value
+made-of {Entry} table Makes entries e (inl read) = (read.0, subst (λ (es : List Entry). Makes es read.0) (one_ok table read.1.0 entries read.1.1 e) read.1.2)
+made-of table Makes entries e (inr fault) = absurd (not_both table entries (fault.0, fault.1) e fault.2)
 
 -- ---- the season's section
 
@@ -194,18 +181,19 @@ generated-by readers n seed count most small is-count is-most =
     let requests = request_rows n answers in
     let in-register = registered inverse n profiles (places n seed) (places n second) small firsts seconds in
     let in-matrix = seated inverse size count size-small (omega (arith, is-count)) in
-    let (ranks, ranks-are) = ranks-read register (readers.ranks register) in-register.faultless in
-    let (table, table-is) = table-read matrix (readers.table matrix) in-matrix.faultless in
+    let (ranks, ranks-are) = made-of (rank_grammar.entries_of register) rank_grammar.IsRegister _ in-register.read (readers.ranks register).some in
+    let (table, table-is) = made-of (seat_grammar.entries_of matrix) seat_grammar.IsMatrix _ in-matrix.read (readers.table matrix).some in
     let people : HasCandidates n profiles (places n seed) (places n second) ranks = λ i less.
-    ranks-are.1.people (i + 1) ∙ ap (rank_grammar.person_at (i + 1)) in-register.entries ∙ person-found n profiles (places n seed) (places n second) i less in
+    ranks-are.people (i + 1) ∙ person-found n profiles (places n seed) (places n second) i less in
     let programmes : HasProgrammes count table = record {
       few = omega (arith, is-count);
       all = omega (arith, is-count);
-      codes = table-is.1.programmes ∙ ap seat_grammar.codes_of in-matrix.entries ∙ codes-to size count;
-      homes = λ p less. table-is.1.homes (programme_code p) ∙ ap (seat_grammar.home_at (programme_code p)) in-matrix.entries ∙ home-found size count p less;
+      codes = table-is.programmes ∙ codes-to size count;
+      homes = λ p less. table-is.homes (programme_code p) ∙ home-found size count p less;
     } in
     let in-choices = chosen inverse count most n profiles (places n seed) (places n second) ranks table (omega (arith, is-most)) small people programmes in
-    let (lists, lists-are) = lists-read ranks table choices (readers.lists ranks table choices) in-choices.faultless in
+    let lists = choice_grammar.lists_for ranks (entries_to most profiles n) in
+    let lists-are : choice_grammar.IsRead ranks table choices lists = (entries_to most profiles n, in-choices.read, refl) in
     let in-requests = requested inverse n answers small in
     bundle-given (generated n seed) register matrix choices requests (record {
       same = whole-text n profiles answers (places n seed) (places n second) register matrix choices requests (record {
@@ -230,15 +218,15 @@ generated-by readers n seed count most small is-count is-most =
       choices-words = in-choices.words;
       requests-words = in-requests.words;
       ranks = ranks;
-      ranks-read = ranks-are;
+      ranks-read = (_, in-register.read, ranks-are);
       table = table;
-      table-read = table-is;
+      table-read = (_, in-matrix.read, table-is);
       lists = lists;
       lists-read = lists-are;
       sound = (readers.lists ranks table choices).sound lists lists-are;
       script = in-requests.script;
       script-read = in-requests.read;
-      apart = ranks-are.1.holders (codes "clerk0001") ∙ ap (rank_grammar.holder_at (codes "clerk0001")) in-register.entries ∙ clerk-apart n profiles (places n seed) (places n second);
+      apart = ranks-are.holders (codes "clerk0001") ∙ clerk-apart n profiles (places n seed) (places n second);
     })
 
 -- The season that is made up is a season bundle.
