@@ -1,5 +1,6 @@
 pub mod Categories
+pub mod Parts
 pub mod Seats
-mod SixSteps
+pub mod Table
 pub mod Taken
 pub mod Walk

@@ -1,10 +1,9 @@
 -- One walk over people and over those of them who are taken.
 use Rattle.std.proofs.Common.{◌≡◌, ◌≢◌, ◌||◌, Bool, true, false, not, cond, List, [], ◌∷◌, eqb, refl, sym, ap, ◌∙◌, subst, inl, inr}
-use Rattle.std.proofs.lemmas.Bool.{cond-true, cond-false, cond_both, eq-eqb, ne_eqb, or_left, or_parts, both_ways, not_from_true, not_from_false, false_from_ne_true}
+use Rattle.std.proofs.lemmas.Bool.{cond-true, cond-false, cond_both, eq-eqb, ne_eqb, or_left, or_parts, not_from_true, not_from_false, false_from_ne_true}
 use Rattle.std.specs.List.{filter, AllByRecursion}
 use Rattle.office_base.specs.Lists.{IsAmong, IsSublist}
 use Rattle.office_base.specs.declared.person.Category.{Category}
-use Rattle.office_base.specs.declared.person.Category.TheVariants.{Gen, Ews, Obc, Sc, St}
 use Rattle.office_base.specs.StepChoice.{AreRanked}
 use Rattle.office_base.specs.declared.person.ListId.{ListId}
 use Rattle.office_base.specs.declared.person.Person.{Person}
@@ -13,7 +12,8 @@ use Rattle.placements.specs.Ranks.{AreAmong, AreDistinct}
 use Rattle.placements.proofs.Convert.{same_cand}
 use Rattle.placements.proofs.Ranks.{any_all, any_among, among_again, among_sublist, ranked_sublist}
 use Rattle.placements.proofs.Filters.{filter-sublist, among_filter}
-use Rattle.programme_lists.specs.Programme.{is_taken, is_same, is_of, without}
+use Rattle.programme_lists.specs.Programme.{is_taken, is_of, without}
+pub use Rattle.programme_lists.proofs.Categories.{same_category}
 use Rattle.programme_lists.proofs.Taken.{taken_number, taken_among}
 
 -- the people who are left when those taken are in the order of the people
@@ -87,15 +87,6 @@ still_there all people some taken distinct within taken_within sub apart =
     not_from_false (is_taken taken x) (false_from_ne_true (is_taken taken x) (λ holds.
     apart x here (taken_among all taken x distinct taken_within (any_among (λ one. x ≡ one) some all within here) holds))))
 
--- categories that are the same are one
-pub same_category : (a b : Category) → is_same a b ≡ true → a ≡ b
-same_category Gen Gen holds = refl
-same_category Ews Ews holds = refl
-same_category Obc Obc holds = refl
-same_category Sc Sc holds = refl
-same_category St St holds = refl
-same_category _ _ holds = absurd (both_ways false refl holds)
-
 -- nobody is among the members of two categories
 pub of_one_category : (a b : Category) (some others people more : List Person) (person : Person) → (a ≡ b → ⊥) → IsSublist some (filter (is_of a) people)
     → IsSublist others (filter (is_of b) more) → IsAmong person some → IsAmong person others → ⊥
@@ -114,38 +105,6 @@ members_among category some people sub =
 pub members_sublist : (category : Category) (some people : List Person) → IsSublist some (filter (is_of category) people) → IsSublist some people
 members_sublist category some people sub = sublist_again some (filter (is_of category) people) people sub (filter-sublist (is_of category) people)
 
--- members of one category are still there after members of another are taken
-pub members_still_there : (a b : Category) (rest people some taken : List Person) → AreDistinct rest → (a ≡ b → ⊥) → IsSublist some (filter (is_of a) rest)
-    → IsSublist taken (filter (is_of b) rest) → IsSublist some people → IsSublist some (without people taken)
-members_still_there a b rest people some taken distinct differ sub taken_sub here =
-    still_there rest people some taken distinct (members_among a some rest sub) (members_among b taken rest taken_sub) here
-    (λ x. of_one_category a b some taken rest rest x differ sub taken_sub)
-
 -- whom a step left of ranked people are ranked
 pub ranked_without : (list : ListId) (people taken : List Person) → AreRanked list people → AreRanked list (without people taken)
 ranked_without list people taken ranked = ranked_sublist list (without people taken) people ranked (filter-sublist _ people)
-
--- the members of OBC are there when those of EWS are taken
-pub obc_there : (rest ews obc : List Person) → AreDistinct rest → IsSublist ews (filter (is_of Ews) rest) → IsSublist obc (filter (is_of Obc) rest) → IsSublist obc (without rest ews)
-obc_there rest ews obc distinct of_ews of_obc = members_still_there Obc Ews rest rest obc ews distinct (λ same. cc) of_obc of_ews (members_sublist Obc obc rest of_obc)
-
--- the members of SC are there when those of EWS and OBC are taken
-pub sc_there : (rest ews obc sc : List Person) → AreDistinct rest → IsSublist ews (filter (is_of Ews) rest) → IsSublist obc (filter (is_of Obc) rest) → IsSublist sc (filter (is_of Sc) rest)
-    → IsSublist sc (without (without rest ews) obc)
-sc_there rest ews obc sc distinct of_ews of_obc of_sc =
-    members_still_there Sc Obc rest (without rest ews) sc obc distinct (λ same. cc) of_sc of_obc
-    (members_still_there Sc Ews rest rest sc ews distinct (λ same. cc) of_sc of_ews (members_sublist Sc sc rest of_sc))
-
--- the members of ST are there when those of EWS, OBC and SC are taken
-pub st_there : (rest ews obc sc st : List Person) → AreDistinct rest → IsSublist ews (filter (is_of Ews) rest) → IsSublist obc (filter (is_of Obc) rest) → IsSublist sc (filter (is_of Sc) rest)
-    → IsSublist st (filter (is_of St) rest) → IsSublist st (without (without (without rest ews) obc) sc)
-st_there rest ews obc sc st distinct of_ews of_obc of_sc of_st =
-    members_still_there St Sc rest (without (without rest ews) obc) st sc distinct (λ same. cc) of_st of_sc
-    (members_still_there St Obc rest (without rest ews) st obc distinct (λ same. cc) of_st of_obc
-    (members_still_there St Ews rest rest st ews distinct (λ same. cc) of_st of_ews (members_sublist St st rest of_st)))
-
--- whom all categories left of ranked people are ranked
-pub ranked_over : (list : ListId) (rest ews obc sc st : List Person) → AreRanked list rest → AreRanked list (without (without (without (without rest ews) obc) sc) st)
-ranked_over list rest ews obc sc st ranked =
-    ranked_without list (without (without (without rest ews) obc) sc) st
-    (ranked_without list (without (without rest ews) obc) sc (ranked_without list (without rest ews) obc (ranked_without list rest ews ranked)))

@@ -1,5 +1,6 @@
 -- The choice of a programme from people in any order.
-use Rattle.std.specs.Prelude.{◌≡◌, ◌⊎◌, ◌++◌, ◌+◌, ℕ, List, length}
+use Rattle.std.specs.Prelude.{◌≡◌, ◌⊎◌, ◌++◌, ℕ, List, [], ◌∷◌}
+use Rattle.office_base.specs.CategorySteps.{all_steps}
 use Rattle.office_base.specs.Lists.{IsAmong}
 use Rattle.office_base.specs.Merit.{CanBeRanked, in_merit}
 use Rattle.office_base.specs.declared.person.ListId.{ListId}
@@ -22,9 +23,14 @@ ChoosesFrom version seats people admissions = IsProgrammeChoice version seats (i
 abbrev pub ShowsFrom : ℕ → ProgrammeSeats → List Person → Programme → Type 0
 ShowsFrom version seats people programme = ShowsChoice version seats (in_merit seats.list people) programme
 
--- everybody admitted, step after step
+-- whom these steps admit, step after step
+abbrev pub all_by : List StepKind → Admissions → List Person
+all_by [] admissions = []
+all_by (kind ∷ kinds) admissions = admissions kind ++ all_by kinds admissions
+
+-- everybody admitted
 abbrev pub everybody : Admissions → List Person
-everybody admissions = admissions.open_step ++ admissions.ews ++ admissions.obc ++ admissions.sc ++ admissions.st ++ admissions.dereserved
+everybody admissions = all_by all_steps admissions
 
 -- no step admits the person
 abbrev pub IsRefused : Admissions → Person → Type 0

@@ -1,4 +1,4 @@
-// The lists of a programme's six steps.
+// The lists of a programme's steps.
 ghost use Rattle.std.specs.Prelude.{◌≡◌, IfOk};
 
 use office_base::{OutOfMemory, People, StepKind};
@@ -16,14 +16,14 @@ pub struct StepList {
     pub cert: Cert,
 }
 
-/// The six steps of a programme, in the order OPEN, EWS, OBC, SC, ST and the de-reserved seats.
+/// Holds the lists of a programme, in the order of its steps.
 #[derive(Debug, Drop)]
 pub struct Programme {
     pub steps: [StepList; 6],
 }
 
 impl StepList {
-    /// The same list.
+    /// Returns the same list.
     pub fn copy(&self, alloc: Global) -> Result<StepList, OutOfMemory>
         ensures { IfOk result (λ list. list ≡ self.now) }
     {
@@ -40,28 +40,11 @@ impl StepList {
 }
 
 impl Programme {
-    /// The same six lists.
+    /// Returns the same lists.
     pub fn copy(&self, alloc: Global) -> Result<Programme, OutOfMemory>
         ensures { IfOk result (λ programme. programme ≡ self.now) }
     {
-        let [open, ews, obc, sc, st, dereserved] = &self.steps;
-        let (open, ews, obc) = copy_three(alloc, open, ews, obc)?;
-        let (sc, st, dereserved) = copy_three(alloc, sc, st, dereserved)?;
-        Ok(Programme {
-            steps: [open, ews, obc, sc, st, dereserved],
-        })
+        let steps = self.steps.each_ref().try_map(|list| list.copy(alloc))?;
+        Ok(Programme { steps })
     }
-}
-
-/// The same three lists.
-fn copy_three(
-    alloc: Global,
-    first: &StepList,
-    second: &StepList,
-    third: &StepList,
-) -> Result<(StepList, StepList, StepList), OutOfMemory>
-    ensures { IfOk result (λ lists.
-        (lists.0 ≡ first.now) × (lists.1 ≡ second.now) × (lists.2 ≡ third.now)) }
-{
-    Ok((first.copy(alloc)?, second.copy(alloc)?, third.copy(alloc)?))
 }

@@ -1,16 +1,17 @@
-use Rattle.std.proofs.Common.{◌≡◌, List, length, ap, arith}
+use Rattle.std.proofs.Common.{◌≡◌, List, [], ◌∷◌, map, refl, ap, ◌∙◌, rules}
+use Rattle.std.specs.List.{AllZip}
 use Rattle.programme_lists.specs.declared.programme.Programme.{Programme}
 use Rattle.programme_lists.specs.declared.programme.StepList.{StepList}
-use Rattle.programme_lists.proofs.SixSteps.{six_read}
 use Rattle.programme_lists.proofs.programme.Programme.copy.Goals as goal
+
+-- what comes of a list, each of which is what v gives of its source
+copies : {A B : Type 0} (R : A → B → Type 0) (v : A → B) (xs : List A) (ys : List B) → AllZip R xs ys → ((x : A) (y : B) → R x y → y ≡ v x) → ys ≡ map v xs
+copies R v [] [] all each = refl
+copies R v [] (y ∷ ys) all each = absurd all
+copies R v (x ∷ xs) [] all each = absurd all
+copies R v (x ∷ xs) (y ∷ ys) all each = ap (λ z. z ∷ ys) (each x y all.0) ∙ ap (λ zs. v x ∷ zs) (copies R v xs ys all.1 each)
 
 pub returns : goal.returns
 returns c =
-    let steps = c.args.self.now.steps in
-    let six : length steps ≡ 6 = omega arith in
-    let left = c.in_ok-open.ensures in
-    let right = c.in_ok-sc.ensures in
-    let same = six_read steps c.in_ok-open.open c.in_ok-open.ews c.in_ok-open.obc c.in_ok-sc.sc c.in_ok-sc.st c.in_ok-sc.dereserved
-    c.index-self-0.result c.index-self-1.result c.index-self-2.result c.index-self-3.result c.index-self-4.result c.index-self-5.result six
-    left.0 left.1 left.2 right.0 right.1 right.2 in
-    ap (λ (list : List StepList). let programme : Programme = record { steps = list } in programme) same
+    let same = copies _ (λ list. list.now) c.each_ref.result c.in_ok-steps.steps c.in_ok-steps.ensures.ok.whole (λ x y h. search rules) in
+    ap (λ (steps : List StepList). let programme : Programme = record { steps = steps } in programme) (same ∙ c.each_ref.ensures.items)
